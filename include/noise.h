@@ -4,7 +4,7 @@
 
    The library runs a handshake pattern message by message, and then encrypts and decrypts. It has
    no X25519, draws no random bytes, opens no socket and allocates no memory. The caller supplies
-   public keys, computes X25519 where a call asks for it, and keeps the state in structs, the kept
+   public keys, computes X25519 where a call asks for it, and keeps the state in structs, the opaque
    structs. All lengths are in bytes. "Noise, 5.3" is section 5.3 of the standard.
 
    THE ORDER OF CALLS
@@ -24,15 +24,15 @@
    receive; a thread may have either. In a one-way pattern (N, K, X) the responder can't send, and
    the initiator can't receive: NOISE_ONE_WAY (Noise, 7.4).
 
-   A call returns a code for each wrong value. No length and no content of a kept struct makes a
-   call stop the process or access memory that it wasn't given. A kept struct begins with a mark of
-   its type and of its layout's version. So a call refuses one of zeros, of another type, or of a
+   A call returns a code for each wrong value. No length and no content of an opaque struct makes a
+   call stop the process or access memory that it wasn't given. An opaque struct begins with a mark
+   of its type and of its layout's version. So a call refuses one of zeros, of another type, or of a
    build with another layout by NOISE_STRUCT; noise_answer alone doesn't look.
 
    WHAT THE CALLER MUST ENSURE, since no call can check it
    - A pointer that has a count may be NULL if the count is 0: see the end of this header. No other
-     pointer may be NULL. Each leads to as many bytes as its count or its type says. A kept struct's
-     address is a multiple of 8.
+     pointer may be NULL. Each leads to as many bytes as its count or its type says. An opaque
+     struct's address is a multiple of 8.
    - The bytes at a pointer that isn't const overlap those of no other pointer of the call. Only the
      calls that have one buffer, as noise_read, work in place.
    - A key never encrypts two texts at one nonce: whoever sees both messages learns the xor of the
@@ -42,13 +42,13 @@
      struct may be moved.
    - Each handshake has a new ephemeral key pair. A pair that was used before makes the same keys
      again.
-   - Calls that take a kept struct as const may run at once, on any number of threads; any other
+   - Calls that take an opaque struct as const may run at once, on any number of threads; any other
      call has the struct for itself. Different structs need no lock: the library has no other state.
    - X25519 may give all zeros; OpenSSL returns an error then. To refuse such a key (Noise, 12.1)
      don't pass the result to noise_answer, and end the handshake.
 
-   WIPING. Kept structs hold psks, results of X25519 and keys until the caller overwrites them with
-   noise_wipe; so do the setup, a psk, a result, and the ephemeral secret key. No call keeps a
+   WIPING. Opaque structs hold psks, results of X25519 and keys until the caller overwrites them
+   with noise_wipe; so do the setup, a psk, a result, and the ephemeral secret key. No call keeps a
    pointer. noise_wipe_stack overwrites what calls leave on the stack: at most 14 KB, as
    checks/c-library/stack.c measures on x86-64. */
 #ifndef NOISE_H
@@ -71,7 +71,7 @@ extern "C" {
 
 /* What a call returns; noise_text, below, says what each code means. A call's comment ends with its
    codes but OK. If several apply, the call returns the first. After any code but OK everything
-   except `told` is as it was, but:
+   except `result` is as it was, but:
    - SHORT and TAG of noise_read end the handshake.
    - END of noise_stream_read, and its refusals, end the stream.
    - AGREEMENT, which only a struct gets that something else has changed, may come with other
@@ -99,16 +99,16 @@ enum {
     NOISE_MAX_PROLOGUE = 65535, NOISE_MAX_PSKS = 9
 };
 
-/* The kept structs: the caller provides the memory, and only the library reads and changes the
+/* The opaque structs: the caller provides the memory, and only the library reads and changes the
    content. */
-typedef struct { NOISE_ALIGNED unsigned char kept[1472]; } noise_handshake;
-typedef struct { NOISE_ALIGNED unsigned char kept[64]; } noise_stream_sender;
-typedef struct { NOISE_ALIGNED unsigned char kept[64]; } noise_stream_receiver;
-typedef struct { NOISE_ALIGNED unsigned char kept[56]; } noise_sender;
-typedef struct { NOISE_ALIGNED unsigned char kept[56]; } noise_receiver;
-typedef struct { NOISE_ALIGNED unsigned char kept[48]; } noise_datagram_sender;
-typedef struct { NOISE_ALIGNED unsigned char kept[192]; } noise_datagram_receiver;
-typedef struct { NOISE_ALIGNED unsigned char kept[48]; } noise_cipher;
+typedef struct { NOISE_ALIGNED unsigned char opaque[1472]; } noise_handshake;
+typedef struct { NOISE_ALIGNED unsigned char opaque[64]; } noise_stream_sender;
+typedef struct { NOISE_ALIGNED unsigned char opaque[64]; } noise_stream_receiver;
+typedef struct { NOISE_ALIGNED unsigned char opaque[56]; } noise_sender;
+typedef struct { NOISE_ALIGNED unsigned char opaque[56]; } noise_receiver;
+typedef struct { NOISE_ALIGNED unsigned char opaque[48]; } noise_datagram_sender;
+typedef struct { NOISE_ALIGNED unsigned char opaque[192]; } noise_datagram_receiver;
+typedef struct { NOISE_ALIGNED unsigned char opaque[48]; } noise_cipher;
 
 /* A public key, or none if present is 0. */
 typedef struct { uint8_t present; uint8_t bytes[32]; } noise_key;
@@ -127,8 +127,8 @@ typedef struct {
     uint8_t psks[9][32];
 } noise_setup;
 
-/* What a call tells beside its code. The comments name the codes at which a field is set; at others
-   it stays. */
+/* What a call reports beside its code. The comments name the codes at which a field is set; at
+   others it stays. */
 typedef struct {
     size_t from;          /* OK: where the payload begins that was read; 0 of calls that write */
     size_t len;           /* OK: the length of the payload that was read, or of the message that was
@@ -138,7 +138,7 @@ typedef struct {
     uint8_t remote[32];   /* WANTED: with this public key. WANTED_PSK: the other's static key, or
                              zeros */
     uint8_t remote_known; /* WANTED_PSK: 1 if that key is known before the psk token, else 0 */
-} noise_told;
+} noise_result;
 
 typedef struct {
     size_t from;   /* OK of noise_stream_read, noise_frame_find: where payload or message begins */
@@ -148,7 +148,7 @@ typedef struct {
                       buffer aren't needed any more. OK of noise_stream_write: how many first bytes
                       of the payload were written */
     size_t wanted; /* MORE: so many bytes are missing; exact once the frame's first 2 are there */
-} noise_stream_told;
+} noise_stream_result;
 
 typedef struct {
     uint8_t messages;    /* how many messages the pattern has, 1 to 8 */
@@ -156,7 +156,7 @@ typedef struct {
     uint8_t ended;       /* 1 if a refused message has ended the handshake, else 0 */
     uint8_t writes_next; /* 1 if this party writes the next message, else 0; after the last one it
                             says nothing */
-} noise_stage_told;
+} noise_stage_result;
 
 typedef struct {
     size_t line;      /* the codes 30 to 38: the line, counted from 1 */
@@ -165,9 +165,9 @@ typedef struct {
     uint8_t token;    /* RULE: the token, counted from 0; in the transport 0: initiator, 1:
                          responder */
     uint8_t messages; /* OK: how many messages the pattern has */
-} noise_pattern_told;
+} noise_pattern_result;
 
-/* Tell the library's version (docs/VERSIONS.md) and its sizes of the kept structs: compare them
+/* Report the library's version (docs/VERSIONS.md) and its sizes of the opaque structs: compare them
    with NOISE_VERSION and sizeof. */
 uint32_t noise_version(void);
 size_t noise_handshake_size(void), noise_cipher_size(void);
@@ -188,7 +188,7 @@ uint32_t noise_start(noise_handshake *h, const uint8_t *pattern, size_t pattern_
     const uint8_t *prologue, size_t prologue_len, const noise_setup *setup);
 
 /* Supplies the result of X25519 (Noise, 12.1) on one of this party's secret keys and a public key
-   of the other party: after WANTED those of told. of_static is 0 for the ephemeral key, else the
+   of the other party: after WANTED those of result. of_static is 0 for the ephemeral key, else the
    static one. A struct without a valid state gives OK or FULL too, and STRUCT at the next call.
    Codes: FULL. */
 uint32_t noise_answer(noise_handshake *h, uint8_t of_static, const uint8_t remote[32],
@@ -196,7 +196,7 @@ uint32_t noise_answer(noise_handshake *h, uint8_t of_static, const uint8_t remot
 
 /* Supplies the psk of the first psk token that lacks one (Noise, 9.2); then all is as if
    noise_start had been given it. At WANTED_PSK the other party has proved neither its static key
-   nor the psk. Use told->remote to choose the psk, and for nothing else until a message that was
+   nor the psk. Use result->remote to choose the psk, and for nothing else until a message that was
    encrypted after the psk has been accepted.
    Codes: STRUCT · PSK_COUNT (no psk token that is still to come lacks one). */
 uint32_t noise_set_psk(noise_handshake *h, const uint8_t psk[32]);
@@ -204,35 +204,35 @@ uint32_t noise_set_psk(noise_handshake *h, const uint8_t psk[32]);
 /* Writes the next message, with this payload, to the start of out (WriteMessage). The bytes after
    it are unchanged. Noise, 7.7 says how well each payload is protected: at first not at all.
    Codes: STRUCT · ENDED · DONE · NOT_YOUR_TURN · TOO_LONG (it would have more than 65535 bytes) ·
-   ROOM (out_len is below told->len) · WANTED · WANTED_PSK. */
+   ROOM (out_len is below result->len) · WANTED · WANTED_PSK. */
 uint32_t noise_write(noise_handshake *h, const uint8_t *payload, size_t payload_len, uint8_t *out,
-    size_t out_len, noise_told *told);
+    size_t out_len, noise_result *result);
 
 /* Reads the next message, in place (ReadMessage). After WANTED and WANTED_PSK call again with the
    same message. After SHORT and TAG close the connection, and tell nobody why. These four are
    looked for token by token.
    Codes: STRUCT · LENGTH (message_len is above 65535) · ENDED · DONE · NOT_YOUR_TURN · WANTED ·
    WANTED_PSK · SHORT · TAG. */
-uint32_t noise_read(noise_handshake *h, uint8_t *message, size_t message_len, noise_told *told);
+uint32_t noise_read(noise_handshake *h, uint8_t *message, size_t message_len, noise_result *result);
 
-/* Tells the length of the next message with a payload of this length.
+/* Reports the length of the next message with a payload of this length.
    Codes: STRUCT · NOT_DUE (noise_write would return ENDED, DONE, NOT_YOUR_TURN or TOO_LONG). */
 uint32_t noise_message_len(const noise_handshake *h, size_t payload_len, size_t *len);
 
-/* Tells the handshake hash so far. After the last message it is the same at both parties, and only
-   if nobody has changed anything: sign it to bind something to this session (Noise, 11.2).
+/* Reports the handshake hash so far. After the last message it is the same at both parties, and
+   only if nobody has changed anything: sign it to bind something to this session (Noise, 11.2).
    Codes: STRUCT. */
 uint32_t noise_hash(const noise_handshake *h, uint8_t hash[32]);
 
-/* Tells the other party's static public key; key->present is 0 if it isn't known (yet). No call
+/* Reports the other party's static public key; key->present is 0 if it isn't known (yet). No call
    compares it: compare it with the one that you expect, or look it up, before you send anything
    that matters (Noise, 14).
    Codes: STRUCT. */
 uint32_t noise_remote_static(const noise_handshake *h, noise_key *key);
 
-/* Tells how far the handshake is.
+/* Reports how far the handshake is.
    Codes: STRUCT. */
-uint32_t noise_stage(const noise_handshake *h, noise_stage_told *told);
+uint32_t noise_stage(const noise_handshake *h, noise_stage_result *result);
 
 /* Checks the text of a pattern, as noise_start does (Noise, 7.3, 9.3). Rule 1: both public keys of
    a DH token come earlier. Rule 2: a party sends one e and one s. Rule 3: a DH token occurs once.
@@ -240,7 +240,7 @@ uint32_t noise_stage(const noise_handshake *h, noise_stage_told *told);
    the same key of the other party came earlier. Rule 5: a party encrypts after a psk only after an
    e of its own. A valid pattern isn't necessarily a secure one.
    Codes: HEADING to ENDING · RULE. */
-uint32_t noise_check_pattern(const uint8_t *text, size_t text_len, noise_pattern_told *told);
+uint32_t noise_check_pattern(const uint8_t *text, size_t text_len, noise_pattern_result *result);
 
 /* FRAMES, for the messages of a handshake over a stream: the length in 2 bytes, the higher first,
    and the message (Noise, 13). */
@@ -248,11 +248,11 @@ uint32_t noise_check_pattern(const uint8_t *text, size_t text_len, noise_pattern
 /* Puts the length in front of a message that noise_write has written to buffer + 2.
    Codes: LENGTH (message_len is above 65535) · ROOM (buffer_len is below message_len + 2). */
 uint32_t noise_frame_message(uint8_t *buffer, size_t buffer_len, size_t message_len,
-    noise_stream_told *told);
+    noise_stream_result *result);
 
 /* Looks for the message of the frame at the start of a buffer.
    Codes: MORE. */
-uint32_t noise_frame_find(const uint8_t *buffer, size_t buffer_len, noise_stream_told *told);
+uint32_t noise_frame_find(const uint8_t *buffer, size_t buffer_len, noise_stream_result *result);
 
 /* STREAMS: bytes in order, with an end, in frames. A stream that ends is whole: a reader that gets
    END has got all that the other party wrote before noise_stream_end, unless a message was
@@ -270,20 +270,20 @@ uint32_t noise_finish_stream(const noise_handshake *h, uint64_t interval,
    Codes: STRUCT · ROOM (out_len is below those bytes + 18) · CLOSED · ONE_WAY · EXHAUSTED (only the
    end can be written). */
 uint32_t noise_stream_write(noise_stream_sender *s, const uint8_t *payload, size_t payload_len,
-    uint8_t *out, size_t out_len, noise_stream_told *told);
+    uint8_t *out, size_t out_len, noise_stream_result *result);
 
 /* Writes the end, a frame of 18 bytes: send it after the last, and only if nothing went wrong.
    Codes: STRUCT · ROOM (out_len is below 18) · CLOSED · ONE_WAY. */
 uint32_t noise_stream_end(noise_stream_sender *s, uint8_t *out, size_t out_len,
-    noise_stream_told *told);
+    noise_stream_result *result);
 
 /* Opens the frame at the start of the buffer, in place. The buffer begins with the first byte that
    isn't used yet, and can hold 65537 bytes. OK gives a payload of 1 byte or more. At MORE receive
-   more, at most told->wanted at a time if there is no room for others, and call again. ONE_WAY,
+   more, at most result->wanted at a time if there is no room for others, and call again. ONE_WAY,
    EXHAUSTED, SHORT and TAG break the stream: close the connection, and don't end your own stream.
    Codes: STRUCT · CLOSED · MORE · ONE_WAY · EXHAUSTED · SHORT · TAG · END. */
 uint32_t noise_stream_read(noise_stream_receiver *r, uint8_t *buffer, size_t buffer_len,
-    noise_stream_told *told);
+    noise_stream_result *result);
 
 /* Says whether the connection's end cuts the stream; `left` bytes of the buffer are unused. OK,
    which is 0: the other party had ended it, and nothing is left.
@@ -303,17 +303,17 @@ uint32_t noise_finish(const noise_handshake *h, uint64_t interval, noise_sender 
    Codes: STRUCT · ROOM (out_len or buffer_len is below payload_len + 16) · ONE_WAY · TOO_LONG
    (payload_len is above 65519) · EXHAUSTED. */
 uint32_t noise_seal(noise_sender *s, const uint8_t *payload, size_t payload_len, uint8_t *out,
-    size_t out_len, noise_told *told);
+    size_t out_len, noise_result *result);
 uint32_t noise_seal_in_place(noise_sender *s, uint8_t *buffer, size_t buffer_len,
-    size_t payload_len, noise_told *told);
+    size_t payload_len, noise_result *result);
 
 /* Opens the next message of the other party, in place. If a message was lost or changed, all later
    ones give TAG: close the connection at the first.
    Codes: STRUCT · LENGTH (message_len is above 65535) · ONE_WAY · EXHAUSTED · SHORT (below 16) ·
    TAG. */
-uint32_t noise_open(noise_receiver *r, uint8_t *message, size_t message_len, noise_told *told);
+uint32_t noise_open(noise_receiver *r, uint8_t *message, size_t message_len, noise_result *result);
 
-/* Tell the nonce of the next message: how many were sealed, or opened.
+/* Report the nonce of the next message: how many were sealed, or opened.
    Codes: STRUCT. */
 uint32_t noise_sender_nonce(const noise_sender *s, uint64_t *nonce);
 uint32_t noise_receiver_nonce(const noise_receiver *r, uint64_t *nonce);
@@ -334,18 +334,18 @@ uint32_t noise_finish_datagrams(const noise_handshake *h, uint32_t window,
    Codes: STRUCT · ROOM (out_len or buffer_len is below payload_len + 24) · ONE_WAY · TOO_LONG
    (payload_len is above 65519) · EXHAUSTED. */
 uint32_t noise_datagram_seal(noise_datagram_sender *s, const uint8_t *payload, size_t payload_len,
-    uint8_t *out, size_t out_len, noise_told *told);
+    uint8_t *out, size_t out_len, noise_result *result);
 uint32_t noise_datagram_seal_in_place(noise_datagram_sender *s, uint8_t *buffer, size_t buffer_len,
-    size_t payload_len, noise_told *told);
+    size_t payload_len, noise_result *result);
 
 /* Opens a datagram of the other party, in place: the payload begins at its ninth byte. No other
    datagram of this nonce will be opened. At any code but OK drop the datagram, and go on.
    Codes: STRUCT · ONE_WAY · SHORT (datagram_len is below 24) · TOO_LONG (above 65543) · RESERVED ·
    OLD · REPEATED · TAG. */
 uint32_t noise_datagram_open(noise_datagram_receiver *r, uint8_t *datagram, size_t datagram_len,
-    noise_told *told);
+    noise_result *result);
 
-/* Tells the nonce of the next datagram.
+/* Reports the nonce of the next datagram.
    Codes: STRUCT. */
 uint32_t noise_datagram_sender_nonce(const noise_datagram_sender *s, uint64_t *nonce);
 
@@ -359,24 +359,24 @@ uint32_t noise_datagram_sender_nonce(const noise_datagram_sender *s, uint64_t *n
 uint32_t noise_finish_ciphers(const noise_handshake *h, noise_cipher *send, noise_cipher *receive);
 
 /* Encrypts the first text_len bytes of buffer in place, with associated data (EncryptWithAd). The
-   message is told->len bytes, 16 more; neither the data nor the nonce is in it. The next nonce is
+   message is result->len bytes, 16 more; neither the data nor the nonce is in it. The next nonce is
    one greater.
    Codes: STRUCT (also of the one for receiving) · ONE_WAY · LENGTH (ad_len is above 65535) · ROOM
    (buffer_len is below text_len + 16) · EXHAUSTED · TOO_LONG (text_len is above 65519). */
 uint32_t noise_cipher_encrypt(noise_cipher *c, const uint8_t *ad, size_t ad_len, uint8_t *buffer,
-    size_t buffer_len, size_t text_len, noise_told *told);
+    size_t buffer_len, size_t text_len, noise_result *result);
 
 /* Decrypts a message in place (DecryptWithAd).
    Codes: STRUCT (also of the one for sending) · ONE_WAY · LENGTH (ad_len is above 65535) ·
    EXHAUSTED · TOO_LONG (message_len is above 65535) · SHORT (below 16) · TAG. */
 uint32_t noise_cipher_decrypt(noise_cipher *c, const uint8_t *ad, size_t ad_len, uint8_t *message,
-    size_t message_len, noise_told *told);
+    size_t message_len, noise_result *result);
 
 /* Replaces the key by the one that follows from it, and keeps the nonce (Rekey: Noise, 11.3).
    Codes: STRUCT · ONE_WAY. */
 uint32_t noise_cipher_rekey(noise_cipher *c);
 
-/* Tells the nonce of the next message, or sets it (Noise, 11.4): a receiver that sets it refuses
+/* Reports the nonce of the next message, or sets it (Noise, 11.4): a receiver that sets it refuses
    itself what it has received before.
    Codes: STRUCT · ONE_WAY. */
 uint32_t noise_cipher_nonce(const noise_cipher *c, uint64_t *nonce);
@@ -407,7 +407,7 @@ static inline const char *noise_text(uint32_t code) {
     case NOISE_STATIC_MISSING: return "The setup lacks this party's static public key.";
     case NOISE_REMOTE_MISSING: return "The setup lacks a key of the other party's pre-message.";
     case NOISE_REMOTE_UNEXPECTED: return "The setup has a remote key that isn't in a pre-message.";
-    case NOISE_PSK_COUNT: return "There are more secrets than psk tokens.";
+    case NOISE_PSK_COUNT: return "There are more psks than psk tokens.";
     case NOISE_NOT_YOUR_TURN: return "It is the other party's turn.";
     case NOISE_TOO_LONG: return "The message would be or is too long.";
     case NOISE_DONE: return "All messages of the handshake have passed.";
@@ -463,69 +463,70 @@ static inline uint32_t noise_start_inline(noise_handshake *h, const uint8_t *pat
     return noise_start(h, noise_in(pattern, len), len, noise_in(prologue, count), count, setup);
 }
 static inline uint32_t noise_write_inline(noise_handshake *h, const uint8_t *payload, size_t len,
-    uint8_t *out, size_t room, noise_told *told) {
-    return noise_write(h, noise_in(payload, len), len, noise_out(out, room), room, told);
+    uint8_t *out, size_t room, noise_result *result) {
+    return noise_write(h, noise_in(payload, len), len, noise_out(out, room), room, result);
 }
 static inline uint32_t noise_read_inline(noise_handshake *h, uint8_t *message, size_t len,
-    noise_told *told) {
-    return noise_read(h, noise_out(message, len), len, told);
+    noise_result *result) {
+    return noise_read(h, noise_out(message, len), len, result);
 }
 static inline uint32_t noise_check_pattern_inline(const uint8_t *text, size_t len,
-    noise_pattern_told *told) {
-    return noise_check_pattern(noise_in(text, len), len, told);
+    noise_pattern_result *result) {
+    return noise_check_pattern(noise_in(text, len), len, result);
 }
 static inline uint32_t noise_frame_message_inline(uint8_t *buffer, size_t len, size_t message_len,
-    noise_stream_told *told) {
-    return noise_frame_message(noise_out(buffer, len), len, message_len, told);
+    noise_stream_result *result) {
+    return noise_frame_message(noise_out(buffer, len), len, message_len, result);
 }
 static inline uint32_t noise_frame_find_inline(const uint8_t *buffer, size_t len,
-    noise_stream_told *told) {
-    return noise_frame_find(noise_in(buffer, len), len, told);
+    noise_stream_result *result) {
+    return noise_frame_find(noise_in(buffer, len), len, result);
 }
 static inline uint32_t noise_stream_write_inline(noise_stream_sender *s, const uint8_t *payload,
-    size_t len, uint8_t *out, size_t room, noise_stream_told *told) {
-    return noise_stream_write(s, noise_in(payload, len), len, noise_out(out, room), room, told);
+    size_t len, uint8_t *out, size_t room, noise_stream_result *result) {
+    return noise_stream_write(s, noise_in(payload, len), len, noise_out(out, room), room, result);
 }
 static inline uint32_t noise_stream_end_inline(noise_stream_sender *s, uint8_t *out, size_t len,
-    noise_stream_told *told) {
-    return noise_stream_end(s, noise_out(out, len), len, told);
+    noise_stream_result *result) {
+    return noise_stream_end(s, noise_out(out, len), len, result);
 }
 static inline uint32_t noise_stream_read_inline(noise_stream_receiver *r, uint8_t *buffer,
-    size_t len, noise_stream_told *told) {
-    return noise_stream_read(r, noise_out(buffer, len), len, told);
+    size_t len, noise_stream_result *result) {
+    return noise_stream_read(r, noise_out(buffer, len), len, result);
 }
 static inline uint32_t noise_seal_inline(noise_sender *s, const uint8_t *payload, size_t len,
-    uint8_t *out, size_t room, noise_told *told) {
-    return noise_seal(s, noise_in(payload, len), len, noise_out(out, room), room, told);
+    uint8_t *out, size_t room, noise_result *result) {
+    return noise_seal(s, noise_in(payload, len), len, noise_out(out, room), room, result);
 }
 static inline uint32_t noise_seal_in_place_inline(noise_sender *s, uint8_t *buffer, size_t len,
-    size_t payload_len, noise_told *told) {
-    return noise_seal_in_place(s, noise_out(buffer, len), len, payload_len, told);
+    size_t payload_len, noise_result *result) {
+    return noise_seal_in_place(s, noise_out(buffer, len), len, payload_len, result);
 }
 static inline uint32_t noise_open_inline(noise_receiver *r, uint8_t *message, size_t len,
-    noise_told *told) {
-    return noise_open(r, noise_out(message, len), len, told);
+    noise_result *result) {
+    return noise_open(r, noise_out(message, len), len, result);
 }
 static inline uint32_t noise_datagram_seal_inline(noise_datagram_sender *s, const uint8_t *payload,
-    size_t len, uint8_t *out, size_t room, noise_told *told) {
-    return noise_datagram_seal(s, noise_in(payload, len), len, noise_out(out, room), room, told);
+    size_t len, uint8_t *out, size_t room, noise_result *result) {
+    return noise_datagram_seal(s, noise_in(payload, len), len, noise_out(out, room), room, result);
 }
 static inline uint32_t noise_datagram_seal_in_place_inline(noise_datagram_sender *s,
-    uint8_t *buffer, size_t len, size_t payload_len, noise_told *told) {
-    return noise_datagram_seal_in_place(s, noise_out(buffer, len), len, payload_len, told);
+    uint8_t *buffer, size_t len, size_t payload_len, noise_result *result) {
+    return noise_datagram_seal_in_place(s, noise_out(buffer, len), len, payload_len, result);
 }
 static inline uint32_t noise_datagram_open_inline(noise_datagram_receiver *r, uint8_t *datagram,
-    size_t len, noise_told *told) {
-    return noise_datagram_open(r, noise_out(datagram, len), len, told);
+    size_t len, noise_result *result) {
+    return noise_datagram_open(r, noise_out(datagram, len), len, result);
 }
 static inline uint32_t noise_cipher_encrypt_inline(noise_cipher *c, const uint8_t *ad,
-    size_t count, uint8_t *buffer, size_t len, size_t text_len, noise_told *told) {
+    size_t count, uint8_t *buffer, size_t len, size_t text_len, noise_result *result) {
     buffer = noise_out(buffer, len);
-    return noise_cipher_encrypt(c, noise_in(ad, count), count, buffer, len, text_len, told);
+    return noise_cipher_encrypt(c, noise_in(ad, count), count, buffer, len, text_len, result);
 }
 static inline uint32_t noise_cipher_decrypt_inline(noise_cipher *c, const uint8_t *ad,
-    size_t count, uint8_t *message, size_t len, noise_told *told) {
-    return noise_cipher_decrypt(c, noise_in(ad, count), count, noise_out(message, len), len, told);
+    size_t count, uint8_t *message, size_t len, noise_result *result) {
+    message = noise_out(message, len);
+    return noise_cipher_decrypt(c, noise_in(ad, count), count, message, len, result);
 }
 #define noise_start noise_start_inline
 #define noise_write noise_write_inline

@@ -34,7 +34,7 @@ func (c *CipherState) Encrypt(dst, ad, plaintext []byte) ([]byte, error) {
 	ad = apart(room, ad, &c.spare)
 	copy(room, plaintext)
 	m := &c.memory
-	code := C.noise_cipher_encrypt(&m.kept, place(ad), C.size_t(len(ad)), place(room), C.size_t(len(room)), C.size_t(len(plaintext)), &m.told)
+	code := C.noise_cipher_encrypt(&m.opaque, place(ad), C.size_t(len(ad)), place(room), C.size_t(len(room)), C.size_t(len(plaintext)), &m.result)
 	if code != C.NOISE_OK {
 		return dst, Code(code)
 	}
@@ -58,18 +58,18 @@ func (c *CipherState) Decrypt(dst, ad, message []byte) ([]byte, error) {
 	ad = apart(room, ad, &c.spare)
 	copy(room, message)
 	m := &c.memory
-	code := C.noise_cipher_decrypt(&m.kept, place(ad), C.size_t(len(ad)), place(room), C.size_t(len(room)), &m.told)
+	code := C.noise_cipher_decrypt(&m.opaque, place(ad), C.size_t(len(ad)), place(room), C.size_t(len(room)), &m.result)
 	if code != C.NOISE_OK {
 		return dst, Code(code)
 	}
-	return whole[:len(dst)+int(m.told.len)], nil
+	return whole[:len(dst)+int(m.result.len)], nil
 }
 
 // Nonce returns the nonce of the next message; 0 after Close, and if there is no key.
 func (c *CipherState) Nonce() uint64 {
 	c.mutex.Lock()
 	defer c.mutex.Unlock()
-	if c.closed || C.noise_cipher_nonce(&c.memory.kept, &c.memory.nonce) != C.NOISE_OK {
+	if c.closed || C.noise_cipher_nonce(&c.memory.opaque, &c.memory.nonce) != C.NOISE_OK {
 		return 0
 	}
 	return uint64(c.memory.nonce)
@@ -83,7 +83,7 @@ func (c *CipherState) SetNonce(nonce uint64) error {
 	if c.closed {
 		return ErrClosed
 	}
-	return asError(uint32(C.noise_cipher_set_nonce(&c.memory.kept, C.uint64_t(nonce))))
+	return asError(uint32(C.noise_cipher_set_nonce(&c.memory.opaque, C.uint64_t(nonce))))
 }
 
 // Rekey replaces the key by the one that follows from it, and keeps the nonce (the framework's 11.3). ErrOneWay, ErrClosed.
@@ -93,7 +93,7 @@ func (c *CipherState) Rekey() error {
 	if c.closed {
 		return ErrClosed
 	}
-	return asError(uint32(C.noise_cipher_rekey(&c.memory.kept)))
+	return asError(uint32(C.noise_cipher_rekey(&c.memory.opaque)))
 }
 
 // Close overwrites the key. Later calls return ErrClosed.

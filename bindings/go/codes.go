@@ -60,7 +60,7 @@ const (
 	MaxPSKs          = 9
 )
 
-// What the library keeps in the caller's memory, in bytes.
+// The opaque structs in the caller's memory, in bytes.
 const (
 	sizeOfHandshake        = 1472
 	sizeOfStreamSender     = 64

@@ -140,15 +140,15 @@ func (c *Conn) open() error {
 		c.inErr = ErrOneWay
 		return nil
 	}
-	told, left := &c.receiver.told, c.came.left()
-	switch code := C.noise_stream_read(&c.receiver.kept, place(left), C.size_t(len(left)), told); code {
+	result, left := &c.receiver.result, c.came.left()
+	switch code := C.noise_stream_read(&c.receiver.opaque, place(left), C.size_t(len(left)), result); code {
 	case C.NOISE_MORE:
-		return c.receive(int(told.wanted))
+		return c.receive(int(result.wanted))
 	case C.NOISE_OK:
-		c.rest = left[told.from : told.from+told.len]
-		c.came.start += int(told.used)
+		c.rest = left[result.from : result.from+result.len]
+		c.came.start += int(result.used)
 	case C.NOISE_END:
-		c.came.start += int(told.used)
+		c.came.start += int(result.used)
 		c.came.settle()
 		c.inErr = io.EOF
 	default:
@@ -168,7 +168,7 @@ func (c *Conn) receive(wanted int) error {
 		return err
 	case err != io.EOF:
 		c.inErr = c.breakOff(&lostError{err})
-	case C.noise_stream_is_cut(&c.receiver.kept, C.size_t(len(c.came.left()))) == C.NOISE_OK:
+	case C.noise_stream_is_cut(&c.receiver.opaque, C.size_t(len(c.came.left()))) == C.NOISE_OK:
 		c.inErr = io.EOF
 	default:
 		c.inErr = c.breakOff(ErrCut)
@@ -236,8 +236,8 @@ var errEnded = errors.New("noise: a Write after CloseWrite")
 
 // seal seals the first bytes of a payload, sends them, and returns how many it has sealed.
 func (c *Conn) seal(payload []byte) (int, error) {
-	room, told := roomFor(len(payload)+C.NOISE_STREAM_OVERHEAD), &c.sender.told
-	code := C.noise_stream_write(&c.sender.kept, place(payload), C.size_t(len(payload)), place(room.bytes), C.size_t(len(room.bytes)), told)
+	room, result := roomFor(len(payload)+C.NOISE_STREAM_OVERHEAD), &c.sender.result
+	code := C.noise_stream_write(&c.sender.opaque, place(payload), C.size_t(len(payload)), place(room.bytes), C.size_t(len(room.bytes)), result)
 	if code != C.NOISE_OK {
 		room.free(0)
 		if code == C.NOISE_CLOSED {
@@ -245,7 +245,7 @@ func (c *Conn) seal(payload []byte) (int, error) {
 		}
 		return 0, Code(code)
 	}
-	return int(told.used), c.send(room, int(told.len))
+	return int(result.used), c.send(room, int(result.len))
 }
 
 // send sends the first bytes of a room.
@@ -293,8 +293,8 @@ func (c *Conn) CloseWrite() error {
 
 // sendEnd sends the end, unless that was done.
 func (c *Conn) sendEnd() error {
-	room, told := newRoom(0), &c.sender.told
-	code := C.noise_stream_end(&c.sender.kept, place(room.bytes), C.size_t(len(room.bytes)), told)
+	room, result := newRoom(0), &c.sender.result
+	code := C.noise_stream_end(&c.sender.opaque, place(room.bytes), C.size_t(len(room.bytes)), result)
 	if code != C.NOISE_OK {
 		room.free(0)
 		if code == C.NOISE_CLOSED {
@@ -303,7 +303,7 @@ func (c *Conn) sendEnd() error {
 		return Code(code)
 	}
 	c.isUnfinished = false
-	return c.send(room, int(told.len))
+	return c.send(room, int(result.len))
 }
 
 // Close sends the end of the stream, for which it waits at most 5 seconds, closes the connection below, and overwrites the keys. It sends no end if the

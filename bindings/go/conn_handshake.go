@@ -193,11 +193,11 @@ func (c *Conn) writeMessage(ctx context.Context) error {
 	if err != nil {
 		return err
 	}
-	var told C.noise_stream_told
-	if code := C.noise_frame_message(place(frame), C.size_t(len(frame)), C.size_t(len(frame)-2), &told); code != C.NOISE_OK {
+	var result C.noise_stream_result
+	if code := C.noise_frame_message(place(frame), C.size_t(len(frame)), C.size_t(len(frame)-2), &result); code != C.NOISE_OK {
 		return h.end("", Code(code))
 	}
-	c.pending = frame[:told.len]
+	c.pending = frame[:result.len]
 	c.keepPayload(nil)
 	return nil
 }
@@ -223,18 +223,18 @@ func (c *Conn) readMessage(ctx context.Context) error {
 
 // receiveMessage returns the next message of the handshake, and how many bytes its frame has.
 func (c *Conn) receiveMessage() (message []byte, used int, err error) {
-	var told C.noise_stream_told
+	var result C.noise_stream_result
 	index, most := c.mostOfMessage()
 	for {
 		left := c.came.left()
-		code := C.noise_frame_find(place(left), C.size_t(len(left)), &told)
-		if code == C.NOISE_OK && int(told.len) <= most {
-			return left[told.from : told.from+told.len], int(told.used), nil
+		code := C.noise_frame_find(place(left), C.size_t(len(left)), &result)
+		if code == C.NOISE_OK && int(result.len) <= most {
+			return left[result.from : result.from+result.len], int(result.used), nil
 		}
-		if code == C.NOISE_OK || len(left) >= 2 && len(left)+int(told.wanted)-2 > most {
+		if code == C.NOISE_OK || len(left) >= 2 && len(left)+int(result.wanted)-2 > most {
 			return nil, 0, &HandshakeError{Message: index + 1, Err: ErrTooLong}
 		}
-		err := c.came.from(c.conn, int(told.wanted))
+		err := c.came.from(c.conn, int(result.wanted))
 		switch {
 		case err == io.EOF:
 			return nil, 0, &HandshakeError{Message: index + 1, Err: ErrCut}

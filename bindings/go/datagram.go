@@ -32,7 +32,7 @@ func (s *DatagramSender) Seal(dst, payload []byte) ([]byte, error) {
 	}
 	whole, room := grown(dst, len(payload)+DatagramOverhead)
 	payload = apart(room, payload, &s.spare)
-	code := C.noise_datagram_seal(&s.memory.kept, place(payload), C.size_t(len(payload)), place(room), C.size_t(len(room)), &s.memory.told)
+	code := C.noise_datagram_seal(&s.memory.opaque, place(payload), C.size_t(len(payload)), place(room), C.size_t(len(room)), &s.memory.result)
 	if code != C.NOISE_OK {
 		return dst, Code(code)
 	}
@@ -43,7 +43,7 @@ func (s *DatagramSender) Seal(dst, payload []byte) ([]byte, error) {
 func (s *DatagramSender) Nonce() uint64 {
 	s.mutex.Lock()
 	defer s.mutex.Unlock()
-	if s.closed || C.noise_datagram_sender_nonce(&s.memory.kept, &s.memory.nonce) != C.NOISE_OK {
+	if s.closed || C.noise_datagram_sender_nonce(&s.memory.opaque, &s.memory.nonce) != C.NOISE_OK {
 		return 0
 	}
 	return uint64(s.memory.nonce)
@@ -72,11 +72,11 @@ func (r *DatagramReceiver) Open(dst, datagram []byte) ([]byte, error) {
 	}
 	whole, room := grown(dst, len(datagram))
 	copy(room, datagram)
-	code := C.noise_datagram_open(&r.memory.kept, place(room), C.size_t(len(room)), &r.memory.told)
+	code := C.noise_datagram_open(&r.memory.opaque, place(room), C.size_t(len(room)), &r.memory.result)
 	if code != C.NOISE_OK {
 		return dst, Code(code)
 	}
-	from, count := int(r.memory.told.from), int(r.memory.told.len)
+	from, count := int(r.memory.result.from), int(r.memory.result.len)
 	copy(room, room[from:from+count])
 	return whole[:len(dst)+count], nil
 }

@@ -337,7 +337,7 @@ func ExampleDH() {
 
 type device struct{ *noise.KeyPair }
 
-// A key pair is kept as its secret key.
+// A key pair is stored as its secret key.
 func ExampleNewKeyPair() {
 	key, err := noise.GenerateKeyPair()
 	must(err)

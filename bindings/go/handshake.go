@@ -84,7 +84,7 @@ func started(config *Config, initiator, isLate bool, ephemeral *KeyPair) (*Hands
 func (h *HandshakeState) patternFault() Code {
 	var setup C.noise_setup
 	memory, pattern := new(handshakeMemory), []byte(h.config.pattern())
-	code := Code(C.noise_start(&memory.kept, place(pattern), C.size_t(len(pattern)), place(nil), 0, &setup))
+	code := Code(C.noise_start(&memory.opaque, place(pattern), C.size_t(len(pattern)), place(nil), 0, &setup))
 	if code == ErrName || code == ErrPattern {
 		return code
 	}
@@ -116,7 +116,7 @@ func (h *HandshakeState) start() Code {
 		defer wipe(psk)
 	}
 	pattern, prologue := []byte(h.config.pattern()), h.config.Prologue
-	return Code(C.noise_start(&h.memory.kept, place(pattern), C.size_t(len(pattern)), place(prologue), C.size_t(len(prologue)), setup))
+	return Code(C.noise_start(&h.memory.opaque, place(pattern), C.size_t(len(pattern)), place(prologue), C.size_t(len(prologue)), setup))
 }
 
 // stage returns how many messages have passed, how many the pattern has, and whether this party writes the next.
@@ -124,8 +124,8 @@ func (h *HandshakeState) stage() (passed, messages int, writes bool) {
 	if h.memory == nil {
 		return 0, 0, false
 	}
-	var stage C.noise_stage_told
-	if C.noise_stage(&h.memory.kept, &stage) != C.NOISE_OK {
+	var stage C.noise_stage_result
+	if C.noise_stage(&h.memory.opaque, &stage) != C.NOISE_OK {
 		return 0, 0, false
 	}
 	return int(stage.passed), int(stage.messages), stage.writes_next != 0
@@ -209,7 +209,7 @@ func (h *HandshakeState) supply(ctx context.Context, token string, remote Key) e
 	if err != nil {
 		return &tokenError{err, token}
 	}
-	code := C.noise_answer(&h.memory.kept, of, place(remote[:]), place(result[:]))
+	code := C.noise_answer(&h.memory.opaque, of, place(remote[:]), place(result[:]))
 	wipe(result[:])
 	return asError(uint32(code))
 }
@@ -254,10 +254,10 @@ func (h *HandshakeState) prepare(ctx context.Context, keys *remoteKeys, tokens [
 // wanted returns the DH token whose result the library asks for.
 func (h *HandshakeState) wanted(keys *remoteKeys) string {
 	own, other := byte('e'), byte('s')
-	if h.memory.told.of_static != 0 {
+	if h.memory.result.of_static != 0 {
 		own = 's'
 	}
-	if keys.hasE && keyIn(&h.memory.told.remote[0]) == keys.e {
+	if keys.hasE && keyIn(&h.memory.result.remote[0]) == keys.e {
 		other = 'e'
 	}
 	token := [2]byte{own, other}
@@ -267,12 +267,12 @@ func (h *HandshakeState) wanted(keys *remoteKeys) string {
 // called makes a call of the library, and supplies the results of X25519 and the psks that it asks for. A *WantedPSKError leaves the handshake as it was;
 // after another error it has ended.
 func (h *HandshakeState) called(ctx context.Context, keys *remoteKeys, call func() C.uint32_t) (Code, error) {
-	told := &h.memory.told
+	result := &h.memory.result
 	for {
 		var err error
 		switch code := call(); code {
 		case C.NOISE_WANTED:
-			err = h.supply(ctx, h.wanted(keys), keyIn(&told.remote[0]))
+			err = h.supply(ctx, h.wanted(keys), keyIn(&result.remote[0]))
 		case C.NOISE_WANTED_PSK:
 			if h.config.PSKFor == nil {
 				return 0, h.wantedPSK()
@@ -289,20 +289,20 @@ func (h *HandshakeState) called(ctx context.Context, keys *remoteKeys, call func
 
 // wantedPSK returns what the library asks for.
 func (h *HandshakeState) wantedPSK() error {
-	told := &h.memory.told
-	if told.remote_known == 0 {
+	result := &h.memory.result
+	if result.remote_known == 0 {
 		return &WantedPSKError{}
 	}
-	key := keyIn(&told.remote[0])
+	key := keyIn(&result.remote[0])
 	return &WantedPSKError{&key}
 }
 
-// choose passes the psks that this party shares with the owner of the static key that the library has told.
+// choose passes the psks that this party shares with the owner of the static key that the library has reported.
 func (h *HandshakeState) choose(ctx context.Context) error {
-	if h.memory.told.remote_known == 0 {
+	if h.memory.result.remote_known == 0 {
 		return errPSKTooLate
 	}
-	psks, err := h.config.PSKFor(ctx, keyIn(&h.memory.told.remote[0]))
+	psks, err := h.config.PSKFor(ctx, keyIn(&h.memory.result.remote[0]))
 	if err == nil && len(psks) != h.pattern.psks {
 		err = ErrPSKCount
 	}
@@ -322,7 +322,7 @@ func (h *HandshakeState) SetPSK(psk Key) error {
 		return h.ended
 	}
 	defer wipe(psk[:])
-	return asError(uint32(C.noise_set_psk(&h.memory.kept, place(psk[:]))))
+	return asError(uint32(C.noise_set_psk(&h.memory.opaque, place(psk[:]))))
 }
 
 // WriteMessage appends the next message, with this payload, to dst. ErrNotYourTurn, ErrDone, ErrTooLong and a *WantedPSKError leave the handshake as it
@@ -337,7 +337,7 @@ func (h *HandshakeState) WriteMessageContext(ctx context.Context, dst, payload [
 		return dst, h.ended
 	}
 	m, size := h.memory, C.size_t(0)
-	switch code := C.noise_message_len(&m.kept, C.size_t(len(payload)), &size); {
+	switch code := C.noise_message_len(&m.opaque, C.size_t(len(payload)), &size); {
 	case code == C.NOISE_STRUCT:
 		return dst, h.end("", ErrStruct)
 	case code == C.NOISE_OK:
@@ -353,7 +353,7 @@ func (h *HandshakeState) WriteMessageContext(ctx context.Context, dst, payload [
 		payload = append([]byte(nil), payload...)
 	}
 	code, err := h.called(ctx, &h.remote, func() C.uint32_t {
-		return C.noise_write(&m.kept, place(payload), C.size_t(len(payload)), place(room), C.size_t(len(room)), &m.told)
+		return C.noise_write(&m.opaque, place(payload), C.size_t(len(payload)), place(room), C.size_t(len(room)), &m.result)
 	})
 	switch {
 	case err != nil:
@@ -364,7 +364,7 @@ func (h *HandshakeState) WriteMessageContext(ctx context.Context, dst, payload [
 		return dst, code
 	}
 	h.passed()
-	return whole[:len(dst)+int(m.told.len)], nil
+	return whole[:len(dst)+int(m.result.len)], nil
 }
 
 // passed notes that a message has passed.
@@ -419,19 +419,19 @@ func (h *HandshakeState) read(ctx context.Context, received []byte) ([]byte, err
 		return nil, h.end("", err)
 	}
 	code, err := h.called(ctx, &keys, func() C.uint32_t {
-		return C.noise_read(&m.kept, place(work), C.size_t(len(work)), &m.told)
+		return C.noise_read(&m.opaque, place(work), C.size_t(len(work)), &m.result)
 	})
 	switch {
 	case err != nil:
 		return nil, err
 	case code == ErrShort || code == ErrTag:
-		return nil, h.refuse(int(m.told.token), code)
+		return nil, h.refuse(int(m.result.token), code)
 	case code != 0:
 		return nil, h.end("", code)
 	}
 	h.remote = keys
 	h.passed()
-	return work[m.told.from : m.told.from+m.told.len], nil
+	return work[m.result.from : m.result.from+m.result.len], nil
 }
 
 // judge decides whether the other party's static key is accepted, which is known from a token of a message, or from the start (0).
@@ -461,7 +461,7 @@ func (h *HandshakeState) PeerStatic() (key Key, known bool) {
 		return key, false
 	}
 	var k C.noise_key
-	if C.noise_remote_static(&h.memory.kept, &k) != C.NOISE_OK || k.present == 0 {
+	if C.noise_remote_static(&h.memory.opaque, &k) != C.NOISE_OK || k.present == 0 {
 		return key, false
 	}
 	return keyIn(&k.bytes[0]), true
@@ -470,7 +470,7 @@ func (h *HandshakeState) PeerStatic() (key Key, known bool) {
 // HandshakeHash returns the hash of what has passed so far. After the last message it is the same at both parties (the framework's 11.2).
 func (h *HandshakeState) HandshakeHash() (hash [KeyLen]byte) {
 	if h.memory != nil {
-		C.noise_hash(&h.memory.kept, place(hash[:]))
+		C.noise_hash(&h.memory.opaque, place(hash[:]))
 	}
 	return hash
 }
@@ -481,7 +481,7 @@ func (h *HandshakeState) Split() (*Sender, *Receiver, error) {
 		return nil, nil, h.ended
 	}
 	s, r := new(Sender), new(Receiver)
-	code := C.noise_finish(&h.memory.kept, C.uint64_t(h.config.Interval), &s.memory.kept, &r.memory.kept)
+	code := C.noise_finish(&h.memory.opaque, C.uint64_t(h.config.Interval), &s.memory.opaque, &r.memory.opaque)
 	if code != C.NOISE_OK {
 		return nil, nil, Code(code)
 	}
@@ -494,7 +494,7 @@ func (h *HandshakeState) splitStream(s *streamSenderMemory, r *streamReceiverMem
 	if h.ended != nil {
 		return h.ended
 	}
-	if code := C.noise_finish_stream(&h.memory.kept, C.uint64_t(h.config.Interval), &s.kept, &r.kept); code != C.NOISE_OK {
+	if code := C.noise_finish_stream(&h.memory.opaque, C.uint64_t(h.config.Interval), &s.opaque, &r.opaque); code != C.NOISE_OK {
 		return Code(code)
 	}
 	return h.Close()
@@ -510,7 +510,7 @@ func (h *HandshakeState) Datagrams(window int) (*DatagramSender, *DatagramReceiv
 		return nil, nil, ErrWindow
 	}
 	s, r := new(DatagramSender), new(DatagramReceiver)
-	code := C.noise_finish_datagrams(&h.memory.kept, C.uint32_t(window), &s.memory.kept, &r.memory.kept)
+	code := C.noise_finish_datagrams(&h.memory.opaque, C.uint32_t(window), &s.memory.opaque, &r.memory.opaque)
 	if code != C.NOISE_OK {
 		return nil, nil, Code(code)
 	}
@@ -525,7 +525,7 @@ func (h *HandshakeState) CipherStates() (send, receive *CipherState, err error) 
 		return nil, nil, h.ended
 	}
 	send, receive = new(CipherState), &CipherState{receives: true}
-	if code := C.noise_finish_ciphers(&h.memory.kept, &send.memory.kept, &receive.memory.kept); code != C.NOISE_OK {
+	if code := C.noise_finish_ciphers(&h.memory.opaque, &send.memory.opaque, &receive.memory.opaque); code != C.NOISE_OK {
 		return nil, nil, Code(code)
 	}
 	h.Close()

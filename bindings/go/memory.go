@@ -5,52 +5,52 @@ import "C"
 
 import "unsafe"
 
-// The kept structs of the library. The empty array gives each an address that is a multiple of 8: cgo declares them as bytes. `told` is in the same
+// The opaque structs of the library. The empty array gives each an address that is a multiple of 8: cgo declares them as bytes. `result` is in the same
 // struct, so that a call allocates no memory.
 type (
 	handshakeMemory struct {
-		_    [0]uint64
-		kept C.noise_handshake
-		told C.noise_told
+		_      [0]uint64
+		opaque C.noise_handshake
+		result C.noise_result
 	}
 	senderMemory struct {
-		_     [0]uint64
-		kept  C.noise_sender
-		told  C.noise_told
-		nonce C.uint64_t
+		_      [0]uint64
+		opaque C.noise_sender
+		result C.noise_result
+		nonce  C.uint64_t
 	}
 	receiverMemory struct {
-		_     [0]uint64
-		kept  C.noise_receiver
-		told  C.noise_told
-		nonce C.uint64_t
+		_      [0]uint64
+		opaque C.noise_receiver
+		result C.noise_result
+		nonce  C.uint64_t
 	}
 	streamSenderMemory struct {
-		_    [0]uint64
-		kept C.noise_stream_sender
-		told C.noise_stream_told
+		_      [0]uint64
+		opaque C.noise_stream_sender
+		result C.noise_stream_result
 	}
 	streamReceiverMemory struct {
-		_    [0]uint64
-		kept C.noise_stream_receiver
-		told C.noise_stream_told
+		_      [0]uint64
+		opaque C.noise_stream_receiver
+		result C.noise_stream_result
 	}
 	datagramSenderMemory struct {
-		_     [0]uint64
-		kept  C.noise_datagram_sender
-		told  C.noise_told
-		nonce C.uint64_t
+		_      [0]uint64
+		opaque C.noise_datagram_sender
+		result C.noise_result
+		nonce  C.uint64_t
 	}
 	datagramReceiverMemory struct {
-		_    [0]uint64
-		kept C.noise_datagram_receiver
-		told C.noise_told
+		_      [0]uint64
+		opaque C.noise_datagram_receiver
+		result C.noise_result
 	}
 	cipherMemory struct {
-		_     [0]uint64
-		kept  C.noise_cipher
-		told  C.noise_told
-		nonce C.uint64_t
+		_      [0]uint64
+		opaque C.noise_cipher
+		result C.noise_result
+		nonce  C.uint64_t
 	}
 )
 

@@ -136,9 +136,9 @@ func wants(t testing.TB, err, want error) {
 
 // goes runs a call in a goroutine, and returns where its error comes.
 func goes(call func() error) chan error {
-	told := make(chan error, 1)
-	go func() { told <- call() }()
-	return told
+	ends := make(chan error, 1)
+	go func() { ends <- call() }()
+	return ends
 }
 
 // readAll is io.ReadAll that returns io.EOF too.
@@ -415,11 +415,11 @@ func (t *tape) SetWriteDeadline(time.Time) error { return nil }
 // taped returns what a call writes to the connection below, which doesn't get it.
 func taped(t *testing.T, c *Conn, call func() error) []byte {
 	t.Helper()
-	below, kept := c.conn, new(tape)
-	c.conn = kept
+	below, copied := c.conn, new(tape)
+	c.conn = copied
 	must(t, call())
 	c.conn = below
-	return kept.Bytes()
+	return copied.Bytes()
 }
 
 // TestCutAtEachByte ends the connection after each byte of a frame: that is ErrCut, and what came whole was read.

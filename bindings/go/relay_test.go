@@ -132,9 +132,9 @@ func (it *relayed) judge(i int, own, other *report) string {
 }
 
 func goEnd(it *relayed, c *Conn, i int) chan report {
-	told := make(chan report, 1)
-	go func() { told <- end(it, c, i) }()
-	return told
+	ends := make(chan report, 1)
+	go func() { ends <- end(it, c, i) }()
+	return ends
 }
 
 // end is one party, as a program would be written: it writes its texts and reads what comes at once, and closes by defer.

@@ -154,8 +154,8 @@ func (it *soaked) run(client, server *Config, ready *sync.WaitGroup) (all []erro
 		goes(func() error { return it.end(Client, client, 0, ready) }),
 		goes(func() error { return it.end(Server, server, 1, ready) }),
 	}
-	for _, told := range ends {
-		if err := <-told; err != nil {
+	for _, end := range ends {
+		if err := <-end; err != nil {
 			all = append(all, err)
 		}
 		<-relayed

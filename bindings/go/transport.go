@@ -38,7 +38,7 @@ func (s *Sender) seal(dst, payload []byte) ([]byte, error) {
 	}
 	whole, room := grown(dst, len(payload)+TagLen)
 	payload = apart(room, payload, &s.spare)
-	code := C.noise_seal(&s.memory.kept, place(payload), C.size_t(len(payload)), place(room), C.size_t(len(room)), &s.memory.told)
+	code := C.noise_seal(&s.memory.opaque, place(payload), C.size_t(len(payload)), place(room), C.size_t(len(room)), &s.memory.result)
 	if code != C.NOISE_OK {
 		return dst, Code(code)
 	}
@@ -49,7 +49,7 @@ func (s *Sender) seal(dst, payload []byte) ([]byte, error) {
 func (s *Sender) Nonce() uint64 {
 	s.mutex.Lock()
 	defer s.mutex.Unlock()
-	if s.closed || C.noise_sender_nonce(&s.memory.kept, &s.memory.nonce) != C.NOISE_OK {
+	if s.closed || C.noise_sender_nonce(&s.memory.opaque, &s.memory.nonce) != C.NOISE_OK {
 		return 0
 	}
 	return uint64(s.memory.nonce)
@@ -85,18 +85,18 @@ func (r *Receiver) open(dst, message []byte) ([]byte, error) {
 	if len(room) > 0 && &room[0] != &message[0] {
 		copy(room, message)
 	}
-	code := C.noise_open(&r.memory.kept, place(room), C.size_t(len(room)), &r.memory.told)
+	code := C.noise_open(&r.memory.opaque, place(room), C.size_t(len(room)), &r.memory.result)
 	if code != C.NOISE_OK {
 		return dst, Code(code)
 	}
-	return whole[:len(dst)+int(r.memory.told.len)], nil
+	return whole[:len(dst)+int(r.memory.result.len)], nil
 }
 
 // Nonce returns the nonce of the next message: how many were opened. After Close it is 0.
 func (r *Receiver) Nonce() uint64 {
 	r.mutex.Lock()
 	defer r.mutex.Unlock()
-	if r.closed || C.noise_receiver_nonce(&r.memory.kept, &r.memory.nonce) != C.NOISE_OK {
+	if r.closed || C.noise_receiver_nonce(&r.memory.opaque, &r.memory.nonce) != C.NOISE_OK {
 		return 0
 	}
 	return uint64(r.memory.nonce)

@@ -63,12 +63,12 @@ func TestSealAndOpenInPlace(t *testing.T) {
 		must(t, err)
 		_, err = r.Open(nil, message[1:])
 		wants(t, err, ErrTag)
-		kept := append([]byte(nil), message...)
-		kept[3] ^= 1
-		changed := append([]byte(nil), kept...)
-		_, err = r.Open(kept[:0], kept)
+		damaged := append([]byte(nil), message...)
+		damaged[3] ^= 1
+		changed := append([]byte(nil), damaged...)
+		_, err = r.Open(damaged[:0], damaged)
 		wants(t, err, ErrTag)
-		if !bytes.Equal(kept, changed) {
+		if !bytes.Equal(damaged, changed) {
 			t.Error("a refusal has changed the message")
 		}
 		place, err = r.Open(message[:0], message)

@@ -2,7 +2,7 @@
 //   ready()          waits until it is open;
 //   write(frame)     sends a frame, and waits until the carrier has taken it;
 //   pull()           the next bytes that came, or undefined where the connection has ended;
-//   discard()        drops what comes from now on, so that the other party isn't kept from reading;
+//   discard()        drops what comes from now on, so that the other party can read on;
 //   close()          closes it, once all is sent that was written;
 //   destroy(reason)  ends it at once: what isn't sent yet is dropped, and no listener stays;
 // and a WebSocket calls `overflowed`, where one was set, with the error by which it has destroyed itself.

@@ -20,10 +20,10 @@ export function checkPattern(text) {
   const lib = library();
   const bytes = encoder.encode(text);
   if (bytes.length > 65536) return { valid: false, code: code.LIMIT, name: 'NOISE_LIMIT', line: 1 };
-  const number = lib.x.noise_check_pattern(...lib.put('prologue', bytes), lib.at.told);
-  const [rule, message, token, messages] = lib.view(lib.at.told + 8n, 4);
+  const number = lib.x.noise_check_pattern(...lib.put('prologue', bytes), lib.at.result);
+  const [rule, message, token, messages] = lib.view(lib.at.result + 8n, 4);
   if (number === code.OK) return { valid: true, messages };
   const fault = { valid: false, code: number, name: new NoiseError(number).name };
-  if (number !== code.RULE) return { ...fault, line: Number(lib.number(lib.at.told)) };
+  if (number !== code.RULE) return { ...fault, line: Number(lib.number(lib.at.result)) };
   return { ...fault, rule, message, token };
 }

@@ -27,9 +27,9 @@ export class CipherState {
     const lib = library();
     const words = lib.put('prologue', bytesOf(ad, 'ad'));
     lib.put('message', bytes);
-    const number = call(this.#here(), ...words, lib.at.message, lib.at.told);
-    const told = lib.told();
-    const made = number === code.OK ? lib.view(lib.at.message + BigInt(told.from), told.len).slice() : undefined;
+    const number = call(this.#here(), ...words, lib.at.message, lib.at.result);
+    const result = lib.result();
+    const made = number === code.OK ? lib.view(lib.at.message + BigInt(result.from), result.len).slice() : undefined;
     lib.wipe('message', bytes.length);
     must(number);
     return made;
@@ -45,7 +45,7 @@ export class CipherState {
     const { length } = bytesOf(plaintext, 'plaintext');
     if (length > 65519) throw new NoiseError(code.TOO_LONG);
     const { noise_cipher_encrypt: encrypt } = library().x;
-    return this.#inPlace(ad, plaintext, (place, at, count, buffer, told) => encrypt(place, at, count, buffer, BigInt(ROOM), BigInt(length), told));
+    return this.#inPlace(ad, plaintext, (place, at, count, buffer, result) => encrypt(place, at, count, buffer, BigInt(ROOM), BigInt(length), result));
   }
 
   /**
@@ -57,7 +57,7 @@ export class CipherState {
   decryptWithAd(ad, message) {
     const size = BigInt(bytesOf(message, 'message').length);
     const { noise_cipher_decrypt: decrypt } = library().x;
-    return this.#inPlace(ad, message, (place, at, count, buffer, told) => decrypt(place, at, count, buffer, size, told));
+    return this.#inPlace(ad, message, (place, at, count, buffer, result) => decrypt(place, at, count, buffer, size, result));
   }
 
   /**
@@ -100,10 +100,10 @@ export class Ciphers {
   static kinds = ['cipher', 'cipher'];
 
   /** @private */
-  constructor(mark, places, told) {
+  constructor(mark, places, session) {
     mustBeOwn(mark);
     const [send, receive] = places;
-    const { hash, remoteStatic } = told;
+    const { hash, remoteStatic } = session;
     /** Encrypts what this party sends. */
     this.send = new CipherState(OWN, send);
     /** Decrypts what it receives. */

@@ -103,17 +103,17 @@ export class Handshake {
     }
   }
 
-  /** Repeats a call as long as it asks for a result of X25519 or a secret. */
+  /** Repeats a call as long as it asks for a result of X25519 or a psk. */
   async #answered(call) {
     const lib = library();
     for (;;) {
       const number = call(this.#here());
-      const told = lib.told();
-      if (number === code.WANTED) await this.#answer(told.ofStatic, lib.wanted());
-      else if (number === code.WANTED_PSK && told.remoteKnown) await this.#choose(lib.wanted());
+      const result = lib.result();
+      if (number === code.WANTED) await this.#answer(result.ofStatic, lib.wanted());
+      else if (number === code.WANTED_PSK && result.remoteKnown) await this.#choose(lib.wanted());
       else {
-        must(number, number === code.SHORT || number === code.TAG ? told.token : undefined);
-        return told;
+        must(number, number === code.SHORT || number === code.TAG ? result.token : undefined);
+        return result;
       }
     }
   }
@@ -122,8 +122,8 @@ export class Handshake {
     const lib = library();
     const answer = await this.#agree(ofStatic, remote);
     const place = this.#here();
-    lib.view(lib.at.told + 18n, 32).set(remote);
-    const taken = lib.x.noise_answer(place, ofStatic, lib.at.told + 18n, lib.put('answer', answer)[0]);
+    lib.view(lib.at.result + 18n, 32).set(remote);
+    const taken = lib.x.noise_answer(place, ofStatic, lib.at.result + 18n, lib.put('answer', answer)[0]);
     lib.wipe('answer');
     must(taken);
   }
@@ -158,13 +158,13 @@ export class Handshake {
     const own = copyOf(payload, 'payload');
     return this.#alone(async () => {
       const lib = library();
-      const told = await this.#answered((place) => {
+      const result = await this.#answered((place) => {
         const args = lib.put('payload', own);
-        const number = lib.x.noise_write(place, ...args, lib.at.message, 65535n, lib.at.told);
+        const number = lib.x.noise_write(place, ...args, lib.at.message, 65535n, lib.at.result);
         lib.wipe('payload', own.length);
         return number;
       });
-      return lib.view(lib.at.message, told.len).slice();
+      return lib.view(lib.at.message, result.len).slice();
     });
   }
 
@@ -178,8 +178,8 @@ export class Handshake {
     return this.#alone(async () => {
       const lib = library();
       this.#opening ??= own.slice(0, 32);
-      const told = await this.#answered((place) => lib.x.noise_read(place, ...lib.put('message', own), lib.at.told));
-      const payload = lib.view(lib.at.message + BigInt(told.from), told.len).slice();
+      const result = await this.#answered((place) => lib.x.noise_read(place, ...lib.put('message', own), lib.at.result));
+      const payload = lib.view(lib.at.message + BigInt(result.from), result.len).slice();
       lib.wipe('message', own.length);
       return payload;
     });

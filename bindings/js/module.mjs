@@ -2,12 +2,12 @@
 // numbers, which are BigInts here, in both.
 import { NoiseError, code, must } from './codes.mjs';
 
-const SCRATCH = { name: 512, prologue: 65536, payload: 65536, message: 65552, told: 56, setup: 422, answer: 32, key: 33, number: 16 };
+const SCRATCH = { name: 512, prologue: 65536, payload: 65536, message: 65552, result: 56, setup: 422, answer: 32, key: 33, number: 16 };
 const PAGE = 65536;
 /** The major version of the library. */
 const VERSION = 1;
 
-/** An instance, and the places in its memory: `at` for what one call needs, `take` and `free` for what is kept. */
+/** An instance, and the places in its memory: `at` for what one call needs, `take` and `free` for its structs. */
 class Library {
   #bytes;
   #data;
@@ -25,7 +25,7 @@ class Library {
       datagramReceiver: Number(this.x.noise_datagram_receiver_size()),
       cipher: Number(this.x.noise_cipher_size()),
     };
-    this.kept = Object.fromEntries(Object.keys(this.sizes).map((kind) => [kind, []]));
+    this.unused = Object.fromEntries(Object.keys(this.sizes).map((kind) => [kind, []]));
     this.next = this.memory.buffer.byteLength;
     this.end = this.next;
     this.#see();
@@ -84,20 +84,20 @@ class Library {
     this.#bytes.fill(0, start, start + size);
   }
 
-  /** A place for a struct that is kept. */
+  /** A place for an opaque struct. */
   take(kind) {
-    return this.kept[kind].pop() ?? this.#place(this.sizes[kind]);
+    return this.unused[kind].pop() ?? this.#place(this.sizes[kind]);
   }
 
-  /** Overwrites a kept struct, and lets its place be taken again. */
+  /** Overwrites an opaque struct, and lets its place be taken again. */
   free(kind, place) {
     this.view(place, this.sizes[kind]).fill(0);
-    this.kept[kind].push(place);
+    this.unused[kind].push(place);
   }
 
   /** What the last call has returned besides its code. Both numbers of 8 bytes are places in a message, below 2^32. */
-  told() {
-    const start = Number(this.at.told);
+  result() {
+    const start = Number(this.at.result);
     return {
       from: this.#data.getUint32(start, true),
       len: this.#data.getUint32(start + 8, true),
@@ -108,15 +108,15 @@ class Library {
   }
 
   /** The same of a call on a stream or on a frame. */
-  streamTold() {
-    const start = Number(this.at.told);
+  streamResult() {
+    const start = Number(this.at.result);
     const [from, len, used, wanted] = [0, 8, 16, 24].map((at) => this.#data.getUint32(start + at, true));
     return { from, len, used, wanted };
   }
 
-  /** The other party's public key for which the last call needs a result of X25519, or a secret. */
+  /** The other party's public key for which the last call needs a result of X25519, or a psk. */
   wanted() {
-    return this.view(this.at.told + 18n, 32).slice();
+    return this.view(this.at.result + 18n, 32).slice();
   }
 
   /** The 32 bytes that a call writes to its last pointer. */
@@ -148,11 +148,11 @@ export function library() {
   return loaded;
 }
 
-const forgotten = new FinalizationRegistry((kept) => { for (const [kind, place] of kept) loaded.free(kind, place); });
+const forgotten = new FinalizationRegistry((places) => { for (const [kind, place] of places) loaded.free(kind, place); });
 
 /** Frees places, each with its kind, once nobody has an object any more, unless it lets go of them before. */
-export function freeLater(object, kept) {
-  forgotten.register(object, kept, object);
+export function freeLater(object, places) {
+  forgotten.register(object, places, object);
 }
 
 export function letGo(object) {

@@ -10,20 +10,20 @@ const ROOM = 65552;    // more than the longest frame has
 export function frameOf(message) {
   const lib = library();
   const room = lib.view(lib.at.message, ROOM);
-  must(lib.x.noise_frame_message(lib.at.message, BigInt(ROOM), BigInt(message.length), lib.at.told));
+  must(lib.x.noise_frame_message(lib.at.message, BigInt(ROOM), BigInt(message.length), lib.at.result));
   room.set(message, 2);
-  return room.slice(0, lib.streamTold().len);
+  return room.slice(0, lib.streamResult().len);
 }
 
 /** What the library finds at the start of these bytes, of which it is shown so many: the message of a frame, or how many more are wanted. */
 export function findMessage(held, count) {
   const lib = library();
   held.copyTo(lib.view(lib.at.message, count));
-  const number = lib.x.noise_frame_find(lib.at.message, BigInt(count), lib.at.told);
-  const told = lib.streamTold();
-  if (number === code.MORE) return { wanted: told.wanted };
+  const number = lib.x.noise_frame_find(lib.at.message, BigInt(count), lib.at.result);
+  const result = lib.streamResult();
+  if (number === code.MORE) return { wanted: result.wanted };
   must(number);
-  return { wanted: 0, used: told.used, value: lib.view(lib.at.message + BigInt(told.from), told.len).slice() };
+  return { wanted: 0, used: result.used, value: lib.view(lib.at.message + BigInt(result.from), result.len).slice() };
 }
 
 /** The message of a whole frame. */
@@ -41,18 +41,18 @@ export class Stream extends Sealed {
     const lib = library();
     const [sender] = this.halves;
     if (bytesOf(payload, 'payload').length > 65519) throw new NoiseError(code.TOO_LONG);
-    const number = lib.x.noise_stream_write(sender, ...lib.put('payload', payload), lib.at.message, BigInt(ROOM), lib.at.told);
+    const number = lib.x.noise_stream_write(sender, ...lib.put('payload', payload), lib.at.message, BigInt(ROOM), lib.at.result);
     lib.wipe('payload', payload.length);
     must(number);
-    return lib.view(lib.at.message, lib.streamTold().len).slice();
+    return lib.view(lib.at.message, lib.streamResult().len).slice();
   }
 
   /** The frame of the end. */
   end() {
     const lib = library();
     const [sender] = this.halves;
-    must(lib.x.noise_stream_end(sender, lib.at.message, BigInt(ROOM), lib.at.told));
-    return lib.view(lib.at.message, lib.streamTold().len).slice();
+    must(lib.x.noise_stream_end(sender, lib.at.message, BigInt(ROOM), lib.at.result));
+    return lib.view(lib.at.message, lib.streamResult().len).slice();
   }
 
   /** What the library reads at the start of these bytes, of which it is shown so many: a payload, undefined for the end, or how many more are wanted. */
@@ -60,15 +60,15 @@ export class Stream extends Sealed {
     const lib = library();
     const [, receiver] = this.halves;
     held.copyTo(lib.view(lib.at.message, count));
-    const number = lib.x.noise_stream_read(receiver, lib.at.message, BigInt(count), lib.at.told);
-    const told = lib.streamTold();
-    if (number === code.MORE) return { wanted: told.wanted };
+    const number = lib.x.noise_stream_read(receiver, lib.at.message, BigInt(count), lib.at.result);
+    const result = lib.streamResult();
+    if (number === code.MORE) return { wanted: result.wanted };
     if (number === code.STREAM_CLOSED && !this.isCut(0)) return { wanted: 0, used: 0 };    // it came before
-    if (number === code.END) return { wanted: 0, used: told.used };
+    if (number === code.END) return { wanted: 0, used: result.used };
     must(number);
-    const value = lib.view(lib.at.message + BigInt(told.from), told.len).slice();
+    const value = lib.view(lib.at.message + BigInt(result.from), result.len).slice();
     lib.wipe('message', count);
-    return { wanted: 0, used: told.used, value };
+    return { wanted: 0, used: result.used, value };
   }
 
   /** Whether a connection that ends with so many bytes left cuts the stream. */

@@ -21,14 +21,14 @@ import { OWN, mustBeOwn } from './own.mjs';
  * @property {() => void} dispose Overwrites both halves.
  */
 
-/** What all have: two kept structs, the half that seals and the half that opens. */
+/** What all have: two opaque structs, the half that seals and the half that opens. */
 export class Sealed {
   #halves;
 
   /** @protected */
-  constructor(mark, halves, told) {
+  constructor(mark, halves, session) {
     mustBeOwn(mark);
-    const { hash, remoteStatic } = told;
+    const { hash, remoteStatic } = session;
     this.#halves = halves;
     /**
      * The handshake hash.
@@ -70,19 +70,19 @@ export class Sealed {
     const lib = library();
     const [sender] = this.halves;
     if (bytesOf(payload, 'payload').length > 65519) throw new NoiseError(code.TOO_LONG);
-    const number = call(sender, ...lib.put('payload', payload), lib.at.message, BigInt(payload.length + overhead), lib.at.told);
+    const number = call(sender, ...lib.put('payload', payload), lib.at.message, BigInt(payload.length + overhead), lib.at.result);
     lib.wipe('payload', payload.length);
     must(number);
-    return lib.view(lib.at.message, lib.told().len).slice();
+    return lib.view(lib.at.message, lib.result().len).slice();
   }
 
   /** @protected */
   openBy(call, message) {
     const lib = library();
     const [, receiver] = this.halves;
-    must(call(receiver, ...lib.put('message', bytesOf(message, 'message')), lib.at.told));
-    const told = lib.told();
-    const payload = lib.view(lib.at.message + BigInt(told.from), told.len).slice();
+    must(call(receiver, ...lib.put('message', bytesOf(message, 'message')), lib.at.result));
+    const result = lib.result();
+    const payload = lib.view(lib.at.message + BigInt(result.from), result.len).slice();
     lib.wipe('message', message.length);
     return payload;
   }

@@ -11,9 +11,9 @@ INLINE = """
 void noise_wipe(void *at, size_t len);
 void wipe_stack(void);
 const char *noise_text(uint32_t code);
-uint32_t open_copy(noise_receiver *r, const uint8_t *message, size_t len, uint8_t *room, noise_told *told);
+uint32_t open_copy(noise_receiver *r, const uint8_t *message, size_t len, uint8_t *room, noise_result *result);
 uint32_t datagram_open_copy(noise_datagram_receiver *r, const uint8_t *datagram, size_t len, uint8_t *room,
-    noise_told *told);
+    noise_result *result);
 """
 # What reads in place, on a copy of bytes that Python mustn't see changed: one call from Python in place of two. And
 # what noise_wipe_stack does, in less time than byte by byte.
@@ -27,15 +27,15 @@ __attribute__((noinline)) static void wipe_stack(void) {
     __asm__ volatile("" : : "r"(stack) : "memory");
 }
 
-static uint32_t open_copy(noise_receiver *r, const uint8_t *message, size_t len, uint8_t *room, noise_told *told) {
+static uint32_t open_copy(noise_receiver *r, const uint8_t *message, size_t len, uint8_t *room, noise_result *result) {
     memcpy(room, message, len);
-    return noise_open(r, room, len, told);
+    return noise_open(r, room, len, result);
 }
 
 static uint32_t datagram_open_copy(noise_datagram_receiver *r, const uint8_t *datagram, size_t len, uint8_t *room,
-    noise_told *told) {
+    noise_result *result) {
     memcpy(room, datagram, len);
-    return noise_datagram_open(r, room, len, told);
+    return noise_datagram_open(r, room, len, result);
 }
 """
 
@@ -45,8 +45,8 @@ def declarations(header: str) -> str:
     text = re.sub(r"/\*.*?\*/", " ", header, flags=re.S)
     text = text[:text.index("static inline")]
     text = re.sub(r"^#.*$", "", text, flags=re.M).replace('extern "C" {', "")
-    text, kept = re.subn(r"NOISE_ALIGNED unsigned char kept\[\d+\];", "...;", text)
-    if not kept or "NOISE_ALIGNED" in text:
+    text, count = re.subn(r"NOISE_ALIGNED unsigned char opaque\[\d+\];", "...;", text)
+    if not count or "NOISE_ALIGNED" in text:
         raise SystemExit("noise_build.py: noise.h isn't written as this script reads it")
     return text + INLINE
 

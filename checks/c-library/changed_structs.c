@@ -1,4 +1,4 @@
-// Kept structs that no call has left: each byte of some changed to other values, some bytes of a random choice, and structs of random bytes,
+// Opaque structs that no call has left: each byte of some changed to other values, some bytes of a random choice, and structs of random bytes,
 // each handed to each call. A call has to answer one of its codes; and all that it is handed ends right in front of memory that may not be
 // touched, so that a read or a write beyond it stops the check.
 #include "ends.h"
@@ -20,9 +20,9 @@ static noise_datagram_receiver *dr;
 static noise_cipher *cs, *cr;
 static noise_stream_sender *xs;
 static noise_stream_receiver *xr;
-static noise_stream_told *place;
-static noise_told *told;
-static noise_stage_told *stage;
+static noise_stream_result *place;
+static noise_result *result;
+static noise_stage_result *stage;
 static noise_key *key;
 static uint8_t *hash, *nothing;
 static uint64_t *nonce;
@@ -42,9 +42,9 @@ static void make_places(void) {
     cr = (noise_cipher *)place_at_edge(sizeof *cr);
     xs = (noise_stream_sender *)place_at_edge(sizeof *xs);
     xr = (noise_stream_receiver *)place_at_edge(sizeof *xr);
-    place = (noise_stream_told *)place_at_edge(sizeof *place);
-    told = (noise_told *)place_at_edge(sizeof *told);
-    stage = (noise_stage_told *)place_at_edge(sizeof *stage);
+    place = (noise_stream_result *)place_at_edge(sizeof *place);
+    result = (noise_result *)place_at_edge(sizeof *result);
+    stage = (noise_stage_result *)place_at_edge(sizeof *stage);
     key = (noise_key *)place_at_edge(sizeof *key);
     nonce = (uint64_t *)place_at_edge(sizeof *nonce);
     len = (size_t *)place_at_edge(sizeof *len);
@@ -79,15 +79,15 @@ static const uint64_t datagram_faults =
 static void use_halves(const noise_sender *sender, const noise_receiver *receiver, const uint8_t *message) {
     *ts = *sender;
     *tr = *receiver;
-    uint32_t code = noise_seal(ts, bytes_of(1, 0, 24), 24, bytes_of(0, 0, 40), 40, told);
+    uint32_t code = noise_seal(ts, bytes_of(1, 0, 24), 24, bytes_of(0, 0, 40), 40, result);
     must_be(code, seal_faults);
-    if (code == NOISE_OK) MUST(told->len == 40);
-    code = noise_seal_in_place(ts, bytes_of(0, 0, 40), 40, 24, told);
+    if (code == NOISE_OK) MUST(result->len == 40);
+    code = noise_seal_in_place(ts, bytes_of(0, 0, 40), 40, 24, result);
     must_be(code, seal_faults);
-    if (code == NOISE_OK) MUST(told->len == 40);
-    code = noise_open(tr, bytes_of(2, message, 40), 40, told);
+    if (code == NOISE_OK) MUST(result->len == 40);
+    code = noise_open(tr, bytes_of(2, message, 40), 40, result);
     must_be(code, open_faults);
-    if (code == NOISE_OK) MUST(told->len == 24 && told->from == 0);
+    if (code == NOISE_OK) MUST(result->len == 24 && result->from == 0);
     must_be(noise_sender_nonce(ts, nonce), CODE(NOISE_STRUCT));
     must_be(noise_receiver_nonce(tr, nonce), CODE(NOISE_STRUCT));
 }
@@ -95,15 +95,15 @@ static void use_halves(const noise_sender *sender, const noise_receiver *receive
 static void use_datagram_halves(const noise_datagram_sender *sender, const noise_datagram_receiver *receiver, const uint8_t *datagram) {
     *ds = *sender;
     *dr = *receiver;
-    uint32_t code = noise_datagram_seal(ds, bytes_of(1, 0, 24), 24, bytes_of(0, 0, 48), 48, told);
+    uint32_t code = noise_datagram_seal(ds, bytes_of(1, 0, 24), 24, bytes_of(0, 0, 48), 48, result);
     must_be(code, seal_faults);
-    if (code == NOISE_OK) MUST(told->len == 48);
-    code = noise_datagram_seal_in_place(ds, bytes_of(0, 0, 48), 48, 24, told);
+    if (code == NOISE_OK) MUST(result->len == 48);
+    code = noise_datagram_seal_in_place(ds, bytes_of(0, 0, 48), 48, 24, result);
     must_be(code, seal_faults);
-    if (code == NOISE_OK) MUST(told->len == 48);
-    code = noise_datagram_open(dr, bytes_of(2, datagram, 48), 48, told);
+    if (code == NOISE_OK) MUST(result->len == 48);
+    code = noise_datagram_open(dr, bytes_of(2, datagram, 48), 48, result);
     must_be(code, datagram_faults);
-    if (code == NOISE_OK) MUST(told->len == 24 && told->from == 8);
+    if (code == NOISE_OK) MUST(result->len == 24 && result->from == 8);
     must_be(noise_datagram_sender_nonce(ds, nonce), CODE(NOISE_STRUCT));
 }
 
@@ -111,12 +111,12 @@ static void use_ciphers(const noise_cipher *send, const noise_cipher *receive, c
     *cs = *send;
     *cr = *receive;
     const uint64_t held = CODE(NOISE_STRUCT) | CODE(NOISE_ONE_WAY);
-    uint32_t code = noise_cipher_encrypt(cs, bytes_of(1, 0, 24), 24, bytes_of(0, 0, 40), 40, 24, told);
+    uint32_t code = noise_cipher_encrypt(cs, bytes_of(1, 0, 24), 24, bytes_of(0, 0, 40), 40, 24, result);
     must_be(code, seal_faults);
-    if (code == NOISE_OK) MUST(told->len == 40);
-    code = noise_cipher_decrypt(cr, bytes_of(1, 0, 0), 0, bytes_of(2, message, 40), 40, told);
+    if (code == NOISE_OK) MUST(result->len == 40);
+    code = noise_cipher_decrypt(cr, bytes_of(1, 0, 0), 0, bytes_of(2, message, 40), 40, result);
     must_be(code, open_faults);
-    if (code == NOISE_OK) MUST(told->len == 24 && told->from == 0);
+    if (code == NOISE_OK) MUST(result->len == 24 && result->from == 0);
     must_be(noise_cipher_nonce(cs, nonce), held);
     must_be(noise_cipher_rekey(cs), held);
     must_be(noise_cipher_set_nonce(cr, 5), held);
@@ -144,10 +144,10 @@ static void use_stream(const noise_stream_sender *sender, const noise_stream_rec
 static void read_with(const snapshot *s) {
     uint8_t *message = bytes_of(0, s->message, s->len);
     *h = s->h;
-    uint32_t code = noise_read(h, message, s->len, told);
+    uint32_t code = noise_read(h, message, s->len, result);
     must_be(code, handshake_faults | CODE(NOISE_SHORT) | CODE(NOISE_TAG));
     if (code == NOISE_OK)
-        MUST(told->from <= s->len && told->len <= s->len - told->from);
+        MUST(result->from <= s->len && result->len <= s->len - result->from);
     else
         MUST(!memcmp(message, s->message, s->len));
     if (is_in(code, CODE(NOISE_STRUCT) | CODE(NOISE_WANTED))) MUST(!memcmp(h, &s->h, sizeof *h));
@@ -156,10 +156,10 @@ static void read_with(const snapshot *s) {
 static void write_with(const snapshot *s, size_t room) {
     uint8_t *out = bytes_of(0, 0, room), *text = bytes_of(1, 0, 30);
     *h = s->h;
-    uint32_t code = noise_write(h, text, 30, out, room, told);
+    uint32_t code = noise_write(h, text, 30, out, room, result);
     must_be(code, handshake_faults | CODE(NOISE_TOO_LONG) | CODE(NOISE_ROOM));
     if (code == NOISE_OK)
-        MUST(told->len <= room);
+        MUST(result->len <= room);
     else
         MUST(!memcmp(h, &s->h, sizeof *h));
 }
@@ -213,17 +213,17 @@ static void try_bytes(const snapshot *s) {
     snapshot changed = *s;
     for (size_t i = 0; i < sizeof s->h; i++) {
         for (size_t v = 0; v < sizeof values; v++) {
-            changed.h.kept[i] = values[v];
-            if (values[v] != s->h.kept[i]) use_handshake(&changed);
+            changed.h.opaque[i] = values[v];
+            if (values[v] != s->h.opaque[i]) use_handshake(&changed);
         }
-        changed.h.kept[i] = s->h.kept[i];
+        changed.h.opaque[i] = s->h.opaque[i];
     }
 }
 
 static void try_random(const snapshot *s) {
     for (unsigned round = 0; round < RANDOM_ROUNDS; round++) {
         snapshot changed = *s;
-        for (unsigned n = 1 + random_number() % 12; n; n--) changed.h.kept[random_number() % sizeof s->h] = (uint8_t)random_number();
+        for (unsigned n = 1 + random_number() % 12; n; n--) changed.h.opaque[random_number() % sizeof s->h] = (uint8_t)random_number();
         use_handshake(&changed);
     }
 }
@@ -233,14 +233,14 @@ static void try_filled(const snapshot *s) {
     for (unsigned v = 0; v < 256; v++) {
         memset(&changed.h, (int)v, sizeof changed.h);
         use_handshake(&changed);
-        fill_randomly(changed.h.kept, sizeof changed.h);
+        fill_randomly(changed.h.opaque, sizeof changed.h);
         use_handshake(&changed);
     }
 }
 
 // Writes, and keeps what the writer had before the call that succeeds.
 static size_t write_and_keep(end *writer, uint8_t message[MOST], snapshot *at) {
-    noise_told place;
+    noise_result place;
     uint32_t code;
     do {
         at->h = writer->h;
@@ -254,7 +254,7 @@ static size_t write_and_keep(end *writer, uint8_t message[MOST], snapshot *at) {
 }
 
 static void read_and_keep(end *reader, uint8_t message[MOST], size_t size, snapshot *at) {
-    noise_told place;
+    noise_result place;
     uint32_t code;
     memcpy(at->message, message, size);
     at->len = size;
@@ -277,7 +277,7 @@ static unsigned run_of(const plan *p, snapshot *at) {
     }
     for (unsigned role = 0; role < 2; role++) at[count++] = (snapshot){.h = ends[role].h, .len = 99};
     end refusing = begin(p, 1);
-    noise_told place;
+    noise_result place;
     MUST(noise_read(&refusing.h, message, 9, &place) == NOISE_SHORT);
     at[count++] = (snapshot){.h = refusing.h, .len = 99};
     return count;
@@ -309,8 +309,8 @@ static void try_opened(const plan *p) {
     MUST(finish(&ends[taker].h, 3, &right.t) == NOISE_OK && finish(&ends[!taker].h, 3, &other) == NOISE_OK);
     MUST(finish_datagrams(&ends[taker].h, 256, &right.d) == NOISE_OK && finish_datagrams(&ends[!taker].h, 256, &others) == NOISE_OK);
     MUST(noise_finish_ciphers(&ends[taker].h, &right.send, &right.receive) == NOISE_OK && finish_stream(&ends[taker].h, 3, &right.x) == NOISE_OK);
-    MUST(noise_seal(&other.s, public_key(1, true), 24, message, 40, told) == NOISE_OK);
-    for (unsigned i = 0; i < 5; i++) MUST(noise_datagram_seal(&others.s, public_key(1, true), 24, datagram, 48, told) == NOISE_OK);
+    MUST(noise_seal(&other.s, public_key(1, true), 24, message, 40, result) == NOISE_OK);
+    for (unsigned i = 0; i < 5; i++) MUST(noise_datagram_seal(&others.s, public_key(1, true), 24, datagram, 48, result) == NOISE_OK);
     for (size_t i = 0; i < sizeof right; i++)
         for (size_t v = 0; v < sizeof values; v++) {
             opened changed = right;
@@ -329,7 +329,7 @@ static void try_opened(const plan *p) {
 // A name and a pattern text with each byte changed, cut at each length, and setups of random bytes.
 static void try_patterns(const plan *p) {
     uint8_t bytes[MOST];
-    noise_pattern_told *of_text = (noise_pattern_told *)place_at_edge(sizeof *of_text);
+    noise_pattern_result *of_text = (noise_pattern_result *)place_at_edge(sizeof *of_text);
     noise_setup *setup = (noise_setup *)place_at_edge(sizeof *setup);
     const char *pattern = p->text[0] ? p->text : p->name;
     size_t size = strlen(pattern);

@@ -28,7 +28,7 @@ int main(int count, char **words) {
     check_ciphers();
     check_streams();
     check_changed_structs();
-    check_late_secrets();
+    check_late_psks();
     puts("c-library: all codes, bytes and places were right");
     return 0;
 }

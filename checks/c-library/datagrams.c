@@ -22,30 +22,30 @@ static uint64_t nonce_of(const uint8_t *datagram) {
 }
 
 static void seal_some(datagrams *d, unsigned from, unsigned to) {
-    noise_told told;
+    noise_result result;
     uint64_t send;
     for (unsigned n = from; n < to; n++) {
         fill(payload, 16, n);
         MUST(noise_datagram_sender_nonce(&d->s, &send) == NOISE_OK && send == n);
-        MUST(noise_datagram_seal(&d->s, payload, 16, sealed[n], 40, &told) == NOISE_OK && told.len == 40);
+        MUST(noise_datagram_seal(&d->s, payload, 16, sealed[n], 40, &result) == NOISE_OK && result.len == 40);
         MUST(nonce_of(sealed[n]) == n);
     }
 }
 
-static uint32_t open_it(datagrams *d, const uint8_t *datagram, size_t len, noise_told *told) {
+static uint32_t open_it(datagrams *d, const uint8_t *datagram, size_t len, noise_result *result) {
     datagrams old = *d;
     memcpy(message, datagram, len);
-    uint32_t code = noise_datagram_open(&d->r, message, len, told);
+    uint32_t code = noise_datagram_open(&d->r, message, len, result);
     if (code != NOISE_OK) MUST(!memcmp(&old, d, sizeof old) && !memcmp(message, datagram, len));
     return code;
 }
 
 static void must_open(datagrams *d, unsigned n, uint32_t code) {
-    noise_told told;
-    MUST(open_it(d, sealed[n], 40, &told) == code);
+    noise_result result;
+    MUST(open_it(d, sealed[n], 40, &result) == code);
     if (code != NOISE_OK) return;
     fill(payload, 16, n);
-    MUST(told.from == 8 && told.len == 16 && !memcmp(message + 8, payload, 16));
+    MUST(result.from == 8 && result.len == 16 && !memcmp(message + 8, payload, 16));
 }
 
 static void check_windows(void) {
@@ -78,16 +78,16 @@ static void check_against_transport(void) {
         plan p = plan_of(patterns[i], 0);
         datagrams d[2];
         transport t[2];
-        noise_told told;
+        noise_result result;
         open_pair(&p, 256, d, t);
         for (unsigned role = 0; role < (p.one_way ? 1 : 2); role++)
             for (unsigned n = 0; n < 5; n++) {
                 size_t len = length_of(n + role);
                 fill(payload, len, n);
-                MUST(noise_datagram_seal(&d[role].s, payload, len, before, sizeof before, &told) == NOISE_OK && told.len == len + 24);
-                MUST(noise_seal(&t[role].s, payload, len, message, sizeof message, &told) == NOISE_OK && told.len == len + 16);
+                MUST(noise_datagram_seal(&d[role].s, payload, len, before, sizeof before, &result) == NOISE_OK && result.len == len + 24);
+                MUST(noise_seal(&t[role].s, payload, len, message, sizeof message, &result) == NOISE_OK && result.len == len + 16);
                 MUST(nonce_of(before) == n && !memcmp(before + 8, message, len + 16));
-                MUST(open_it(&d[!role], before, len + 24, &told) == NOISE_OK && told.len == len && !memcmp(message + told.from, payload, len));
+                MUST(open_it(&d[!role], before, len + 24, &result) == NOISE_OK && result.len == len && !memcmp(message + result.from, payload, len));
             }
     }
 }
@@ -96,32 +96,32 @@ static void check_sizes(void) {
     plan p = plan_of("IK", -1);
     datagrams d[2], old;
     transport t[2];
-    noise_told told;
+    noise_result result;
     open_pair(&p, 64, d, t);
     old = d[0];
     memset(message, 0x44, sizeof message);
-    MUST(noise_datagram_seal(&d[0].s, payload, NOISE_MAX_DATAGRAM - 23, message, sizeof message, &told) == NOISE_TOO_LONG);
-    MUST(noise_datagram_seal(&d[0].s, payload, sizeof payload, message, sizeof message, &told) == NOISE_ROOM);
-    for (size_t room = 0; room < 34; room++) MUST(noise_datagram_seal(&d[0].s, payload, 10, message, room, &told) == NOISE_ROOM);
+    MUST(noise_datagram_seal(&d[0].s, payload, NOISE_MAX_DATAGRAM - 23, message, sizeof message, &result) == NOISE_TOO_LONG);
+    MUST(noise_datagram_seal(&d[0].s, payload, sizeof payload, message, sizeof message, &result) == NOISE_ROOM);
+    for (size_t room = 0; room < 34; room++) MUST(noise_datagram_seal(&d[0].s, payload, 10, message, room, &result) == NOISE_ROOM);
     MUST(!memcmp(&old, &d[0], sizeof old));
     for (size_t i = 0; i < sizeof message; i++) MUST(message[i] == 0x44);
-    MUST(noise_datagram_seal(&d[0].s, payload, 10, message, 34, &told) == NOISE_OK && told.len == 34 && message[34] == 0x44);
-    MUST(noise_datagram_open(&d[1].r, message, 34, &told) == NOISE_OK && told.from == 8 && told.len == 10);
+    MUST(noise_datagram_seal(&d[0].s, payload, 10, message, 34, &result) == NOISE_OK && result.len == 34 && message[34] == 0x44);
+    MUST(noise_datagram_open(&d[1].r, message, 34, &result) == NOISE_OK && result.from == 8 && result.len == 10);
     fill(payload, NOISE_MAX_DATAGRAM - 24, 8);
-    MUST(noise_datagram_seal(&d[0].s, payload, NOISE_MAX_DATAGRAM - 24, before, NOISE_MAX_DATAGRAM, &told) == NOISE_OK);
-    MUST(told.len == NOISE_MAX_DATAGRAM);
-    MUST(open_it(&d[1], before, ROOM, &told) == NOISE_TOO_LONG);
-    MUST(open_it(&d[1], before, NOISE_MAX_DATAGRAM - 1, &told) == NOISE_TAG);
-    MUST(open_it(&d[1], before, NOISE_MAX_DATAGRAM, &told) == NOISE_OK && told.len == NOISE_MAX_DATAGRAM - 24);
-    MUST(!memcmp(message + told.from, payload, told.len));
-    for (size_t len = 0; len < 24; len++) MUST(open_it(&d[1], before, len, &told) == NOISE_SHORT);
+    MUST(noise_datagram_seal(&d[0].s, payload, NOISE_MAX_DATAGRAM - 24, before, NOISE_MAX_DATAGRAM, &result) == NOISE_OK);
+    MUST(result.len == NOISE_MAX_DATAGRAM);
+    MUST(open_it(&d[1], before, ROOM, &result) == NOISE_TOO_LONG);
+    MUST(open_it(&d[1], before, NOISE_MAX_DATAGRAM - 1, &result) == NOISE_TAG);
+    MUST(open_it(&d[1], before, NOISE_MAX_DATAGRAM, &result) == NOISE_OK && result.len == NOISE_MAX_DATAGRAM - 24);
+    MUST(!memcmp(message + result.from, payload, result.len));
+    for (size_t len = 0; len < 24; len++) MUST(open_it(&d[1], before, len, &result) == NOISE_SHORT);
 }
 
 static void check_changed(void) {
     plan p = plan_of("KK", 0);
     datagrams d[2];
     transport t[2];
-    noise_told told;
+    noise_result result;
     open_pair(&p, 64, d, t);
     seal_some(&d[0], 0, 200);
     must_open(&d[1], 100, NOISE_OK);
@@ -129,16 +129,16 @@ static void check_changed(void) {
         for (unsigned bit = 0; bit < 8; bit++) {
             memcpy(before, sealed[90], 40);
             before[i] ^= (uint8_t)(1 << bit);
-            uint32_t code = open_it(&d[1], before, 40, &told);
+            uint32_t code = open_it(&d[1], before, 40, &result);
             MUST(code == NOISE_TAG || (i == 7 && is_in(code, CODE(NOISE_OLD) | CODE(NOISE_REPEATED))));
         }
     must_open(&d[1], 90, NOISE_OK);
-    MUST(open_it(&d[0], sealed[91], 40, &told) == NOISE_TAG);       // one's own
+    MUST(open_it(&d[0], sealed[91], 40, &result) == NOISE_TAG);       // one's own
     memcpy(before, sealed[91], 40);
     memset(before, 0xff, 8);
-    MUST(open_it(&d[1], before, 40, &told) == NOISE_RESERVED);
+    MUST(open_it(&d[1], before, 40, &result) == NOISE_RESERVED);
     before[7] = 0xfe;
-    MUST(open_it(&d[1], before, 40, &told) == NOISE_TAG);           // which doesn't move the window
+    MUST(open_it(&d[1], before, 40, &result) == NOISE_TAG);           // which doesn't move the window
     must_open(&d[1], 91, NOISE_OK);
     must_open(&d[1], 101, NOISE_OK);
 }
@@ -148,38 +148,38 @@ static void check_one_way(void) {
         plan p = plan_of(patterns[i], -1);
         datagrams d[2];
         transport t[2];
-        noise_told told;
+        noise_result result;
         open_pair(&p, 64, d, t);
-        MUST(noise_datagram_seal(&d[1].s, payload, 5, message, sizeof message, &told) == NOISE_ONE_WAY);
+        MUST(noise_datagram_seal(&d[1].s, payload, 5, message, sizeof message, &result) == NOISE_ONE_WAY);
         seal_some(&d[0], 0, 5);
         must_open(&d[1], 3, NOISE_OK);
-        MUST(open_it(&d[0], sealed[1], 40, &told) == NOISE_ONE_WAY);
+        MUST(open_it(&d[0], sealed[1], 40, &result) == NOISE_ONE_WAY);
     }
 }
 
-// At the nonce 2^64 - 1 nothing is sealed. The kept nonce is set to it here, which no program does.
+// At the nonce 2^64 - 1 nothing is sealed. The struct's nonce is set to it here, which no program does.
 static void check_exhausted(void) {
     plan p = plan_of("NN", -1);
     datagrams d[2], old;
     transport t[2];
-    noise_told told;
+    noise_result result;
     uint64_t send;
     open_pair(&p, 64, d, t);
     old = d[0];
     seal_some(&d[0], 0, 1);
     size_t at = 0;
-    while (at < sizeof old.s && old.s.kept[at] == d[0].s.kept[at]) at++;
+    while (at < sizeof old.s && old.s.opaque[at] == d[0].s.opaque[at]) at++;
     MUST(at % 8 == 0 && at < sizeof old.s);
-    memset(d[0].s.kept + at, 0xff, 8);
+    memset(d[0].s.opaque + at, 0xff, 8);
     MUST(noise_datagram_sender_nonce(&d[0].s, &send) == NOISE_OK && send == UINT64_MAX);
     old = d[0];
-    MUST(noise_datagram_seal(&d[0].s, payload, 5, message, sizeof message, &told) == NOISE_EXHAUSTED && !memcmp(&old, &d[0], sizeof old));
-    d[0].s.kept[at] = 0xfe;
-    MUST(noise_datagram_seal(&d[0].s, payload, 16, before, 40, &told) == NOISE_OK && nonce_of(before) == UINT64_MAX - 1);
-    MUST(open_it(&d[1], before, 40, &told) == NOISE_OK);
-    MUST(open_it(&d[1], before, 40, &told) == NOISE_REPEATED);
+    MUST(noise_datagram_seal(&d[0].s, payload, 5, message, sizeof message, &result) == NOISE_EXHAUSTED && !memcmp(&old, &d[0], sizeof old));
+    d[0].s.opaque[at] = 0xfe;
+    MUST(noise_datagram_seal(&d[0].s, payload, 16, before, 40, &result) == NOISE_OK && nonce_of(before) == UINT64_MAX - 1);
+    MUST(open_it(&d[1], before, 40, &result) == NOISE_OK);
+    MUST(open_it(&d[1], before, 40, &result) == NOISE_REPEATED);
     must_open(&d[1], 0, NOISE_OLD);
-    MUST(noise_datagram_seal(&d[0].s, payload, 5, message, sizeof message, &told) == NOISE_EXHAUSTED);
+    MUST(noise_datagram_seal(&d[0].s, payload, 5, message, sizeof message, &result) == NOISE_EXHAUSTED);
 }
 
 void check_datagrams(void) {

@@ -96,24 +96,24 @@ end begin(const plan *p, unsigned role) {
     return x;
 }
 
-void hand_in(end *x, const noise_told *told) {
+void hand_in(end *x, const noise_result *result) {
     uint8_t answer[32];
-    const uint8_t *own = public_key(x->role, told->of_static);
-    for (unsigned i = 0; i < 32; i++) answer[i] = own[i] ^ told->remote[i];
-    MUST(told->of_static <= 1);
-    MUST(noise_answer(&x->h, told->of_static, told->remote, answer) == NOISE_OK);
+    const uint8_t *own = public_key(x->role, result->of_static);
+    for (unsigned i = 0; i < 32; i++) answer[i] = own[i] ^ result->remote[i];
+    MUST(result->of_static <= 1);
+    MUST(noise_answer(&x->h, result->of_static, result->remote, answer) == NOISE_OK);
     x->answers++;
 }
 
-uint32_t write_on(end *x, const uint8_t *payload, size_t payload_len, uint8_t *out, size_t out_len, noise_told *told) {
+uint32_t write_on(end *x, const uint8_t *payload, size_t payload_len, uint8_t *out, size_t out_len, noise_result *result) {
     uint32_t code;
-    while ((code = noise_write(&x->h, payload, payload_len, out, out_len, told)) == NOISE_WANTED) hand_in(x, told);
+    while ((code = noise_write(&x->h, payload, payload_len, out, out_len, result)) == NOISE_WANTED) hand_in(x, result);
     return code;
 }
 
-uint32_t read_on(end *x, uint8_t *message, size_t message_len, noise_told *told) {
+uint32_t read_on(end *x, uint8_t *message, size_t message_len, noise_result *result) {
     uint32_t code;
-    while ((code = noise_read(&x->h, message, message_len, told)) == NOISE_WANTED) hand_in(x, told);
+    while ((code = noise_read(&x->h, message, message_len, result)) == NOISE_WANTED) hand_in(x, result);
     return code;
 }
 
@@ -128,13 +128,13 @@ size_t length_of(unsigned number) {
 
 void pass_all(const plan *p, end ends[2]) {
     uint8_t message[2000], payload[1000];
-    noise_told told;
+    noise_result result;
     for (unsigned m = 0; m < p->messages; m++) {
         size_t len = length_of(m + 1);
         fill(payload, len, m);
-        MUST(write_on(&ends[m % 2], payload, len, message, sizeof message, &told) == NOISE_OK);
-        MUST(read_on(&ends[1 - m % 2], message, told.len, &told) == NOISE_OK);
-        MUST(told.len == len && !memcmp(message + told.from, payload, len));
+        MUST(write_on(&ends[m % 2], payload, len, message, sizeof message, &result) == NOISE_OK);
+        MUST(read_on(&ends[1 - m % 2], message, result.len, &result) == NOISE_OK);
+        MUST(result.len == len && !memcmp(message + result.from, payload, len));
     }
 }
 

@@ -68,10 +68,10 @@ const uint8_t *prologue(void);
 noise_setup setup_of(const plan *p, unsigned role);
 uint32_t start_with(noise_handshake *h, const plan *p, const noise_setup *setup);
 end begin(const plan *p, unsigned role);
-void hand_in(end *x, const noise_told *told);
+void hand_in(end *x, const noise_result *result);
 // Writes and reads, with each answer that is wanted.
-uint32_t write_on(end *x, const uint8_t *payload, size_t payload_len, uint8_t *out, size_t out_len, noise_told *told);
-uint32_t read_on(end *x, uint8_t *message, size_t message_len, noise_told *told);
+uint32_t write_on(end *x, const uint8_t *payload, size_t payload_len, uint8_t *out, size_t out_len, noise_result *result);
+uint32_t read_on(end *x, uint8_t *message, size_t message_len, noise_result *result);
 // A payload whose bytes depend on the number; and a length by number, the same in each run.
 void fill(uint8_t *payload, size_t len, unsigned number);
 size_t length_of(unsigned number);
@@ -95,6 +95,6 @@ void check_datagram_halves(void);
 void check_ciphers(void);
 void check_streams(void);
 void check_changed_structs(void);
-void check_late_secrets(void);
+void check_late_psks(void);
 
 #endif

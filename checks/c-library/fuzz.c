@@ -19,10 +19,10 @@ typedef struct {
     bool is_const;
 } place;
 
-typedef uint32_t writing(void *kept, const uint8_t *payload, size_t payload_len, uint8_t *out, size_t out_len, noise_told *told);
-typedef uint32_t opening(void *kept, uint8_t *message, size_t message_len, noise_told *told);
+typedef uint32_t writing(void *object, const uint8_t *payload, size_t payload_len, uint8_t *out, size_t out_len, noise_result *result);
+typedef uint32_t opening(void *object, uint8_t *message, size_t message_len, noise_result *result);
 
-static place kept_place, first_place, second_place, out_place, told_place;
+static place struct_place, first_place, second_place, out_place, result_place;
 static uint8_t payload[ROOM], message[ROOM], before[ROOM], datagrams_sealed[MOST_DATAGRAMS][400];
 static size_t datagram_lens[MOST_DATAGRAMS];
 static uint64_t state;
@@ -103,24 +103,24 @@ static uint32_t counted(uint32_t code, uint64_t codes) {
     calls++;
     went_well += code == NOISE_OK;
     MUST(is_in(code, codes));
-    must_be_marked(&kept_place);
+    must_be_marked(&struct_place);
     must_be_marked(&first_place);
     must_be_marked(&second_place);
     must_be_marked(&out_place);
-    must_be_marked(&told_place);
+    must_be_marked(&result_place);
     return code;
 }
 
-static uint32_t write_handshake(void *kept, const uint8_t *bytes, size_t len, uint8_t *out, size_t out_len, noise_told *told) {
-    return noise_write((noise_handshake *)kept, bytes, len, out, out_len, told);
+static uint32_t write_handshake(void *object, const uint8_t *bytes, size_t len, uint8_t *out, size_t out_len, noise_result *result) {
+    return noise_write((noise_handshake *)object, bytes, len, out, out_len, result);
 }
 
-static uint32_t seal_next(void *kept, const uint8_t *bytes, size_t len, uint8_t *out, size_t out_len, noise_told *told) {
-    return noise_seal((noise_sender *)kept, bytes, len, out, out_len, told);
+static uint32_t seal_next(void *object, const uint8_t *bytes, size_t len, uint8_t *out, size_t out_len, noise_result *result) {
+    return noise_seal((noise_sender *)object, bytes, len, out, out_len, result);
 }
 
-static uint32_t seal_datagram(void *kept, const uint8_t *bytes, size_t len, uint8_t *out, size_t out_len, noise_told *told) {
-    return noise_datagram_seal((noise_datagram_sender *)kept, bytes, len, out, out_len, told);
+static uint32_t seal_datagram(void *object, const uint8_t *bytes, size_t len, uint8_t *out, size_t out_len, noise_result *result) {
+    return noise_datagram_seal((noise_datagram_sender *)object, bytes, len, out, out_len, result);
 }
 
 // Puts the payload into the buffer from `from` on, as far as there is room, and at a refusal the filling again: call_writing compares that.
@@ -136,103 +136,103 @@ static void take_payload(uint8_t *out, size_t out_len, size_t from, const uint8_
     memset(out + from, 0x5e, some);
 }
 
-static uint32_t seal_in_place(void *kept, const uint8_t *bytes, size_t len, uint8_t *out, size_t out_len, noise_told *told) {
+static uint32_t seal_in_place(void *object, const uint8_t *bytes, size_t len, uint8_t *out, size_t out_len, noise_result *result) {
     put_payload(out, out_len, 0, bytes, len);
-    uint32_t code = noise_seal_in_place((noise_sender *)kept, out, out_len, len, told);
+    uint32_t code = noise_seal_in_place((noise_sender *)object, out, out_len, len, result);
     if (code != NOISE_OK) take_payload(out, out_len, 0, bytes, len);
     return code;
 }
 
-static uint32_t seal_datagram_in_place(void *kept, const uint8_t *bytes, size_t len, uint8_t *out, size_t out_len, noise_told *told) {
+static uint32_t seal_datagram_in_place(void *object, const uint8_t *bytes, size_t len, uint8_t *out, size_t out_len, noise_result *result) {
     put_payload(out, out_len, 8, bytes, len);
-    uint32_t code = noise_datagram_seal_in_place((noise_datagram_sender *)kept, out, out_len, len, told);
+    uint32_t code = noise_datagram_seal_in_place((noise_datagram_sender *)object, out, out_len, len, result);
     if (code != NOISE_OK) take_payload(out, out_len, 8, bytes, len);
     return code;
 }
 
-static uint32_t read_handshake(void *kept, uint8_t *bytes, size_t len, noise_told *told) {
-    return noise_read((noise_handshake *)kept, bytes, len, told);
+static uint32_t read_handshake(void *object, uint8_t *bytes, size_t len, noise_result *result) {
+    return noise_read((noise_handshake *)object, bytes, len, result);
 }
 
-static uint32_t open_next(void *kept, uint8_t *bytes, size_t len, noise_told *told) {
-    return noise_open((noise_receiver *)kept, bytes, len, told);
+static uint32_t open_next(void *object, uint8_t *bytes, size_t len, noise_result *result) {
+    return noise_open((noise_receiver *)object, bytes, len, result);
 }
 
-static uint32_t open_datagram(void *kept, uint8_t *bytes, size_t len, noise_told *told) {
-    return noise_datagram_open((noise_datagram_receiver *)kept, bytes, len, told);
+static uint32_t open_datagram(void *object, uint8_t *bytes, size_t len, noise_result *result) {
+    return noise_datagram_open((noise_datagram_receiver *)object, bytes, len, result);
 }
 
 // The associated data of a cipher state: some bytes of the payload's place, and of each other call none.
 static size_t ad_len;
 
-static uint32_t encrypt_in_place(void *kept, const uint8_t *bytes, size_t len, uint8_t *out, size_t out_len, noise_told *told) {
+static uint32_t encrypt_in_place(void *object, const uint8_t *bytes, size_t len, uint8_t *out, size_t out_len, noise_result *result) {
     put_payload(out, out_len, 0, bytes, len);
-    uint32_t code = noise_cipher_encrypt((noise_cipher *)kept, put_bytes(&second_place, payload, ad_len, true), ad_len, out, out_len, len, told);
+    uint32_t code = noise_cipher_encrypt((noise_cipher *)object, put_bytes(&second_place, payload, ad_len, true), ad_len, out, out_len, len, result);
     if (code != NOISE_OK) take_payload(out, out_len, 0, bytes, len);
     return code;
 }
 
-static uint32_t decrypt_in_place(void *kept, uint8_t *bytes, size_t len, noise_told *told) {
-    return noise_cipher_decrypt((noise_cipher *)kept, put_bytes(&second_place, payload, ad_len, true), ad_len, bytes, len, told);
+static uint32_t decrypt_in_place(void *object, uint8_t *bytes, size_t len, noise_result *result) {
+    return noise_cipher_decrypt((noise_cipher *)object, put_bytes(&second_place, payload, ad_len, true), ad_len, bytes, len, result);
 }
 
 // A refused call of a half returns nothing but its code.
-static void must_be_untold(const noise_told *told) {
-    for (size_t i = 0; i < sizeof *told; i++) MUST(((const uint8_t *)told)[i] == 0x5e);
+static void must_be_unreported(const noise_result *result) {
+    for (size_t i = 0; i < sizeof *result; i++) MUST(((const uint8_t *)result)[i] == 0x5e);
 }
 
 // Writes or seals `len` bytes of `payload` to `message`, with room for `out_len`.
-static uint32_t call_writing(writing *call, void *kept, size_t size, uint64_t codes, size_t len, size_t out_len, noise_told *told) {
-    void *in_place = put(&kept_place, kept, size, false);
+static uint32_t call_writing(writing *call, void *object, size_t size, uint64_t codes, size_t len, size_t out_len, noise_result *result) {
+    void *in_place = put(&struct_place, object, size, false);
     const uint8_t *bytes = put_bytes(&first_place, payload, len, true);
     uint8_t *out = put_bytes(&out_place, NULL, out_len, false);
-    noise_told *told_there = put(&told_place, NULL, sizeof *told, false);
+    noise_result *result_there = put(&result_place, NULL, sizeof *result, false);
     memset(before, 0x5e, out_len);
-    uint32_t code = counted(call(in_place, bytes, len, out, out_len, told_there), codes);
-    *told = *told_there;
-    size_t written = code == NOISE_OK ? told->len : 0;
+    uint32_t code = counted(call(in_place, bytes, len, out, out_len, result_there), codes);
+    *result = *result_there;
+    size_t written = code == NOISE_OK ? result->len : 0;
     MUST(written <= out_len);
     if (code != NOISE_AGREEMENT) MUST(!memcmp(out_place.at + written, before, out_len - written));
-    if (code != NOISE_OK) MUST(!memcmp(in_place, kept, size));
-    if (code != NOISE_OK && call != write_handshake) must_be_untold(told_there);
-    memcpy(kept, in_place, size);
+    if (code != NOISE_OK) MUST(!memcmp(in_place, object, size));
+    if (code != NOISE_OK && call != write_handshake) must_be_unreported(result_there);
+    memcpy(object, in_place, size);
     memcpy(message, out_place.at, written);
     return code;
 }
 
 // Reads or opens these bytes. What a refused message of a handshake leaves is a struct that has ended.
-static uint32_t call_opening(opening *call, void *kept, size_t size, uint64_t codes, uint8_t *bytes, size_t len, noise_told *told) {
-    void *in_place = put(&kept_place, kept, size, false);
+static uint32_t call_opening(opening *call, void *object, size_t size, uint64_t codes, uint8_t *bytes, size_t len, noise_result *result) {
+    void *in_place = put(&struct_place, object, size, false);
     uint8_t *there = put_bytes(&out_place, bytes, len, false);
-    noise_told *told_there = put(&told_place, NULL, sizeof *told, false);
-    uint32_t code = counted(call(in_place, there, len, told_there), codes);
-    *told = *told_there;
+    noise_result *result_there = put(&result_place, NULL, sizeof *result, false);
+    uint32_t code = counted(call(in_place, there, len, result_there), codes);
+    *result = *result_there;
     bool may_end = call == read_handshake && is_in(code, CODE(NOISE_SHORT) | CODE(NOISE_TAG) | CODE(NOISE_AGREEMENT));
     if (code == NOISE_OK)
-        MUST(told->from <= len && told->len <= len - told->from);
+        MUST(result->from <= len && result->len <= len - result->from);
     else
         MUST(!memcmp(out_place.at, bytes, len));
-    if (code != NOISE_OK && !may_end) MUST(!memcmp(in_place, kept, size));
-    if (code != NOISE_OK && call != read_handshake) must_be_untold(told_there);
-    memcpy(kept, in_place, size);
+    if (code != NOISE_OK && !may_end) MUST(!memcmp(in_place, object, size));
+    if (code != NOISE_OK && call != read_handshake) must_be_unreported(result_there);
+    memcpy(object, in_place, size);
     memcpy(bytes, out_place.at, len);
     return code;
 }
 
-static void hand_in_there(noise_handshake *h, unsigned role, const noise_told *told, uint64_t codes) {
+static void hand_in_there(noise_handshake *h, unsigned role, const noise_result *result, uint64_t codes) {
     uint8_t answer[32];
-    const uint8_t *own = public_key(role, told->of_static & 1);
-    for (unsigned i = 0; i < 32; i++) answer[i] = own[i] ^ told->remote[i];
-    noise_handshake *there = put(&kept_place, h, sizeof *h, false);
-    uint8_t *remote_there = put(&first_place, told->remote, 32, true), *answer_there = put(&second_place, answer, 32, true);
-    uint32_t code = counted(noise_answer(there, told->of_static, remote_there, answer_there), codes);
+    const uint8_t *own = public_key(role, result->of_static & 1);
+    for (unsigned i = 0; i < 32; i++) answer[i] = own[i] ^ result->remote[i];
+    noise_handshake *there = put(&struct_place, h, sizeof *h, false);
+    uint8_t *remote_there = put(&first_place, result->remote, 32, true), *answer_there = put(&second_place, answer, 32, true);
+    uint32_t code = counted(noise_answer(there, result->of_static, remote_there, answer_there), codes);
     if (code == NOISE_FULL) MUST(!memcmp(there, h, sizeof *h));
     *h = *there;
 }
 
 // Supplies the secret of the first psk token that lacks one.
 static uint32_t set_psk_there(noise_handshake *h, const uint8_t *psk, uint64_t codes) {
-    noise_handshake *there = put(&kept_place, h, sizeof *h, false);
+    noise_handshake *there = put(&struct_place, h, sizeof *h, false);
     uint32_t code = counted(noise_set_psk(there, put(&first_place, psk, 32, true)), codes);
     if (code != NOISE_OK) MUST(!memcmp(there, h, sizeof *h));
     *h = *there;
@@ -240,26 +240,26 @@ static uint32_t set_psk_there(noise_handshake *h, const uint8_t *psk, uint64_t c
 }
 
 // Supplies what a call has asked for. False if it has asked for nothing.
-static bool supply_there(noise_handshake *h, unsigned role, unsigned *given, const noise_told *told, uint32_t code) {
-    if (code == NOISE_WANTED) hand_in_there(h, role, told, CODE(NOISE_OK));
+static bool supply_there(noise_handshake *h, unsigned role, unsigned *given, const noise_result *result, uint32_t code) {
+    if (code == NOISE_WANTED) hand_in_there(h, role, result, CODE(NOISE_OK));
     if (code == NOISE_WANTED_PSK) {
-        MUST(told->remote_known <= 1);
+        MUST(result->remote_known <= 1);
         set_psk_there(h, secret((*given)++), CODE(NOISE_OK));
     }
     return code == NOISE_WANTED || code == NOISE_WANTED_PSK;
 }
 
-static uint32_t write_there(noise_handshake *h, unsigned role, unsigned *given, size_t len, size_t out_len, noise_told *told) {
+static uint32_t write_there(noise_handshake *h, unsigned role, unsigned *given, size_t len, size_t out_len, noise_result *result) {
     uint32_t code;
-    do code = call_writing(write_handshake, h, sizeof *h, write_codes, len, out_len, told);
-    while (supply_there(h, role, given, told, code));
+    do code = call_writing(write_handshake, h, sizeof *h, write_codes, len, out_len, result);
+    while (supply_there(h, role, given, result, code));
     return code;
 }
 
-static uint32_t read_there(noise_handshake *h, unsigned role, unsigned *given, uint8_t *bytes, size_t len, noise_told *told) {
+static uint32_t read_there(noise_handshake *h, unsigned role, unsigned *given, uint8_t *bytes, size_t len, noise_result *result) {
     uint32_t code;
-    do code = call_opening(read_handshake, h, sizeof *h, read_codes, bytes, len, told);
-    while (supply_there(h, role, given, told, code));
+    do code = call_opening(read_handshake, h, sizeof *h, read_codes, bytes, len, result);
+    while (supply_there(h, role, given, result, code));
     return code;
 }
 
@@ -268,9 +268,9 @@ static void change_bytes(uint8_t *bytes, size_t len) {
 }
 
 // A call that changes no struct: at OK only what it returns.
-#define ASK(kept, kept_type, out_size, codes, call)                                                              \
+#define ASK(object, object_type, out_size, codes, call)                                                              \
     do {                                                                                                         \
-        const kept_type *k = put(&kept_place, kept, sizeof(kept_type), true);                                    \
+        const object_type *k = put(&struct_place, object, sizeof(object_type), true);                                    \
         void *o = put(&out_place, NULL, out_size, false);                                                        \
         memset(before, 0x5e, out_size);                                                                          \
         if (counted(call, codes) != NOISE_OK) MUST(!memcmp(o, before, out_size));                                \
@@ -282,7 +282,7 @@ static void ask_handshake(const noise_handshake *h) {
     ASK(h, noise_handshake, sizeof(size_t), begun | CODE(NOISE_NOT_DUE), noise_message_len(k, random_len(), o));
     ASK(h, noise_handshake, 32, begun, noise_hash(k, o));
     ASK(h, noise_handshake, sizeof(noise_key), begun, noise_remote_static(k, o));
-    ASK(h, noise_handshake, sizeof(noise_stage_told), begun, noise_stage(k, o));
+    ASK(h, noise_handshake, sizeof(noise_stage_result), begun, noise_stage(k, o));
     // The two halves of each kind, one after the other in one place.
     ASK(h, noise_handshake, sizeof(transport), ends_codes, finish(k, random_number(), o));
     ASK(h, noise_handshake, sizeof(datagrams), ends_codes | CODE(NOISE_WINDOW), finish_datagrams(k, window, o));
@@ -291,7 +291,7 @@ static void ask_handshake(const noise_handshake *h) {
 }
 
 static void ask_halves(const transport *t, const datagrams *d, const stream *x, const noise_cipher *c) {
-    const noise_stream_receiver *r = put(&kept_place, &x->r, sizeof x->r, true);
+    const noise_stream_receiver *r = put(&struct_place, &x->r, sizeof x->r, true);
     counted(noise_stream_is_cut(r, below(3)), begun | CODE(NOISE_CUT));
     ASK(&t->s, noise_sender, 8, begun, noise_sender_nonce(k, o));
     ASK(&t->r, noise_receiver, 8, begun, noise_receiver_nonce(k, o));
@@ -303,16 +303,16 @@ static void ask_halves(const transport *t, const datagrams *d, const stream *x, 
 static void disturb_handshake(const noise_handshake *h, unsigned role) {
     static uint8_t bytes[ROOM];
     noise_handshake copy = *h;
-    noise_told told = {0};
+    noise_result result = {0};
     size_t len = random_len();
-    if (!one_in(3)) change_bytes(copy.kept, sizeof copy);
+    if (!one_in(3)) change_bytes(copy.opaque, sizeof copy);
     for (size_t i = 0; i < len; i++) bytes[i] = (uint8_t)random_number();
     ask_handshake(&copy);
-    call_writing(write_handshake, &copy, sizeof copy, write_codes, random_len(), random_len(), &told);
-    call_opening(read_handshake, &copy, sizeof copy, read_codes, bytes, len, &told);
-    hand_in_there(&copy, role, &told, CODE(NOISE_OK) | CODE(NOISE_FULL));
+    call_writing(write_handshake, &copy, sizeof copy, write_codes, random_len(), random_len(), &result);
+    call_opening(read_handshake, &copy, sizeof copy, read_codes, bytes, len, &result);
+    hand_in_there(&copy, role, &result, CODE(NOISE_OK) | CODE(NOISE_FULL));
     if (one_in(2)) set_psk_there(&copy, bytes, psk_codes);
-    call_opening(read_handshake, &copy, sizeof copy, read_codes, bytes, len, &told);
+    call_opening(read_handshake, &copy, sizeof copy, read_codes, bytes, len, &result);
 }
 
 // All that one party has after a handshake.
@@ -329,36 +329,36 @@ static const uint64_t stream_read_codes = CODE(NOISE_OK) | CODE(NOISE_STRUCT) | 
     | CODE(NOISE_SHORT) | CODE(NOISE_TAG) | CODE(NOISE_EXHAUSTED) | CODE(NOISE_ONE_WAY);
 
 // Writes a frame of `len` bytes of `payload`, or the end, to `message`, with room for `out_len`.
-static uint32_t write_stream(noise_stream_sender *s, bool ends, size_t len, size_t out_len, noise_stream_told *told) {
-    noise_stream_sender *there = put(&kept_place, s, sizeof *s, false);
+static uint32_t write_stream(noise_stream_sender *s, bool ends, size_t len, size_t out_len, noise_stream_result *result) {
+    noise_stream_sender *there = put(&struct_place, s, sizeof *s, false);
     const uint8_t *bytes = put_bytes(&first_place, payload, len, true);
     uint8_t *out = put_bytes(&out_place, NULL, out_len, false);
-    noise_stream_told *told_there = put(&told_place, NULL, sizeof *told, false);
-    memset(before, 0x5e, out_len > sizeof *told ? out_len : sizeof *told);
-    uint32_t code = ends ? noise_stream_end(there, out, out_len, told_there) : noise_stream_write(there, bytes, len, out, out_len, told_there);
+    noise_stream_result *result_there = put(&result_place, NULL, sizeof *result, false);
+    memset(before, 0x5e, out_len > sizeof *result ? out_len : sizeof *result);
+    uint32_t code = ends ? noise_stream_end(there, out, out_len, result_there) : noise_stream_write(there, bytes, len, out, out_len, result_there);
     counted(code, stream_write_codes);
-    *told = *told_there;
-    size_t written = code == NOISE_OK ? told->len : 0;
+    *result = *result_there;
+    size_t written = code == NOISE_OK ? result->len : 0;
     MUST(written <= out_len && !memcmp(out_place.at + written, before, out_len - written));
-    if (code != NOISE_OK) MUST(!memcmp(there, s, sizeof *s) && !memcmp(told_there, before, sizeof *told));
+    if (code != NOISE_OK) MUST(!memcmp(there, s, sizeof *s) && !memcmp(result_there, before, sizeof *result));
     *s = *there;
     memcpy(message, out_place.at, written);
     return code;
 }
 
 // Reads a stream's frame in these bytes. What a refused one leaves is a half that is closed.
-static uint32_t read_stream(noise_stream_receiver *r, uint8_t *bytes, size_t len, noise_stream_told *told) {
-    noise_stream_receiver *there = put(&kept_place, r, sizeof *r, false);
+static uint32_t read_stream(noise_stream_receiver *r, uint8_t *bytes, size_t len, noise_stream_result *result) {
+    noise_stream_receiver *there = put(&struct_place, r, sizeof *r, false);
     uint8_t *buffer = put_bytes(&out_place, bytes, len, false);
-    noise_stream_told *told_there = put(&told_place, NULL, sizeof *told, false);
-    uint32_t code = counted(noise_stream_read(there, buffer, len, told_there), stream_read_codes);
-    *told = *told_there;
-    if (code == NOISE_OK) MUST(told->used <= len && told->from + told->len + NOISE_TAG_LEN == told->used && told->len);
-    if (code == NOISE_END) MUST(told->used == NOISE_STREAM_OVERHEAD && len >= told->used);
-    if (code == NOISE_MORE) MUST(told->wanted && told->wanted <= NOISE_MAX_FRAME);
+    noise_stream_result *result_there = put(&result_place, NULL, sizeof *result, false);
+    uint32_t code = counted(noise_stream_read(there, buffer, len, result_there), stream_read_codes);
+    *result = *result_there;
+    if (code == NOISE_OK) MUST(result->used <= len && result->from + result->len + NOISE_TAG_LEN == result->used && result->len);
+    if (code == NOISE_END) MUST(result->used == NOISE_STREAM_OVERHEAD && len >= result->used);
+    if (code == NOISE_MORE) MUST(result->wanted && result->wanted <= NOISE_MAX_FRAME);
     if (code != NOISE_OK) MUST(!memcmp(out_place.at, bytes, len));
     if (is_in(code, CODE(NOISE_MORE) | CODE(NOISE_CLOSED) | CODE(NOISE_STRUCT))) MUST(!memcmp(there, r, sizeof *r));
-    if (is_in(code, open_codes & ~begun)) MUST(noise_stream_read(there, buffer ? buffer : message, len, told) == NOISE_CLOSED);
+    if (is_in(code, open_codes & ~begun)) MUST(noise_stream_read(there, buffer ? buffer : message, len, result) == NOISE_CLOSED);
     *r = *there;
     memcpy(bytes, out_place.at, len);
     return code;
@@ -366,26 +366,26 @@ static uint32_t read_stream(noise_stream_receiver *r, uint8_t *bytes, size_t len
 
 static void disturb_party(const party *of) {
     party copy = *of;
-    noise_told told;
+    noise_result result;
     if (!one_in(3)) change_bytes((uint8_t *)&copy, sizeof copy);
     ask_halves(&copy.t, &copy.d, &copy.x, one_in(2) ? &copy.send : &copy.receive);
-    call_writing(one_in(2) ? seal_next : seal_in_place, &copy.t.s, sizeof copy.t.s, seal_codes, random_len(), random_len(), &told);
-    call_opening(open_next, &copy.t.r, sizeof copy.t.r, open_codes, payload, random_len(), &told);
-    call_writing(one_in(2) ? seal_datagram : seal_datagram_in_place, &copy.d.s, sizeof copy.d.s, seal_codes, random_len(), random_len(), &told);
-    call_opening(open_datagram, &copy.d.r, sizeof copy.d.r, datagram_codes, payload, random_len(), &told);
-    noise_stream_told place;
+    call_writing(one_in(2) ? seal_next : seal_in_place, &copy.t.s, sizeof copy.t.s, seal_codes, random_len(), random_len(), &result);
+    call_opening(open_next, &copy.t.r, sizeof copy.t.r, open_codes, payload, random_len(), &result);
+    call_writing(one_in(2) ? seal_datagram : seal_datagram_in_place, &copy.d.s, sizeof copy.d.s, seal_codes, random_len(), random_len(), &result);
+    call_opening(open_datagram, &copy.d.r, sizeof copy.d.r, datagram_codes, payload, random_len(), &result);
+    noise_stream_result place;
     write_stream(&copy.x.s, one_in(4), random_len(), random_len(), &place);
     read_stream(&copy.x.r, payload, random_len(), &place);
     ad_len = random_len();
-    call_writing(encrypt_in_place, &copy.send, sizeof copy.send, cipher_codes, random_len(), random_len(), &told);
-    call_opening(decrypt_in_place, &copy.receive, sizeof copy.receive, cipher_codes, payload, random_len(), &told);
-    noise_cipher *there = put(&kept_place, &copy.send, sizeof copy.send, false);
+    call_writing(encrypt_in_place, &copy.send, sizeof copy.send, cipher_codes, random_len(), random_len(), &result);
+    call_opening(decrypt_in_place, &copy.receive, sizeof copy.receive, cipher_codes, payload, random_len(), &result);
+    noise_cipher *there = put(&struct_place, &copy.send, sizeof copy.send, false);
     counted(one_in(2) ? noise_cipher_rekey(there) : noise_cipher_set_nonce(there, random_number()), begun | CODE(NOISE_ONE_WAY));
 }
 
 static uint32_t start_there(noise_handshake *h, const void *pattern, size_t len, size_t prologue_len, const noise_setup *setup) {
     noise_handshake old = *h;
-    noise_handshake *there = put(&kept_place, h, sizeof *h, false);
+    noise_handshake *there = put(&struct_place, h, sizeof *h, false);
     const uint8_t *pattern_there = put_bytes(&first_place, pattern, len, true);
     const uint8_t *prologue_there = put_bytes(&second_place, prologue(), prologue_len, true);
     const noise_setup *setup_there = put(&out_place, setup, sizeof *setup, true);
@@ -408,8 +408,8 @@ static void disturb_start(const plan *p, unsigned role) {
     if (one_in(3)) change_bytes((uint8_t *)&setup, sizeof setup);
     if (one_in(4)) len = below(len + 1);
     start_there(&h, pattern, len, one_in(30) ? NOISE_MAX_PROLOGUE + 1 : random_len() % (NOISE_MAX_PROLOGUE + 1), &setup);
-    noise_pattern_told *told = put(&told_place, NULL, sizeof *told, false);
-    counted(noise_check_pattern(put_bytes(&first_place, pattern, len, true), len, told), CODE(NOISE_OK) | (CODE(NOISE_RULE + 1) - CODE(NOISE_HEADING)));
+    noise_pattern_result *result = put(&result_place, NULL, sizeof *result, false);
+    counted(noise_check_pattern(put_bytes(&first_place, pattern, len, true), len, result), CODE(NOISE_OK) | (CODE(NOISE_RULE + 1) - CODE(NOISE_HEADING)));
 }
 
 static plan random_plan(void) {
@@ -426,32 +426,32 @@ static plan random_plan(void) {
 static void try_changed(const noise_handshake *h, unsigned role, unsigned given, size_t len) {
     static uint8_t changed[ROOM];
     noise_handshake copy = *h;
-    noise_told told;
+    noise_result result;
     memcpy(changed, message, len);
     change_bytes(changed, len);
     if (one_in(3)) len = below(len + 1);
-    uint32_t code = read_there(&copy, role, &given, changed, len, &told);
+    uint32_t code = read_there(&copy, role, &given, changed, len, &result);
     MUST(is_in(code, CODE(NOISE_OK) | CODE(NOISE_SHORT) | CODE(NOISE_TAG)));
-    if (code != NOISE_OK) MUST(call_opening(read_handshake, &copy, sizeof copy, read_codes, changed, len, &told) == NOISE_ENDED);
+    if (code != NOISE_OK) MUST(call_opening(read_handshake, &copy, sizeof copy, read_codes, changed, len, &result) == NOISE_ENDED);
 }
 
 static void shake_hands(const plan *p, noise_handshake h[2], unsigned given[2]) {
-    noise_told told;
+    noise_result result;
     for (unsigned m = 0; m < p->messages; m++) {
         unsigned writer = m % 2, reader = 1 - writer;
         size_t len = random_len() % 60000, needed;
         disturb_handshake(&h[below(2)], writer);
         MUST(noise_message_len(&h[writer], len, &needed) == NOISE_OK);
-        MUST(write_there(&h[writer], writer, &given[writer], len, below(needed), &told) == NOISE_ROOM && told.len == needed);
-        MUST(write_there(&h[writer], writer, &given[writer], len, needed + (one_in(2) ? 0 : below(50)), &told) == NOISE_OK && told.len == needed);
+        MUST(write_there(&h[writer], writer, &given[writer], len, below(needed), &result) == NOISE_ROOM && result.len == needed);
+        MUST(write_there(&h[writer], writer, &given[writer], len, needed + (one_in(2) ? 0 : below(50)), &result) == NOISE_OK && result.len == needed);
         try_changed(&h[reader], reader, given[reader], needed);
-        MUST(read_there(&h[reader], reader, &given[reader], message, needed, &told) == NOISE_OK);
-        MUST(told.len == len && !memcmp(message + told.from, payload, len));
+        MUST(read_there(&h[reader], reader, &given[reader], message, needed, &result) == NOISE_OK);
+        MUST(result.len == len && !memcmp(message + result.from, payload, len));
     }
 }
 
 static void use_halves(const plan *p, party parties[2]) {
-    noise_told told;
+    noise_result result;
     for (size_t n = below(12); n; n--) {
         unsigned sender = p->one_way ? 0 : (unsigned)below(2);
         size_t len = random_len() % (NOISE_MAX_MESSAGE - NOISE_TAG_LEN + 1), sealed = len + NOISE_TAG_LEN;
@@ -459,53 +459,53 @@ static void use_halves(const plan *p, party parties[2]) {
         noise_receiver *r = &parties[!sender].t.r;
         writing *seal = one_in(2) ? seal_next : seal_in_place;
         disturb_party(&parties[below(2)]);
-        MUST(call_writing(seal, s, sizeof *s, seal_codes, len, below(sealed), &told) == NOISE_ROOM);
-        MUST(call_writing(seal, s, sizeof *s, seal_codes, len, sealed, &told) == NOISE_OK && told.len == sealed);
+        MUST(call_writing(seal, s, sizeof *s, seal_codes, len, below(sealed), &result) == NOISE_ROOM);
+        MUST(call_writing(seal, s, sizeof *s, seal_codes, len, sealed, &result) == NOISE_OK && result.len == sealed);
         size_t at = below(sealed);
         message[at] ^= 0x40;
-        MUST(call_opening(open_next, r, sizeof *r, open_codes, message, sealed, &told) == NOISE_TAG);
+        MUST(call_opening(open_next, r, sizeof *r, open_codes, message, sealed, &result) == NOISE_TAG);
         message[at] ^= 0x40;
-        MUST(call_opening(open_next, r, sizeof *r, open_codes, message, sealed, &told) == NOISE_OK);
-        MUST(told.len == len && !memcmp(message + told.from, payload, len));
+        MUST(call_opening(open_next, r, sizeof *r, open_codes, message, sealed, &result) == NOISE_OK);
+        MUST(result.len == len && !memcmp(message + result.from, payload, len));
     }
 }
 
 static void use_stream(const plan *p, party parties[2]) {
-    noise_stream_told told;
+    noise_stream_result result;
     unsigned sender = p->one_way ? 0 : (unsigned)below(2);
     noise_stream_sender *s = &parties[sender].x.s;
     noise_stream_receiver *r = &parties[!sender].x.r, broken;
     for (size_t n = below(8); n; n--) {
         size_t len = 1 + random_len(), part = len < 65519 ? len : 65519, frame = part + NOISE_STREAM_OVERHEAD;
-        MUST(write_stream(s, false, len, below(frame), &told) == NOISE_ROOM);
-        MUST(write_stream(s, false, len, frame + below(20), &told) == NOISE_OK && told.used == part && told.len == frame);
-        MUST(read_stream(r, message, below(frame), &told) == NOISE_MORE);
+        MUST(write_stream(s, false, len, below(frame), &result) == NOISE_ROOM);
+        MUST(write_stream(s, false, len, frame + below(20), &result) == NOISE_OK && result.used == part && result.len == frame);
+        MUST(read_stream(r, message, below(frame), &result) == NOISE_MORE);
         size_t at = 2 + below(frame - 2);
         message[at] ^= 0x40, broken = *r;
-        MUST(read_stream(&broken, message, frame, &told) == NOISE_TAG);
+        MUST(read_stream(&broken, message, frame, &result) == NOISE_TAG);
         message[at] ^= 0x40;
-        MUST(read_stream(r, message, frame + below(20), &told) == NOISE_OK && told.len == part && told.used == frame);
-        MUST(!memcmp(message + told.from, payload, part) && noise_stream_is_cut(r, 0) == NOISE_CUT);
+        MUST(read_stream(r, message, frame + below(20), &result) == NOISE_OK && result.len == part && result.used == frame);
+        MUST(!memcmp(message + result.from, payload, part) && noise_stream_is_cut(r, 0) == NOISE_CUT);
     }
-    MUST(write_stream(s, true, 0, below(18), &told) == NOISE_ROOM && write_stream(s, true, 0, 18, &told) == NOISE_OK);
-    MUST(read_stream(r, message, 18, &told) == NOISE_END && noise_stream_is_cut(r, 0) == NOISE_OK);
-    MUST(write_stream(s, one_in(2), 9, 99, &told) == NOISE_CLOSED && read_stream(r, message, 18, &told) == NOISE_CLOSED);
+    MUST(write_stream(s, true, 0, below(18), &result) == NOISE_ROOM && write_stream(s, true, 0, 18, &result) == NOISE_OK);
+    MUST(read_stream(r, message, 18, &result) == NOISE_END && noise_stream_is_cut(r, 0) == NOISE_OK);
+    MUST(write_stream(s, one_in(2), 9, 99, &result) == NOISE_CLOSED && read_stream(r, message, 18, &result) == NOISE_CLOSED);
 }
 
 static void use_ciphers(const plan *p, party parties[2]) {
-    noise_told told;
+    noise_result result;
     for (size_t n = below(8); n; n--) {
         unsigned sender = p->one_way ? 0 : (unsigned)below(2);
         noise_cipher *s = &parties[sender].send, *r = &parties[!sender].receive;
         size_t len = random_len() % (NOISE_MAX_MESSAGE - NOISE_TAG_LEN + 1), sealed = len + NOISE_TAG_LEN, data = random_len() % (NOISE_MAX_MESSAGE + 1);
         ad_len = data;
-        MUST(call_writing(encrypt_in_place, s, sizeof *s, cipher_codes, len, below(sealed), &told) == NOISE_ROOM);
-        MUST(call_writing(encrypt_in_place, s, sizeof *s, cipher_codes, len, sealed, &told) == NOISE_OK && told.len == sealed);
+        MUST(call_writing(encrypt_in_place, s, sizeof *s, cipher_codes, len, below(sealed), &result) == NOISE_ROOM);
+        MUST(call_writing(encrypt_in_place, s, sizeof *s, cipher_codes, len, sealed, &result) == NOISE_OK && result.len == sealed);
         ad_len = data ? data - 1 : 1;
-        MUST(call_opening(decrypt_in_place, r, sizeof *r, cipher_codes, message, sealed, &told) == NOISE_TAG);
+        MUST(call_opening(decrypt_in_place, r, sizeof *r, cipher_codes, message, sealed, &result) == NOISE_TAG);
         ad_len = data;
-        MUST(call_opening(decrypt_in_place, r, sizeof *r, cipher_codes, message, sealed, &told) == NOISE_OK);
-        MUST(told.len == len && !memcmp(message + told.from, payload, len));
+        MUST(call_opening(decrypt_in_place, r, sizeof *r, cipher_codes, message, sealed, &result) == NOISE_OK);
+        MUST(result.len == len && !memcmp(message + result.from, payload, len));
         if (one_in(3)) MUST(noise_cipher_rekey(s) == NOISE_OK && noise_cipher_rekey(r) == NOISE_OK);
     }
 }
@@ -519,24 +519,24 @@ static uint32_t wanted_of(const bool *opened, size_t greatest, bool is_any, size
 static void open_in_any_order(noise_datagram_receiver *r, size_t count, size_t window) {
     bool opened[MOST_DATAGRAMS] = {false}, is_any = false;
     size_t greatest = 0;
-    noise_told told;
+    noise_result result;
     for (size_t n = 2 * count; n; n--) {
         size_t nonce = below(count), len = datagram_lens[nonce];
         uint32_t wanted = wanted_of(opened, greatest, is_any, nonce, window);
         memcpy(message, datagrams_sealed[nonce], len);
         message[8 + below(len - 8)] ^= 0x11;
-        MUST(call_opening(open_datagram, r, sizeof *r, datagram_codes, message, len, &told) == (wanted == NOISE_OK ? NOISE_TAG : wanted));
+        MUST(call_opening(open_datagram, r, sizeof *r, datagram_codes, message, len, &result) == (wanted == NOISE_OK ? NOISE_TAG : wanted));
         memcpy(message, datagrams_sealed[nonce], len);
-        MUST(call_opening(open_datagram, r, sizeof *r, datagram_codes, message, len, &told) == wanted);
+        MUST(call_opening(open_datagram, r, sizeof *r, datagram_codes, message, len, &result) == wanted);
         if (wanted != NOISE_OK) continue;
-        MUST(told.len == len - NOISE_DATAGRAM_OVERHEAD && !memcmp(message + told.from, payload, told.len));
+        MUST(result.len == len - NOISE_DATAGRAM_OVERHEAD && !memcmp(message + result.from, payload, result.len));
         opened[nonce] = is_any = true;
         if (nonce > greatest) greatest = nonce;
     }
 }
 
 static void use_network(const plan *p, party parties[2], uint32_t window) {
-    noise_told told;
+    noise_result result;
     unsigned sender = p->one_way ? 0 : (unsigned)below(2);
     noise_datagram_sender *s = &parties[sender].d.s;
     size_t count = 1 + below(one_in(2) ? MOST_DATAGRAMS : 10);
@@ -544,8 +544,8 @@ static void use_network(const plan *p, party parties[2], uint32_t window) {
         size_t len = below(300);
         datagram_lens[i] = len + NOISE_DATAGRAM_OVERHEAD;
         writing *seal = one_in(2) ? seal_datagram : seal_datagram_in_place;
-        MUST(call_writing(seal, s, sizeof *s, seal_codes, len, datagram_lens[i] + below(9), &told) == NOISE_OK && told.len == datagram_lens[i]);
-        memcpy(datagrams_sealed[i], message, told.len);
+        MUST(call_writing(seal, s, sizeof *s, seal_codes, len, datagram_lens[i] + below(9), &result) == NOISE_OK && result.len == datagram_lens[i]);
+        memcpy(datagrams_sealed[i], message, result.len);
     }
     open_in_any_order(&parties[!sender].d.r, count, window);
     for (unsigned role = 0; role < 2; role++) disturb_party(&parties[role]);
@@ -588,7 +588,7 @@ int main(int count, char **words) {
     state = count == 3 ? strtoull(words[2], NULL, 10) : (uint64_t)time(NULL) * 1000003u + (uint64_t)getpid();
     printf("c-library: fuzz: seed %" PRIu64 "\n", state);
     fflush(stdout);
-    place *places[] = {&kept_place, &first_place, &second_place, &out_place, &told_place};
+    place *places[] = {&struct_place, &first_place, &second_place, &out_place, &result_place};
     for (size_t i = 0; i < sizeof places / sizeof *places; i++) {
         make_place(places[i]);
         put(places[i], NULL, 0, false);

@@ -20,8 +20,8 @@ static void check_kinds(void) {
     datagrams d;
     stream x;
     noise_cipher send, receive;
-    noise_told told;
-    noise_stream_told told_of_stream;
+    noise_result result;
+    noise_stream_result stream_result;
     uint64_t nonce;
     pass_all(&p, ends);
     MUST(finish(&ends[0].h, 0, &t) == NOISE_OK && finish_datagrams(&ends[0].h, 64, &d) == NOISE_OK);
@@ -40,26 +40,26 @@ static void check_kinds(void) {
             noise_stream_receiver xr;
             noise_cipher c;
         } any;
-        noise_stage_told stage;
+        noise_stage_result stage;
 #define COPIED (memset(&any, 0, sizeof any), memcpy(&any, kinds[i], sizes[i]))
 #define IF(kind) (i == (kind) ? NOISE_OK : NOISE_STRUCT)
-        COPIED, MUST(noise_seal(&any.s, payload, 5, first, ROOM, &told) == IF(0));
-        COPIED, MUST(noise_seal_in_place(&any.s, first, ROOM, 5, &told) == IF(0));
+        COPIED, MUST(noise_seal(&any.s, payload, 5, first, ROOM, &result) == IF(0));
+        COPIED, MUST(noise_seal_in_place(&any.s, first, ROOM, 5, &result) == IF(0));
         COPIED, MUST(noise_sender_nonce(&any.s, &nonce) == IF(0));
-        COPIED, MUST(noise_open(&any.r, first, 30, &told) == (i == 1 ? NOISE_TAG : NOISE_STRUCT));
+        COPIED, MUST(noise_open(&any.r, first, 30, &result) == (i == 1 ? NOISE_TAG : NOISE_STRUCT));
         COPIED, MUST(noise_receiver_nonce(&any.r, &nonce) == IF(1));
-        COPIED, MUST(noise_datagram_seal(&any.ds, payload, 5, first, ROOM, &told) == IF(2));
-        COPIED, MUST(noise_datagram_seal_in_place(&any.ds, first, ROOM, 5, &told) == IF(2));
+        COPIED, MUST(noise_datagram_seal(&any.ds, payload, 5, first, ROOM, &result) == IF(2));
+        COPIED, MUST(noise_datagram_seal_in_place(&any.ds, first, ROOM, 5, &result) == IF(2));
         COPIED, MUST(noise_datagram_sender_nonce(&any.ds, &nonce) == IF(2));
         memset(first, 0, ROOM);
-        COPIED, MUST(noise_datagram_open(&any.dr, first, 30, &told) == (i == 3 ? NOISE_TAG : NOISE_STRUCT));
-        COPIED, MUST(noise_cipher_encrypt(&any.c, NULL, 0, first, ROOM, 5, &told) == IF(4));
-        COPIED, MUST(noise_cipher_decrypt(&any.c, NULL, 0, first, 30, &told) == (i == 5 ? NOISE_TAG : NOISE_STRUCT));
+        COPIED, MUST(noise_datagram_open(&any.dr, first, 30, &result) == (i == 3 ? NOISE_TAG : NOISE_STRUCT));
+        COPIED, MUST(noise_cipher_encrypt(&any.c, NULL, 0, first, ROOM, 5, &result) == IF(4));
+        COPIED, MUST(noise_cipher_decrypt(&any.c, NULL, 0, first, 30, &result) == (i == 5 ? NOISE_TAG : NOISE_STRUCT));
         COPIED, MUST(noise_cipher_nonce(&any.c, &nonce) == (i == 4 || i == 5 ? NOISE_OK : NOISE_STRUCT));
         COPIED, MUST(noise_stage(&any.h, &stage) == IF(6));
-        COPIED, MUST(noise_stream_write(&any.xs, payload, 5, first, ROOM, &told_of_stream) == IF(7));
-        COPIED, MUST(noise_stream_end(&any.xs, first, ROOM, &told_of_stream) == IF(7));
-        COPIED, MUST(noise_stream_read(&any.xr, first, 1, &told_of_stream) == (i == 8 ? NOISE_MORE : NOISE_STRUCT));
+        COPIED, MUST(noise_stream_write(&any.xs, payload, 5, first, ROOM, &stream_result) == IF(7));
+        COPIED, MUST(noise_stream_end(&any.xs, first, ROOM, &stream_result) == IF(7));
+        COPIED, MUST(noise_stream_read(&any.xr, first, 1, &stream_result) == (i == 8 ? NOISE_MORE : NOISE_STRUCT));
         COPIED, MUST(noise_stream_is_cut(&any.xr, 0) == (i == 8 ? NOISE_CUT : NOISE_STRUCT));
 #undef COPIED
 #undef IF
@@ -68,7 +68,7 @@ static void check_kinds(void) {
 
 static void check_in_place(void) {
     transport t[2], other;
-    noise_told told;
+    noise_result result;
     open_pair("IK", 3, t);
     other = t[0];
     for (unsigned n = 0; n < ROUNDS; n++) {
@@ -77,16 +77,16 @@ static void check_in_place(void) {
         memset(first, 0x55, ROOM);
         memset(second, 0x55, ROOM);
         memcpy(first, payload, len);
-        MUST(noise_seal_in_place(&t[0].s, first, ROOM, len, &told) == NOISE_OK && told.from == 0 && told.len == len + 16);
-        MUST(noise_seal(&other.s, payload, len, second, ROOM, &told) == NOISE_OK && !memcmp(first, second, ROOM));
+        MUST(noise_seal_in_place(&t[0].s, first, ROOM, len, &result) == NOISE_OK && result.from == 0 && result.len == len + 16);
+        MUST(noise_seal(&other.s, payload, len, second, ROOM, &result) == NOISE_OK && !memcmp(first, second, ROOM));
         MUST(!memcmp(&t[0], &other, sizeof other));
-        MUST(noise_open(&t[1].r, first, len + 16, &told) == NOISE_OK && told.len == len && !memcmp(first, payload, len));
+        MUST(noise_open(&t[1].r, first, len + 16, &result) == NOISE_OK && result.len == len && !memcmp(first, payload, len));
     }
     for (size_t room = 0; room < 26; room++) {
         memcpy(second, first, ROOM);
-        MUST(noise_seal_in_place(&t[0].s, first, room, 10, &told) == NOISE_ROOM && !memcmp(first, second, ROOM));
+        MUST(noise_seal_in_place(&t[0].s, first, room, 10, &result) == NOISE_ROOM && !memcmp(first, second, ROOM));
     }
-    MUST(noise_seal_in_place(&t[0].s, first, ROOM, SIZE_MAX, &told) == NOISE_ROOM);
+    MUST(noise_seal_in_place(&t[0].s, first, ROOM, SIZE_MAX, &result) == NOISE_ROOM);
     MUST(!memcmp(&t[0], &other, sizeof other));
 }
 
@@ -95,21 +95,21 @@ static void check_marks(void) {
     plan p = plan_of("XX", -1);
     end ends[2] = {begin(&p, 0), begin(&p, 1)};
     transport t;
-    noise_stage_told stage;
-    noise_told told;
+    noise_stage_result stage;
+    noise_result result;
     pass_all(&p, ends);
     MUST(finish(&ends[0].h, 0, &t) == NOISE_OK);
     for (unsigned i = 0; i < 4; i++)
         for (unsigned change = 1; change < 256; change++) {
             uint8_t by = (uint8_t)change;
-            ends[0].h.kept[i] ^= by, t.s.kept[i] ^= by, t.r.kept[i] ^= by;
+            ends[0].h.opaque[i] ^= by, t.s.opaque[i] ^= by, t.r.opaque[i] ^= by;
             MUST(noise_stage(&ends[0].h, &stage) == NOISE_STRUCT);
-            MUST(noise_seal(&t.s, payload, 5, first, ROOM, &told) == NOISE_STRUCT);
-            MUST(noise_open(&t.r, first, 30, &told) == NOISE_STRUCT);
-            ends[0].h.kept[i] ^= by, t.s.kept[i] ^= by, t.r.kept[i] ^= by;
+            MUST(noise_seal(&t.s, payload, 5, first, ROOM, &result) == NOISE_STRUCT);
+            MUST(noise_open(&t.r, first, 30, &result) == NOISE_STRUCT);
+            ends[0].h.opaque[i] ^= by, t.s.opaque[i] ^= by, t.r.opaque[i] ^= by;
         }
-    MUST(noise_stage(&ends[0].h, &stage) == NOISE_OK && noise_seal(&t.s, payload, 5, first, ROOM, &told) == NOISE_OK);
-    MUST(noise_open(&t.r, first, 30, &told) == NOISE_TAG);
+    MUST(noise_stage(&ends[0].h, &stage) == NOISE_OK && noise_seal(&t.s, payload, 5, first, ROOM, &result) == NOISE_OK);
+    MUST(noise_open(&t.r, first, 30, &result) == NOISE_TAG);
 }
 
 static void check_words(void) {

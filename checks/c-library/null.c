@@ -11,8 +11,8 @@ typedef struct {
         noise_datagram_sender ds;
         noise_datagram_receiver dr;
         noise_cipher c;
-    } kept;
-    noise_told told;
+    } object;
+    noise_result result;
     uint32_t code;
 } left;
 
@@ -20,9 +20,9 @@ static const left blank;
 
 static void must_be_same(const left *a, const left *b, uint32_t code) {
     MUST(a->code == code && b->code == code);
-    MUST(!memcmp(&a->kept, &b->kept, sizeof a->kept));
-    MUST(a->told.from == b->told.from && a->told.len == b->told.len && a->told.token == b->told.token && a->told.of_static == b->told.of_static);
-    MUST(!memcmp(a->told.remote, b->told.remote, 32));
+    MUST(!memcmp(&a->object, &b->object, sizeof a->object));
+    MUST(a->result.from == b->result.from && a->result.len == b->result.len && a->result.token == b->result.token && a->result.of_static == b->result.of_static);
+    MUST(!memcmp(a->result.remote, b->result.remote, 32));
 }
 
 static void check_start(void) {
@@ -32,35 +32,35 @@ static void check_start(void) {
     const uint8_t *name = (const uint8_t *)p.name;
     size_t len = strlen(p.name);
     left a = blank, b = blank;
-    a.code = noise_start(&a.kept.h, name, len, NULL, 0, &setup);
-    b.code = noise_start(&b.kept.h, name, len, &empty, 0, &setup);
+    a.code = noise_start(&a.object.h, name, len, NULL, 0, &setup);
+    b.code = noise_start(&b.object.h, name, len, &empty, 0, &setup);
     must_be_same(&a, &b, NOISE_OK);
-    a.code = noise_start(&a.kept.h, NULL, 0, NULL, 0, &setup);
-    b.code = noise_start(&b.kept.h, &empty, 0, &empty, 0, &setup);
+    a.code = noise_start(&a.object.h, NULL, 0, NULL, 0, &setup);
+    b.code = noise_start(&b.object.h, &empty, 0, &empty, 0, &setup);
     must_be_same(&a, &b, NOISE_NAME);
-    noise_pattern_told told = {0};
-    MUST(noise_check_pattern(NULL, 0, &told) == noise_check_pattern(&empty, 0, &told));
+    noise_pattern_result result = {0};
+    MUST(noise_check_pattern(NULL, 0, &result) == noise_check_pattern(&empty, 0, &result));
 }
 
 // An empty payload, an empty place for the message, and both.
 static void check_handshake(void) {
     static uint8_t empty, some[200], other[200];
     plan p = plan_of("NN", -1);
-    left first = {.kept.h = begin(&p, 0).h}, second = {.kept.h = begin(&p, 1).h};
+    left first = {.object.h = begin(&p, 0).h}, second = {.object.h = begin(&p, 1).h};
     left a = first, b = first;
-    a.code = noise_write(&a.kept.h, NULL, 0, NULL, 0, &a.told);
-    b.code = noise_write(&b.kept.h, &empty, 0, &empty, 0, &b.told);
+    a.code = noise_write(&a.object.h, NULL, 0, NULL, 0, &a.result);
+    b.code = noise_write(&b.object.h, &empty, 0, &empty, 0, &b.result);
     must_be_same(&a, &b, NOISE_ROOM);
-    a.code = noise_write(&a.kept.h, some, 5, NULL, 0, &a.told);
-    b.code = noise_write(&b.kept.h, some, 5, &empty, 0, &b.told);
+    a.code = noise_write(&a.object.h, some, 5, NULL, 0, &a.result);
+    b.code = noise_write(&b.object.h, some, 5, &empty, 0, &b.result);
     must_be_same(&a, &b, NOISE_ROOM);
-    a.code = noise_write(&a.kept.h, NULL, 0, some, sizeof some, &a.told);
-    b.code = noise_write(&b.kept.h, &empty, 0, other, sizeof other, &b.told);
+    a.code = noise_write(&a.object.h, NULL, 0, some, sizeof some, &a.result);
+    b.code = noise_write(&b.object.h, &empty, 0, other, sizeof other, &b.result);
     must_be_same(&a, &b, NOISE_OK);
-    MUST(a.told.len == 32 && !memcmp(some, other, sizeof some));
+    MUST(a.result.len == 32 && !memcmp(some, other, sizeof some));
     a = b = second;
-    a.code = noise_read(&a.kept.h, NULL, 0, &a.told);
-    b.code = noise_read(&b.kept.h, &empty, 0, &b.told);
+    a.code = noise_read(&a.object.h, NULL, 0, &a.result);
+    b.code = noise_read(&b.object.h, &empty, 0, &b.result);
     must_be_same(&a, &b, NOISE_SHORT);
 }
 
@@ -68,20 +68,20 @@ static void check_transport_calls(end ends[2]) {
     static uint8_t empty, some[16], other[16];
     transport t;
     MUST(finish(&ends[0].h, 0, &t) == NOISE_OK);
-    left a = {.kept.s = t.s}, b = a;
-    a.code = noise_seal(&a.kept.s, NULL, 0, NULL, 0, &a.told);
-    b.code = noise_seal(&b.kept.s, &empty, 0, &empty, 0, &b.told);
+    left a = {.object.s = t.s}, b = a;
+    a.code = noise_seal(&a.object.s, NULL, 0, NULL, 0, &a.result);
+    b.code = noise_seal(&b.object.s, &empty, 0, &empty, 0, &b.result);
     must_be_same(&a, &b, NOISE_ROOM);
-    a.code = noise_seal_in_place(&a.kept.s, NULL, 0, 0, &a.told);
-    b.code = noise_seal_in_place(&b.kept.s, &empty, 0, 0, &b.told);
+    a.code = noise_seal_in_place(&a.object.s, NULL, 0, 0, &a.result);
+    b.code = noise_seal_in_place(&b.object.s, &empty, 0, 0, &b.result);
     must_be_same(&a, &b, NOISE_ROOM);
-    a.code = noise_seal(&a.kept.s, NULL, 0, some, sizeof some, &a.told);
-    b.code = noise_seal(&b.kept.s, &empty, 0, other, sizeof other, &b.told);
+    a.code = noise_seal(&a.object.s, NULL, 0, some, sizeof some, &a.result);
+    b.code = noise_seal(&b.object.s, &empty, 0, other, sizeof other, &b.result);
     must_be_same(&a, &b, NOISE_OK);
-    MUST(a.told.len == 16 && !memcmp(some, other, sizeof some));
-    a = b = (left){.kept.r = t.r};
-    a.code = noise_open(&a.kept.r, NULL, 0, &a.told);
-    b.code = noise_open(&b.kept.r, &empty, 0, &b.told);
+    MUST(a.result.len == 16 && !memcmp(some, other, sizeof some));
+    a = b = (left){.object.r = t.r};
+    a.code = noise_open(&a.object.r, NULL, 0, &a.result);
+    b.code = noise_open(&b.object.r, &empty, 0, &b.result);
     must_be_same(&a, &b, NOISE_SHORT);
 }
 
@@ -89,34 +89,34 @@ static void check_datagram_calls(end ends[2]) {
     static uint8_t empty, some[24], other[24];
     datagrams d;
     MUST(finish_datagrams(&ends[0].h, 64, &d) == NOISE_OK);
-    left a = {.kept.ds = d.s}, b = a;
-    a.code = noise_datagram_seal(&a.kept.ds, NULL, 0, NULL, 0, &a.told);
-    b.code = noise_datagram_seal(&b.kept.ds, &empty, 0, &empty, 0, &b.told);
+    left a = {.object.ds = d.s}, b = a;
+    a.code = noise_datagram_seal(&a.object.ds, NULL, 0, NULL, 0, &a.result);
+    b.code = noise_datagram_seal(&b.object.ds, &empty, 0, &empty, 0, &b.result);
     must_be_same(&a, &b, NOISE_ROOM);
-    a.code = noise_datagram_seal_in_place(&a.kept.ds, NULL, 0, 0, &a.told);
-    b.code = noise_datagram_seal_in_place(&b.kept.ds, &empty, 0, 0, &b.told);
+    a.code = noise_datagram_seal_in_place(&a.object.ds, NULL, 0, 0, &a.result);
+    b.code = noise_datagram_seal_in_place(&b.object.ds, &empty, 0, 0, &b.result);
     must_be_same(&a, &b, NOISE_ROOM);
-    a.code = noise_datagram_seal(&a.kept.ds, NULL, 0, some, sizeof some, &a.told);
-    b.code = noise_datagram_seal(&b.kept.ds, &empty, 0, other, sizeof other, &b.told);
+    a.code = noise_datagram_seal(&a.object.ds, NULL, 0, some, sizeof some, &a.result);
+    b.code = noise_datagram_seal(&b.object.ds, &empty, 0, other, sizeof other, &b.result);
     must_be_same(&a, &b, NOISE_OK);
-    MUST(a.told.len == 24 && !memcmp(some, other, sizeof some));
-    a = b = (left){.kept.dr = d.r};
-    a.code = noise_datagram_open(&a.kept.dr, NULL, 0, &a.told);
-    b.code = noise_datagram_open(&b.kept.dr, &empty, 0, &b.told);
+    MUST(a.result.len == 24 && !memcmp(some, other, sizeof some));
+    a = b = (left){.object.dr = d.r};
+    a.code = noise_datagram_open(&a.object.dr, NULL, 0, &a.result);
+    b.code = noise_datagram_open(&b.object.dr, &empty, 0, &b.result);
     must_be_same(&a, &b, NOISE_SHORT);
 }
 
 static void check_stream_calls(end ends[2]) {
     static uint8_t empty;
     stream a, b;
-    noise_stream_told told, other;
+    noise_stream_result result, other;
     MUST(finish_stream(&ends[0].h, 0, &a) == NOISE_OK);
     b = a;
-    MUST(noise_stream_write(&a.s, NULL, 0, NULL, 0, &told) == NOISE_OK && noise_stream_write(&b.s, &empty, 0, &empty, 0, &other) == NOISE_OK);
-    MUST(told.used == 0 && told.len == 0 && other.used == 0 && other.len == 0);
-    MUST(noise_stream_write(&a.s, &empty, 1, NULL, 0, &told) == NOISE_ROOM && noise_stream_end(&a.s, NULL, 0, &told) == NOISE_ROOM);
-    MUST(noise_stream_read(&a.r, NULL, 0, &told) == NOISE_MORE && told.wanted == 2);
-    MUST(noise_frame_find(NULL, 0, &told) == NOISE_MORE && told.wanted == 2 && noise_frame_message(NULL, 0, 0, &told) == NOISE_ROOM);
+    MUST(noise_stream_write(&a.s, NULL, 0, NULL, 0, &result) == NOISE_OK && noise_stream_write(&b.s, &empty, 0, &empty, 0, &other) == NOISE_OK);
+    MUST(result.used == 0 && result.len == 0 && other.used == 0 && other.len == 0);
+    MUST(noise_stream_write(&a.s, &empty, 1, NULL, 0, &result) == NOISE_ROOM && noise_stream_end(&a.s, NULL, 0, &result) == NOISE_ROOM);
+    MUST(noise_stream_read(&a.r, NULL, 0, &result) == NOISE_MORE && result.wanted == 2);
+    MUST(noise_frame_find(NULL, 0, &result) == NOISE_MORE && result.wanted == 2 && noise_frame_message(NULL, 0, 0, &result) == NOISE_ROOM);
     MUST(!memcmp(&a, &b, sizeof a));
 }
 
@@ -124,26 +124,26 @@ static void check_cipher_calls(end ends[2]) {
     static uint8_t empty, some[16], other[16];
     noise_cipher send, receive;
     MUST(noise_finish_ciphers(&ends[0].h, &send, &receive) == NOISE_OK);
-    left a = {.kept.c = send}, b = a;
-    a.code = noise_cipher_encrypt(&a.kept.c, NULL, 0, NULL, 0, 0, &a.told);
-    b.code = noise_cipher_encrypt(&b.kept.c, &empty, 0, &empty, 0, 0, &b.told);
+    left a = {.object.c = send}, b = a;
+    a.code = noise_cipher_encrypt(&a.object.c, NULL, 0, NULL, 0, 0, &a.result);
+    b.code = noise_cipher_encrypt(&b.object.c, &empty, 0, &empty, 0, 0, &b.result);
     must_be_same(&a, &b, NOISE_ROOM);
-    a.code = noise_cipher_encrypt(&a.kept.c, NULL, 0, some, sizeof some, 0, &a.told);
-    b.code = noise_cipher_encrypt(&b.kept.c, &empty, 0, other, sizeof other, 0, &b.told);
+    a.code = noise_cipher_encrypt(&a.object.c, NULL, 0, some, sizeof some, 0, &a.result);
+    b.code = noise_cipher_encrypt(&b.object.c, &empty, 0, other, sizeof other, 0, &b.result);
     must_be_same(&a, &b, NOISE_OK);
-    MUST(a.told.len == 16 && !memcmp(some, other, sizeof some));
-    a = b = (left){.kept.c = receive};
-    a.code = noise_cipher_decrypt(&a.kept.c, NULL, 0, NULL, 0, &a.told);
-    b.code = noise_cipher_decrypt(&b.kept.c, &empty, 0, &empty, 0, &b.told);
+    MUST(a.result.len == 16 && !memcmp(some, other, sizeof some));
+    a = b = (left){.object.c = receive};
+    a.code = noise_cipher_decrypt(&a.object.c, NULL, 0, NULL, 0, &a.result);
+    b.code = noise_cipher_decrypt(&b.object.c, &empty, 0, &empty, 0, &b.result);
     must_be_same(&a, &b, NOISE_SHORT);
 }
 
 // A macro is an object: so its name may be a pointer to a function, and its arguments may have commas of their own.
 static void check_macros(void) {
-    uint32_t (*check)(const uint8_t *, size_t, noise_pattern_told *) = noise_check_pattern;
-    noise_pattern_told told;
-    MUST(check(NULL, 0, &told) == NOISE_HEADING);
-    MUST(noise_check_pattern((const uint8_t[]){'N', ':', 10}, 3, &(noise_pattern_told){.line = 9}) != NOISE_OK);
+    uint32_t (*check)(const uint8_t *, size_t, noise_pattern_result *) = noise_check_pattern;
+    noise_pattern_result result;
+    MUST(check(NULL, 0, &result) == NOISE_HEADING);
+    MUST(noise_check_pattern((const uint8_t[]){'N', ':', 10}, 3, &(noise_pattern_result){.line = 9}) != NOISE_OK);
     struct { int noise_open; } a = {.noise_open = 3};
     MUST(a.noise_open == 3);
 }

@@ -69,20 +69,20 @@ static void check_setups(void) {
 }
 
 static void check_stage(const end *x, unsigned messages, unsigned passed, bool ended) {
-    noise_stage_told told;
-    MUST(noise_stage(&x->h, &told) == NOISE_OK);
-    MUST(told.messages == messages && told.passed == passed && told.ended == ended && told.writes_next == (passed % 2 == x->role));
+    noise_stage_result result;
+    MUST(noise_stage(&x->h, &result) == NOISE_OK);
+    MUST(result.messages == messages && result.passed == passed && result.ended == ended && result.writes_next == (passed % 2 == x->role));
 }
 
 // None of these changes anything.
 static void must_refuse(end *x, uint32_t reading, uint32_t writing) {
     noise_handshake old = x->h;
-    noise_told told;
+    noise_result result;
     size_t len;
     memset(message, 7, 200);
     memcpy(before, message, 200);
-    if (reading) MUST(noise_read(&x->h, message, 96, &told) == reading);
-    if (writing) MUST(noise_write(&x->h, payload, 3, message, 200, &told) == writing);
+    if (reading) MUST(noise_read(&x->h, message, 96, &result) == reading);
+    if (writing) MUST(noise_write(&x->h, payload, 3, message, 200, &result) == writing);
     if (writing) MUST(noise_message_len(&x->h, 3, &len) == NOISE_NOT_DUE);
     MUST(is_same(&x->h, &old, sizeof old) && is_same(message, before, 200));
 }
@@ -92,7 +92,7 @@ static void check_turns(void) {
     end ends[2] = {begin(&p, 0), begin(&p, 1)};
     transport t;
     datagrams d;
-    noise_told told;
+    noise_result result;
     check_stage(&ends[0], 3, 0, false);
     check_stage(&ends[1], 3, 0, false);
     for (unsigned m = 0; m < 3; m++) {
@@ -100,8 +100,8 @@ static void check_turns(void) {
         must_refuse(writer, NOISE_NOT_YOUR_TURN, 0);
         must_refuse(reader, 0, NOISE_NOT_YOUR_TURN);
         MUST(finish(&writer->h, 0, &t) == NOISE_NOT_DONE && finish_datagrams(&reader->h, 64, &d) == NOISE_NOT_DONE);
-        MUST(write_on(writer, payload, 5, message, sizeof message, &told) == NOISE_OK);
-        MUST(read_on(reader, message, told.len, &told) == NOISE_OK);
+        MUST(write_on(writer, payload, 5, message, sizeof message, &result) == NOISE_OK);
+        MUST(read_on(reader, message, result.len, &result) == NOISE_OK);
         check_stage(writer, 3, m + 1, false);
         check_stage(reader, 3, m + 1, false);
     }
@@ -115,7 +115,7 @@ static void check_turns(void) {
     }
 }
 
-// Behind a refused message nothing passes any more, but the hash is still told.
+// Behind a refused message nothing passes any more, but the hash is still result.
 static void must_have_ended(end *x, unsigned messages, unsigned passed) {
     transport t;
     datagrams d;
@@ -127,16 +127,16 @@ static void must_have_ended(end *x, unsigned messages, unsigned passed) {
 }
 
 // Reads a message that isn't the right one on a copy of this end.
-static uint32_t read_other(const end *reader, size_t len, noise_told *told) {
+static uint32_t read_other(const end *reader, size_t len, noise_result *result) {
     end copy = *reader;
     static uint8_t handed[NOISE_MAX_MESSAGE + 1];
     memcpy(handed, message, len);
-    noise_stage_told stage;
+    noise_stage_result stage;
     MUST(noise_stage(&copy.h, &stage) == NOISE_OK);
-    uint32_t code = read_on(&copy, message, len, told);
+    uint32_t code = read_on(&copy, message, len, result);
     if (code != NOISE_OK) {
         MUST(is_in(code, CODE(NOISE_SHORT) | CODE(NOISE_TAG)));
-        MUST(is_same(message, handed, len) && told->token <= 8);
+        MUST(is_same(message, handed, len) && result->token <= 8);
         must_have_ended(&copy, stage.messages, stage.passed);
     }
     return code;
@@ -144,16 +144,16 @@ static uint32_t read_other(const end *reader, size_t len, noise_told *told) {
 
 // Each byte of a message changed in turn, and the message cut at each length. Where nothing is under a tag, a change isn't seen.
 static void try_changed(const end *reader, const uint8_t *right, size_t len, bool is_tagged) {
-    noise_told told;
+    noise_result result;
     for (size_t i = 0; i < len; i++) {
         memcpy(message, right, len);
         message[i] ^= 0x40;
-        uint32_t code = read_other(reader, len, &told);
+        uint32_t code = read_other(reader, len, &result);
         MUST(code == (is_tagged ? NOISE_TAG : NOISE_OK));
     }
     for (size_t cut = 0; cut < len; cut++) {
         memcpy(message, right, len);
-        uint32_t code = read_other(reader, cut, &told);
+        uint32_t code = read_other(reader, cut, &result);
         if (is_tagged) MUST(is_in(code, CODE(NOISE_SHORT) | CODE(NOISE_TAG)));
         if (cut < 32) MUST(code == NOISE_SHORT);
     }
@@ -162,55 +162,55 @@ static void try_changed(const end *reader, const uint8_t *right, size_t len, boo
 static void check_changed_messages(const plan *p) {
     end ends[2] = {begin(p, 0), begin(p, 1)};
     uint8_t right[400];
-    noise_told told;
+    noise_result result;
     for (unsigned m = 0; m < p->messages; m++) {
         end *writer = &ends[m % 2], *reader = &ends[1 - m % 2];
         fill(payload, 6, m);
-        MUST(write_on(writer, payload, 6, right, sizeof right, &told) == NOISE_OK);
-        size_t len = told.len;
+        MUST(write_on(writer, payload, 6, right, sizeof right, &result) == NOISE_OK);
+        size_t len = result.len;
         bool is_tagged = m || p->psks || p->is_known[1]; // there is a key: after psk, es or ee
         try_changed(reader, right, len, is_tagged);
         memcpy(message, right, len);
-        MUST(read_on(reader, message, len, &told) == NOISE_OK);
-        MUST(told.len == 6 && is_same(message + told.from, payload, 6));
+        MUST(read_on(reader, message, len, &result) == NOISE_OK);
+        MUST(result.len == 6 && is_same(message + result.from, payload, 6));
     }
 }
 
 // Hands in what the next write of this end wants, and writes nothing.
 static void hand_in_all(end *x) {
-    noise_told told;
-    for (end copy = *x; noise_write(&copy.h, payload, 0, message, sizeof message, &told) == NOISE_WANTED; copy = *x) hand_in(x, &told);
+    noise_result result;
+    for (end copy = *x; noise_write(&copy.h, payload, 0, message, sizeof message, &result) == NOISE_WANTED; copy = *x) hand_in(x, &result);
 }
 
 static void check_lengths(void) {
     plan p = plan_of("NN", 0);
     end ends[2] = {begin(&p, 0), begin(&p, 1)}, copy;
-    noise_told told;
+    noise_result result;
     size_t len;
     for (unsigned m = 0; m < 2; m++) {
         end *writer = &ends[m], *reader = &ends[!m];
         noise_handshake old = reader->h;
-        MUST(noise_read(&reader->h, message, NOISE_MAX_MESSAGE + 1, &told) == NOISE_LENGTH && is_same(&old, &reader->h, sizeof old));
+        MUST(noise_read(&reader->h, message, NOISE_MAX_MESSAGE + 1, &result) == NOISE_LENGTH && is_same(&old, &reader->h, sizeof old));
         MUST(noise_message_len(&writer->h, 0, &len) == NOISE_OK && len == 48);
         MUST(noise_message_len(&writer->h, NOISE_MAX_MESSAGE - 48, &len) == NOISE_OK && len == NOISE_MAX_MESSAGE);
         MUST(noise_message_len(&writer->h, NOISE_MAX_MESSAGE - 47, &len) == NOISE_NOT_DUE);
         MUST(noise_message_len(&writer->h, SIZE_MAX, &len) == NOISE_NOT_DUE);
         old = writer->h;
-        MUST(noise_write(&writer->h, payload, NOISE_MAX_MESSAGE - 47, message, sizeof message, &told) == NOISE_TOO_LONG);
-        MUST(noise_write(&writer->h, payload, sizeof payload, message, sizeof message, &told) == NOISE_TOO_LONG);
+        MUST(noise_write(&writer->h, payload, NOISE_MAX_MESSAGE - 47, message, sizeof message, &result) == NOISE_TOO_LONG);
+        MUST(noise_write(&writer->h, payload, sizeof payload, message, sizeof message, &result) == NOISE_TOO_LONG);
         MUST(is_same(&old, &writer->h, sizeof old));
         copy = *writer;
-        MUST(write_on(&copy, payload, 10, message, sizeof message, &told) == NOISE_OK);
+        MUST(write_on(&copy, payload, 10, message, sizeof message, &result) == NOISE_OK);
         hand_in_all(writer);
         old = writer->h;
         memset(message, 9, 100);
         memcpy(before, message, 100);
         for (size_t room = 0; room < 58; room++)
-            MUST(noise_write(&writer->h, payload, 10, message, room, &told) == NOISE_ROOM && told.len == 58);
+            MUST(noise_write(&writer->h, payload, 10, message, room, &result) == NOISE_ROOM && result.len == 58);
         MUST(is_same(&old, &writer->h, sizeof old) && is_same(message, before, 100));
-        MUST(noise_write(&writer->h, payload, 10, message, 58, &told) == NOISE_OK && told.len == 58);
+        MUST(noise_write(&writer->h, payload, 10, message, 58, &result) == NOISE_OK && result.len == 58);
         MUST(is_same(message + 58, before + 58, 42));
-        MUST(read_on(reader, message, 58, &told) == NOISE_OK && told.len == 10);
+        MUST(read_on(reader, message, 58, &result) == NOISE_OK && result.len == 10);
     }
 }
 
@@ -218,41 +218,41 @@ static void check_lengths(void) {
 static void check_answers(void) {
     plan p = plan_of("XX", -1);
     end ends[2] = {begin(&p, 0), begin(&p, 1)};
-    noise_told told;
+    noise_result result;
     uint8_t wrong[32] = {1}, right[200];
     size_t len;
-    MUST(noise_write(&ends[0].h, payload, 0, message, sizeof message, &told) == NOISE_OK);
-    MUST(noise_read(&ends[1].h, message, told.len, &told) == NOISE_OK && told.from == 32 && told.len == 0);
+    MUST(noise_write(&ends[0].h, payload, 0, message, sizeof message, &result) == NOISE_OK);
+    MUST(noise_read(&ends[1].h, message, result.len, &result) == NOISE_OK && result.from == 32 && result.len == 0);
     noise_handshake old = ends[1].h;
     memset(message, 3, sizeof message);
     memcpy(before, message, sizeof message);
     for (unsigned again = 0; again < 3; again++) {
-        MUST(noise_write(&ends[1].h, payload, 4, message, sizeof message, &told) == NOISE_WANTED);
-        MUST(told.of_static == 0 && is_same(told.remote, public_key(0, false), 32));
+        MUST(noise_write(&ends[1].h, payload, 4, message, sizeof message, &result) == NOISE_WANTED);
+        MUST(result.of_static == 0 && is_same(result.remote, public_key(0, false), 32));
         MUST(is_same(&old, &ends[1].h, sizeof old) && is_same(message, before, sizeof message));
     }
     MUST(noise_answer(&ends[1].h, 1, public_key(0, true), wrong) == NOISE_OK);   // one that nobody has asked for
-    MUST(noise_write(&ends[1].h, payload, 4, message, sizeof message, &told) == NOISE_WANTED && told.of_static == 0);
-    hand_in(&ends[1], &told);
-    MUST(noise_write(&ends[1].h, payload, 4, message, sizeof message, &told) == NOISE_WANTED);
-    MUST(told.of_static == 1 && is_same(told.remote, public_key(0, false), 32));
-    hand_in(&ends[1], &told);
-    MUST(noise_write(&ends[1].h, payload, 4, message, sizeof message, &told) == NOISE_OK);
-    len = told.len;
+    MUST(noise_write(&ends[1].h, payload, 4, message, sizeof message, &result) == NOISE_WANTED && result.of_static == 0);
+    hand_in(&ends[1], &result);
+    MUST(noise_write(&ends[1].h, payload, 4, message, sizeof message, &result) == NOISE_WANTED);
+    MUST(result.of_static == 1 && is_same(result.remote, public_key(0, false), 32));
+    hand_in(&ends[1], &result);
+    MUST(noise_write(&ends[1].h, payload, 4, message, sizeof message, &result) == NOISE_OK);
+    len = result.len;
     old = ends[0].h;
     memcpy(before, message, len);
     memcpy(right, message, len);
     for (unsigned again = 0; again < 3; again++) {
-        MUST(noise_read(&ends[0].h, message, len, &told) == NOISE_WANTED);
-        MUST(told.of_static == 0 && is_same(told.remote, public_key(1, false), 32));
+        MUST(noise_read(&ends[0].h, message, len, &result) == NOISE_WANTED);
+        MUST(result.of_static == 0 && is_same(result.remote, public_key(1, false), 32));
         MUST(is_same(&old, &ends[0].h, sizeof old) && is_same(message, before, len));
     }
     end copy = ends[0];                                  // another answer than the other party's: a wrong tag
     MUST(noise_answer(&copy.h, 0, public_key(1, false), wrong) == NOISE_OK);
-    MUST(noise_read(&copy.h, message, len, &told) == NOISE_TAG && told.token == 2);
+    MUST(noise_read(&copy.h, message, len, &result) == NOISE_TAG && result.token == 2);
     must_have_ended(&copy, 3, 1);
     memcpy(message, right, len);
-    MUST(read_on(&ends[0], message, len, &told) == NOISE_OK && ends[0].answers == 2 && told.len == 4);
+    MUST(read_on(&ends[0], message, len, &result) == NOISE_OK && ends[0].answers == 2 && result.len == 4);
 }
 
 static void check_full(void) {
@@ -264,17 +264,17 @@ static void check_full(void) {
     for (unsigned i = 0; i < 3; i++) MUST(noise_answer(&x.h, 0, bytes, bytes) == NOISE_FULL && is_same(&old, &x.h, sizeof old));
     // With no room for the answer that is wanted, it stays wanted.
     end writer = begin(&p, 0);
-    noise_told told;
-    MUST(write_on(&writer, payload, 0, message, sizeof message, &told) == NOISE_OK);
-    MUST(read_on(&x, message, told.len, &told) == NOISE_OK);
-    MUST(noise_write(&x.h, payload, 0, message, sizeof message, &told) == NOISE_WANTED);
-    MUST(noise_answer(&x.h, told.of_static, told.remote, bytes) == NOISE_FULL);
-    MUST(noise_write(&x.h, payload, 0, message, sizeof message, &told) == NOISE_WANTED);
+    noise_result result;
+    MUST(write_on(&writer, payload, 0, message, sizeof message, &result) == NOISE_OK);
+    MUST(read_on(&x, message, result.len, &result) == NOISE_OK);
+    MUST(noise_write(&x.h, payload, 0, message, sizeof message, &result) == NOISE_WANTED);
+    MUST(noise_answer(&x.h, result.of_static, result.remote, bytes) == NOISE_FULL);
+    MUST(noise_write(&x.h, payload, 0, message, sizeof message, &result) == NOISE_WANTED);
 }
 
 // What the parties have to have the same: where it differs, the first tag that depends on it is wrong.
 static void check_differences(void) {
-    noise_told told;
+    noise_result result;
     for (unsigned kind = 0; kind < 3; kind++) {
         plan p = plan_of("IK", 1), q = p;
         if (kind == 0) q.prologue_len--;
@@ -283,9 +283,9 @@ static void check_differences(void) {
         if (kind == 2) q = plan_of("IK", 2);
         end ends[2] = {begin(&p, 0), {.role = 1}};
         MUST(start_with(&ends[1].h, &q, &setup) == NOISE_OK);
-        MUST(write_on(&ends[0], payload, 9, message, sizeof message, &told) == NOISE_OK);
-        MUST(read_on(&ends[1], message, told.len, &told) == NOISE_TAG);
-        MUST(told.token == (kind == 1 ? 5 : 2));
+        MUST(write_on(&ends[0], payload, 9, message, sizeof message, &result) == NOISE_OK);
+        MUST(read_on(&ends[1], message, result.len, &result) == NOISE_TAG);
+        MUST(result.token == (kind == 1 ? 5 : 2));
         must_have_ended(&ends[1], 2, 0);
     }
 }
@@ -295,23 +295,23 @@ static void check_unbegun(void) {
     noise_handshake h = {{0}}, zeros = h;
     transport t, no_transport = {{{0}}, {{0}}};
     datagrams d, no_datagrams = {{{0}}, {{0}}};
-    noise_told told;
-    noise_stage_told stage;
+    noise_result result;
+    noise_stage_result stage;
     noise_key key;
     uint8_t hash[32];
     uint64_t nonce;
     size_t len;
-    MUST(noise_read(&h, message, 48, &told) == NOISE_STRUCT && noise_write(&h, payload, 5, message, 99, &told) == NOISE_STRUCT);
+    MUST(noise_read(&h, message, 48, &result) == NOISE_STRUCT && noise_write(&h, payload, 5, message, 99, &result) == NOISE_STRUCT);
     MUST(noise_message_len(&h, 5, &len) == NOISE_STRUCT && noise_hash(&h, hash) == NOISE_STRUCT);
     MUST(noise_remote_static(&h, &key) == NOISE_STRUCT && noise_stage(&h, &stage) == NOISE_STRUCT);
     MUST(finish(&h, 0, &t) == NOISE_STRUCT && finish_datagrams(&h, 64, &d) == NOISE_STRUCT);
     MUST(is_same(&h, &zeros, sizeof h));
     t = no_transport, d = no_datagrams;
-    MUST(noise_seal(&t.s, payload, 5, message, 99, &told) == NOISE_STRUCT && noise_open(&t.r, message, 48, &told) == NOISE_STRUCT);
-    MUST(noise_seal_in_place(&t.s, message, 48, 5, &told) == NOISE_STRUCT && noise_sender_nonce(&t.s, &nonce) == NOISE_STRUCT);
+    MUST(noise_seal(&t.s, payload, 5, message, 99, &result) == NOISE_STRUCT && noise_open(&t.r, message, 48, &result) == NOISE_STRUCT);
+    MUST(noise_seal_in_place(&t.s, message, 48, 5, &result) == NOISE_STRUCT && noise_sender_nonce(&t.s, &nonce) == NOISE_STRUCT);
     MUST(noise_receiver_nonce(&t.r, &nonce) == NOISE_STRUCT && is_same(&t, &no_transport, sizeof t));
-    MUST(noise_datagram_seal(&d.s, payload, 5, message, 99, &told) == NOISE_STRUCT && noise_datagram_open(&d.r, message, 48, &told) == NOISE_STRUCT);
-    MUST(noise_datagram_seal_in_place(&d.s, message, 48, 5, &told) == NOISE_STRUCT && noise_datagram_sender_nonce(&d.s, &nonce) == NOISE_STRUCT);
+    MUST(noise_datagram_seal(&d.s, payload, 5, message, 99, &result) == NOISE_STRUCT && noise_datagram_open(&d.r, message, 48, &result) == NOISE_STRUCT);
+    MUST(noise_datagram_seal_in_place(&d.s, message, 48, 5, &result) == NOISE_STRUCT && noise_datagram_sender_nonce(&d.s, &nonce) == NOISE_STRUCT);
     MUST(is_same(&d, &no_datagrams, sizeof d));
 }
 

@@ -17,12 +17,12 @@ TEXTS = ([b"a first text", b"b", b"the last of the client"], [b"1", b"what the s
 LONG = 4096
 
 
-class Told(ctypes.Structure):
+class Result(ctypes.Structure):
     _fields_ = [("start", ctypes.c_size_t), ("len", ctypes.c_size_t), ("token", ctypes.c_uint8), ("of_static", ctypes.c_uint8),
                 ("remote", ctypes.c_uint8 * 32), ("remote_known", ctypes.c_uint8)]
 
 
-class StreamTold(ctypes.Structure):
+class StreamResult(ctypes.Structure):
     _fields_ = [("start", ctypes.c_size_t), ("len", ctypes.c_size_t), ("used", ctypes.c_size_t), ("wanted", ctypes.c_size_t)]
 
 
@@ -39,9 +39,9 @@ class Setup(ctypes.Structure):
                 ("psks", (ctypes.c_uint8 * 32) * 9)]
 
 
-def kept_of(header, name):
-    """An aligned place for a kept struct, of the size that the header has."""
-    size = int(re.search(r"kept\[(\d+)\]; } " + name + ";", header)[1])
+def struct_of(header, name):
+    """An aligned place for an opaque struct, of the size that the header has."""
+    size = int(re.search(r"opaque\[(\d+)\]; } " + name + ";", header)[1])
     return (ctypes.c_uint64 * (size // 8))
 
 
@@ -73,19 +73,19 @@ class End:
             raise AssertionError(f"code {code}")
 
     def repeat(self, call, *words):
-        told = Told()
-        while (code := call(ref(self.h), *words, ref(told))) == WANTED:
-            own = public_key(self.role, told.of_static)
-            answer = bytes(a ^ b for a, b in zip(own, told.remote))
-            self.must(self.call.noise_answer(ref(self.h), told.of_static, told.remote, answer))
-        return code, told
+        result = Result()
+        while (code := call(ref(self.h), *words, ref(result))) == WANTED:
+            own = public_key(self.role, result.of_static)
+            answer = bytes(a ^ b for a, b in zip(own, result.remote))
+            self.must(self.call.noise_answer(ref(self.h), result.of_static, result.remote, answer))
+        return code, result
 
     def give_up(self):
         self.failed = True
         self.close()
 
     def shake(self):
-        stage, told = Stage(), StreamTold()
+        stage, result = Stage(), StreamResult()
         self.must(self.call.noise_stage(ref(self.h), ref(stage)))
         if stage.passed == stage.messages:
             self.must(self.call.noise_finish_stream(ref(self.h), ctypes.c_uint64(2), ref(self.sender), ref(self.receiver)))
@@ -95,49 +95,49 @@ class End:
             out = ctypes.create_string_buffer(LONG)
             code, written = self.repeat(self.call.noise_write, b"", 0, ctypes.byref(out, 2), LONG - 2)
             self.must(code)
-            self.must(self.call.noise_frame_message(out, LONG, written.len, ref(told)))
-            self.send(out.raw[:told.len])
+            self.must(self.call.noise_frame_message(out, LONG, written.len, ref(result)))
+            self.send(out.raw[:result.len])
             return True
-        if self.call.noise_frame_find(self.held, len(self.held), ref(told)) == MORE:
+        if self.call.noise_frame_find(self.held, len(self.held), ref(result)) == MORE:
             return False
-        message = ctypes.create_string_buffer(self.held[told.start:told.start + told.len], max(told.len, 1))
-        code, _ = self.repeat(self.call.noise_read, message, told.len)
-        self.held = self.held[told.used:]
+        message = ctypes.create_string_buffer(self.held[result.start:result.start + result.len], max(result.len, 1))
+        code, _ = self.repeat(self.call.noise_read, message, result.len)
+        self.held = self.held[result.used:]
         if code != OK:
             self.give_up()
         return True
 
     def write(self):
-        out, told = ctypes.create_string_buffer(LONG), StreamTold()
+        out, result = ctypes.create_string_buffer(LONG), StreamResult()
         if not self.wrote:
             self.wrote = True
             for text in TEXTS[self.role]:
-                self.must(self.call.noise_stream_write(ref(self.sender), text, len(text), out, LONG, ref(told)))
-                self.send(out.raw[:told.len])
+                self.must(self.call.noise_stream_write(ref(self.sender), text, len(text), out, LONG, ref(result)))
+                self.send(out.raw[:result.len])
             return True
         if self.ended or (self.waits and not self.got_end):
             return False
         self.ended = True
-        self.must(self.call.noise_stream_end(ref(self.sender), out, LONG, ref(told)))
-        self.send(out.raw[:told.len])
+        self.must(self.call.noise_stream_end(ref(self.sender), out, LONG, ref(result)))
+        self.send(out.raw[:result.len])
         return True
 
     def read(self):
         if self.got_end:
             return False
-        told, size = StreamTold(), len(self.held)
+        result, size = StreamResult(), len(self.held)
         buffer = ctypes.create_string_buffer(self.held, max(size, 1))
-        code = self.call.noise_stream_read(ref(self.receiver), buffer, size, ref(told))
+        code = self.call.noise_stream_read(ref(self.receiver), buffer, size, ref(result))
         if code == MORE:
             return False
         if code == OK:
-            self.got += buffer.raw[told.start:told.start + told.len]
+            self.got += buffer.raw[result.start:result.start + result.len]
         elif code == END:
             self.got_end = True
         else:
             self.give_up()
             return True
-        self.held = self.held[told.used:]
+        self.held = self.held[result.used:]
         return True
 
     def run(self, came):
@@ -203,7 +203,7 @@ def pass_session(library, kinds, waits, faults, pieces):
 
 def main():
     library, header = ctypes.CDLL(sys.argv[1]), Path(sys.argv[2]).read_text()
-    kinds = [kept_of(header, name) for name in ("noise_handshake", "noise_stream_sender", "noise_stream_receiver")]
+    kinds = [struct_of(header, name) for name in ("noise_handshake", "noise_stream_sender", "noise_stream_receiver")]
     version = [int(part) for part in re.findall(r"#define NOISE_VERSION_[A-Z]+ (\d+)", header)]
     assert library.noise_version() == version[0] << 16 | version[1] << 8 | version[2], "another version"
     for name, kind in zip(("handshake", "stream_sender", "stream_receiver"), kinds):

@@ -18,9 +18,9 @@ static end ends[2];
 static transport t[2];
 static datagrams d[2];
 static stream x[2];
-static noise_stream_told place;
+static noise_stream_result place;
 static noise_cipher send[2], receive[2];
-static noise_told told;
+static noise_result result;
 static uint8_t payload[NOISE_MAX_MESSAGE], message[LONGEST];
 static const uint8_t *pattern;
 static size_t pattern_len, len, room;
@@ -30,34 +30,34 @@ static uint32_t code;
 
 static void do_nothing(void) {}
 static void do_start(void) { code = noise_start(&ends[role].h, pattern, pattern_len, prologue(), p.prologue_len, &setup); }
-static void do_write(void) { code = noise_write(&ends[role].h, payload, len, message, room, &told); }
-static void do_read(void) { code = noise_read(&ends[role].h, message, len, &told); }
-static void do_answer(void) { hand_in(&ends[role], &told); }
+static void do_write(void) { code = noise_write(&ends[role].h, payload, len, message, room, &result); }
+static void do_read(void) { code = noise_read(&ends[role].h, message, len, &result); }
+static void do_answer(void) { hand_in(&ends[role], &result); }
 static void do_finish(void) { code = finish(&ends[role].h, 1, &t[role]); }
 static void do_finish_datagrams(void) { code = finish_datagrams(&ends[role].h, 1024, &d[role]); }
 static void do_finish_stream(void) { code = finish_stream(&ends[role].h, 1, &x[role]); }
 static void do_finish_ciphers(void) { code = noise_finish_ciphers(&ends[role].h, &send[role], &receive[role]); }
-static void do_seal(void) { code = noise_seal(&t[role].s, payload, len, message, room, &told); }
-static void do_seal_in_place(void) { code = noise_seal_in_place(&t[role].s, message, room, len, &told); }
-static void do_open(void) { code = noise_open(&t[role].r, message, len, &told); }
-static void do_seal_datagram(void) { code = noise_datagram_seal(&d[role].s, payload, len, message, room, &told); }
-static void do_seal_datagram_in_place(void) { code = noise_datagram_seal_in_place(&d[role].s, message, room, len, &told); }
-static void do_open_datagram(void) { code = noise_datagram_open(&d[role].r, message, len, &told); }
-static void do_encrypt(void) { code = noise_cipher_encrypt(&send[role], payload, 30, message, room, len, &told); }
-static void do_decrypt(void) { code = noise_cipher_decrypt(&receive[role], payload, 30, message, len, &told); }
+static void do_seal(void) { code = noise_seal(&t[role].s, payload, len, message, room, &result); }
+static void do_seal_in_place(void) { code = noise_seal_in_place(&t[role].s, message, room, len, &result); }
+static void do_open(void) { code = noise_open(&t[role].r, message, len, &result); }
+static void do_seal_datagram(void) { code = noise_datagram_seal(&d[role].s, payload, len, message, room, &result); }
+static void do_seal_datagram_in_place(void) { code = noise_datagram_seal_in_place(&d[role].s, message, room, len, &result); }
+static void do_open_datagram(void) { code = noise_datagram_open(&d[role].r, message, len, &result); }
+static void do_encrypt(void) { code = noise_cipher_encrypt(&send[role], payload, 30, message, room, len, &result); }
+static void do_decrypt(void) { code = noise_cipher_decrypt(&receive[role], payload, 30, message, len, &result); }
 
 static void do_stream_write(void) {
     code = noise_stream_write(&x[role].s, payload, len, message, room, &place);
-    told.len = place.len;
+    result.len = place.len;
 }
 static void do_stream_end(void) {
     code = noise_stream_end(&x[role].s, message, room, &place);
-    told.len = place.len;
+    result.len = place.len;
 }
 static void do_stream_read(void) { code = noise_stream_read(&x[role].r, message, len, &place); }
 
 static void do_ask(void) {
-    noise_stage_told stage;
+    noise_stage_result stage;
     noise_key key;
     uint8_t hash[32];
     size_t needed;
@@ -66,7 +66,7 @@ static void do_ask(void) {
 }
 
 static void do_check(void) {
-    noise_pattern_told of_text;
+    noise_pattern_result of_text;
     const char *text = "XX1psk0+psk3:\n  -> psk, e\n  <- e, ee, s\n  -> es, s, se, psk\n";
     MUST(noise_check_pattern((const uint8_t *)text, strlen(text), &of_text) == NOISE_OK);
 }
@@ -96,7 +96,7 @@ static void pass_message(size_t payload_len) {
         if (code == NOISE_WANTED) measure("noise_answer", do_answer);
     } while (code == NOISE_WANTED);
     MUST(code == NOISE_OK);
-    len = told.len, role = !role;
+    len = result.len, role = !role;
     do {
         measure("noise_read", do_read);
         if (code == NOISE_WANTED) measure("noise_answer", do_answer);
@@ -108,7 +108,7 @@ static void pass_sealed(const char *seal_name, void (*seal)(void), const char *o
     len = payload_len, room = sizeof message, role = 0;
     measure(seal_name, seal);
     MUST(code == NOISE_OK);
-    len = told.len, role = 1;
+    len = result.len, role = 1;
     message[len - 1] ^= 1;
     measure(open_name, open);
     MUST(code == NOISE_TAG);
@@ -148,7 +148,7 @@ static void measure_all(void) {
         len = lens[i], room = sizeof message, role = 0;
         measure("noise_stream_write", do_stream_write);
         MUST(code == NOISE_OK);
-        len = told.len, role = 1;
+        len = result.len, role = 1;
         message[len - 1] ^= 1;
         measure("noise_stream_read", do_stream_read);
         MUST(code == NOISE_TAG);
@@ -160,7 +160,7 @@ static void measure_all(void) {
     role = 0;
     measure("noise_stream_end", do_stream_end);
     MUST(code == NOISE_OK);
-    len = told.len, role = 1;
+    len = result.len, role = 1;
     measure("noise_stream_read", do_stream_read);
     MUST(code == NOISE_END);
 }
@@ -201,7 +201,7 @@ static void check_wiping(void) {
         wiped_call = calls[i];
         taken_by(wiped_call);
         MUST(code == NOISE_OK);
-        const uint8_t *secrets[] = {secret(0), t[0].s.kept + 6, t[0].r.kept + 6, send[0].kept + 5, receive[0].kept + 5};
+        const uint8_t *secrets[] = {secret(0), t[0].s.opaque + 6, t[0].r.opaque + 6, send[0].opaque + 5, receive[0].opaque + 5};
         for (size_t n = 0; n < (i ? 5 : 1); n++) ever_left = ever_left || is_left(secrets[n], 32);
         taken_by(do_and_wipe);
         for (size_t n = 0; n < (i ? 5 : 1); n++) MUST(!is_left(secrets[n], 32));

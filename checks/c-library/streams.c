@@ -25,25 +25,25 @@ static void check_frames(uint64_t interval) {
     static const size_t lens[] = {1, 2, 100, 0, 17, PART - 1, PART, PART + 1, 2 * PART, 5};
     stream x[2];
     transport t[2];
-    noise_stream_told told;
-    noise_told sealed;
+    noise_stream_result result;
+    noise_result sealed;
     open_pair("XX", interval, x, t);
     for (size_t i = 0; i < sizeof lens / sizeof *lens; i++) {
         size_t len = lens[i], part = len < PART ? len : PART;
         fill(payload, len, (unsigned)i);
         memset(out, 0x55, sizeof out);
-        MUST(noise_stream_write(&x[0].s, payload, len, out, sizeof out, &told) == NOISE_OK && told.used == part);
-        MUST(told.len == (len ? part + NOISE_STREAM_OVERHEAD : 0) && out[told.len] == 0x55);
+        MUST(noise_stream_write(&x[0].s, payload, len, out, sizeof out, &result) == NOISE_OK && result.used == part);
+        MUST(result.len == (len ? part + NOISE_STREAM_OVERHEAD : 0) && out[result.len] == 0x55);
         if (!len) continue;
         MUST(noise_seal(&t[0].s, payload, part, other, sizeof other, &sealed) == NOISE_OK);
         MUST((size_t)(out[0] << 8 | out[1]) == sealed.len && !memcmp(out + 2, other, sealed.len));
         must_be_cut(&x[1], 0, true);
-        MUST(noise_stream_read(&x[1].r, out, told.len, &told) == NOISE_OK);
-        MUST(told.from == 2 && told.len == part && told.used == part + NOISE_STREAM_OVERHEAD && !memcmp(out + 2, payload, part));
+        MUST(noise_stream_read(&x[1].r, out, result.len, &result) == NOISE_OK);
+        MUST(result.from == 2 && result.len == part && result.used == part + NOISE_STREAM_OVERHEAD && !memcmp(out + 2, payload, part));
     }
     noise_stream_sender old = x[0].s;
-    MUST(noise_stream_end(&x[0].s, out, 18, &told) == NOISE_OK && told.len == 18 && memcmp(&old, &x[0].s, sizeof old));
-    MUST(noise_stream_read(&x[1].r, out, 18, &told) == NOISE_END && told.used == 18);
+    MUST(noise_stream_end(&x[0].s, out, 18, &result) == NOISE_OK && result.len == 18 && memcmp(&old, &x[0].s, sizeof old));
+    MUST(noise_stream_read(&x[1].r, out, 18, &result) == NOISE_END && result.used == 18);
     must_be_cut(&x[1], 0, false);
     must_be_cut(&x[1], 1, true);
     must_be_cut(&x[0], 0, true);
@@ -54,76 +54,76 @@ static void check_pieces(void) {
     static const size_t lens[] = {1, 30, 7};
     stream x[2], old;
     transport t[2];
-    noise_stream_told told;
+    noise_stream_result result;
     size_t size = 0, have = 0, parts = 0;
     open_pair("IK", 2, x, t);
     for (unsigned i = 0; i < 3; i++) {
         fill(payload, lens[i], i);
-        MUST(noise_stream_write(&x[1].s, payload, lens[i], out + size, sizeof out - size, &told) == NOISE_OK);
-        size += told.len;
+        MUST(noise_stream_write(&x[1].s, payload, lens[i], out + size, sizeof out - size, &result) == NOISE_OK);
+        size += result.len;
     }
-    MUST(noise_stream_end(&x[1].s, out + size, sizeof out - size, &told) == NOISE_OK);
-    size += told.len;
+    MUST(noise_stream_end(&x[1].s, out + size, sizeof out - size, &result) == NOISE_OK);
+    size += result.len;
     for (size_t i = 0; i < size; i++) {
         old = x[0];
         buffer[have++] = out[i];
         memcpy(other, buffer, have);
-        uint32_t code = noise_stream_read(&x[0].r, buffer, have, &told);
+        uint32_t code = noise_stream_read(&x[0].r, buffer, have, &result);
         must_be_cut(&x[0], 0, code != NOISE_END);
         if (code == NOISE_MORE) {
             size_t whole = have < 2 ? 2 : 2u + (size_t)(buffer[0] << 8 | buffer[1]);
-            MUST(told.wanted == whole - have && !memcmp(other, buffer, have) && !memcmp(&old, &x[0], sizeof old));
+            MUST(result.wanted == whole - have && !memcmp(other, buffer, have) && !memcmp(&old, &x[0], sizeof old));
             continue;
         }
-        MUST(told.used == have);
+        MUST(result.used == have);
         if (code == NOISE_END) {
             MUST(parts == 3 && i == size - 1);
             break;
         }
         fill(payload, lens[parts], (unsigned)parts);
-        MUST(code == NOISE_OK && told.len == lens[parts] && !memcmp(buffer + told.from, payload, told.len));
+        MUST(code == NOISE_OK && result.len == lens[parts] && !memcmp(buffer + result.from, payload, result.len));
         parts++;
         have = 0;
     }
     old = x[0];
-    MUST(noise_stream_read(&x[0].r, buffer, 0, &told) == NOISE_CLOSED && noise_stream_read(&x[0].r, out, 18, &told) == NOISE_CLOSED);
+    MUST(noise_stream_read(&x[0].r, buffer, 0, &result) == NOISE_CLOSED && noise_stream_read(&x[0].r, out, 18, &result) == NOISE_CLOSED);
     MUST(!memcmp(&old, &x[0], sizeof old));
 }
 
 static void must_not_write(noise_stream_sender *s, size_t len, size_t room, uint32_t code) {
     noise_stream_sender old = *s;
-    noise_stream_told told = {1, 2, 3, 4};
+    noise_stream_result result = {1, 2, 3, 4};
     memset(out, 0x33, sizeof out);
     memset(other, 0x33, sizeof other);
-    MUST(noise_stream_write(s, payload, len, out, room, &told) == code && !memcmp(&old, s, sizeof old) && !memcmp(out, other, sizeof out));
-    MUST(told.from == 1 && told.len == 2 && told.used == 3 && told.wanted == 4);
+    MUST(noise_stream_write(s, payload, len, out, room, &result) == code && !memcmp(&old, s, sizeof old) && !memcmp(out, other, sizeof out));
+    MUST(result.from == 1 && result.len == 2 && result.used == 3 && result.wanted == 4);
 }
 
 static void must_not_end(noise_stream_sender *s, size_t room, uint32_t code) {
     noise_stream_sender old = *s;
-    noise_stream_told told = {1, 2, 3, 4};
+    noise_stream_result result = {1, 2, 3, 4};
     memset(out, 0x33, sizeof out);
-    MUST(noise_stream_end(s, out, room, &told) == code && !memcmp(&old, s, sizeof old) && !memcmp(out, other, sizeof out));
-    MUST(told.from == 1 && told.len == 2 && told.used == 3 && told.wanted == 4);
+    MUST(noise_stream_end(s, out, room, &result) == code && !memcmp(&old, s, sizeof old) && !memcmp(out, other, sizeof out));
+    MUST(result.from == 1 && result.len == 2 && result.used == 3 && result.wanted == 4);
 }
 
 static void check_writing(void) {
     stream x[2];
     transport t[2];
-    noise_stream_told told;
+    noise_stream_result result;
     open_pair("NN", 0, x, t);
     for (size_t room = 0; room < 28; room++) must_not_write(&x[0].s, 10, room, NOISE_ROOM);
     must_not_write(&x[0].s, sizeof payload, PART + 17, NOISE_ROOM);
     for (size_t room = 0; room < 18; room++) must_not_end(&x[0].s, room, NOISE_ROOM);
-    MUST(noise_stream_write(&x[0].s, NULL, 0, NULL, 0, &told) == NOISE_OK && told.used == 0 && told.len == 0);
-    MUST(noise_stream_end(&x[0].s, out, sizeof out, &told) == NOISE_OK);
+    MUST(noise_stream_write(&x[0].s, NULL, 0, NULL, 0, &result) == NOISE_OK && result.used == 0 && result.len == 0);
+    MUST(noise_stream_end(&x[0].s, out, sizeof out, &result) == NOISE_OK);
     must_not_write(&x[0].s, 10, sizeof out, NOISE_CLOSED);
     must_not_write(&x[0].s, 0, sizeof out, NOISE_CLOSED);
     must_not_end(&x[0].s, sizeof out, NOISE_CLOSED);
     open_pair("K", 0, x, t);
     must_not_write(&x[1].s, 10, sizeof out, NOISE_ONE_WAY);
     must_not_end(&x[1].s, sizeof out, NOISE_ONE_WAY);
-    MUST(noise_stream_end(&x[0].s, out, sizeof out, &told) == NOISE_OK && noise_stream_read(&x[1].r, out, 18, &told) == NOISE_END);
+    MUST(noise_stream_end(&x[0].s, out, sizeof out, &result) == NOISE_OK && noise_stream_read(&x[1].r, out, 18, &result) == NOISE_END);
 }
 
 // A refused frame breaks the stream for good: the right frame isn't read any more.
@@ -131,19 +131,19 @@ static void check_refused(void) {
     static const size_t lens[] = {0, 5, 15, 16, 40};
     stream x[2], old;
     transport t[2];
-    noise_stream_told told;
+    noise_stream_result result;
     open_pair("NN", 0, x, t);
-    MUST(noise_stream_write(&x[0].s, payload, 9, out, sizeof out, &told) == NOISE_OK);
+    MUST(noise_stream_write(&x[0].s, payload, 9, out, sizeof out, &result) == NOISE_OK);
     for (size_t i = 0; i < sizeof lens / sizeof *lens; i++) {
         noise_stream_receiver r = x[1].r;
         uint32_t cause = lens[i] < 16 ? NOISE_SHORT : NOISE_TAG;
         memset(buffer, 0, sizeof buffer);
         buffer[1] = (uint8_t)lens[i];
-        MUST(noise_stream_read(&r, buffer, lens[i] + 2, &told) == cause);
+        MUST(noise_stream_read(&r, buffer, lens[i] + 2, &result) == cause);
         for (size_t at = 2; at < sizeof buffer; at++) MUST(buffer[at] == 0);
         x[0].r = r, old = x[0];
         memcpy(buffer, out, 27);
-        MUST(noise_stream_read(&x[0].r, buffer, 27, &told) == NOISE_CLOSED && !memcmp(&old, &x[0], sizeof old));
+        MUST(noise_stream_read(&x[0].r, buffer, 27, &result) == NOISE_CLOSED && !memcmp(&old, &x[0], sizeof old));
         must_be_cut(&x[0], 0, true);
     }
     for (size_t at = 2; at < 27; at++) {
@@ -151,30 +151,30 @@ static void check_refused(void) {
         memcpy(buffer, out, 27);
         buffer[at] ^= 0x10;
         memcpy(other, buffer, 27);
-        MUST(noise_stream_read(&r, buffer, 27, &told) == NOISE_TAG && !memcmp(other, buffer, 27));
-        MUST(noise_stream_read(&r, out, 27, &told) == NOISE_CLOSED);
+        MUST(noise_stream_read(&r, buffer, 27, &result) == NOISE_TAG && !memcmp(other, buffer, 27));
+        MUST(noise_stream_read(&r, out, 27, &result) == NOISE_CLOSED);
     }
-    MUST(noise_stream_read(&x[1].r, out, 27, &told) == NOISE_OK);
+    MUST(noise_stream_read(&x[1].r, out, 27, &result) == NOISE_OK);
 }
 
 // Structs of another kind, of zeros, with another mark, or with a state that no stream has.
 static void check_structs(void) {
     stream x[2];
     transport t[2];
-    noise_stream_told told;
-    noise_told of_transport;
+    noise_stream_result result;
+    noise_result of_transport;
     open_pair("XX", 0, x, t);
     noise_stream_sender zero_sender = {{0}}, sender;
     noise_stream_receiver zero_receiver = {{0}}, receiver;
     must_not_write(&zero_sender, 5, sizeof out, NOISE_STRUCT);
     must_not_end(&zero_sender, sizeof out, NOISE_STRUCT);
-    MUST(noise_stream_read(&zero_receiver, buffer, 20, &told) == NOISE_STRUCT && noise_stream_is_cut(&zero_receiver, 0) == NOISE_STRUCT);
+    MUST(noise_stream_read(&zero_receiver, buffer, 20, &result) == NOISE_STRUCT && noise_stream_is_cut(&zero_receiver, 0) == NOISE_STRUCT);
     for (unsigned i = 0; i < 4; i++)
         for (unsigned change = 1; change < 256; change++) {
             sender = x[0].s, receiver = x[0].r;
-            sender.kept[i] ^= (uint8_t)change, receiver.kept[i] ^= (uint8_t)change;
+            sender.opaque[i] ^= (uint8_t)change, receiver.opaque[i] ^= (uint8_t)change;
             must_not_write(&sender, 5, sizeof out, NOISE_STRUCT);
-            MUST(noise_stream_read(&receiver, buffer, 20, &told) == NOISE_STRUCT && noise_stream_is_cut(&receiver, 0) == NOISE_STRUCT);
+            MUST(noise_stream_read(&receiver, buffer, 20, &result) == NOISE_STRUCT && noise_stream_is_cut(&receiver, 0) == NOISE_STRUCT);
         }
     // A stream's half begins with a half of its own kind, and is no half of messages, nor the other way round.
     memcpy(&sender, &x[0].r, sizeof sender);
@@ -185,28 +185,28 @@ static void check_structs(void) {
     memcpy(&sender, &t[0].s, sizeof t[0].s);
     memcpy(&receiver, &t[0].r, sizeof t[0].r);
     must_not_write(&sender, 5, sizeof out, NOISE_STRUCT);
-    MUST(noise_stream_read(&receiver, buffer, 20, &told) == NOISE_STRUCT);
+    MUST(noise_stream_read(&receiver, buffer, 20, &result) == NOISE_STRUCT);
 }
 
 // Frames of a handshake's messages.
 static void check_handshake_frames(void) {
-    noise_stream_told told;
+    noise_stream_result result;
     memset(buffer, 7, sizeof buffer);
     for (size_t have = 0; have < 30; have++) {
         buffer[0] = 0, buffer[1] = 20;
-        uint32_t code = noise_frame_find(buffer, have, &told);
+        uint32_t code = noise_frame_find(buffer, have, &result);
         if (have < 22)
-            MUST(code == NOISE_MORE && told.wanted == (have < 2 ? 2 : 22) - have);
+            MUST(code == NOISE_MORE && result.wanted == (have < 2 ? 2 : 22) - have);
         else
-            MUST(code == NOISE_OK && told.from == 2 && told.len == 20 && told.used == 22);
+            MUST(code == NOISE_OK && result.from == 2 && result.len == 20 && result.used == 22);
     }
-    MUST(noise_frame_find(NULL, 0, &told) == NOISE_MORE && told.wanted == 2);
-    MUST(noise_frame_message(buffer, sizeof buffer, 65535, &told) == NOISE_OK && told.len == NOISE_MAX_FRAME && buffer[0] == 0xff && buffer[1] == 0xff);
-    MUST(noise_frame_message(buffer, 302, 300, &told) == NOISE_OK && told.len == 302 && buffer[0] == 1 && buffer[1] == 44 && buffer[2] == 7);
-    MUST(noise_frame_message(buffer, 2, 0, &told) == NOISE_OK && told.len == 2 && buffer[0] == 0 && buffer[1] == 0);
-    MUST(noise_frame_message(buffer, 301, 300, &told) == NOISE_ROOM && noise_frame_message(buffer, 1, 0, &told) == NOISE_ROOM);
-    MUST(noise_frame_message(buffer, sizeof buffer, 65536, &told) == NOISE_LENGTH && noise_frame_message(buffer, 0, SIZE_MAX, &told) == NOISE_LENGTH);
-    MUST(noise_frame_message(NULL, 0, 0, &told) == NOISE_ROOM && buffer[0] == 0 && buffer[1] == 0);
+    MUST(noise_frame_find(NULL, 0, &result) == NOISE_MORE && result.wanted == 2);
+    MUST(noise_frame_message(buffer, sizeof buffer, 65535, &result) == NOISE_OK && result.len == NOISE_MAX_FRAME && buffer[0] == 0xff && buffer[1] == 0xff);
+    MUST(noise_frame_message(buffer, 302, 300, &result) == NOISE_OK && result.len == 302 && buffer[0] == 1 && buffer[1] == 44 && buffer[2] == 7);
+    MUST(noise_frame_message(buffer, 2, 0, &result) == NOISE_OK && result.len == 2 && buffer[0] == 0 && buffer[1] == 0);
+    MUST(noise_frame_message(buffer, 301, 300, &result) == NOISE_ROOM && noise_frame_message(buffer, 1, 0, &result) == NOISE_ROOM);
+    MUST(noise_frame_message(buffer, sizeof buffer, 65536, &result) == NOISE_LENGTH && noise_frame_message(buffer, 0, SIZE_MAX, &result) == NOISE_LENGTH);
+    MUST(noise_frame_message(NULL, 0, 0, &result) == NOISE_ROOM && buffer[0] == 0 && buffer[1] == 0);
 }
 
 // A whole session through a relay. A party does the handshake, writes its texts, and ends its stream after it has written them: at once, or only once it
@@ -290,9 +290,9 @@ static void use(machine *m, size_t count) {
 // One step of the handshake. False if nothing can be done before more comes.
 static bool shake(session *s, unsigned role) {
     machine *m = &s->m[role];
-    noise_stage_told stage;
-    noise_told told;
-    noise_stream_told place;
+    noise_stage_result stage;
+    noise_result result;
+    noise_stream_result place;
     uint8_t message[LONG];
     MUST(noise_stage(&m->x.h, &stage) == NOISE_OK);
     if (stage.passed == stage.messages) {
@@ -301,42 +301,42 @@ static bool shake(session *s, unsigned role) {
         return true;
     }
     if (stage.writes_next) {
-        MUST(write_on(&m->x, NULL, 0, message + 2, sizeof message - 2, &told) == NOISE_OK);
-        MUST(noise_frame_message(message, sizeof message, told.len, &place) == NOISE_OK);
+        MUST(write_on(&m->x, NULL, 0, message + 2, sizeof message - 2, &result) == NOISE_OK);
+        MUST(noise_frame_message(message, sizeof message, result.len, &place) == NOISE_OK);
         put(s, role, message, place.len);
         return true;
     }
     if (noise_frame_find(m->held, m->held_len, &place) == NOISE_MORE) return false;
-    if (read_on(&m->x, m->held + place.from, place.len, &told) != NOISE_OK) give_up(s, role);
+    if (read_on(&m->x, m->held + place.from, place.len, &result) != NOISE_OK) give_up(s, role);
     else use(m, place.used);
     return true;
 }
 
 static bool write_texts(session *s, unsigned role) {
     machine *m = &s->m[role];
-    noise_stream_told told;
+    noise_stream_result result;
     uint8_t frame[LONG];
     if (!m->wrote) {
         m->wrote = true;
         for (unsigned i = 0; i < TEXTS; i++) {
             const char *text = texts[role][i];
-            MUST(noise_stream_write(&m->open.s, (const uint8_t *)text, strlen(text), frame, sizeof frame, &told) == NOISE_OK && told.used == strlen(text));
-            put(s, role, frame, told.len);
+            MUST(noise_stream_write(&m->open.s, (const uint8_t *)text, strlen(text), frame, sizeof frame, &result) == NOISE_OK && result.used == strlen(text));
+            put(s, role, frame, result.len);
         }
         return true;
     }
     if (m->ended || (m->waits && !m->got_end)) return false;
     m->ended = true;
-    MUST(noise_stream_end(&m->open.s, frame, sizeof frame, &told) == NOISE_OK);
-    put(s, role, frame, told.len);
+    MUST(noise_stream_end(&m->open.s, frame, sizeof frame, &result) == NOISE_OK);
+    put(s, role, frame, result.len);
     return true;
 }
 
 static bool read_texts(session *s, unsigned role) {
     machine *m = &s->m[role];
-    noise_stream_told told;
+    noise_stream_result result;
     if (m->got_end) return false;
-    uint32_t code = noise_stream_read(&m->open.r, m->held, m->held_len, &told);
+    uint32_t code = noise_stream_read(&m->open.r, m->held, m->held_len, &result);
     if (code == NOISE_MORE) return false;
     if (code == NOISE_END) m->got_end = true;
     else if (code != NOISE_OK) {
@@ -344,11 +344,11 @@ static bool read_texts(session *s, unsigned role) {
         give_up(s, role);
         return true;
     } else {
-        MUST(m->got_len + told.len <= LONG);
-        memcpy(m->got + m->got_len, m->held + told.from, told.len);
-        m->got_len += told.len;
+        MUST(m->got_len + result.len <= LONG);
+        memcpy(m->got + m->got_len, m->held + result.from, result.len);
+        m->got_len += result.len;
     }
-    use(m, told.used);
+    use(m, result.used);
     return true;
 }
 

@@ -33,14 +33,14 @@ static noise_datagram_sender datagram_senders[2];
 static noise_datagram_receiver datagram_receivers[2];
 static bool are_datagrams;                               // set before the threads begin
 
-static uint32_t seal(unsigned own, const uint8_t *payload, size_t len, uint8_t *out, size_t out_len, noise_told *told) {
-    if (are_datagrams) return noise_datagram_seal(&datagram_senders[own], payload, len, out, out_len, told);
-    return noise_seal(&senders[own], payload, len, out, out_len, told);
+static uint32_t seal(unsigned own, const uint8_t *payload, size_t len, uint8_t *out, size_t out_len, noise_result *result) {
+    if (are_datagrams) return noise_datagram_seal(&datagram_senders[own], payload, len, out, out_len, result);
+    return noise_seal(&senders[own], payload, len, out, out_len, result);
 }
 
-static uint32_t open_one(unsigned own, uint8_t *message, size_t len, noise_told *told) {
-    if (are_datagrams) return noise_datagram_open(&datagram_receivers[own], message, len, told);
-    return noise_open(&receivers[own], message, len, told);
+static uint32_t open_one(unsigned own, uint8_t *message, size_t len, noise_result *result) {
+    if (are_datagrams) return noise_datagram_open(&datagram_receivers[own], message, len, result);
+    return noise_open(&receivers[own], message, len, result);
 }
 
 static void *send_all(void *role) {
@@ -48,14 +48,14 @@ static void *send_all(void *role) {
     queue *q = &queues[own];
     for (unsigned n = 0; n < MESSAGES; n++) {
         uint8_t payload[LONG], message[LONG + NOISE_DATAGRAM_OVERHEAD];
-        noise_told told;
+        noise_result result;
         size_t len = n % LONG;
         fill(payload, len, n + own);
-        MUST(seal(own, payload, len, message, sizeof message, &told) == NOISE_OK);
+        MUST(seal(own, payload, len, message, sizeof message, &result) == NOISE_OK);
         pthread_mutex_lock(&q->lock);
         while (q->put - q->taken == SLOTS) pthread_cond_wait(&q->changed, &q->lock);
-        memcpy(q->slots[q->put % SLOTS], message, told.len);
-        q->lens[q->put++ % SLOTS] = told.len;
+        memcpy(q->slots[q->put % SLOTS], message, result.len);
+        q->lens[q->put++ % SLOTS] = result.len;
         pthread_cond_signal(&q->changed);
         pthread_mutex_unlock(&q->lock);
     }
@@ -67,16 +67,16 @@ static void *receive_all(void *role) {
     queue *q = &queues[!own];
     for (unsigned n = 0; n < MESSAGES; n++) {
         uint8_t payload[LONG], message[LONG + NOISE_DATAGRAM_OVERHEAD];
-        noise_told told;
+        noise_result result;
         pthread_mutex_lock(&q->lock);
         while (q->put == q->taken) pthread_cond_wait(&q->changed, &q->lock);
         size_t len = q->lens[q->taken % SLOTS];
         memcpy(message, q->slots[q->taken++ % SLOTS], len);
         pthread_cond_signal(&q->changed);
         pthread_mutex_unlock(&q->lock);
-        MUST(open_one(own, message, len, &told) == NOISE_OK && told.len == n % LONG);
-        fill(payload, told.len, n + !own);
-        MUST(!memcmp(message + told.from, payload, told.len));
+        MUST(open_one(own, message, len, &result) == NOISE_OK && result.len == n % LONG);
+        fill(payload, result.len, n + !own);
+        MUST(!memcmp(message + result.from, payload, result.len));
     }
     return NULL;
 }
@@ -93,14 +93,14 @@ static void pass_messages(bool datagrams) {
     printf("c-library: two ends in four threads passed %d %s each way\n", MESSAGES, datagrams ? "datagrams" : "messages");
 }
 
-// Each call that takes a kept struct as const, again and again, on one struct of each type: two threads do so at once.
+// Each call that takes an opaque struct as const, again and again, on one struct of each type: two threads do so at once.
 static void *ask_all(void *of) {
     const asked *a = of;
     for (unsigned n = 0; n < QUESTIONS; n++) {
         uint64_t nonce;
         uint8_t hash[32];
         noise_key key;
-        noise_stage_told stage;
+        noise_stage_result stage;
         size_t len;
         transport t;
         datagrams d;

@@ -20,47 +20,47 @@ static void must_be_at(const transport *t, uint64_t send, uint64_t receive) {
 }
 
 static size_t seal(transport *t, size_t len, unsigned number) {
-    noise_told told;
+    noise_result result;
     fill(payload, len, number);
-    MUST(noise_seal(&t->s, payload, len, message, sizeof message, &told) == NOISE_OK && told.len == len + 16);
-    return told.len;
+    MUST(noise_seal(&t->s, payload, len, message, sizeof message, &result) == NOISE_OK && result.len == len + 16);
+    return result.len;
 }
 
 static void open_next(transport *t, size_t message_len, unsigned number) {
-    noise_told told;
+    noise_result result;
     fill(payload, message_len - 16, number);
-    MUST(noise_open(&t->r, message, message_len, &told) == NOISE_OK && told.len == message_len - 16);
-    MUST(!memcmp(message + told.from, payload, told.len));
+    MUST(noise_open(&t->r, message, message_len, &result) == NOISE_OK && result.len == message_len - 16);
+    MUST(!memcmp(message + result.from, payload, result.len));
 }
 
 static void must_not_open(transport *t, size_t len, uint32_t code) {
-    noise_told told;
+    noise_result result;
     transport old = *t;
     memcpy(before, message, len);
-    MUST(noise_open(&t->r, message, len, &told) == code);
+    MUST(noise_open(&t->r, message, len, &result) == code);
     MUST(!memcmp(&old, t, sizeof old) && !memcmp(before, message, len));
 }
 
 static void must_not_seal(transport *t, size_t len, size_t room, uint32_t code) {
-    noise_told told;
+    noise_result result;
     transport old = *t;
     memset(message, 0x33, sizeof message);
     memset(before, 0x33, sizeof before);
-    MUST(noise_seal(&t->s, payload, len, message, room, &told) == code);
+    MUST(noise_seal(&t->s, payload, len, message, room, &result) == code);
     MUST(!memcmp(&old, t, sizeof old) && !memcmp(before, message, sizeof before));
 }
 
 static void check_sizes(void) {
     plan p = plan_of("XX", -1);
     transport t[2];
-    noise_told told;
+    noise_result result;
     open_pair(&p, 0, t);
     must_not_seal(&t[0], NOISE_MAX_MESSAGE - 15, sizeof message, NOISE_TOO_LONG);
     must_not_seal(&t[0], NOISE_MAX_MESSAGE + 1, sizeof message, NOISE_ROOM);         // looked for first
     for (size_t room = 0; room < 26; room++) must_not_seal(&t[0], 10, room, NOISE_ROOM);
     must_be_at(&t[0], 0, 0);
     memset(message, 0x33, sizeof message);
-    MUST(noise_seal(&t[0].s, payload, 10, message, 26, &told) == NOISE_OK && told.len == 26 && message[26] == 0x33);
+    MUST(noise_seal(&t[0].s, payload, 10, message, 26, &result) == NOISE_OK && result.len == 26 && message[26] == 0x33);
     must_be_at(&t[0], 1, 0);
     for (size_t len = 0; len < 26; len++) must_not_open(&t[1], len, len < 16 ? NOISE_SHORT : NOISE_TAG);
     must_not_open(&t[1], 27, NOISE_TAG);
@@ -73,7 +73,7 @@ static void check_sizes(void) {
     }
     must_not_open(&t[0], 26, NOISE_TAG);                 // one's own
     must_be_at(&t[1], 0, 0);
-    MUST(noise_open(&t[1].r, message, 26, &told) == NOISE_OK && told.len == 10 && !memcmp(message + told.from, payload, 10));
+    MUST(noise_open(&t[1].r, message, 26, &result) == NOISE_OK && result.len == 10 && !memcmp(message + result.from, payload, 10));
     must_be_at(&t[1], 0, 1);
     open_next(&t[1], seal(&t[0], NOISE_MAX_MESSAGE - 16, 4), 4);
     open_next(&t[0], seal(&t[1], 0, 5), 5);
@@ -148,21 +148,21 @@ static size_t counter(const uint8_t *earlier, const uint8_t *later, size_t size)
     return at;
 }
 
-// At the nonce 2^64 - 1 nothing is sealed and nothing is opened. A kept nonce is set to it here, which no program does.
+// At the nonce 2^64 - 1 nothing is sealed and nothing is opened. A struct's nonce is set to it here, which no program does.
 static void check_exhausted(void) {
     plan p = plan_of("NN", -1);
     transport t[2], old[2];
     open_pair(&p, 0, t);
     memcpy(old, t, sizeof old);
     open_next(&t[1], seal(&t[0], 9, 1), 1);
-    size_t sending = counter(old[0].s.kept, t[0].s.kept, sizeof t[0].s), receiving = counter(old[1].r.kept, t[1].r.kept, sizeof t[1].r);
-    memset(t[0].s.kept + sending, 0xff, 8);
-    memset(t[1].r.kept + receiving, 0xff, 8);
+    size_t sending = counter(old[0].s.opaque, t[0].s.opaque, sizeof t[0].s), receiving = counter(old[1].r.opaque, t[1].r.opaque, sizeof t[1].r);
+    memset(t[0].s.opaque + sending, 0xff, 8);
+    memset(t[1].r.opaque + receiving, 0xff, 8);
     must_be_at(&t[0], UINT64_MAX, 0);
     must_be_at(&t[1], 0, UINT64_MAX);
     must_not_seal(&t[0], 9, sizeof message, NOISE_EXHAUSTED);
     must_not_open(&t[1], 30, NOISE_EXHAUSTED);
-    t[0].s.kept[sending] = t[1].r.kept[receiving] = 0xfe;    // the last message there is
+    t[0].s.opaque[sending] = t[1].r.opaque[receiving] = 0xfe;    // the last message there is
     open_next(&t[1], seal(&t[0], 9, 1), 1);
     must_not_seal(&t[0], 9, sizeof message, NOISE_EXHAUSTED);
     must_not_open(&t[1], 30, NOISE_EXHAUSTED);

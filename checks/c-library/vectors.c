@@ -44,14 +44,14 @@ static void put_head(run *r) {
     }
 }
 
-static uint32_t write_next(run *r, unsigned role, const uint8_t *payload, size_t len, uint8_t *out, noise_told *told) {
-    if (r->is_open) return noise_seal(&r->transports[role].s, payload, len, out, LONGEST, told);
-    return write_on(&r->ends[role], payload, len, out, LONGEST, told);
+static uint32_t write_next(run *r, unsigned role, const uint8_t *payload, size_t len, uint8_t *out, noise_result *result) {
+    if (r->is_open) return noise_seal(&r->transports[role].s, payload, len, out, LONGEST, result);
+    return write_on(&r->ends[role], payload, len, out, LONGEST, result);
 }
 
-static uint32_t read_next(run *r, unsigned role, uint8_t *message, size_t len, noise_told *told) {
-    if (r->is_open) return noise_open(&r->transports[role].r, message, len, told);
-    return read_on(&r->ends[role], message, len, told);
+static uint32_t read_next(run *r, unsigned role, uint8_t *message, size_t len, noise_result *result) {
+    if (r->is_open) return noise_open(&r->transports[role].r, message, len, result);
+    return read_on(&r->ends[role], message, len, result);
 }
 
 static void put_unwritten(run *r, unsigned role, uint32_t code) {
@@ -63,23 +63,23 @@ static void put_unwritten(run *r, unsigned role, uint32_t code) {
 // This role says a payload of this length to the other one.
 static void say(run *r, unsigned role, size_t len, unsigned number) {
     static uint8_t payload[NOISE_MAX_MESSAGE], message[LONGEST];
-    noise_told told;
+    noise_result result;
     fill(payload, len, number);
     fprintf(r->vector, "say %s ", role_names[role]);
     put_hex(r->vector, payload, len);
     fprintf(r->vector, " -\n");
-    uint32_t code = write_next(r, role, payload, len, message, &told);
+    uint32_t code = write_next(r, role, payload, len, message, &result);
     if (code != NOISE_OK) {
         put_unwritten(r, role, code);
         return;
     }
-    fprintf(r->wanted, "wrote %s %u %02zx%02zx", role_names[role], r->frames[role]++, told.len >> 8, told.len & 255);
-    put_hex(r->wanted, message, told.len);
+    fprintf(r->wanted, "wrote %s %u %02zx%02zx", role_names[role], r->frames[role]++, result.len >> 8, result.len & 255);
+    put_hex(r->wanted, message, result.len);
     fputc('\n', r->wanted);
-    MUST(read_next(r, !role, message, told.len, &told) == NOISE_OK);
-    MUST(told.len == len && !memcmp(message + told.from, payload, len));
+    MUST(read_next(r, !role, message, result.len, &result) == NOISE_OK);
+    MUST(result.len == len && !memcmp(message + result.from, payload, len));
     fprintf(r->wanted, "payload %s ", role_names[!role]);
-    put_hex(r->wanted, message + told.from, told.len);
+    put_hex(r->wanted, message + result.from, result.len);
     fputc('\n', r->wanted);
 }
 
@@ -194,17 +194,17 @@ static const char *word_of(uint32_t code) {
 // A text, and beside it what `noise check` prints of it: of a valid one its first line.
 static uint32_t try_text(const char *folder, unsigned number, const char *text, size_t len) {
     char name[20];
-    noise_pattern_told told;
+    noise_pattern_result result;
     snprintf(name, sizeof name, "text%u", number);
     FILE *file = file_in(folder, name, ".pattern"), *wanted = file_in(folder, name, ".first");
     MUST(fwrite(text, 1, len, file) == len && fclose(file) == 0);
-    uint32_t code = noise_check_pattern((const uint8_t *)text, len, &told);
+    uint32_t code = noise_check_pattern((const uint8_t *)text, len, &result);
     if (code == NOISE_OK)
         fprintf(wanted, "valid %.*s\n", (int)strcspn(text, ":"), text);
     else if (code == NOISE_RULE)
-        fprintf(wanted, "rule %u message %u token %u\n", told.rule, told.message, told.token);
+        fprintf(wanted, "rule %u message %u token %u\n", result.rule, result.message, result.token);
     else
-        fprintf(wanted, "line %zu %s\n", told.line, word_of(code));
+        fprintf(wanted, "line %zu %s\n", result.line, word_of(code));
     MUST(fclose(wanted) == 0);
     // noise_start takes just the valid ones; a text without a line feed at its end is a name to it.
     noise_handshake h;
@@ -235,7 +235,7 @@ void check_texts(const char *folder) {
     unsigned count = sizeof texts / sizeof *texts;
     for (unsigned i = 0; i < count; i++) seen |= CODE(try_text(folder, i, texts[i], strlen(texts[i])));
     MUST(seen == (CODE(NOISE_OK) | (CODE(NOISE_RULE + 1) - CODE(NOISE_HEADING))));
-    noise_pattern_told told;
+    noise_pattern_result result;
     const char *five = "A:\n  -> e\n  <- e, ee\n  -> s\n  <- s\n  -> es, se\n";
-    MUST(noise_check_pattern((const uint8_t *)five, strlen(five), &told) == NOISE_OK && told.messages == 5);
+    MUST(noise_check_pattern((const uint8_t *)five, strlen(five), &result) == NOISE_OK && result.messages == 5);
 }

@@ -38,6 +38,7 @@ def compare_sentences():
     sources = ""
     for path in sorted(glob.glob(f"{TOP}/crates/noise_explain/src/*.rt")):
         with open(path, encoding="utf-8") as file:
-            sources += plain(file.read().replace('\\"', '"'))
+            joined = re.sub(r"\\\n\s*", "", file.read())  # a string may go on in the next line
+            sources += plain(joined.replace('\\"', '"'))
     sentences = [it for it in of_the_page() if it not in OF_THE_PAGE]
     return len(sentences), [f"command: explain doesn't say what the page says: {it}" for it in sentences if it not in sources]

@@ -20,12 +20,12 @@ static key_pair draw(void) {
 }
 
 // OpenSSL fails if the result is all zeros.
-static void x25519(const key_pair *own, const uint8_t remote[32], uint8_t result[32]) {
+static void x25519(const key_pair *own, const uint8_t remote[32], uint8_t dh_result[32]) {
     size_t len = 32;
     EVP_PKEY *other = EVP_PKEY_new_raw_public_key(EVP_PKEY_X25519, NULL, remote, 32);
     EVP_PKEY_CTX *context = EVP_PKEY_CTX_new(own->secret, NULL);
     must(other && context && EVP_PKEY_derive_init(context) == 1 && EVP_PKEY_derive_set_peer(context, other) == 1, "no X25519");
-    must(EVP_PKEY_derive(context, result, &len) == 1, "X25519 fails for this public key");
+    must(EVP_PKEY_derive(context, dh_result, &len) == 1, "X25519 fails for this public key");
     EVP_PKEY_CTX_free(context);
     EVP_PKEY_free(other);
 }
@@ -38,16 +38,16 @@ static void set(noise_key *key, const key_pair *pair) {
 
 const STEP = `// Writes the next message, and returns its length; or reads it.
 static size_t step(party *p, int writes, uint8_t message[NOISE_MAX_MESSAGE], size_t len) {
-    noise_told told;
-    uint8_t result[32];
+    noise_result result;
+    uint8_t dh_result[32];
     uint32_t code;
-    while ((code = writes ? noise_write(&p->handshake, NULL, 0, message, NOISE_MAX_MESSAGE, &told)
-                          : noise_read(&p->handshake, message, len, &told)) == NOISE_WANTED) {
-        x25519(told.of_static ? &p->s : &p->e, told.remote, result);
-        must(noise_answer(&p->handshake, told.of_static, told.remote, result) == NOISE_OK, "noise_answer");
+    while ((code = writes ? noise_write(&p->handshake, NULL, 0, message, NOISE_MAX_MESSAGE, &result)
+                          : noise_read(&p->handshake, message, len, &result)) == NOISE_WANTED) {
+        x25519(result.of_static ? &p->s : &p->e, result.remote, dh_result);
+        must(noise_answer(&p->handshake, result.of_static, result.remote, dh_result) == NOISE_OK, "noise_answer");
     }
     must(code == NOISE_OK, noise_text(code));
-    return writes ? told.len : 0;
+    return writes ? result.len : 0;
 }
 `;
 
@@ -84,20 +84,20 @@ const KINDS = {
 };
 
 const MESSAGE = (seal, open) => lines(
-  `    must(${seal}(&client.sender, (const uint8_t *)"hello", 5, message, sizeof message, &told) == NOISE_OK, "not sealed");`,
-  `    must(${open}(&server.receiver, message, told.len, &told) == NOISE_OK, "not opened");`,
-  '    printf("the server reads: %.*s\\n", (int)told.len, (const char *)message + told.from);',
+  `    must(${seal}(&client.sender, (const uint8_t *)"hello", 5, message, sizeof message, &result) == NOISE_OK, "not sealed");`,
+  `    must(${open}(&server.receiver, message, result.len, &result) == NOISE_OK, "not opened");`,
+  '    printf("the server reads: %.*s\\n", (int)result.len, (const char *)message + result.from);',
 ).trimEnd();
 
 const STREAM = lines(
-  '    must(noise_stream_write(&client.sender, (const uint8_t *)"hello", 5, message, sizeof message, &told) == NOISE_OK, "not written");',
-  '    size_t at = 0, len = told.len;',
-  '    must(noise_stream_end(&client.sender, message + len, sizeof message - len, &told) == NOISE_OK, "not ended");',
-  '    len += told.len;    // all that the connection carries',
+  '    must(noise_stream_write(&client.sender, (const uint8_t *)"hello", 5, message, sizeof message, &result) == NOISE_OK, "not written");',
+  '    size_t at = 0, len = result.len;',
+  '    must(noise_stream_end(&client.sender, message + len, sizeof message - len, &result) == NOISE_OK, "not ended");',
+  '    len += result.len;    // all that the connection carries',
   '    uint32_t code;',
-  '    while ((code = noise_stream_read(&server.receiver, message + at, len - at, &told)) == NOISE_OK) {',
-  '        printf("the server reads: %.*s\\n", (int)told.len, (const char *)message + at + told.from);',
-  '        at += told.used;',
+  '    while ((code = noise_stream_read(&server.receiver, message + at, len - at, &result)) == NOISE_OK) {',
+  '        printf("the server reads: %.*s\\n", (int)result.len, (const char *)message + at + result.from);',
+  '        at += result.used;',
   '    }',
   '    must(code == NOISE_END, noise_text(code));    // at NOISE_MORE receive more; if the connection ends then, the stream is cut',
 ).trimEnd();
@@ -109,8 +109,8 @@ function main({ psks, mode, interval, window }) {
     'int main(void) {',
     '    static party client, server;',
     `    static uint8_t message[${mode === 'stream' ? 'NOISE_MAX_FRAME' : 'NOISE_MAX_MESSAGE'}];`,
-    '    noise_stage_told stage;',
-    `    ${mode === 'stream' ? 'noise_stream_told' : 'noise_told'} told;`,
+    '    noise_stage_result stage;',
+    `    ${mode === 'stream' ? 'noise_stream_result' : 'noise_result'} result;`,
     '    client.e = draw(), client.s = draw(), server.e = draw(), server.s = draw();',
     psks > 0 && '    must(RAND_bytes(psks[0], sizeof psks) == 1, "no random bytes");',
     '    start(&client, &server, 0);',

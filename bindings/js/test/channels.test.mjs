@@ -135,10 +135,10 @@ test('channels', async (t) => {
     const early = connect(port, '127.0.0.1');
     const options = { pattern: 'NN', acceptAnyKey: true };
     const causes = { name: 'NOISE_CLOSED', cause: { code: 'ECONNREFUSED' } };
-    const told = (error) => error.name === causes.name && error.cause?.code === causes.cause.code;
-    await assert.rejects(NoiseSocket.open(early, options), told);
-    await assert.rejects(NoiseSocket.open(early, options), told);    // it was destroyed before
-    await assert.rejects(NoiseSocket.open(connect(port, '127.0.0.1'), { ...options, responder: true }), told);
+    const result = (error) => error.name === causes.name && error.cause?.code === causes.cause.code;
+    await assert.rejects(NoiseSocket.open(early, options), result);
+    await assert.rejects(NoiseSocket.open(early, options), result);    // it was destroyed before
+    await assert.rejects(NoiseSocket.open(connect(port, '127.0.0.1'), { ...options, responder: true }), result);
     const [here, there] = await overTcp();
     const [a] = await Promise.all([NoiseSocket.open(here, options), NoiseSocket.open(there, { ...options, responder: true })]);
     there.resetAndDestroy();

@@ -53,8 +53,8 @@ test('cipher states', async (t) => {
     const [chainingKey] = hkdf(Buffer.from(protocolName('NN')), new Uint8Array(32).fill(3 ^ 5));
     let [key] = hkdf(chainingKey, EMPTY);
     const { hash } = a;
-    const [{ send, hash: kept }, { receive }] = [a.finishCiphers(), b.finishCiphers()];
-    assert.deepEqual(kept, hash);
+    const [{ send, hash: own }, { receive }] = [a.finishCiphers(), b.finishCiphers()];
+    assert.deepEqual(own, hash);
     let nonce = 0n;
     for (const [ad, length] of [['', 0], ['header', 5], ['', 65519], ['x'.repeat(65535), 1000]]) {
       const plaintext = new Uint8Array(length).fill(length & 255);

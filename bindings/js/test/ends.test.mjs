@@ -203,7 +203,7 @@ test('ends', { timeout: 300000 }, async (t) => {
     await Promise.all([closed, b.close()]);
   });
 
-  await t.test('close waits as long as it is told, also for ever', async () => {
+  await t.test('close waits as long as it is asked to, also for ever', async () => {
     const [a, b] = await channels(await overTcp());
     for (let n = 0; n < 100; n += 1) a.send(MEGABYTES);
     const closed = a.close({ timeout: Infinity });

@@ -29,14 +29,14 @@ test('memory', async (t) => {
         sealer.seal(new Uint8Array(1));
       }
     };
-    const places = Object.fromEntries(['handshake', 'sender', 'receiver'].map((kind) => [kind, new Set(lib.kept[kind])]));
+    const places = Object.fromEntries(['handshake', 'sender', 'receiver'].map((kind) => [kind, new Set(lib.unused[kind])]));
     await forget();
-    for (let n = 0; n < 100 && ['handshake', 'sender'].some((kind) => lib.kept[kind].length < places[kind].size + 100); n += 1) {
+    for (let n = 0; n < 100 && ['handshake', 'sender'].some((kind) => lib.unused[kind].length < places[kind].size + 100); n += 1) {
       gc();
       await new Promise((resolve) => { setTimeout(resolve, 20); });
     }
     for (const kind of ['handshake', 'sender', 'receiver']) {
-      const freed = lib.kept[kind];
+      const freed = lib.unused[kind];
       assert.equal(new Set(freed).size, freed.length, 'a place is free twice');
       assert.ok(freed.length >= 100, `${freed.length} ${kind}`);    // less than 200: an engine may collect some before the last are made
       assert.ok(freed.every((place) => lib.view(place, lib.sizes[kind]).every((byte) => byte === 0)));
@@ -51,7 +51,7 @@ test('memory', async (t) => {
     const [initiator, responder] = await passed();
     const [a, b] = [initiator.finish(), responder.finish()];
     for (const end of [a, b, a, initiator]) end.dispose();
-    for (const kind of Object.keys(lib.kept)) assert.equal(new Set(lib.kept[kind]).size, lib.kept[kind].length, kind);
+    for (const kind of Object.keys(lib.unused)) assert.equal(new Set(lib.unused[kind]).size, lib.unused[kind].length, kind);
     if (Symbol.dispose) for (const Kind of [Handshake, Transport, Datagrams, CipherState, NoiseSocket]) assert.equal(typeof Kind.prototype[Symbol.dispose], 'function');
   });
 

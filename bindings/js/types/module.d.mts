@@ -1,7 +1,7 @@
 /** The library that `load` has made. */
 export function library(): any;
 /** Frees places, each with its kind, once nobody has an object any more, unless it lets go of them before. */
-export function freeLater(object: any, kept: any): void;
+export function freeLater(object: any, places: any): void;
 export function letGo(object: any): void;
 /**
  * Whether this engine runs WebAssembly with 64-bit memory, which the module that `load()` takes doesn't have: one of nothing but such a memory is

@@ -14,7 +14,7 @@
  * @property {(message: Uint8Array) => Uint8Array} open
  * @property {() => void} dispose Overwrites both halves.
  */
-/** What all have: two kept structs, the half that seals and the half that opens. */
+/** What all have: two opaque structs, the half that seals and the half that opens. */
 export class Sealed {
     /** @protected */
     protected constructor();

@@ -19,7 +19,7 @@ def sent_by(initiator, size):
     return (bytes((i * 7 + initiator) % 251 for i in range(251)) * (size // 251 + 1))[:size]
 
 
-def told(fault):
+def name_of(fault):
     if isinstance(fault, MessageRefused):
         return "refused"
     return "cut" if isinstance(fault, ChannelCut) else "lost"
@@ -77,7 +77,7 @@ class Blocking:
         try:
             channel = (connect if run.initiator else accept)(connection, run.config)
         except FAULTS as fault:
-            run.end = told(fault)
+            run.end = name_of(fault)
             return
         writer = threading.Thread(target=self.write, args=[channel])
         writer.start()
@@ -86,7 +86,7 @@ class Blocking:
             while part := channel.recv(PART):
                 got += part
         except FAULTS as fault:
-            run.end = told(fault)
+            run.end = name_of(fault)
         run.got = bytes(got)
         self.has_read.set()
         writer.join()
@@ -118,7 +118,7 @@ class Streams:
         try:
             reader, writer = await (self.client() if run.initiator else self.server())
         except FAULTS as fault:
-            run.end = told(fault)
+            run.end = name_of(fault)
             return
         writing = asyncio.create_task(self.write(writer))
         got = bytearray()
@@ -126,7 +126,7 @@ class Streams:
             while part := await reader.read(PART):
                 got += part
         except FAULTS as fault:
-            run.end = told(fault)
+            run.end = name_of(fault)
         run.got = bytes(got)
         self.has_read.set()
         await writing
@@ -140,7 +140,7 @@ class Streams:
         return await open_connection(*self.run.address, self.run.config)
 
     async def server(self):
-        """Serves one client. A handshake that fails is told by the package's log alone."""
+        """Serves one client. A handshake that fails is reported by the package's log alone."""
         made = asyncio.get_running_loop().create_future()
         log = logging.Handler()
         log.emit = lambda record: made.done() or made.set_exception(record.args[1])

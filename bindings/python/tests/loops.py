@@ -16,10 +16,10 @@ def descriptors():
 
 def open_keys():
     gc.collect()
-    return sum(not kept.closed for kept in list(memory._all))
+    return sum(not struct.closed for struct in list(memory._all))
 
 
-class Told(logging.Handler):
+class Log(logging.Handler):
     """What asyncio and this package say."""
 
     def __init__(self):
@@ -47,12 +47,12 @@ async def settle():
 
 
 def run(main, *, faults=0, seconds=120, debug=True):
-    """Runs `main(told)` and what it leaves; `faults` is how many errors the loop's exception handler is to get."""
+    """Runs `main(log)` and what it leaves; `faults` is how many errors the loop's exception handler is to get."""
     gc.collect()
-    before, keys, told, caught = descriptors(), open_keys(), Told(), []
+    before, keys, log, caught = descriptors(), open_keys(), Log(), []
     loggers = [logging.getLogger("asyncio"), logging.getLogger("yulimosar")]
     for logger in loggers:
-        logger.addHandler(told)
+        logger.addHandler(log)
         logger.setLevel(logging.INFO if debug else logging.WARNING)
         logger.propagate = False    # pytest would keep the lines
     try:
@@ -60,16 +60,16 @@ def run(main, *, faults=0, seconds=120, debug=True):
             loop = runner.get_loop()
             loop.slow_callback_duration = 60
             loop.set_exception_handler(lambda _loop, context: caught.append(context))
-            result = runner.run(asyncio.wait_for(main(told), seconds))
+            result = runner.run(asyncio.wait_for(main(log), seconds))
             runner.run(settle())
             gc.collect()
             runner.run(settle())
     finally:
         for logger in loggers:
-            logger.removeHandler(told)
+            logger.removeHandler(log)
             logger.propagate = True
     assert len(caught) == faults, caught
-    assert not told.warned, told.warned
+    assert not log.warned, log.warned
     assert not descriptors() - before and open_keys() <= keys
     return result
 

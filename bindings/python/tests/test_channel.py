@@ -147,7 +147,7 @@ def test_nothing_of_a_refused_channel_is_sent():
     assert second.data_to_send() == b""
 
 
-def test_after_the_end_nothing_is_kept():
+def test_after_the_end_nothing_is_left():
     first, second = pair()
     join(first, second)
     first.write_eof()

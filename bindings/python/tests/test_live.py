@@ -155,7 +155,7 @@ def receive(channel):
 
 
 def test_a_peer_that_sends_no_end():
-    """What it has sent is read first; then the cut is told."""
+    """What it has sent is read first; then the cut is reported."""
     theirs, ours = X25519DH().generate_keypair(), KeyPair.generate()
     a, b = sockets()
 
@@ -166,7 +166,7 @@ def test_a_peer_that_sends_no_end():
     thread = threading.Thread(target=talk)
     thread.start()
 
-    async def main(_told):
+    async def main(_result):
         a.setblocking(False)
         config = Config(pattern="XX", prologue=b"live", key=ours, peer_key=theirs.public.data)
         reader, writer = await open_connection(None, None, config, sock=a)

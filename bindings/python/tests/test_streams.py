@@ -18,7 +18,7 @@ STEP = int(os.environ.get("NOISE_RELAY_STEP", 11))
 
 
 def test_a_conversation():
-    async def main(_told):
+    async def main(_result):
         async with connected(toy=False) as (reader, writer):
             assert isinstance(reader, asyncio.StreamReader) and isinstance(writer, asyncio.StreamWriter)
             writer.write(b"first line\nsecond")
@@ -53,7 +53,7 @@ def test_a_conversation():
 def test_much_both_ways_at_once():
     data = random.Random(5).randbytes(3_000_000)
 
-    async def main(_told):
+    async def main(_result):
         async with connected("NN", interval=7) as (reader, writer):
             async def send():
                 for start in range(0, len(data), 70001):
@@ -68,7 +68,7 @@ def test_much_both_ways_at_once():
 
 def test_a_reader_that_is_slow():
     """What a peer sends is not taken from the connection until it is read."""
-    async def main(_told):
+    async def main(_result):
         sent = 0
 
         async def handler(reader, writer):
@@ -88,9 +88,9 @@ def test_a_reader_that_is_slow():
 
 
 @pytest.mark.parametrize("how", ["abort", "raise", "below", "cancel"])
-def test_a_cut_is_told_after_what_came(how):
+def test_a_cut_is_reported_after_what_came(how):
     """A handler that fails, is cancelled or loses its connection sends no end."""
-    async def main(told):
+    async def main(log):
         tasks = []
 
         async def handler(reader, writer):
@@ -127,7 +127,7 @@ def test_a_cut_is_told_after_what_came(how):
 @pytest.mark.parametrize("end", ["close", "abort"])
 def test_a_close_of_this_party_is_no_end_of_the_other(end):
     """A read that waits, and a later one, raise: the other party has more to send."""
-    async def main(_told):
+    async def main(_result):
         async def handler(reader, writer):
             writer.write(b"some")
             with contextlib.suppress(ChannelCut):
@@ -149,7 +149,7 @@ def test_a_close_of_this_party_is_no_end_of_the_other(end):
 
 
 def test_readexactly_and_readuntil_at_a_cut():
-    async def main(_told):
+    async def main(_result):
         async def handler(reader, writer):
             writer.write(b"half")
             await writer.drain()
@@ -168,7 +168,7 @@ def test_readexactly_and_readuntil_at_a_cut():
 
 
 def test_close_sends_the_end_and_abort_does_not():
-    async def main(_told):
+    async def main(_result):
         for ends in (True, False):
             got = asyncio.get_running_loop().create_future()
 
@@ -195,7 +195,7 @@ def test_close_sends_the_end_and_abort_does_not():
 
 def test_a_refused_message():
     """It is raised on the side that reads it; nothing is sent after it, so the other side gets a cut."""
-    async def main(told):
+    async def main(log):
         seen = asyncio.get_running_loop().create_future()
 
         async def handler(reader, writer):
@@ -234,7 +234,7 @@ def test_clients_that_are_slow_or_silent():
             pass
         writer.close()
 
-    async def main(told):
+    async def main(log):
         client, server = configs("XX", handshake_timeout=3)
         async with server_of(echo, server) as address:
             strangers = [asyncio.create_task(stranger(address, talk, pause)) for talk, pause in (
@@ -242,13 +242,13 @@ def test_clients_that_are_slow_or_silent():
             await asyncio.sleep(0.05)
             reader, writer = await open_connection(*address, client)
             writer.write(b"hello")
-            assert await reader.readexactly(5) == b"hello" and not told.lines
+            assert await reader.readexactly(5) == b"hello" and not log.lines
             writer.close()
             await writer.wait_closed()
             await asyncio.gather(*strangers)
-            await until(lambda: len(told.lines) == 4)
-            assert {line.split(": ", 1)[1] for line in told.lines} == {str(HandshakeTimeout())}
-            assert "127.0.0.1" in told.lines[0]
+            await until(lambda: len(log.lines) == 4)
+            assert {line.split(": ", 1)[1] for line in log.lines} == {str(HandshakeTimeout())}
+            assert "127.0.0.1" in log.lines[0]
     run(main)
 
 
@@ -259,7 +259,7 @@ def test_a_server_that_is_silent():
         with pytest.raises(TimeoutError):
             async with asyncio.timeout(0.1):
                 await open_connection(*address, configs("XX")[0])
-    run(lambda _told: silent(main_with))
+    run(lambda _result: silent(main_with))
 
 
 async def silent(call):
@@ -279,7 +279,7 @@ async def silent(call):
 
 
 def test_a_server_that_hangs_up():
-    async def main(_told):
+    async def main(_result):
         async def handler(_reader, writer):
             writer.close()
 
@@ -297,7 +297,7 @@ def test_a_server_that_hangs_up():
 
 
 def test_another_protocol_at_the_other_end():
-    async def main(told):
+    async def main(log):
         client, server = configs("XX")
         async with server_of(echo, server) as address:
             reader, writer = await asyncio.open_connection(*address)
@@ -307,14 +307,14 @@ def test_another_protocol_at_the_other_end():
             except ConnectionResetError:
                 pass
             writer.close()
-            await until(lambda: told.lines)
-            assert str(Code.TOO_LONG) in told.lines[0]
+            await until(lambda: log.lines)
+            assert str(Code.TOO_LONG) in log.lines[0]
     run(main)
 
 
 @pytest.mark.parametrize("answer", [True, False, "awaited", "refused later", "fails", "hangs", "goes away"])
 def test_who_the_client_is(answer):
-    async def main(told):
+    async def main(log):
         asked = []
 
         async def later(result):
@@ -338,18 +338,18 @@ def test_who_the_client_is(answer):
                 writer.abort()
             writer.write(b"hello")
             if answer in (True, "awaited"):
-                assert await reader.readexactly(5) == b"hello" and not told.lines
+                assert await reader.readexactly(5) == b"hello" and not log.lines
             else:
                 with pytest.raises(CallError if answer == "goes away" else ChannelCut):
                     await reader.read()
-                await until(lambda: len(told.lines) == 1)
+                await until(lambda: len(log.lines) == 1)
             assert asked == [client.key.public]
             writer.close()
     run(main)
 
 
 def test_one_way():
-    async def main(_told):
+    async def main(_result):
         async def handler(reader, writer):
             got.set_result(await reader.read())
             with pytest.raises(CallError):
@@ -372,7 +372,7 @@ def test_one_way():
 @pytest.mark.filterwarnings("ignore:unclosed <Writer:ResourceWarning")
 def test_a_handler_that_is_no_coroutine_and_forgets():
     """A plain function may be a handler; a writer that nobody holds any more is aborted."""
-    async def main(_told):
+    async def main(_result):
         called = []
 
         def handler(_reader, writer):
@@ -386,7 +386,7 @@ def test_a_handler_that_is_no_coroutine_and_forgets():
 
 
 def test_over_a_socket():
-    async def main(_told):
+    async def main(_result):
         client, server = configs("NN")
         listener = socket.create_server(("127.0.0.1", 0))
         async with server_of_socket(listener, server):
@@ -415,7 +415,7 @@ def test_over_a_socket():
 def test_close_gives_up_on_a_peer_that_takes_nothing(monkeypatch):
     monkeypatch.setattr(streams, "CLOSE_TIMEOUT", 0.1)
 
-    async def main(_told):
+    async def main(_result):
         async def handler(_reader, writer):
             await done.wait()
             writer.abort()
@@ -433,7 +433,7 @@ def test_close_gives_up_on_a_peer_that_takes_nothing(monkeypatch):
 
 def test_cancelled_at_each_step_of_the_handshake():
     """open_connection is cancelled after each number of steps of the loop: no key and no descriptor is left."""
-    async def main(_told):
+    async def main(_result):
         async def verify(key):
             await asyncio.sleep(0)
             return True
@@ -474,7 +474,7 @@ def link_of(fd):
 @pytest.mark.parametrize("wait", ["read", "readexactly", "drain", "wait_closed"])
 def test_cancelled_in_a_wait(wait):
     """A channel goes on after a cancelled wait; nothing of what comes later is lost."""
-    async def main(_told):
+    async def main(_result):
         async def handler(reader, writer):
             await release.wait()
             async with writer:
@@ -503,7 +503,7 @@ def test_cancelled_in_a_wait(wait):
 
 def test_the_loop_ends_while_channels_are_open():
     """asyncio.run cancels what is left."""
-    async def main(_told):
+    async def main(_result):
         client, server = configs("XX")
         server = await streams.start_server(echo, "127.0.0.1", 0, server)
         address = server.sockets[0].getsockname()
@@ -559,7 +559,7 @@ class Relay:
 
 
 class Report:
-    """What a party has got and done. `end` is True if it was told an end, else the error."""
+    """What a party has got and done. `end` is True if it got an end, else the error."""
 
     def __init__(self):
         self.got, self.end, self.ended, self.late = b"", None, False, None
@@ -629,7 +629,7 @@ def judge(reports, direction, after):
 
 @pytest.mark.parametrize("waits", [-1, 0, 1])
 def test_relay(waits):
-    async def main(_told):
+    async def main(_result):
         configured = configs("XX", interval=2)
         reports, whole = await pass_relay(configured, waits, -1, "", 0)
         assert all(report.end is True for report in reports)
@@ -650,7 +650,7 @@ def test_relay(waits):
 
 def test_memory_is_flat():
     """Many connections, one after another, some of which are cut or refused."""
-    async def main(_told):
+    async def main(_result):
         client, server = configs("XX")
         stranger = Config(pattern="XX", key=Xor(), accept_any_key=True, prologue=b"other", ephemeral=Xor)
         async with server_of(echo, server) as address:
@@ -683,7 +683,7 @@ def test_memory_is_flat():
 
 
 def test_x25519_by_cryptography():
-    async def main(_told):
+    async def main(_result):
         server_key, client_key = KeyPair.generate(), KeyPair.generate()
         config = Config(pattern="XX", key=server_key, verify=lambda key: key == client_key.public)
         async with server_of(echo, config) as address:

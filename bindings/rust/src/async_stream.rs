@@ -14,7 +14,7 @@ use tokio::io::{AsyncRead, AsyncWrite, ReadBuf};
 /// and errors.
 ///
 /// `shutdown` sends the end of this party's stream, and shuts the stream below down for writing; what is dropped without it is cut. `read` returns 0 where
-/// the other party has ended its stream. A `write` that takes bytes seals them, and what the stream below doesn't take at once is kept: `flush` after the
+/// the other party has ended its stream. A `write` that takes bytes seals them, and what the stream below doesn't take at once waits: `flush` after the
 /// last `write`, or `shutdown`, which flushes. A read or write whose future is dropped loses nothing.
 ///
 /// There is no limit of time in it: put `tokio::time::timeout` around the handshake, whose future may be dropped.

@@ -1,5 +1,5 @@
 use crate::header::OK;
-use crate::raw::{Cipher, Told};
+use crate::raw::{CallResult, Cipher};
 use crate::Error;
 use core::fmt;
 
@@ -44,9 +44,9 @@ impl SendCipherState {
     /// EncryptWithAd, in place: the text is the first `text_len` bytes of `buffer`, at most 65519, and the message, whose length it returns, 16 bytes longer.
     /// Neither the data, of at most 65535 bytes, nor the nonce is in it. The next nonce is one greater; after an error nothing is changed.
     pub fn encrypt(&mut self, ad: &[u8], buffer: &mut [u8], text_len: usize) -> Result<usize, Error> {
-        let mut told = Told::default();
-        done(self.0.encrypt(ad, buffer, text_len, &mut told))?;
-        Ok(told.len)
+        let mut result = CallResult::default();
+        done(self.0.encrypt(ad, buffer, text_len, &mut result))?;
+        Ok(result.len)
     }
 
     /// Sets the nonce of the next message (SetNonce: Noise, 11.4). **Never encrypt twice at one nonce**: whoever sees both messages learns how the texts
@@ -59,9 +59,9 @@ impl SendCipherState {
 impl ReceiveCipherState {
     /// DecryptWithAd, in place: returns the text. The next nonce is one greater; after an error nothing is changed.
     pub fn decrypt<'m>(&mut self, ad: &[u8], message: &'m mut [u8]) -> Result<&'m mut [u8], Error> {
-        let mut told = Told::default();
-        done(self.0.decrypt(ad, message, &mut told))?;
-        Ok(&mut message[told.from..told.from + told.len])
+        let mut result = CallResult::default();
+        done(self.0.decrypt(ad, message, &mut result))?;
+        Ok(&mut message[result.from..result.from + result.len])
     }
 
     /// Sets the nonce of the next message (SetNonce: Noise, 11.4). Refuse one that was decrypted before.

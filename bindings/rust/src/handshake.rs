@@ -1,5 +1,5 @@
 use crate::header::{OK, WANTED, WANTED_PSK};
-use crate::raw::{self, Told};
+use crate::raw::{self, CallResult};
 use crate::{Datagrams, Dh, Ephemeral, Error, ReceiveCipherState, SendCipherState, Transport};
 use core::fmt;
 
@@ -50,12 +50,12 @@ impl<S: Dh, E: Ephemeral> Handshake<S, E> {
 
     /// Writes the next message, with this payload, to the start of `out`, and returns its length. At an error, as `WantedPsk`, nothing is changed.
     pub fn write(&mut self, payload: &[u8], out: &mut [u8]) -> Result<usize, Error> {
-        let mut told = Told::default();
+        let mut result = CallResult::default();
         loop {
-            match self.memory.write(payload, out, &mut told) {
-                OK => return Ok(told.len),
-                WANTED => self.answer(&told)?,
-                WANTED_PSK => return Err(told.wanted_psk()),
+            match self.memory.write(payload, out, &mut result) {
+                OK => return Ok(result.len),
+                WANTED => self.answer(&result)?,
+                WANTED_PSK => return Err(result.wanted_psk()),
                 code => return Err(Error::of(code, None)),
             }
         }
@@ -64,28 +64,28 @@ impl<S: Dh, E: Ephemeral> Handshake<S, E> {
     /// Reads the message that is due, in place, and returns its payload. `Short` and `Tag` end the handshake; otherwise an error, as `WantedPsk`,
     /// changes nothing.
     pub fn read<'m>(&mut self, message: &'m mut [u8]) -> Result<&'m mut [u8], Error> {
-        let mut told = Told::default();
+        let mut result = CallResult::default();
         loop {
-            match self.memory.read(message, &mut told) {
-                OK => return Ok(&mut message[told.from..told.from + told.len]),
-                WANTED => self.answer(&told)?,
-                WANTED_PSK => return Err(told.wanted_psk()),
-                code => return Err(Error::of(code, Some(told.token))),
+            match self.memory.read(message, &mut result) {
+                OK => return Ok(&mut message[result.from..result.from + result.len]),
+                WANTED => self.answer(&result)?,
+                WANTED_PSK => return Err(result.wanted_psk()),
+                code => return Err(Error::of(code, Some(result.token))),
             }
         }
     }
 
     // Passes the X25519 result that the call needs. Zeros are refused (Noise, 12.1).
-    fn answer(&mut self, told: &Told) -> Result<(), Error> {
-        let mut result = match &self.static_key {
-            Some(key) if told.of_static != 0 => key.agree(&told.remote)?,
-            _ => self.ephemeral.agree(&told.remote)?,
+    fn answer(&mut self, result: &CallResult) -> Result<(), Error> {
+        let mut dh_result = match &self.static_key {
+            Some(key) if result.of_static != 0 => key.agree(&result.remote)?,
+            _ => self.ephemeral.agree(&result.remote)?,
         };
-        if result == [0; 32] {
+        if dh_result == [0; 32] {
             return Err(Error::Zeros);
         }
-        let code = self.memory.answer(told.of_static, &told.remote, &result);
-        raw::wipe(&mut result);
+        let code = self.memory.answer(result.of_static, &result.remote, &dh_result);
+        raw::wipe(&mut dh_result);
         match code {
             OK => Ok(()),
             code => Err(Error::of(code, None)),
@@ -208,7 +208,7 @@ impl<S: Dh, E: Ephemeral> fmt::Debug for Handshake<S, E> {
     }
 }
 
-impl Told {
+impl CallResult {
     fn wanted_psk(&self) -> Error {
         Error::WantedPsk { remote_static: Some(self.remote).filter(|_| self.remote_known != 0) }
     }

@@ -1,8 +1,8 @@
 // What include/noise.h declares, and the calls of it: all `unsafe` of this crate is here.
 //
 // Each call is sound since the types ensure what the header asks of a caller. Pointers come from references and slices: none is NULL, each leads to as
-// many bytes as its count says, and one that isn't const comes from `&mut`, so no other pointer leads there. The kept structs are aligned to 8
-// by their declaration, and their sizes are compared with the library's before the first is written (`is_library`). A call that changes a kept struct
+// many bytes as its count says, and one that isn't const comes from `&mut`, so no other pointer leads there. The opaque structs are aligned to 8
+// by their declaration, and their sizes are compared with the library's before the first is written (`is_library`). A call that changes an opaque struct
 // takes it as `&mut`: no other thread has it. A call that takes it as const takes `&`: the header allows such calls at once, on any number of threads,
 // so the structs are `Sync`. The call checks a struct's content.
 use crate::header::*;
@@ -29,7 +29,7 @@ pub(crate) struct Setup {
 
 #[repr(C)]
 #[derive(Default)]
-pub(crate) struct Told {
+pub(crate) struct CallResult {
     pub(crate) from: usize,
     pub(crate) len: usize,
     pub(crate) token: u8,
@@ -40,7 +40,7 @@ pub(crate) struct Told {
 
 #[repr(C)]
 #[derive(Default)]
-pub(crate) struct StreamTold {
+pub(crate) struct StreamResult {
     pub(crate) from: usize,
     pub(crate) len: usize,
     pub(crate) used: usize,
@@ -59,10 +59,10 @@ pub(crate) struct Stage {
 // The sizes that C gives these structs.
 const _: () = assert!(size_of::<Key>() == 33 && size_of::<Setup>() == 2 + 4 * 33 + 9 * 32 && size_of::<Stage>() == 4);
 #[cfg(target_pointer_width = "64")]
-const _: () = assert!(size_of::<Told>() == 56 && size_of::<StreamTold>() == 32);
+const _: () = assert!(size_of::<CallResult>() == 56 && size_of::<StreamResult>() == 32);
 
-macro_rules! kept {
-    ($($name:ident $size:ident $told:ident;)*) => {
+macro_rules! structs {
+    ($($name:ident $size:ident $size_in_c:ident;)*) => {
         $(
             #[repr(C, align(8))]
             pub(crate) struct $name([u8; $size]);
@@ -84,17 +84,17 @@ macro_rules! kept {
         )*
 
         extern "C" {
-            $(fn $told() -> usize;)*
+            $(fn $size_in_c() -> usize;)*
         }
 
         fn has_sizes() -> bool {
             // SAFETY: these take nothing.
-            unsafe { true $(&& $told() == size_of::<$name>())* }
+            unsafe { true $(&& $size_in_c() == size_of::<$name>())* }
         }
     };
 }
 
-kept! {
+structs! {
     Handshake SIZE_OF_HANDSHAKE noise_handshake_size;
     StreamSender SIZE_OF_STREAM_SENDER noise_stream_sender_size;
     StreamReceiver SIZE_OF_STREAM_RECEIVER noise_stream_receiver_size;
@@ -124,15 +124,15 @@ extern "C" {
         payload_len: usize,
         out: *mut u8,
         out_len: usize,
-        told: *mut Told,
+        result: *mut CallResult,
     ) -> u32;
-    fn noise_read(h: *mut Handshake, message: *mut u8, message_len: usize, told: *mut Told) -> u32;
+    fn noise_read(h: *mut Handshake, message: *mut u8, message_len: usize, result: *mut CallResult) -> u32;
     fn noise_message_len(h: *const Handshake, payload_len: usize, len: *mut usize) -> u32;
     fn noise_hash(h: *const Handshake, hash: *mut u8) -> u32;
     fn noise_remote_static(h: *const Handshake, key: *mut Key) -> u32;
-    fn noise_stage(h: *const Handshake, told: *mut Stage) -> u32;
-    fn noise_frame_message(buffer: *mut u8, buffer_len: usize, message_len: usize, told: *mut StreamTold) -> u32;
-    fn noise_frame_find(buffer: *const u8, buffer_len: usize, told: *mut StreamTold) -> u32;
+    fn noise_stage(h: *const Handshake, result: *mut Stage) -> u32;
+    fn noise_frame_message(buffer: *mut u8, buffer_len: usize, message_len: usize, result: *mut StreamResult) -> u32;
+    fn noise_frame_find(buffer: *const u8, buffer_len: usize, result: *mut StreamResult) -> u32;
     fn noise_finish_stream(h: *const Handshake, interval: u64, s: *mut StreamSender, r: *mut StreamReceiver) -> u32;
     fn noise_stream_write(
         s: *mut StreamSender,
@@ -140,10 +140,10 @@ extern "C" {
         payload_len: usize,
         out: *mut u8,
         out_len: usize,
-        told: *mut StreamTold,
+        result: *mut StreamResult,
     ) -> u32;
-    fn noise_stream_end(s: *mut StreamSender, out: *mut u8, out_len: usize, told: *mut StreamTold) -> u32;
-    fn noise_stream_read(r: *mut StreamReceiver, buffer: *mut u8, buffer_len: usize, told: *mut StreamTold) -> u32;
+    fn noise_stream_end(s: *mut StreamSender, out: *mut u8, out_len: usize, result: *mut StreamResult) -> u32;
+    fn noise_stream_read(r: *mut StreamReceiver, buffer: *mut u8, buffer_len: usize, result: *mut StreamResult) -> u32;
     fn noise_stream_is_cut(r: *const StreamReceiver, left: usize) -> u32;
     fn noise_finish(h: *const Handshake, interval: u64, sender: *mut Sender, receiver: *mut Receiver) -> u32;
     fn noise_seal(
@@ -152,16 +152,16 @@ extern "C" {
         payload_len: usize,
         out: *mut u8,
         out_len: usize,
-        told: *mut Told,
+        result: *mut CallResult,
     ) -> u32;
     fn noise_seal_in_place(
         s: *mut Sender,
         buffer: *mut u8,
         buffer_len: usize,
         payload_len: usize,
-        told: *mut Told,
+        result: *mut CallResult,
     ) -> u32;
-    fn noise_open(r: *mut Receiver, message: *mut u8, message_len: usize, told: *mut Told) -> u32;
+    fn noise_open(r: *mut Receiver, message: *mut u8, message_len: usize, result: *mut CallResult) -> u32;
     fn noise_sender_nonce(s: *const Sender, nonce: *mut u64) -> u32;
     fn noise_receiver_nonce(r: *const Receiver, nonce: *mut u64) -> u32;
     fn noise_finish_datagrams(
@@ -176,16 +176,21 @@ extern "C" {
         payload_len: usize,
         out: *mut u8,
         out_len: usize,
-        told: *mut Told,
+        result: *mut CallResult,
     ) -> u32;
     fn noise_datagram_seal_in_place(
         s: *mut DatagramSender,
         buffer: *mut u8,
         buffer_len: usize,
         payload_len: usize,
-        told: *mut Told,
+        result: *mut CallResult,
     ) -> u32;
-    fn noise_datagram_open(r: *mut DatagramReceiver, datagram: *mut u8, datagram_len: usize, told: *mut Told) -> u32;
+    fn noise_datagram_open(
+        r: *mut DatagramReceiver,
+        datagram: *mut u8,
+        datagram_len: usize,
+        result: *mut CallResult,
+    ) -> u32;
     fn noise_datagram_sender_nonce(s: *const DatagramSender, nonce: *mut u64) -> u32;
     fn noise_finish_ciphers(h: *const Handshake, send: *mut Cipher, receive: *mut Cipher) -> u32;
     fn noise_cipher_encrypt(
@@ -195,7 +200,7 @@ extern "C" {
         buffer: *mut u8,
         buffer_len: usize,
         text_len: usize,
-        told: *mut Told,
+        result: *mut CallResult,
     ) -> u32;
     fn noise_cipher_decrypt(
         c: *mut Cipher,
@@ -203,7 +208,7 @@ extern "C" {
         ad_len: usize,
         message: *mut u8,
         message_len: usize,
-        told: *mut Told,
+        result: *mut CallResult,
     ) -> u32;
     fn noise_cipher_rekey(c: *mut Cipher) -> u32;
     fn noise_cipher_nonce(c: *const Cipher, nonce: *mut u64) -> u32;
@@ -267,15 +272,15 @@ fn is_version(version: u32) -> bool {
 }
 
 // Puts the length in front of a message that was written to buffer[2..].
-pub(crate) fn frame_message(buffer: &mut [u8], message_len: usize, told: &mut StreamTold) -> u32 {
+pub(crate) fn frame_message(buffer: &mut [u8], message_len: usize, result: &mut StreamResult) -> u32 {
     // SAFETY: see above.
-    unsafe { noise_frame_message(buffer.as_mut_ptr(), buffer.len(), message_len, told) }
+    unsafe { noise_frame_message(buffer.as_mut_ptr(), buffer.len(), message_len, result) }
 }
 
 // Looks for the message at the start of a buffer.
-pub(crate) fn frame_find(buffer: &[u8], told: &mut StreamTold) -> u32 {
+pub(crate) fn frame_find(buffer: &[u8], result: &mut StreamResult) -> u32 {
     // SAFETY: see above.
-    unsafe { noise_frame_find(buffer.as_ptr(), buffer.len(), told) }
+    unsafe { noise_frame_find(buffer.as_ptr(), buffer.len(), result) }
 }
 
 impl Handshake {
@@ -299,14 +304,14 @@ impl Handshake {
         Handshake(self.0).set_psk(&[0; KEY_LEN]) == OK
     }
 
-    pub(crate) fn write(&mut self, payload: &[u8], out: &mut [u8], told: &mut Told) -> u32 {
+    pub(crate) fn write(&mut self, payload: &[u8], out: &mut [u8], result: &mut CallResult) -> u32 {
         // SAFETY: see above.
-        unsafe { noise_write(self, payload.as_ptr(), payload.len(), out.as_mut_ptr(), out.len(), told) }
+        unsafe { noise_write(self, payload.as_ptr(), payload.len(), out.as_mut_ptr(), out.len(), result) }
     }
 
-    pub(crate) fn read(&mut self, message: &mut [u8], told: &mut Told) -> u32 {
+    pub(crate) fn read(&mut self, message: &mut [u8], result: &mut CallResult) -> u32 {
         // SAFETY: see above.
-        unsafe { noise_read(self, message.as_mut_ptr(), message.len(), told) }
+        unsafe { noise_read(self, message.as_mut_ptr(), message.len(), result) }
     }
 
     pub(crate) fn message_len(&self, payload_len: usize) -> Option<usize> {
@@ -358,27 +363,27 @@ impl Handshake {
 }
 
 impl StreamSender {
-    pub(crate) fn write(&mut self, payload: &[u8], out: &mut [u8], told: &mut StreamTold) -> u32 {
+    pub(crate) fn write(&mut self, payload: &[u8], out: &mut [u8], result: &mut StreamResult) -> u32 {
         // SAFETY: see above.
-        unsafe { noise_stream_write(self, payload.as_ptr(), payload.len(), out.as_mut_ptr(), out.len(), told) }
+        unsafe { noise_stream_write(self, payload.as_ptr(), payload.len(), out.as_mut_ptr(), out.len(), result) }
     }
 
-    pub(crate) fn end(&mut self, out: &mut [u8], told: &mut StreamTold) -> u32 {
+    pub(crate) fn end(&mut self, out: &mut [u8], result: &mut StreamResult) -> u32 {
         // SAFETY: see above.
-        unsafe { noise_stream_end(self, out.as_mut_ptr(), out.len(), told) }
+        unsafe { noise_stream_end(self, out.as_mut_ptr(), out.len(), result) }
     }
 }
 
 impl StreamReceiver {
-    pub(crate) fn read(&mut self, buffer: &mut [u8], told: &mut StreamTold) -> u32 {
+    pub(crate) fn read(&mut self, buffer: &mut [u8], result: &mut StreamResult) -> u32 {
         // SAFETY: see above.
-        unsafe { noise_stream_read(self, buffer.as_mut_ptr(), buffer.len(), told) }
+        unsafe { noise_stream_read(self, buffer.as_mut_ptr(), buffer.len(), result) }
     }
 
     // Whether this is the direction of a one-way pattern in which nothing comes: a copy, which is dropped, says so of a
     // frame.
     pub(crate) fn is_silent(&self) -> bool {
-        StreamReceiver(self.0).read(&mut [0; 2], &mut StreamTold::default()) == ONE_WAY
+        StreamReceiver(self.0).read(&mut [0; 2], &mut StreamResult::default()) == ONE_WAY
     }
 
     pub(crate) fn is_cut(&self, left: usize) -> u32 {
@@ -389,15 +394,15 @@ impl StreamReceiver {
 
 impl Sender {
     #[inline]
-    pub(crate) fn seal(&mut self, payload: &[u8], out: &mut [u8], told: &mut Told) -> u32 {
+    pub(crate) fn seal(&mut self, payload: &[u8], out: &mut [u8], result: &mut CallResult) -> u32 {
         // SAFETY: see above.
-        unsafe { noise_seal(self, payload.as_ptr(), payload.len(), out.as_mut_ptr(), out.len(), told) }
+        unsafe { noise_seal(self, payload.as_ptr(), payload.len(), out.as_mut_ptr(), out.len(), result) }
     }
 
     #[inline]
-    pub(crate) fn seal_in_place(&mut self, buffer: &mut [u8], payload_len: usize, told: &mut Told) -> u32 {
+    pub(crate) fn seal_in_place(&mut self, buffer: &mut [u8], payload_len: usize, result: &mut CallResult) -> u32 {
         // SAFETY: see above.
-        unsafe { noise_seal_in_place(self, buffer.as_mut_ptr(), buffer.len(), payload_len, told) }
+        unsafe { noise_seal_in_place(self, buffer.as_mut_ptr(), buffer.len(), payload_len, result) }
     }
 
     pub(crate) fn nonce(&self) -> u64 {
@@ -410,9 +415,9 @@ impl Sender {
 
 impl Receiver {
     #[inline]
-    pub(crate) fn open(&mut self, message: &mut [u8], told: &mut Told) -> u32 {
+    pub(crate) fn open(&mut self, message: &mut [u8], result: &mut CallResult) -> u32 {
         // SAFETY: see above.
-        unsafe { noise_open(self, message.as_mut_ptr(), message.len(), told) }
+        unsafe { noise_open(self, message.as_mut_ptr(), message.len(), result) }
     }
 
     pub(crate) fn nonce(&self) -> u64 {
@@ -425,15 +430,15 @@ impl Receiver {
 
 impl DatagramSender {
     #[inline]
-    pub(crate) fn seal(&mut self, payload: &[u8], out: &mut [u8], told: &mut Told) -> u32 {
+    pub(crate) fn seal(&mut self, payload: &[u8], out: &mut [u8], result: &mut CallResult) -> u32 {
         // SAFETY: see above.
-        unsafe { noise_datagram_seal(self, payload.as_ptr(), payload.len(), out.as_mut_ptr(), out.len(), told) }
+        unsafe { noise_datagram_seal(self, payload.as_ptr(), payload.len(), out.as_mut_ptr(), out.len(), result) }
     }
 
     #[inline]
-    pub(crate) fn seal_in_place(&mut self, buffer: &mut [u8], payload_len: usize, told: &mut Told) -> u32 {
+    pub(crate) fn seal_in_place(&mut self, buffer: &mut [u8], payload_len: usize, result: &mut CallResult) -> u32 {
         // SAFETY: see above.
-        unsafe { noise_datagram_seal_in_place(self, buffer.as_mut_ptr(), buffer.len(), payload_len, told) }
+        unsafe { noise_datagram_seal_in_place(self, buffer.as_mut_ptr(), buffer.len(), payload_len, result) }
     }
 
     pub(crate) fn nonce(&self) -> u64 {
@@ -446,21 +451,23 @@ impl DatagramSender {
 
 impl DatagramReceiver {
     #[inline]
-    pub(crate) fn open(&mut self, datagram: &mut [u8], told: &mut Told) -> u32 {
+    pub(crate) fn open(&mut self, datagram: &mut [u8], result: &mut CallResult) -> u32 {
         // SAFETY: see above.
-        unsafe { noise_datagram_open(self, datagram.as_mut_ptr(), datagram.len(), told) }
+        unsafe { noise_datagram_open(self, datagram.as_mut_ptr(), datagram.len(), result) }
     }
 }
 
 impl Cipher {
-    pub(crate) fn encrypt(&mut self, ad: &[u8], buffer: &mut [u8], text_len: usize, told: &mut Told) -> u32 {
+    pub(crate) fn encrypt(&mut self, ad: &[u8], buffer: &mut [u8], text_len: usize, result: &mut CallResult) -> u32 {
         // SAFETY: see above.
-        unsafe { noise_cipher_encrypt(self, ad.as_ptr(), ad.len(), buffer.as_mut_ptr(), buffer.len(), text_len, told) }
+        unsafe {
+            noise_cipher_encrypt(self, ad.as_ptr(), ad.len(), buffer.as_mut_ptr(), buffer.len(), text_len, result)
+        }
     }
 
-    pub(crate) fn decrypt(&mut self, ad: &[u8], message: &mut [u8], told: &mut Told) -> u32 {
+    pub(crate) fn decrypt(&mut self, ad: &[u8], message: &mut [u8], result: &mut CallResult) -> u32 {
         // SAFETY: see above.
-        unsafe { noise_cipher_decrypt(self, ad.as_ptr(), ad.len(), message.as_mut_ptr(), message.len(), told) }
+        unsafe { noise_cipher_decrypt(self, ad.as_ptr(), ad.len(), message.as_mut_ptr(), message.len(), result) }
     }
 
     pub(crate) fn rekey(&mut self) -> u32 {

@@ -24,7 +24,7 @@ pub(crate) use writing::Writing;
 ///
 /// A stream below that doesn't block, or that has timeouts, may return `WouldBlock` or `TimedOut`. `read`, `flush` and
 /// `close_write` return the same then, and a later call continues. A `write` that takes bytes seals them, and what of
-/// their frame the stream below doesn't take is kept: the next `write`, `flush` or `close_write` sends it first, and a
+/// their frame the stream below doesn't take waits: the next `write`, `flush` or `close_write` sends it first, and a
 /// `write` that can't do so takes nothing. So `flush` after the last `write`. Windows doesn't say how much of a write
 /// past its timeout was sent: drop the channel there.
 pub struct Stream<T> {
@@ -238,7 +238,7 @@ macro_rules! over {
             }
 
             /// The stream below, without the channel: of what comes over it nothing is taken but the frames that were
-            /// read. A part of a frame that has come, or that is kept to be sent, is lost.
+            /// read. A part of a frame that has come, or that waits to be sent, is lost.
             pub fn into_inner(self) -> T {
                 self.below
             }

@@ -1,5 +1,5 @@
 use crate::header::OK;
-use crate::raw::{self, Told};
+use crate::raw::{self, CallResult};
 use crate::Error;
 use core::fmt;
 
@@ -72,32 +72,32 @@ pub struct Datagrams {
 }
 
 #[inline]
-fn length(code: u32, told: &Told) -> Result<usize, Error> {
+fn length(code: u32, result: &CallResult) -> Result<usize, Error> {
     match code {
-        OK => Ok(told.len),
+        OK => Ok(result.len),
         code => Err(Error::of(code, None)),
     }
 }
 
 #[inline]
-fn place<'m>(code: u32, told: &Told, bytes: &'m mut [u8]) -> Result<&'m mut [u8], Error> {
-    let len = length(code, told)?;
-    Ok(&mut bytes[told.from..told.from + len])
+fn place<'m>(code: u32, result: &CallResult, bytes: &'m mut [u8]) -> Result<&'m mut [u8], Error> {
+    let len = length(code, result)?;
+    Ok(&mut bytes[result.from..result.from + len])
 }
 
 impl Sender {
     /// Seals a payload of at most 65519 bytes to the front of `out`: 16 bytes longer. At an error nothing is changed.
     #[inline]
     pub fn seal(&mut self, payload: &[u8], out: &mut [u8]) -> Result<usize, Error> {
-        let mut told = Told::default();
-        length(self.0.seal(payload, out, &mut told), &told)
+        let mut result = CallResult::default();
+        length(self.0.seal(payload, out, &mut result), &result)
     }
 
     /// Seals in place: the payload is the first `payload_len` bytes of `buffer`, which needs 16 bytes more.
     #[inline]
     pub fn seal_in_place(&mut self, buffer: &mut [u8], payload_len: usize) -> Result<usize, Error> {
-        let mut told = Told::default();
-        length(self.0.seal_in_place(buffer, payload_len, &mut told), &told)
+        let mut result = CallResult::default();
+        length(self.0.seal_in_place(buffer, payload_len, &mut result), &result)
     }
 
     /// How many messages were sealed.
@@ -110,8 +110,8 @@ impl Receiver {
     /// Opens the next message in place, and returns its payload. At an error nothing is changed; over a stream close at the first.
     #[inline]
     pub fn open<'m>(&mut self, message: &'m mut [u8]) -> Result<&'m mut [u8], Error> {
-        let mut told = Told::default();
-        place(self.0.open(message, &mut told), &told, message)
+        let mut result = CallResult::default();
+        place(self.0.open(message, &mut result), &result, message)
     }
 
     /// How many messages were opened.
@@ -151,15 +151,15 @@ impl DatagramSender {
     /// Seals a payload of at most 65519 bytes to the front of `out`: 24 bytes longer. At an error nothing is changed.
     #[inline]
     pub fn seal(&mut self, payload: &[u8], out: &mut [u8]) -> Result<usize, Error> {
-        let mut told = Told::default();
-        length(self.0.seal(payload, out, &mut told), &told)
+        let mut result = CallResult::default();
+        length(self.0.seal(payload, out, &mut result), &result)
     }
 
     /// Seals in place: the payload is `payload_len` bytes of `buffer` from the ninth on, after which 16 bytes more are needed.
     #[inline]
     pub fn seal_in_place(&mut self, buffer: &mut [u8], payload_len: usize) -> Result<usize, Error> {
-        let mut told = Told::default();
-        length(self.0.seal_in_place(buffer, payload_len, &mut told), &told)
+        let mut result = CallResult::default();
+        length(self.0.seal_in_place(buffer, payload_len, &mut result), &result)
     }
 
     /// How many datagrams were sealed: the nonce of the next.
@@ -173,8 +173,8 @@ impl DatagramReceiver {
     /// are no sign of an attack.
     #[inline]
     pub fn open<'m>(&mut self, datagram: &'m mut [u8]) -> Result<&'m mut [u8], Error> {
-        let mut told = Told::default();
-        place(self.0.open(datagram, &mut told), &told, datagram)
+        let mut result = CallResult::default();
+        place(self.0.open(datagram, &mut result), &result, datagram)
     }
 }
 

@@ -88,7 +88,7 @@ async fn ends_cuts_and_refusals() {
     }
 }
 
-// What a stream below that is full doesn't take is kept, and a read whose future is dropped loses nothing.
+// What a stream below that is full doesn't take waits, and a read whose future is dropped loses nothing.
 #[tokio::test]
 async fn dropped_futures_lose_nothing() {
     let (mut client, mut server) = streams("XX").await;

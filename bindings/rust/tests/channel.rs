@@ -464,8 +464,8 @@ fn no_fault_of_the_wire_makes_a_wrong_byte() {
                 stream.close_write()
             });
             let (mut stream, mut got) = (Stream::new(d, server, |_| true).unwrap(), Vec::new());
-            let told = stream.read_to_end(&mut got).err().map(|error| error.kind());
-            assert_eq!(told, kind, "fault {fault} at {at}");
+            let got_kind = stream.read_to_end(&mut got).err().map(|error| error.kind());
+            assert_eq!(got_kind, kind, "fault {fault} at {at}");
             let whole = [10, at, at, at + 1, at, at, at, at][fault];
             assert_eq!(got, (0..whole as u8).flat_map(|i| [i; 30]).collect::<Vec<u8>>());
             sent.join().unwrap().unwrap();

@@ -34,7 +34,7 @@ struct End<C: Channel> {
     got: Vec<u8>,
     ends: bool,
     has_sent_end: bool,
-    told: Option<Result<(), ErrorKind>>,
+    outcome: Option<Result<(), ErrorKind>>,
 }
 
 impl<C: Channel> End<C> {
@@ -54,7 +54,7 @@ impl<C: Channel> End<C> {
             got: Vec::new(),
             ends: false,
             has_sent_end: false,
-            told: None,
+            outcome: None,
         };
         end.state = end.after(begun);
         end
@@ -65,7 +65,7 @@ impl<C: Channel> End<C> {
             Opening::Open(channel) => State::Open(Box::new(channel)),
             Opening::Waits(it) => State::Shaking(it),
             Opening::Failed(error) => {
-                self.told = Some(Err(error.kind()));
+                self.outcome = Some(Err(error.kind()));
                 State::Closed
             }
         }
@@ -79,7 +79,7 @@ impl<C: Channel> End<C> {
                     self.fail(*stream, error.kind());
                     State::Closed
                 }
-                _ if self.has_sent_end && self.told.is_some() => State::Closed,
+                _ if self.has_sent_end && self.outcome.is_some() => State::Closed,
                 _ => State::Open(stream),
             },
             State::Closed => State::Closed,
@@ -90,10 +90,10 @@ impl<C: Channel> End<C> {
         if let Err(error) = self.write(stream) {
             assert_eq!(error.kind(), ErrorKind::WouldBlock);
         }
-        while self.told.is_none() {
+        while self.outcome.is_none() {
             let mut bytes = [0; 10];
             match stream.read(&mut bytes)? {
-                0 => self.told = Some(Ok(())),
+                0 => self.outcome = Some(Ok(())),
                 count => self.got.extend(&bytes[..count]),
             }
         }
@@ -105,7 +105,7 @@ impl<C: Channel> End<C> {
             assert_eq!(stream.write(text)?, text.len());
             self.taken += 1;
         }
-        if !self.has_sent_end && (!self.waits || self.told.is_some()) {
+        if !self.has_sent_end && (!self.waits || self.outcome.is_some()) {
             self.ends = true;
             stream.end()?;
             self.has_sent_end = true;
@@ -114,7 +114,7 @@ impl<C: Channel> End<C> {
     }
 
     fn fail(&mut self, mut stream: C, kind: ErrorKind) {
-        self.told = Some(Err(kind));
+        self.outcome = Some(Err(kind));
         let before = self.to.borrow().sent.len();
         for result in [stream.write(b"more").map(drop), stream.flush(), stream.end()] {
             assert_eq!(result.unwrap_err().kind(), ErrorKind::ConnectionAborted);
@@ -151,7 +151,7 @@ fn pass_session<C: Channel>(waits: [bool; 2], faults: [(Fault, usize); 2]) -> [u
         let (other, pipe) = (&ends[1 - role], pipes[1 - role].borrow());
         let written = TEXTS[other.role][..other.taken].concat();
         assert!(written.starts_with(&end.got), "{what}: {role} has other bytes");
-        match end.told.unwrap_or_else(|| panic!("{what}: {role} waits for ever")) {
+        match end.outcome.unwrap_or_else(|| panic!("{what}: {role} waits for ever")) {
             Ok(()) => {
                 assert!(other.ends && other.taken == 3 && end.got == written, "{what}: {role} has an end too early");
                 assert!(pipe.came.starts_with(&pipe.sent), "{what}: {role} has an end after damage");

@@ -46,7 +46,7 @@ fn write_much(mut client: Stream<TcpStream>, mut server: Stream<TcpStream>) {
 }
 
 #[test]
-fn a_frame_is_kept_where_a_write_would_block() {
+fn a_frame_stays_where_a_write_would_block() {
     let (client, server) = streams();
     client.get_ref().set_nonblocking(true).unwrap();
     write_much(client, server);
@@ -54,7 +54,7 @@ fn a_frame_is_kept_where_a_write_would_block() {
 
 #[test]
 #[cfg(not(windows))] // which doesn't say how much of a write past its timeout was sent
-fn a_frame_is_kept_past_a_write_timeout() {
+fn a_frame_stays_past_a_write_timeout() {
     let (client, server) = streams();
     client.get_ref().set_write_timeout(Some(Duration::from_millis(20))).unwrap();
     write_much(client, server);

@@ -1,7 +1,7 @@
 // Does a branch or an address depend on a secret? Each result of X25519, each psk and each payload is marked as
 // undefined for memcheck, a tool of valgrind, which follows these bits through all that is computed of them, and
 // reports each branch and each address that depends on one. What is public is marked as defined once it is out: the
-// messages, the code and `told` of a call that reads or opens, and the other party's static key. A branch of this file
+// messages, the code and `result` of a call that reads or opens, and the other party's static key. A branch of this file
 // on anything else that comes out of the library would be reported too. BoringSSL and libsodium are tested in this way.
 //
 // secrets: both parties of all patterns, and what follows their handshakes. secrets early-exit, secrets table: a fault
@@ -18,9 +18,9 @@ static unsigned handshakes, sealed, refused;
 #define MAKE_PUBLIC(at, len) ((void)VALGRIND_MAKE_MEM_DEFINED(at, len))
 
 // The code of a call that reads or opens, and what it tells.
-static uint32_t told_by(uint32_t code, void *told, size_t size) {
+static uint32_t reported_by(uint32_t code, void *result, size_t size) {
     MAKE_PUBLIC(&code, sizeof code);
-    MAKE_PUBLIC(told, size);
+    MAKE_PUBLIC(result, size);
     return code;
 }
 
@@ -54,12 +54,12 @@ typedef struct {
     unsigned role, psks;                                 // psks: how many were handed in after the start
 } party;
 
-static void hand_in_answer(party *x, const noise_told *told) {
+static void hand_in_answer(party *x, const noise_result *result) {
     uint8_t answer[32];
-    const uint8_t *own = public_key(x->role, told->of_static);
-    for (unsigned i = 0; i < 32; i++) answer[i] = own[i] ^ told->remote[i];
+    const uint8_t *own = public_key(x->role, result->of_static);
+    for (unsigned i = 0; i < 32; i++) answer[i] = own[i] ^ result->remote[i];
     MAKE_SECRET(answer, sizeof answer);
-    MUST(noise_answer(&x->h, told->of_static, told->remote, answer) == NOISE_OK);
+    MUST(noise_answer(&x->h, result->of_static, result->remote, answer) == NOISE_OK);
 }
 
 static void hand_in_psk(party *x) {
@@ -70,9 +70,9 @@ static void hand_in_psk(party *x) {
 }
 
 // Hands in what a call has asked for; false if it has asked for nothing.
-static bool hand_in_wanted(party *x, uint32_t code, const noise_told *told) {
+static bool hand_in_wanted(party *x, uint32_t code, const noise_result *result) {
     if (code == NOISE_WANTED)
-        hand_in_answer(x, told);
+        hand_in_answer(x, result);
     else if (code == NOISE_WANTED_PSK)
         hand_in_psk(x);
     else
@@ -91,21 +91,21 @@ static party begin_secret(const plan *p, unsigned role, bool late) {
 }
 
 static size_t write_one(party *x, const uint8_t *payload, size_t len, uint8_t *out) {
-    noise_told told;
+    noise_result result;
     uint32_t code;
     do {
-        code = noise_write(&x->h, payload, len, out, ROOM, &told);
-        MAKE_PUBLIC(told.remote, sizeof told.remote);
-    } while (hand_in_wanted(x, code, &told));
+        code = noise_write(&x->h, payload, len, out, ROOM, &result);
+        MAKE_PUBLIC(result.remote, sizeof result.remote);
+    } while (hand_in_wanted(x, code, &result));
     MUST(code == NOISE_OK);
-    MAKE_PUBLIC(out, told.len);
-    return told.len;
+    MAKE_PUBLIC(out, result.len);
+    return result.len;
 }
 
-static uint32_t read_one(party *x, uint8_t *message, size_t len, noise_told *told) {
+static uint32_t read_one(party *x, uint8_t *message, size_t len, noise_result *result) {
     uint32_t code;
-    do code = told_by(noise_read(&x->h, message, len, told), told, sizeof *told);
-    while (hand_in_wanted(x, code, told));
+    do code = reported_by(noise_read(&x->h, message, len, result), result, sizeof *result);
+    while (hand_in_wanted(x, code, result));
     return code;
 }
 
@@ -113,10 +113,10 @@ static uint32_t read_one(party *x, uint8_t *message, size_t len, noise_told *tol
 static void read_changed(const party *x, const uint8_t *message, size_t len, size_t at) {
     party copy = *x;
     uint8_t changed[ROOM];
-    noise_told told;
+    noise_result result;
     memcpy(changed, message, len);
     changed[at] ^= 1;
-    uint32_t code = read_one(&copy, changed, len, &told);
+    uint32_t code = read_one(&copy, changed, len, &result);
     MUST(code == NOISE_OK || code == NOISE_TAG);
     refused += code == NOISE_TAG;
 }
@@ -124,8 +124,8 @@ static void read_changed(const party *x, const uint8_t *message, size_t len, siz
 static void pass_one(party parties[2], unsigned number, size_t len) {
     party *writer = &parties[number % 2], *reader = &parties[1 - number % 2];
     uint8_t payload[ROOM], message[ROOM];
-    noise_stage_told stage;
-    noise_told told;
+    noise_stage_result stage;
+    noise_result result;
     size_t message_len;
     MUST(noise_stage(&writer->h, &stage) == NOISE_OK && stage.writes_next && stage.passed == number);
     MUST(noise_message_len(&writer->h, len, &message_len) == NOISE_OK);
@@ -134,8 +134,8 @@ static void pass_one(party parties[2], unsigned number, size_t len) {
     read_changed(reader, message, message_len, message_len - 1);
     if (message_len >= 16) read_changed(reader, message, message_len, message_len - 16);
     if (message_len > len + 16) read_changed(reader, message, message_len, message_len - len - 17);  // the static key's
-    MUST(read_one(reader, message, message_len, &told) == NOISE_OK);
-    MUST(told.len == len && is_payload(message + told.from, len, number));
+    MUST(read_one(reader, message, message_len, &result) == NOISE_OK);
+    MUST(result.len == len && is_payload(message + result.from, len, number));
 }
 
 // Both parties have the same hash, and each has the other's static key, if there is one.
@@ -163,8 +163,8 @@ static void shake_hands(const plan *p, bool late, party parties[2]) {
 
 typedef struct {
     uint32_t (*finish)(const noise_handshake *h, void *sender, void *receiver);
-    uint32_t (*seal)(void *sender, const uint8_t *payload, size_t len, uint8_t *out, noise_told *told);
-    uint32_t (*open)(void *receiver, uint8_t *message, size_t len, noise_told *told);
+    uint32_t (*seal)(void *sender, const uint8_t *payload, size_t len, uint8_t *out, noise_result *result);
+    uint32_t (*open)(void *receiver, uint8_t *message, size_t len, noise_result *result);
 } kind;
 
 typedef struct {
@@ -177,17 +177,17 @@ static uint32_t finish_messages(const noise_handshake *h, void *sender, void *re
     return noise_finish(h, INTERVAL, sender, receiver);
 }
 
-static uint32_t seal_message(void *sender, const uint8_t *payload, size_t len, uint8_t *out, noise_told *told) {
-    return noise_seal(sender, payload, len, out, ROOM, told);
+static uint32_t seal_message(void *sender, const uint8_t *payload, size_t len, uint8_t *out, noise_result *result) {
+    return noise_seal(sender, payload, len, out, ROOM, result);
 }
 
-static uint32_t seal_message_here(void *sender, const uint8_t *payload, size_t len, uint8_t *out, noise_told *told) {
+static uint32_t seal_message_here(void *sender, const uint8_t *payload, size_t len, uint8_t *out, noise_result *result) {
     memcpy(out, payload, len);
-    return noise_seal_in_place(sender, out, ROOM, len, told);
+    return noise_seal_in_place(sender, out, ROOM, len, result);
 }
 
-static uint32_t open_message(void *receiver, uint8_t *message, size_t len, noise_told *told) {
-    return noise_open(receiver, message, len, told);
+static uint32_t open_message(void *receiver, uint8_t *message, size_t len, noise_result *result) {
+    return noise_open(receiver, message, len, result);
 }
 
 static uint32_t finish_window_64(const noise_handshake *h, void *sender, void *receiver) {
@@ -202,35 +202,35 @@ static uint32_t finish_window_1024(const noise_handshake *h, void *sender, void 
     return noise_finish_datagrams(h, 1024, sender, receiver);
 }
 
-static uint32_t seal_datagram(void *sender, const uint8_t *payload, size_t len, uint8_t *out, noise_told *told) {
-    return noise_datagram_seal(sender, payload, len, out, ROOM, told);
+static uint32_t seal_datagram(void *sender, const uint8_t *payload, size_t len, uint8_t *out, noise_result *result) {
+    return noise_datagram_seal(sender, payload, len, out, ROOM, result);
 }
 
-static uint32_t seal_datagram_here(void *sender, const uint8_t *payload, size_t len, uint8_t *out, noise_told *told) {
+static uint32_t seal_datagram_here(void *sender, const uint8_t *payload, size_t len, uint8_t *out, noise_result *result) {
     memcpy(out + 8, payload, len);
-    return noise_datagram_seal_in_place(sender, out, ROOM, len, told);
+    return noise_datagram_seal_in_place(sender, out, ROOM, len, result);
 }
 
-static uint32_t open_datagram(void *receiver, uint8_t *message, size_t len, noise_told *told) {
-    return noise_datagram_open(receiver, message, len, told);
+static uint32_t open_datagram(void *receiver, uint8_t *message, size_t len, noise_result *result) {
+    return noise_datagram_open(receiver, message, len, result);
 }
 
 static uint32_t finish_streams(const noise_handshake *h, void *sender, void *receiver) {
     return noise_finish_stream(h, INTERVAL, sender, receiver);
 }
 
-static uint32_t write_frame(void *sender, const uint8_t *payload, size_t len, uint8_t *out, noise_told *told) {
-    noise_stream_told frame;
+static uint32_t write_frame(void *sender, const uint8_t *payload, size_t len, uint8_t *out, noise_result *result) {
+    noise_stream_result frame;
     uint32_t code = noise_stream_write(sender, payload, len, out, ROOM, &frame);
     MUST(code != NOISE_OK || frame.used == len);
-    told->len = frame.len;
+    result->len = frame.len;
     return code;
 }
 
-static uint32_t read_frame(void *receiver, uint8_t *message, size_t len, noise_told *told) {
-    noise_stream_told frame;
-    uint32_t code = told_by(noise_stream_read(receiver, message, len, &frame), &frame, sizeof frame);
-    told->from = frame.from, told->len = frame.len;
+static uint32_t read_frame(void *receiver, uint8_t *message, size_t len, noise_result *result) {
+    noise_stream_result frame;
+    uint32_t code = reported_by(noise_stream_read(receiver, message, len, &frame), &frame, sizeof frame);
+    result->from = frame.from, result->len = frame.len;
     return code;
 }
 
@@ -238,17 +238,17 @@ static uint32_t finish_ciphers(const noise_handshake *h, void *sender, void *rec
     return noise_finish_ciphers(h, sender, receiver);
 }
 
-static uint32_t encrypt(void *sender, const uint8_t *payload, size_t len, uint8_t *out, noise_told *told) {
+static uint32_t encrypt(void *sender, const uint8_t *payload, size_t len, uint8_t *out, noise_result *result) {
     uint8_t header[20];
     fill_secret(header, sizeof header, 4);
     memcpy(out, payload, len);
-    return noise_cipher_encrypt(sender, header, sizeof header, out, ROOM, len, told);
+    return noise_cipher_encrypt(sender, header, sizeof header, out, ROOM, len, result);
 }
 
-static uint32_t decrypt(void *receiver, uint8_t *message, size_t len, noise_told *told) {
+static uint32_t decrypt(void *receiver, uint8_t *message, size_t len, noise_result *result) {
     uint8_t header[20];
     fill_secret(header, sizeof header, 4);
-    return noise_cipher_decrypt(receiver, header, sizeof header, message, len, told);
+    return noise_cipher_decrypt(receiver, header, sizeof header, message, len, result);
 }
 
 static const kind message_kind = {finish_messages, seal_message, open_message};
@@ -263,38 +263,38 @@ static const kind cipher_kind = {finish_ciphers, encrypt, decrypt};
 
 static size_t seal_one(const kind *k, void *sender, size_t len, unsigned number, uint8_t *out) {
     uint8_t payload[ROOM];
-    noise_told told;
+    noise_result result;
     fill_secret(payload, len, number);
-    MUST(k->seal(sender, payload, len, out, &told) == NOISE_OK);
-    MAKE_PUBLIC(out, told.len);
+    MUST(k->seal(sender, payload, len, out, &result) == NOISE_OK);
+    MAKE_PUBLIC(out, result.len);
     sealed++;
-    return told.len;
+    return result.len;
 }
 
-static uint32_t open_one(const kind *k, void *receiver, uint8_t *message, size_t len, noise_told *told) {
-    return told_by(k->open(receiver, message, len, told), told, sizeof *told);
+static uint32_t open_one(const kind *k, void *receiver, uint8_t *message, size_t len, noise_result *result) {
+    return reported_by(k->open(receiver, message, len, result), result, sizeof *result);
 }
 
 // A copy of the receiving state opens the message with one bit changed.
 static void open_changed(const kind *k, const void *receiver, const uint8_t *message, size_t len, size_t at) {
     NOISE_ALIGNED uint8_t copy[LARGEST];
     uint8_t changed[ROOM];
-    noise_told told;
+    noise_result result;
     memcpy(copy, receiver, sizeof copy);
     memcpy(changed, message, len);
     changed[at] ^= 1;
-    MUST(open_one(k, copy, changed, len, &told) == NOISE_TAG);
+    MUST(open_one(k, copy, changed, len, &result) == NOISE_TAG);
     refused++;
 }
 
 static void pass_sealed(const kind *k, void *sender, void *receiver, size_t len, unsigned number) {
     uint8_t message[ROOM];
-    noise_told told;
+    noise_result result;
     size_t message_len = seal_one(k, sender, len, number, message);
     open_changed(k, receiver, message, message_len, message_len - 1);
     open_changed(k, receiver, message, message_len, message_len - 16);
-    MUST(open_one(k, receiver, message, message_len, &told) == NOISE_OK && told.len == len);
-    MUST(is_secret(message + told.from, len) && is_payload(message + told.from, len, number));
+    MUST(open_one(k, receiver, message, message_len, &result) == NOISE_OK && result.len == len);
+    MUST(is_secret(message + result.from, len) && is_payload(message + result.from, len, number));
 }
 
 static void finish_both(const kind *k, const party parties[2], halves both[2]) {
@@ -313,18 +313,18 @@ static void pass_each(const kind *k, const plan *p, const party parties[2], cons
 // Datagrams that come late, twice, and too late for the window.
 static void lose_some(const kind *k, const party parties[2], unsigned window) {
     halves both[2];
-    uint8_t kept[SKIPPED][ROOM], message[ROOM];
+    uint8_t sealed[SKIPPED][ROOM], message[ROOM];
     size_t lens[SKIPPED];
-    noise_told told;
+    noise_result result;
     finish_both(k, parties, both);
-    for (unsigned i = 0; i < SKIPPED; i++) lens[i] = seal_one(k, both[0].sender, 20, i, kept[i]);
+    for (unsigned i = 0; i < SKIPPED; i++) lens[i] = seal_one(k, both[0].sender, 20, i, sealed[i]);
     pass_sealed(k, both[0].sender, both[1].receiver, 20, SKIPPED);
-    memcpy(message, kept[3], lens[3]);
-    MUST(open_one(k, both[1].receiver, message, lens[3], &told) == NOISE_OK);
-    MUST(open_one(k, both[1].receiver, kept[3], lens[3], &told) == NOISE_REPEATED);
+    memcpy(message, sealed[3], lens[3]);
+    MUST(open_one(k, both[1].receiver, message, lens[3], &result) == NOISE_OK);
+    MUST(open_one(k, both[1].receiver, sealed[3], lens[3], &result) == NOISE_REPEATED);
     for (unsigned i = 0; i < window; i++) seal_one(k, both[0].sender, 0, i, message);
     pass_sealed(k, both[0].sender, both[1].receiver, 20, 9);
-    MUST(open_one(k, both[1].receiver, kept[0], lens[0], &told) == NOISE_OLD);
+    MUST(open_one(k, both[1].receiver, sealed[0], lens[0], &result) == NOISE_OLD);
 }
 
 // Streams in pieces, with an end, and broken.
@@ -332,29 +332,29 @@ static void end_streams(const party parties[2]) {
     halves both[2];
     uint8_t frame[ROOM], changed[ROOM];
     noise_stream_receiver copy;
-    noise_stream_told told;
-    noise_told of_payload;
+    noise_stream_result result;
+    noise_result of_payload;
     finish_both(&stream_kind, parties, both);
     size_t len = seal_one(&stream_kind, both[0].sender, 100, 1, frame);
     for (size_t some = 0; some < len; some++) {
-        MUST(noise_stream_read((noise_stream_receiver *)both[1].receiver, frame, some, &told) == NOISE_MORE);
-        MUST(told.wanted == (some < 2 ? 2 : len) - some);
+        MUST(noise_stream_read((noise_stream_receiver *)both[1].receiver, frame, some, &result) == NOISE_MORE);
+        MUST(result.wanted == (some < 2 ? 2 : len) - some);
     }
     MUST(open_one(&stream_kind, both[1].receiver, frame, len, &of_payload) == NOISE_OK);
     MUST(noise_stream_is_cut((noise_stream_receiver *)both[1].receiver, 0) == NOISE_CUT);
-    MUST(noise_stream_end((noise_stream_sender *)both[0].sender, frame, ROOM, &told) == NOISE_OK);
-    MAKE_PUBLIC(frame, told.len);
-    len = told.len;
+    MUST(noise_stream_end((noise_stream_sender *)both[0].sender, frame, ROOM, &result) == NOISE_OK);
+    MAKE_PUBLIC(frame, result.len);
+    len = result.len;
     memcpy(&copy, both[1].receiver, sizeof copy);
     memcpy(changed, frame, len);
     changed[len - 1] ^= 1;
     MUST(open_one(&stream_kind, &copy, changed, len, &of_payload) == NOISE_TAG);
-    MUST(noise_stream_read(&copy, frame, len, &told) == NOISE_CLOSED && noise_stream_is_cut(&copy, 0) == NOISE_CUT);
+    MUST(noise_stream_read(&copy, frame, len, &result) == NOISE_CLOSED && noise_stream_is_cut(&copy, 0) == NOISE_CUT);
     MUST(open_one(&stream_kind, both[1].receiver, frame, len, &of_payload) == NOISE_END);
     MUST(noise_stream_is_cut((noise_stream_receiver *)both[1].receiver, 0) == NOISE_OK);
 }
 
-// What is told of the next nonces.
+// What is reported of the next nonces.
 static void ask_nonces(const party parties[2]) {
     halves both[2];
     uint64_t nonce;

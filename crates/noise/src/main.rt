@@ -6,7 +6,8 @@ ghost use Rattle.std.specs.Prelude.{◌≡◌, true, IfErr, None};
 ghost use Rattle.noise_lines.specs.Faults.{status_of};
 
 use noise_tool::{
-    Chosen, Fault, FilesByName, LineFault, Order, chosen, names_protocol, perform, read_file, tell,
+    Chosen, Fault, FilesByName, LineFault, Order, chosen, names_protocol, perform, read_file,
+    report_fault,
 };
 use std::alloc::Global;
 use std::env;
@@ -114,7 +115,7 @@ impl FilesByName for Opened<'_> {
 }
 
 fn ends_with(rt: &HostRuntime, fault: Fault) -> u8 {
-    tell(rt.alloc(), fault, &mut rt.stdout(), &mut rt.stderr())
+    report_fault(rt.alloc(), fault, &mut rt.stdout(), &mut rt.stderr())
 }
 
 // Help, where it is asked for, is no fault and goes to standard output.

@@ -37,8 +37,8 @@ xored f j [] = []
 xored f j (x ∷ text) = bit_xor x (f j) ∷ xored f (suc j) text
 
 -- encryption and decryption without the tag: the text xor the keystream from block 1 on
-abbrev pub masked : List ℕ → List ℕ → List ℕ → List ℕ
-masked key nonce text = xored (stream_byte key nonce 1) 0 text
+abbrev pub keystream_xor : List ℕ → List ℕ → List ℕ → List ℕ
+keystream_xor key nonce text = xored (stream_byte key nonce 1) 0 text
 
 -- the least number of zeros that makes the length a multiple of 16
 abbrev pub padding : List ℕ → List ℕ
@@ -56,7 +56,7 @@ seal_tag key nonce ad ciphertext = tag_of (stream_bytes key nonce 0 32) (authent
 
 -- the ciphertext and its tag
 abbrev pub sealed : List ℕ → List ℕ → List ℕ → List ℕ → List ℕ
-sealed key nonce ad text = masked key nonce text ++ seal_tag key nonce ad (masked key nonce text)
+sealed key nonce ad text = keystream_xor key nonce text ++ seal_tag key nonce ad (keystream_xor key nonce text)
 
 -- the nonce of a counter (Noise 12.3)
 abbrev pub nonce_of : ℕ → List ℕ

@@ -12,8 +12,8 @@ use Rattle.noise_handshake.specs.declared.remote.Remote.{Remote}
 use Rattle.noise_handshake.specs.declared.faults.Cause.{Cause}
 use Rattle.noise_handshake.specs.declared.faults.Cause.TheVariants.{Agreement}
 use Rattle.noise_handshake.specs.Message.{token_bytes, after_token, before_payload, after_tokens}
-use Rattle.noise_handshake.specs.View.{Reader, Fits, Fit, known_after, secrets_after, BeginsAs, CanBegin, Reads, Stops, Accepts, Refuses, answered, cause_at}
-use Rattle.noise_handshake.specs.View.{View, tokens_now}
+use Rattle.noise_handshake.specs.Party.{Reader, Fits, Fit, known_after, psks_after, BeginsAs, CanBegin, Reads, Stops, Accepts, Refuses, dh_result_of, cause_at}
+use Rattle.noise_handshake.specs.Party.{Party, tokens_now}
 use Rattle.noise_handshake.specs.Writing.{Writer, Gives, Given, Writes}
 use Rattle.noise_names.specs.Plan.{has_psk}
 use Rattle.noise_c.specs.Answers.{Answers, AreAmong, AnswersAsAll, with_answers}
@@ -30,89 +30,89 @@ IsKey E = Unit {0}
 IsKey S = Unit {0}
 IsKey _ = ⊥
 
-module _ (role : Role) (psks : Bool) (first all : Answers) (among : AreAmong first all) where
+module _ (role : Role) (has_psks : Bool) (first all : Answers) (among : AreAmong first all) where
   abbrev few : Reader
-  few = record { role = role; psks = psks; agree = first }
+  few = record { role = role; has_psks = has_psks; agree = first }
 
   abbrev whole : Reader
-  whole = record { role = role; psks = psks; agree = all }
+  whole = record { role = role; has_psks = has_psks; agree = all }
 
-  answered-all : (own : Own) (o : Option (List ℕ)) (x : List ℕ) → answered first own o ≡ Some x → answered all own o ≡ Some x
+  answered-all : (own : Own) (o : Option (List ℕ)) (x : List ℕ) → dh_result_of first own o ≡ Some x → dh_result_of all own o ≡ Some x
   answered-all own None x e = e
   answered-all own (Some key) x e = among own key x e
 
-  fits-all : (known : Remote) (secrets : List (List ℕ)) (t : Token) (x : List ℕ) → Fits few known secrets t x → Fits whole known secrets t x
-  fits-all known secrets E x f = f
-  fits-all known secrets S x f = f
-  fits-all known secrets Psk x f = f
-  fits-all known secrets Ee x f = answered-all _ _ x f
-  fits-all known secrets Es x f = answered-all _ _ x f
-  fits-all known secrets Se x f = answered-all _ _ x f
-  fits-all known secrets Ss x f = answered-all _ _ x f
+  fits-all : (known : Remote) (psks : List (List ℕ)) (t : Token) (x : List ℕ) → Fits few known psks t x → Fits whole known psks t x
+  fits-all known psks E x f = f
+  fits-all known psks S x f = f
+  fits-all known psks Psk x f = f
+  fits-all known psks Ee x f = answered-all _ _ x f
+  fits-all known psks Es x f = answered-all _ _ x f
+  fits-all known psks Se x f = answered-all _ _ x f
+  fits-all known psks Ss x f = answered-all _ _ x f
 
-  pub fit-all : (known : Remote) (secrets : List (List ℕ)) (ts : List Token) (xs : List (List ℕ)) → Fit few known secrets ts xs → Fit whole known secrets ts xs
-  fit-all known secrets [] [] f = f
-  fit-all known secrets [] (x ∷ xs) f = f
-  fit-all known secrets (t ∷ ts) [] f = f
-  fit-all known secrets (t ∷ ts) (x ∷ xs) f =
-      (fits-all known secrets t x f.0, fit-all (known_after known t x) (secrets_after secrets t) ts xs f.1)
+  pub fit-all : (known : Remote) (psks : List (List ℕ)) (ts : List Token) (xs : List (List ℕ)) → Fit few known psks ts xs → Fit whole known psks ts xs
+  fit-all known psks [] [] f = f
+  fit-all known psks [] (x ∷ xs) f = f
+  fit-all known psks (t ∷ ts) [] f = f
+  fit-all known psks (t ∷ ts) (x ∷ xs) f =
+      (fits-all known psks t x f.0, fit-all (known_after known t x) (psks_after psks t) ts xs f.1)
 
-  leads-all : (known : Remote) (secrets : List (List ℕ)) (r : History) (ts : List Token) (xs : List (List ℕ)) (m rest : List ℕ)
-      → BeginsAs few known secrets r ts xs m rest → BeginsAs whole known secrets r ts xs m rest
-  leads-all known secrets r ts xs m rest l = record { fit = fit-all known secrets ts xs l.fit; spelled = l.spelled }
+  leads-all : (known : Remote) (psks : List (List ℕ)) (r : History) (ts : List Token) (xs : List (List ℕ)) (m rest : List ℕ)
+      → BeginsAs few known psks r ts xs m rest → BeginsAs whole known psks r ts xs m rest
+  leads-all known psks r ts xs m rest l = record { fit = fit-all known psks ts xs l.fit; spelled = l.spelled }
 
   -- a token's text under the first answers is that under all of them, and so is what is after it
-  token-apart : (known : Remote) (secrets : List (List ℕ)) (r : History) (t : Token) (x y p q : List ℕ)
-      → Fits few known secrets t x → Fits whole known secrets t y → token_bytes r t x ++ p ≡ token_bytes r t y ++ q → (x ≡ y) × (p ≡ q)
-  token-apart known secrets r E x y p q f g e = split-apart x y p q (f ∙ sym g) e
-  token-apart known secrets r S x y p q f g e =
+  token-apart : (known : Remote) (psks : List (List ℕ)) (r : History) (t : Token) (x y p q : List ℕ)
+      → Fits few known psks t x → Fits whole known psks t y → token_bytes r t x ++ p ≡ token_bytes r t y ++ q → (x ≡ y) × (p ≡ q)
+  token-apart known psks r E x y p q f g e = split-apart x y p q (f ∙ sym g) e
+  token-apart known psks r S x y p q f g e =
       let n : length (ciphertext r x) ≡ length (ciphertext r y) = length-ciphertext r x ∙ ap (λ (k : ℕ). if is_some (cipher_key r) then k + 16 else k) (f ∙ sym g)
       ∙ sym (length-ciphertext r y) in
       let h = split-apart (ciphertext r x) (ciphertext r y) p q n e in
       (ciphertext-same r x y h.0, h.1)
-  token-apart known secrets r Psk x y p q f g e = (f ∙ sym g, e)
-  token-apart known secrets r Ee x y p q f g e = (some-same _ x y (answered-all _ _ x f) g, e)
-  token-apart known secrets r Es x y p q f g e = (some-same _ x y (answered-all _ _ x f) g, e)
-  token-apart known secrets r Se x y p q f g e = (some-same _ x y (answered-all _ _ x f) g, e)
-  token-apart known secrets r Ss x y p q f g e = (some-same _ x y (answered-all _ _ x f) g, e)
+  token-apart known psks r Psk x y p q f g e = (f ∙ sym g, e)
+  token-apart known psks r Ee x y p q f g e = (some-same _ x y (answered-all _ _ x f) g, e)
+  token-apart known psks r Es x y p q f g e = (some-same _ x y (answered-all _ _ x f) g, e)
+  token-apart known psks r Se x y p q f g e = (some-same _ x y (answered-all _ _ x f) g, e)
+  token-apart known psks r Ss x y p q f g e = (some-same _ x y (answered-all _ _ x f) g, e)
 
   -- What leads one token further with all answers leads there with the first ones, where they lead to that token and it is a key.
   abbrev BeginsBack : Remote → List (List ℕ) → History → List Token → List ℕ → Type 0
-  BeginsBack known secrets r ts m = (ys : List (List ℕ)) × (rest : List ℕ) × BeginsAs few known secrets r ts ys m rest
+  BeginsBack known psks r ts m = (ys : List (List ℕ)) × (rest : List ℕ) × BeginsAs few known psks r ts ys m rest
 
   module _ (t : Token) (is-key : IsKey t) where
-    fits-back : (u : Token) → IsKey u → (known : Remote) (secrets : List (List ℕ)) (x : List ℕ) → Fits whole known secrets u x → Fits few known secrets u x
-    fits-back E k known secrets x f = f
-    fits-back S k known secrets x f = f
-    fits-back Psk k known secrets x f = absurd k
-    fits-back Ee k known secrets x f = absurd k
-    fits-back Es k known secrets x f = absurd k
-    fits-back Se k known secrets x f = absurd k
-    fits-back Ss k known secrets x f = absurd k
+    fits-back : (u : Token) → IsKey u → (known : Remote) (psks : List (List ℕ)) (x : List ℕ) → Fits whole known psks u x → Fits few known psks u x
+    fits-back E k known psks x f = f
+    fits-back S k known psks x f = f
+    fits-back Psk k known psks x f = absurd k
+    fits-back Ee k known psks x f = absurd k
+    fits-back Es k known psks x f = absurd k
+    fits-back Se k known psks x f = absurd k
+    fits-back Ss k known psks x f = absurd k
 
-    back-one : (known : Remote) (secrets : List (List ℕ)) (r : History) (ys : List (List ℕ)) (m rest : List ℕ)
-        → BeginsAs whole known secrets r (t ∷ []) ys m rest → BeginsAs few known secrets r (t ∷ []) ys m rest
-    back-one known secrets r [] m rest l = absurd l.fit
-    back-one known secrets r (y ∷ []) m rest l = record { fit = (fits-back t is-key known secrets y l.fit.0, tt); spelled = l.spelled }
-    back-one known secrets r (y ∷ z ∷ zs) m rest l = absurd l.fit.1
+    back-one : (known : Remote) (psks : List (List ℕ)) (r : History) (ys : List (List ℕ)) (m rest : List ℕ)
+        → BeginsAs whole known psks r (t ∷ []) ys m rest → BeginsAs few known psks r (t ∷ []) ys m rest
+    back-one known psks r [] m rest l = absurd l.fit
+    back-one known psks r (y ∷ []) m rest l = record { fit = (fits-back t is-key known psks y l.fit.0, tt); spelled = l.spelled }
+    back-one known psks r (y ∷ z ∷ zs) m rest l = absurd l.fit.1
 
-    back-more : (known : Remote) (secrets : List (List ℕ)) (r : History) (before : List Token) (xs ys : List (List ℕ)) (m p q : List ℕ)
-        → BeginsAs few known secrets r before xs m p → BeginsAs whole known secrets r (before ++ t ∷ []) ys m q
-        → BeginsBack known secrets r (before ++ t ∷ []) m
-    back-more known secrets r [] xs ys m p q a b = (ys, q, back-one known secrets r ys m q b)
-    back-more known secrets r (u ∷ before) [] ys m p q a b = absurd a.fit
-    back-more known secrets r (u ∷ before) (x ∷ xs) [] m p q a b = absurd b.fit
-    back-more known secrets r (u ∷ before) (x ∷ xs) (y ∷ ys) m p q a b =
-        let f : List ℕ = before_payload psks (after_token psks r u x) before xs in
-        let g : List ℕ = before_payload psks (after_token psks r u y) (before ++ t ∷ []) ys in
-        let h = token-apart known secrets r u x y (f ++ p) (g ++ q) a.fit.0 b.fit.0
+    back-more : (known : Remote) (psks : List (List ℕ)) (r : History) (before : List Token) (xs ys : List (List ℕ)) (m p q : List ℕ)
+        → BeginsAs few known psks r before xs m p → BeginsAs whole known psks r (before ++ t ∷ []) ys m q
+        → BeginsBack known psks r (before ++ t ∷ []) m
+    back-more known psks r [] xs ys m p q a b = (ys, q, back-one known psks r ys m q b)
+    back-more known psks r (u ∷ before) [] ys m p q a b = absurd a.fit
+    back-more known psks r (u ∷ before) (x ∷ xs) [] m p q a b = absurd b.fit
+    back-more known psks r (u ∷ before) (x ∷ xs) (y ∷ ys) m p q a b =
+        let f : List ℕ = before_payload has_psks (after_token has_psks r u x) before xs in
+        let g : List ℕ = before_payload has_psks (after_token has_psks r u y) (before ++ t ∷ []) ys in
+        let h = token-apart known psks r u x y (f ++ p) (g ++ q) a.fit.0 b.fit.0
         (sym (append_assoc (token_bytes r u x) f p) ∙ sym a.spelled ∙ b.spelled ∙ append_assoc (token_bytes r u y) g q) in
         let e : x ≡ y = h.0 in
-        let i = back-more (known_after known u x) (secrets_after secrets u) (after_token psks r u x) before xs ys (f ++ p) p q
+        let i = back-more (known_after known u x) (psks_after psks u) (after_token has_psks r u x) before xs ys (f ++ p) p q
         (record { fit = a.fit.1; spelled = refl })
         (record {
-          fit = subst (λ (z : List ℕ). Fit whole (known_after known u z) (secrets_after secrets u) (before ++ t ∷ []) ys) (sym e) b.fit.1;
-          spelled = h.1 ∙ ap (λ (z : List ℕ). before_payload psks (after_token psks r u z) (before ++ t ∷ []) ys ++ q) (sym e);
+          fit = subst (λ (z : List ℕ). Fit whole (known_after known u z) (psks_after psks u) (before ++ t ∷ []) ys) (sym e) b.fit.1;
+          spelled = h.1 ∙ ap (λ (z : List ℕ). before_payload has_psks (after_token has_psks r u z) (before ++ t ∷ []) ys ++ q) (sym e);
         }) in (
           x ∷ i.0,
           i.1,
@@ -124,36 +124,36 @@ module _ (role : Role) (psks : Bool) (first all : Answers) (among : AreAmong fir
         )
 
   -- all the texts are determined, and what is left
-  front-apart : (known : Remote) (secrets : List (List ℕ)) (r : History) (ts : List Token) (xs ys : List (List ℕ)) (p q : List ℕ)
-      → Fit few known secrets ts xs → Fit whole known secrets ts ys → before_payload psks r ts xs ++ p ≡ before_payload psks r ts ys ++ q → (xs ≡ ys) × (p ≡ q)
-  front-apart known secrets r [] [] [] p q f g e = (refl, e)
-  front-apart known secrets r [] [] (y ∷ ys) p q f g e = absurd g
-  front-apart known secrets r [] (x ∷ xs) ys p q f g e = absurd f
-  front-apart known secrets r (t ∷ ts) [] ys p q f g e = absurd f
-  front-apart known secrets r (t ∷ ts) (x ∷ xs) [] p q f g e = absurd g
-  front-apart known secrets r (t ∷ ts) (x ∷ xs) (y ∷ ys) p q f g e =
-      let a : List ℕ = before_payload psks (after_token psks r t x) ts xs in
-      let b : List ℕ = before_payload psks (after_token psks r t y) ts ys in
-      let h = token-apart known secrets r t x y (a ++ p) (b ++ q) f.0 g.0
+  front-apart : (known : Remote) (psks : List (List ℕ)) (r : History) (ts : List Token) (xs ys : List (List ℕ)) (p q : List ℕ)
+      → Fit few known psks ts xs → Fit whole known psks ts ys → before_payload has_psks r ts xs ++ p ≡ before_payload has_psks r ts ys ++ q → (xs ≡ ys) × (p ≡ q)
+  front-apart known psks r [] [] [] p q f g e = (refl, e)
+  front-apart known psks r [] [] (y ∷ ys) p q f g e = absurd g
+  front-apart known psks r [] (x ∷ xs) ys p q f g e = absurd f
+  front-apart known psks r (t ∷ ts) [] ys p q f g e = absurd f
+  front-apart known psks r (t ∷ ts) (x ∷ xs) [] p q f g e = absurd g
+  front-apart known psks r (t ∷ ts) (x ∷ xs) (y ∷ ys) p q f g e =
+      let a : List ℕ = before_payload has_psks (after_token has_psks r t x) ts xs in
+      let b : List ℕ = before_payload has_psks (after_token has_psks r t y) ts ys in
+      let h = token-apart known psks r t x y (a ++ p) (b ++ q) f.0 g.0
       (sym (append_assoc (token_bytes r t x) a p) ∙ e ∙ append_assoc (token_bytes r t y) b q) in
-      let g1 = subst (λ (z : List ℕ). Fit whole (known_after known t z) (secrets_after secrets t) ts ys) (sym h.0) g.1 in
-      let e1 : a ++ p ≡ before_payload psks (after_token psks r t x) ts ys ++ q =
-      h.1 ∙ ap (λ (z : List ℕ). before_payload psks (after_token psks r t z) ts ys ++ q) (sym h.0) in
-      let i = front-apart (known_after known t x) (secrets_after secrets t) (after_token psks r t x) ts xs ys p q f.1 g1 e1 in
+      let g1 = subst (λ (z : List ℕ). Fit whole (known_after known t z) (psks_after psks t) ts ys) (sym h.0) g.1 in
+      let e1 : a ++ p ≡ before_payload has_psks (after_token has_psks r t x) ts ys ++ q =
+      h.1 ∙ ap (λ (z : List ℕ). before_payload has_psks (after_token has_psks r t z) ts ys ++ q) (sym h.0) in
+      let i = front-apart (known_after known t x) (psks_after psks t) (after_token has_psks r t x) ts xs ys p q f.1 g1 e1 in
       (cons-same h.0 i.0, i.1)
 
   -- ---- reading
 
-  pub reads-all : (known : Remote) (secrets : List (List ℕ)) (r : History) (ts : List Token) (m : List ℕ) (xs : List (List ℕ)) (payload : List ℕ)
-      → Reads few known secrets r ts m xs payload → Reads whole known secrets r ts m xs payload
-  reads-all known secrets r ts m xs payload a = record { fit = fit-all known secrets ts xs a.fit; spelled = a.spelled }
+  pub reads-all : (known : Remote) (psks : List (List ℕ)) (r : History) (ts : List Token) (m : List ℕ) (xs : List (List ℕ)) (payload : List ℕ)
+      → Reads few known psks r ts m xs payload → Reads whole known psks r ts m xs payload
+  reads-all known psks r ts m xs payload a = record { fit = fit-all known psks ts xs a.fit; spelled = a.spelled }
 
   -- the payload that all answers read is one that the first ones read, where they lead to it
-  reads-back : (known : Remote) (secrets : List (List ℕ)) (r : History) (ts : List Token) (m : List ℕ) (xs ys : List (List ℕ)) (rest payload : List ℕ)
-      → BeginsAs few known secrets r ts xs m rest → Reads whole known secrets r ts m ys payload → Reads few known secrets r ts m ys payload
-  reads-back known secrets r ts m xs ys rest payload a b =
-      let h = front-apart known secrets r ts xs ys rest (ciphertext (after_tokens psks r ts ys) payload) a.fit b.fit (sym a.spelled ∙ b.spelled) in
-      record { fit = subst (λ (zs : List (List ℕ)). Fit few known secrets ts zs) h.0 a.fit; spelled = b.spelled }
+  reads-back : (known : Remote) (psks : List (List ℕ)) (r : History) (ts : List Token) (m : List ℕ) (xs ys : List (List ℕ)) (rest payload : List ℕ)
+      → BeginsAs few known psks r ts xs m rest → Reads whole known psks r ts m ys payload → Reads few known psks r ts m ys payload
+  reads-back known psks r ts m xs ys rest payload a b =
+      let h = front-apart known psks r ts xs ys rest (ciphertext (after_tokens has_psks r ts ys) payload) a.fit b.fit (sym a.spelled ∙ b.spelled) in
+      record { fit = subst (λ (zs : List (List ℕ)). Fit few known psks ts zs) h.0 a.fit; spelled = b.spelled }
 
   -- the token at which reading stops
   key-there : (keyed : Bool) (ts : List Token) (k : ℕ) (rest : List ℕ) (cause : Cause) → k < length ts → (cause ≡ Agreement → ⊥)
@@ -169,22 +169,22 @@ module _ (role : Role) (psks : Bool) (first all : Answers) (among : AreAmong fir
   key-there keyed (u ∷ ts) (suc k) rest cause h mendable why =
       let i = key-there keyed ts k rest cause (omega (arith, h)) mendable why in (i.0, i.1, ap (λ (us : List Token). u ∷ us) i.2)
 
-  pub stops-all : (known : Remote) (secrets : List (List ℕ)) (r : History) (ts : List Token) (m : List ℕ) (k : ℕ) (cause : Cause)
-      → (cause ≡ Agreement → ⊥) → Stops few known secrets r ts m k cause → Stops whole known secrets r ts m k cause
-  stops-all known secrets r ts m k cause mendable s = record {
+  pub stops-all : (known : Remote) (psks : List (List ℕ)) (r : History) (ts : List Token) (m : List ℕ) (k : ℕ) (cause : Cause)
+      → (cause ≡ Agreement → ⊥) → Stops few known psks r ts m k cause → Stops whole known psks r ts m k cause
+  stops-all known psks r ts m k cause mendable s = record {
     within = s.within;
     carried = s.carried;
     rest = s.rest;
-    leads = leads-all known secrets r (take k ts) s.carried m s.rest s.leads;
-    further = λ (h : k < length ts) (reaches : CanBegin whole known secrets r (take (suc k) ts) m).
-        let i = key-there (is_some (cipher_key (after_tokens psks r (take k ts) s.carried))) ts k s.rest cause h mendable s.why in
-        let b = back-more i.0 i.1 known secrets r (take k ts) s.carried reaches.carried m s.rest reaches.rest s.leads
-        (subst (λ (us : List Token). BeginsAs whole known secrets r us reaches.carried m reaches.rest) i.2 reaches.leads) in
-        s.further h (subst (λ (us : List Token). CanBegin few known secrets r us m) (sym i.2) (record { carried = b.0; rest = b.1; leads = b.2 }));
-    unread = λ (e : k ≡ length ts) (ys : List (List ℕ)) (payload : List ℕ) (reads : Reads whole known secrets r ts m ys payload).
+    leads = leads-all known psks r (take k ts) s.carried m s.rest s.leads;
+    further = λ (h : k < length ts) (reaches : CanBegin whole known psks r (take (suc k) ts) m).
+        let i = key-there (is_some (cipher_key (after_tokens has_psks r (take k ts) s.carried))) ts k s.rest cause h mendable s.why in
+        let b = back-more i.0 i.1 known psks r (take k ts) s.carried reaches.carried m s.rest reaches.rest s.leads
+        (subst (λ (us : List Token). BeginsAs whole known psks r us reaches.carried m reaches.rest) i.2 reaches.leads) in
+        s.further h (subst (λ (us : List Token). CanBegin few known psks r us m) (sym i.2) (record { carried = b.0; rest = b.1; leads = b.2 }));
+    unread = λ (e : k ≡ length ts) (ys : List (List ℕ)) (payload : List ℕ) (reads : Reads whole known psks r ts m ys payload).
         let all-of : take k ts ≡ ts = take_all k ts (omega (arith, e)) in
-        s.unread e ys payload (reads-back known secrets r ts m s.carried ys s.rest payload
-        (subst (λ (us : List Token). BeginsAs few known secrets r us s.carried m s.rest) all-of s.leads) reads);
+        s.unread e ys payload (reads-back known psks r ts m s.carried ys s.rest payload
+        (subst (λ (us : List Token). BeginsAs few known psks r us s.carried m s.rest) all-of s.leads) reads);
     why = s.why;
   }
 
@@ -192,43 +192,43 @@ module _ (role : Role) (psks : Bool) (first all : Answers) (among : AreAmong fir
 
   module _ (own : Own → Option (List ℕ)) where
     abbrev few-writer : Writer
-    few-writer = record { role = role; psks = psks; own = own; agree = first }
+    few-writer = record { role = role; has_psks = has_psks; own = own; agree = first }
 
     abbrev whole-writer : Writer
-    whole-writer = record { role = role; psks = psks; own = own; agree = all }
+    whole-writer = record { role = role; has_psks = has_psks; own = own; agree = all }
 
-    gives-all : (known : Remote) (secrets : List (List ℕ)) (t : Token) (x : List ℕ) → Gives few-writer known secrets t x → Gives whole-writer known secrets t x
-    gives-all known secrets E x f = f
-    gives-all known secrets S x f = f
-    gives-all known secrets Psk x f = f
-    gives-all known secrets Ee x f = answered-all _ _ x f
-    gives-all known secrets Es x f = answered-all _ _ x f
-    gives-all known secrets Se x f = answered-all _ _ x f
-    gives-all known secrets Ss x f = answered-all _ _ x f
+    gives-all : (known : Remote) (psks : List (List ℕ)) (t : Token) (x : List ℕ) → Gives few-writer known psks t x → Gives whole-writer known psks t x
+    gives-all known psks E x f = f
+    gives-all known psks S x f = f
+    gives-all known psks Psk x f = f
+    gives-all known psks Ee x f = answered-all _ _ x f
+    gives-all known psks Es x f = answered-all _ _ x f
+    gives-all known psks Se x f = answered-all _ _ x f
+    gives-all known psks Ss x f = answered-all _ _ x f
 
-    pub given-all : (known : Remote) (secrets : List (List ℕ)) (ts : List Token) (xs : List (List ℕ))
-        → Given few-writer known secrets ts xs → Given whole-writer known secrets ts xs
-    given-all known secrets [] [] f = f
-    given-all known secrets [] (x ∷ xs) f = f
-    given-all known secrets (t ∷ ts) [] f = f
-    given-all known secrets (t ∷ ts) (x ∷ xs) f = (gives-all known secrets t x f.0, given-all known (secrets_after secrets t) ts xs f.1)
+    pub given-all : (known : Remote) (psks : List (List ℕ)) (ts : List Token) (xs : List (List ℕ))
+        → Given few-writer known psks ts xs → Given whole-writer known psks ts xs
+    given-all known psks [] [] f = f
+    given-all known psks [] (x ∷ xs) f = f
+    given-all known psks (t ∷ ts) [] f = f
+    given-all known psks (t ∷ ts) (x ∷ xs) f = (gives-all known psks t x f.0, given-all known (psks_after psks t) ts xs f.1)
 
 -- ---- of a party
 
-pub answers-as-all : (v : View) (first all : Answers) → AreAmong first all → AnswersAsAll v first all
+pub answers-as-all : (v : Party) (first all : Answers) → AreAmong first all → AnswersAsAll v first all
 answers-as-all v first all among = record {
   accepts = λ (message payload : List ℕ) (xs : List (List ℕ)) (a : Accepts (with_answers v first) message xs payload). record {
     listens = record { going = a.listens.going; more = a.listens.more; turn = a.listens.turn };
     fits = a.fits;
-    reads = reads-all v.role (has_psk v.pattern) first all among v.remote v.secrets v.history (tokens_now v) message xs payload a.reads;
+    reads = reads-all v.role (has_psk v.pattern) first all among v.remote v.psks v.history (tokens_now v) message xs payload a.reads;
   };
   refuses = λ (message : List ℕ) (token : ℕ) (cause : Cause) (mendable : cause ≡ Agreement → ⊥) (a : Refuses (with_answers v first) message token cause). record {
     listens = record { going = a.listens.going; more = a.listens.more; turn = a.listens.turn };
-    stops = stops-all v.role (has_psk v.pattern) first all among v.remote v.secrets v.history (tokens_now v) message token cause mendable a.stops;
+    stops = stops-all v.role (has_psk v.pattern) first all among v.remote v.psks v.history (tokens_now v) message token cause mendable a.stops;
   };
   writes = λ (payload message : List ℕ) (xs : List (List ℕ)) (a : Writes (with_answers v first) payload xs message). record {
     speaks = record { going = a.speaks.going; more = a.speaks.more; turn = a.speaks.turn };
-    given = given-all v.role (has_psk v.pattern) first all among v.own v.remote v.secrets (tokens_now v) xs a.given;
+    given = given-all v.role (has_psk v.pattern) first all among v.own v.remote v.psks (tokens_now v) xs a.given;
     spelled = a.spelled;
     fits = a.fits;
   };

@@ -12,8 +12,8 @@ use Rattle.noise_handshake.specs.declared.remote.Remote.{Remote}
 use Rattle.noise_handshake.specs.declared.faults.Cause.TheVariants.{Short, Tag, Agreement}
 use Rattle.noise_handshake.specs.Counterparts.{is_dh}
 use Rattle.noise_handshake.specs.Message.{token_bytes, after_token, before_payload, after_tokens}
-use Rattle.noise_handshake.specs.View.{View, Reader, reader, Fits, known_after, secrets_after, BeginsAs, CanBegin, Stops, answered, cause_of, cause_at, learned}
-use Rattle.noise_handshake.specs.View.{own_at, remote_at, first_secret, tokens_now}
+use Rattle.noise_handshake.specs.Party.{Party, Reader, reader, Fits, known_after, psks_after, BeginsAs, CanBegin, Stops, dh_result_of, cause_of, cause_at, remote_after}
+use Rattle.noise_handshake.specs.Party.{own_at, remote_at, first_psk, tokens_now}
 use Rattle.noise_handshake.specs.Wanting.{StopsFor, WantsToRead}
 use Rattle.noise_c.proofs.Among.{fit-all}
 use Rattle.noise_c.specs.Answers.{Answers, AreAmong, AskedToRead, IsHandedIn, with_answers}
@@ -60,9 +60,9 @@ at-most j n f = grind arith
 -- ---- one token more
 
 -- the secrets that are left after tokens
-abbrev pub secrets_left : List (List ℕ) → List Token → List (List ℕ)
-secrets_left secrets [] = secrets
-secrets_left secrets (t ∷ ts) = secrets_left (secrets_after secrets t) ts
+abbrev pub psks_left : List (List ℕ) → List Token → List (List ℕ)
+psks_left psks [] = psks
+psks_left psks (t ∷ ts) = psks_left (psks_after psks t) ts
 
 dh-nothing : (t : Token) → is_dh t ≡ true → (r : History) (x : List ℕ) → token_bytes r t x ≡ []
 dh-nothing E d r x = cc
@@ -73,78 +73,78 @@ dh-nothing Es d r x = refl
 dh-nothing Se d r x = refl
 dh-nothing Ss d r x = refl
 
-dh-fits : (w : Reader) (known : Remote) (secrets : List (List ℕ)) (t : Token) (x : List ℕ) → is_dh t ≡ true
-    → answered w.agree (own_at w.role t) (remote_at w.role known t) ≡ Some x → Fits w known secrets t x
-dh-fits w known secrets E x d e = cc
-dh-fits w known secrets S x d e = cc
-dh-fits w known secrets Psk x d e = cc
-dh-fits w known secrets Ee x d e = e
-dh-fits w known secrets Es x d e = e
-dh-fits w known secrets Se x d e = e
-dh-fits w known secrets Ss x d e = e
+dh-fits : (w : Reader) (known : Remote) (psks : List (List ℕ)) (t : Token) (x : List ℕ) → is_dh t ≡ true
+    → dh_result_of w.agree (own_at w.role t) (remote_at w.role known t) ≡ Some x → Fits w known psks t x
+dh-fits w known psks E x d e = cc
+dh-fits w known psks S x d e = cc
+dh-fits w known psks Psk x d e = cc
+dh-fits w known psks Ee x d e = e
+dh-fits w known psks Es x d e = e
+dh-fits w known psks Se x d e = e
+dh-fits w known psks Ss x d e = e
 
 -- a token that takes no bytes leads on from where those before it lead
-pub leads-on : (w : Reader) (known : Remote) (secrets : List (List ℕ)) (r : History) (before : List Token) (t : Token) (xs : List (List ℕ)) (x m rest : List ℕ)
-    → BeginsAs w known secrets r before xs m rest → Fits w (learned known before xs) (secrets_left secrets before) t x
-    → ((h : History) → token_bytes h t x ≡ []) → BeginsAs w known secrets r (before ++ t ∷ []) (xs ++ x ∷ []) m rest
-leads-on w known secrets r [] t [] x m rest l f none = record {
+pub leads-on : (w : Reader) (known : Remote) (psks : List (List ℕ)) (r : History) (before : List Token) (t : Token) (xs : List (List ℕ)) (x m rest : List ℕ)
+    → BeginsAs w known psks r before xs m rest → Fits w (remote_after known before xs) (psks_left psks before) t x
+    → ((h : History) → token_bytes h t x ≡ []) → BeginsAs w known psks r (before ++ t ∷ []) (xs ++ x ∷ []) m rest
+leads-on w known psks r [] t [] x m rest l f none = record {
   fit = (f, tt);
   spelled = l.spelled ∙ ap (λ (k : List ℕ). (k ++ []) ++ rest) (sym (none r));
 }
-leads-on w known secrets r [] t (y ∷ xs) x m rest l f none = absurd l.fit
-leads-on w known secrets r (u ∷ before) t [] x m rest l f none = absurd l.fit
-leads-on w known secrets r (u ∷ before) t (y ∷ xs) x m rest l f none =
-    let next : History = after_token w.psks r u y in
-    let more : List ℕ = before_payload w.psks next before xs ++ rest in
-    let i = leads-on w (known_after known u y) (secrets_after secrets u) next before t xs x more rest (record { fit = l.fit.1; spelled = refl }) f none in
+leads-on w known psks r [] t (y ∷ xs) x m rest l f none = absurd l.fit
+leads-on w known psks r (u ∷ before) t [] x m rest l f none = absurd l.fit
+leads-on w known psks r (u ∷ before) t (y ∷ xs) x m rest l f none =
+    let next : History = after_token w.has_psks r u y in
+    let more : List ℕ = before_payload w.has_psks next before xs ++ rest in
+    let i = leads-on w (known_after known u y) (psks_after psks u) next before t xs x more rest (record { fit = l.fit.1; spelled = refl }) f none in
     record {
       fit = (l.fit.0, i.fit);
-      spelled = l.spelled ∙ append_assoc (token_bytes r u y) (before_payload w.psks next before xs) rest ∙ ap (λ (k : List ℕ). token_bytes r u y ++ k) i.spelled
+      spelled = l.spelled ∙ append_assoc (token_bytes r u y) (before_payload w.has_psks next before xs) rest ∙ ap (λ (k : List ℕ). token_bytes r u y ++ k) i.spelled
           ∙ sym (append_assoc (token_bytes r u y) _ rest);
     }
 
 -- what leads somewhere leads to each token before
-leads-less : (w : Reader) (known : Remote) (secrets : List (List ℕ)) (r : History) (ts : List Token) (xs : List (List ℕ)) (m rest : List ℕ) (k : ℕ)
-    → BeginsAs w known secrets r ts xs m rest → CanBegin w known secrets r (take k ts) m
-leads-less w known secrets r ts xs m rest zero l = record { carried = []; rest = m; leads = record { fit = tt; spelled = refl } }
-leads-less w known secrets r [] xs m rest (suc k) l = record { carried = []; rest = m; leads = record { fit = tt; spelled = refl } }
-leads-less w known secrets r (t ∷ ts) [] m rest (suc k) l = absurd l.fit
-leads-less w known secrets r (t ∷ ts) (x ∷ xs) m rest (suc k) l =
-    let next : History = after_token w.psks r t x in
-    let more : List ℕ = before_payload w.psks next ts xs ++ rest in
-    let i = leads-less w (known_after known t x) (secrets_after secrets t) next ts xs more rest k (record { fit = l.fit.1; spelled = refl }) in
+leads-less : (w : Reader) (known : Remote) (psks : List (List ℕ)) (r : History) (ts : List Token) (xs : List (List ℕ)) (m rest : List ℕ) (k : ℕ)
+    → BeginsAs w known psks r ts xs m rest → CanBegin w known psks r (take k ts) m
+leads-less w known psks r ts xs m rest zero l = record { carried = []; rest = m; leads = record { fit = tt; spelled = refl } }
+leads-less w known psks r [] xs m rest (suc k) l = record { carried = []; rest = m; leads = record { fit = tt; spelled = refl } }
+leads-less w known psks r (t ∷ ts) [] m rest (suc k) l = absurd l.fit
+leads-less w known psks r (t ∷ ts) (x ∷ xs) m rest (suc k) l =
+    let next : History = after_token w.has_psks r t x in
+    let more : List ℕ = before_payload w.has_psks next ts xs ++ rest in
+    let i = leads-less w (known_after known t x) (psks_after psks t) next ts xs more rest k (record { fit = l.fit.1; spelled = refl }) in
     record {
       carried = x ∷ i.carried;
       rest = i.rest;
       leads = record {
         fit = (l.fit.0, i.leads.fit);
-        spelled = l.spelled ∙ append_assoc (token_bytes r t x) (before_payload w.psks next ts xs) rest ∙ ap (λ (k : List ℕ). token_bytes r t x ++ k) i.leads.spelled
+        spelled = l.spelled ∙ append_assoc (token_bytes r t x) (before_payload w.has_psks next ts xs) rest ∙ ap (λ (k : List ℕ). token_bytes r t x ++ k) i.leads.spelled
             ∙ sym (append_assoc (token_bytes r t x) _ i.rest);
       };
     }
 
-pub reaches-less : (w : Reader) (known : Remote) (secrets : List (List ℕ)) (r : History) (ts : List Token) (m : List ℕ) (i j : ℕ) → i ≤ j
-    → CanBegin w known secrets r (take j ts) m → CanBegin w known secrets r (take i ts) m
-reaches-less w known secrets r ts m i j h a =
-    subst (λ (us : List Token). CanBegin w known secrets r us m) (take-take i j ts h) (leads-less w known secrets r (take j ts) a.carried m a.rest i a.leads)
+pub reaches-less : (w : Reader) (known : Remote) (psks : List (List ℕ)) (r : History) (ts : List Token) (m : List ℕ) (i j : ℕ) → i ≤ j
+    → CanBegin w known psks r (take j ts) m → CanBegin w known psks r (take i ts) m
+reaches-less w known psks r ts m i j h a =
+    subst (λ (us : List Token). CanBegin w known psks r us m) (take-take i j ts h) (leads-less w known psks r (take j ts) a.carried m a.rest i a.leads)
 
 -- ---- the token that asks
 
 -- It is a DH, what is read before it is no further than it, and with its answer reading goes past it.
-record Past (first next : Reader) (known : Remote) (secrets : List (List ℕ)) (r : History) (ts : List Token) (m : List ℕ) : Type 0 where
+record Past (first next : Reader) (known : Remote) (psks : List (List ℕ)) (r : History) (ts : List Token) (m : List ℕ) : Type 0 where
   before : List Token
   token : Token
   later : List Token
   tokens : ts ≡ before ++ token ∷ later
   dh : is_dh token ≡ true
-  reached : CanBegin next known secrets r (take (suc (length before)) ts) m
-  beyond : (j : ℕ) → CanBegin first known secrets r (take j ts) m → j ≤ length before
+  reached : CanBegin next known psks r (take (suc (length before)) ts) m
+  beyond : (j : ℕ) → CanBegin first known psks r (take j ts) m → j ≤ length before
 
-dh-there : (w : Reader) (known : Remote) (secrets : List (List ℕ)) (r : History) (before later : List Token) (t : Token) (m : List ℕ)
-    → (s : Stops w known secrets r (before ++ t ∷ later) m (length before) Agreement) → is_dh t ≡ true
-dh-there w known secrets r before later t m s = by t refl where
+dh-there : (w : Reader) (known : Remote) (psks : List (List ℕ)) (r : History) (before later : List Token) (t : Token) (m : List ℕ)
+    → (s : Stops w known psks r (before ++ t ∷ later) m (length before) Agreement) → is_dh t ≡ true
+dh-there w known psks r before later t m s = by t refl where
   keyed : Bool
-  keyed = is_some (cipher_key (after_tokens w.psks r (take (length before) (before ++ t ∷ later)) s.carried))
+  keyed = is_some (cipher_key (after_tokens w.has_psks r (take (length before) (before ++ t ∷ later)) s.carried))
 
   why : Agreement ≡ cause_of keyed t s.rest
   why = s.why ∙ cause-there keyed before later t s.rest
@@ -155,8 +155,8 @@ dh-there w known secrets r before later t m s = by t refl where
     more [] = omega arith
     more (u ∷ us) = omega (arith, more us)
 
-  here : BeginsAs w known secrets r before s.carried m s.rest
-  here = subst (λ (us : List Token). BeginsAs w known secrets r us s.carried m s.rest) (take-append_seam before (t ∷ later)) s.leads
+  here : BeginsAs w known psks r before s.carried m s.rest
+  here = subst (λ (us : List Token). BeginsAs w known psks r us s.carried m s.rest) (take-append_seam before (t ∷ later)) s.leads
 
   by : (u : Token) → t ≡ u → is_dh t ≡ true
   by E e = absurd (no-e (why ∙ ap (λ (u : Token). cause_of keyed u s.rest) e)) where
@@ -164,35 +164,35 @@ dh-there w known secrets r before later t m s = by t refl where
     no-e h = cc
   by S e = absurd (no-cause (nat_lt (length s.rest) (if keyed then 48 else 32)) (why ∙ ap (λ (u : Token). cause_of keyed u s.rest) e))
   by Psk e =
-      let x : List ℕ = first_secret (secrets_left secrets before) in
-      let l = leads-on w known secrets r before Psk s.carried x m s.rest here refl (λ (h : History). refl) in
+      let x : List ℕ = first_psk (psks_left psks before) in
+      let l = leads-on w known psks r before Psk s.carried x m s.rest here refl (λ (h : History). refl) in
       absurd (s.further within
-      (subst (λ (us : List Token). CanBegin w known secrets r us m)
+      (subst (λ (us : List Token). CanBegin w known psks r us m)
       (ap (λ (u : Token). before ++ u ∷ []) (sym e) ∙ sym (take-through before later t)) (record { carried = _; rest = s.rest; leads = l })))
   by Ee e = ap is_dh e
   by Es e = ap is_dh e
   by Se e = ap is_dh e
   by Ss e = ap is_dh e
 
-past : (w : Reader) (next : Answers) (known : Remote) (secrets : List (List ℕ)) (r : History) (ts : List Token) (m : List ℕ) (own : Own) (key x : List ℕ)
-    → StopsFor w known secrets r ts m own key → IsHandedIn w.agree next own key x → Past w (record w { agree = next }) known secrets r ts m
-past w next known secrets r ts m own key x s handed = record {
+past : (w : Reader) (next : Answers) (known : Remote) (psks : List (List ℕ)) (r : History) (ts : List Token) (m : List ℕ) (own : Own) (key x : List ℕ)
+    → StopsFor w known psks r ts m own key → IsHandedIn w.agree next own key x → Past w (record w { agree = next }) known psks r ts m
+past w next known psks r ts m own key x s handed = record {
   before = s.before;
   token = s.token;
   later = s.later;
   tokens = s.tokens;
   dh = d;
-  reached = subst (λ (us : List Token). CanBegin (record w { agree = next }) known secrets r us m)
+  reached = subst (λ (us : List Token). CanBegin (record w { agree = next }) known psks r us m)
       (sym (take-through s.before s.later s.token) ∙ ap (take (suc (length s.before))) (sym s.tokens))
       (record { carried = s.stops.carried ++ x ∷ []; rest = s.stops.rest; leads = on });
-  beyond = λ (j : ℕ) (reaches : CanBegin w known secrets r (take j ts) m). at-most j (length s.before) (λ (h : length s.before < j).
-      s.stops.further inside (reaches-less w known secrets r ts m (suc (length s.before)) j (omega (arith, h)) reaches));
+  beyond = λ (j : ℕ) (reaches : CanBegin w known psks r (take j ts) m). at-most j (length s.before) (λ (h : length s.before < j).
+      s.stops.further inside (reaches-less w known psks r ts m (suc (length s.before)) j (omega (arith, h)) reaches));
 } where
-  stops : Stops w known secrets r (s.before ++ s.token ∷ s.later) m (length s.before) Agreement
-  stops = subst (λ (us : List Token). Stops w known secrets r us m (length s.before) Agreement) s.tokens s.stops
+  stops : Stops w known psks r (s.before ++ s.token ∷ s.later) m (length s.before) Agreement
+  stops = subst (λ (us : List Token). Stops w known psks r us m (length s.before) Agreement) s.tokens s.stops
 
   d : is_dh s.token ≡ true
-  d = dh-there w known secrets r s.before s.later s.token m stops
+  d = dh-there w known psks r s.before s.later s.token m stops
 
   inside : length s.before < length ts
   inside = subst (λ (us : List Token). length s.before < length us) (sym s.tokens) (more s.before) where
@@ -200,55 +200,55 @@ past w next known secrets r ts m own key x s handed = record {
     more [] = omega arith
     more (u ∷ us) = omega (arith, more us)
 
-  here : BeginsAs w known secrets r s.before s.stops.carried m s.stops.rest
-  here = subst (λ (us : List Token). BeginsAs w known secrets r us s.stops.carried m s.stops.rest)
+  here : BeginsAs w known psks r s.before s.stops.carried m s.stops.rest
+  here = subst (λ (us : List Token). BeginsAs w known psks r us s.stops.carried m s.stops.rest)
       (ap (take (length s.before)) s.tokens ∙ take-append_seam s.before (s.token ∷ s.later)) s.stops.leads
 
-  answer : answered next (own_at w.role s.token) (remote_at w.role (learned known s.before s.stops.carried) s.token) ≡ Some x
-  answer = ap (answered next (own_at w.role s.token)) s.key_is ∙ ap (λ (o : Own). next o key) (sym s.own_is) ∙ handed.there
+  answer : dh_result_of next (own_at w.role s.token) (remote_at w.role (remote_after known s.before s.stops.carried) s.token) ≡ Some x
+  answer = ap (dh_result_of next (own_at w.role s.token)) s.key_is ∙ ap (λ (o : Own). next o key) (sym s.own_is) ∙ handed.there
 
-  on : BeginsAs (record w { agree = next }) known secrets r (s.before ++ s.token ∷ []) (s.stops.carried ++ x ∷ []) m s.stops.rest
+  on : BeginsAs (record w { agree = next }) known psks r (s.before ++ s.token ∷ []) (s.stops.carried ++ x ∷ []) m s.stops.rest
   on =
       let w2 : Reader = record w { agree = next } in
-      let l : BeginsAs w2 known secrets r s.before s.stops.carried m s.stops.rest =
-      record { fit = fit-all w.role w.psks w.agree next handed.stays known secrets s.before s.stops.carried here.fit; spelled = here.spelled } in
-      leads-on w2 known secrets r s.before s.token s.stops.carried x m s.stops.rest l
-      (dh-fits w2 (learned known s.before s.stops.carried) (secrets_left secrets s.before) s.token x d answer)
+      let l : BeginsAs w2 known psks r s.before s.stops.carried m s.stops.rest =
+      record { fit = fit-all w.role w.has_psks w.agree next handed.stays known psks s.before s.stops.carried here.fit; spelled = here.spelled } in
+      leads-on w2 known psks r s.before s.token s.stops.carried x m s.stops.rest l
+      (dh-fits w2 (remote_after known s.before s.stops.carried) (psks_left psks s.before) s.token x d answer)
       (λ (h : History). dh-nothing s.token d h x)
 
 -- an answer that is asked for isn't there
-wants-none : (w : Reader) (known : Remote) (secrets : List (List ℕ)) (r : History) (ts : List Token) (m : List ℕ) (own : Own) (key : List ℕ)
-    → StopsFor w known secrets r ts m own key → w.agree own key ≡ None
-wants-none w known secrets r ts m own key s = by (w.agree own key) refl where
-  stops : Stops w known secrets r (s.before ++ s.token ∷ s.later) m (length s.before) Agreement
-  stops = subst (λ (us : List Token). Stops w known secrets r us m (length s.before) Agreement) s.tokens s.stops
+wants-none : (w : Reader) (known : Remote) (psks : List (List ℕ)) (r : History) (ts : List Token) (m : List ℕ) (own : Own) (key : List ℕ)
+    → StopsFor w known psks r ts m own key → w.agree own key ≡ None
+wants-none w known psks r ts m own key s = by (w.agree own key) refl where
+  stops : Stops w known psks r (s.before ++ s.token ∷ s.later) m (length s.before) Agreement
+  stops = subst (λ (us : List Token). Stops w known psks r us m (length s.before) Agreement) s.tokens s.stops
 
   d : is_dh s.token ≡ true
-  d = dh-there w known secrets r s.before s.later s.token m stops
+  d = dh-there w known psks r s.before s.later s.token m stops
 
   more : (us : List Token) → length us < length (us ++ s.token ∷ s.later)
   more [] = omega arith
   more (u ∷ us) = omega (arith, more us)
 
-  here : BeginsAs w known secrets r s.before s.stops.carried m s.stops.rest
-  here = subst (λ (us : List Token). BeginsAs w known secrets r us s.stops.carried m s.stops.rest)
+  here : BeginsAs w known psks r s.before s.stops.carried m s.stops.rest
+  here = subst (λ (us : List Token). BeginsAs w known psks r us s.stops.carried m s.stops.rest)
       (ap (take (length s.before)) s.tokens ∙ take-append_seam s.before (s.token ∷ s.later)) s.stops.leads
 
   by : (o : Option (List ℕ)) → w.agree own key ≡ o → w.agree own key ≡ None
   by None e = e
   by (Some y) e =
-      let answer : answered w.agree (own_at w.role s.token) (remote_at w.role (learned known s.before s.stops.carried) s.token) ≡ Some y =
-      ap (answered w.agree (own_at w.role s.token)) s.key_is ∙ ap (λ (o : Own). w.agree o key) (sym s.own_is) ∙ e in
-      let l = leads-on w known secrets r s.before s.token s.stops.carried y m s.stops.rest here
-      (dh-fits w (learned known s.before s.stops.carried) (secrets_left secrets s.before) s.token y d answer)
+      let answer : dh_result_of w.agree (own_at w.role s.token) (remote_at w.role (remote_after known s.before s.stops.carried) s.token) ≡ Some y =
+      ap (dh_result_of w.agree (own_at w.role s.token)) s.key_is ∙ ap (λ (o : Own). w.agree o key) (sym s.own_is) ∙ e in
+      let l = leads-on w known psks r s.before s.token s.stops.carried y m s.stops.rest here
+      (dh-fits w (remote_after known s.before s.stops.carried) (psks_left psks s.before) s.token y d answer)
       (λ (h : History). dh-nothing s.token d h y) in
       absurd (s.stops.further (subst (λ (us : List Token). length s.before < length us) (sym s.tokens) (more s.before))
-      (subst (λ (us : List Token). CanBegin w known secrets r us m)
+      (subst (λ (us : List Token). CanBegin w known psks r us m)
       (sym (take-through s.before s.later s.token) ∙ ap (take (suc (length s.before))) (sym s.tokens))
       (record { carried = _; rest = s.stops.rest; leads = l })))
 
-pub read-lacks : (v : View) (m : List ℕ) (own : Own) (key : List ℕ) → WantsToRead v m own key → v.agree own key ≡ None
-read-lacks v m own key w = wants-none (reader v) v.remote v.secrets v.history (tokens_now v) m own key w.stops
+pub read-lacks : (v : Party) (m : List ℕ) (own : Own) (key : List ℕ) → WantsToRead v m own key → v.agree own key ≡ None
+read-lacks v m own key w = wants-none (reader v) v.remote v.psks v.history (tokens_now v) m own key w.stops
 
 -- ---- all that are asked for
 
@@ -260,13 +260,13 @@ among-next first next all own key x among is handed o k y e =
       | inr h ↦ ap (λ (z : Own). all z k) h.0 ∙ ap (all own) h.1 ∙ is ∙ ap Some (sym h.2)
     ]
 
-pub asked-few : (v : View) (all : Answers) (m : List ℕ) (first last : Answers) (n j : ℕ) → AskedToRead v all m first n last → AreAmong first all
-    → CanBegin (reader (with_answers v first)) v.remote v.secrets v.history (take j (tokens_now v)) m
+pub asked-few : (v : Party) (all : Answers) (m : List ℕ) (first last : Answers) (n j : ℕ) → AskedToRead v all m first n last → AreAmong first all
+    → CanBegin (reader (with_answers v first)) v.remote v.psks v.history (take j (tokens_now v)) m
     → (n ≤ count_by is_dh (drop j (tokens_now v))) × AreAmong last all
 asked-few v all m first last n j (ready _) among reached = (omega arith, among)
 asked-few v all m first last _ j (asked _ next _ own key x n wants is handed more) among reached =
     let ts : List Token = tokens_now v in
-    let p = past (reader (with_answers v first)) next v.remote v.secrets v.history ts m own key x wants.stops handed in
+    let p = past (reader (with_answers v first)) next v.remote v.psks v.history ts m own key x wants.stops handed in
     let h : j ≤ length p.before = p.beyond j reached in
     let i = asked-few v all m next last n (suc (length p.before)) more (among-next first next all own key x among is handed) p.reached in
     let rest : drop (suc (length p.before)) ts ≡ p.later = ap (drop (suc (length p.before))) p.tokens ∙ drop-through p.before p.later p.token in
@@ -275,7 +275,7 @@ asked-few v all m first last _ j (asked _ next _ own key x n wants is handed mor
     subst (λ (us : List Token). suc (count_by is_dh p.later) ≤ count_by is_dh (drop j us)) (sym p.tokens) (counts p.before p.later p.token j h p.dh) in
     (omega (arith, few, here), i.1)
 
-pub asked-to-read : (v : View) (all first last : Answers) (m : List ℕ) (n : ℕ) → AskedToRead v all m first n last → AreAmong first all
+pub asked-to-read : (v : Party) (all first last : Answers) (m : List ℕ) (n : ℕ) → AskedToRead v all m first n last → AreAmong first all
     → (n ≤ count_by is_dh (tokens_now v)) × AreAmong last all
 asked-to-read v all first last m n a among =
     asked-few v all m first last n 0 a among (record { carried = []; rest = m; leads = record { fit = tt; spelled = refl } })

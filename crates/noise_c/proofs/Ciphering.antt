@@ -5,8 +5,8 @@ use Rattle.noise_state.specs.declared.cipher.CipherFault.{CipherFault}
 use Rattle.noise_state.specs.declared.cipher.CipherFault.TheVariants as cipher
 use Rattle.noise_state.specs.Cipher.{key_in, keyed_in, nonce_in, HasNonce, DecryptRefused}
 use Rattle.noise_state.specs.History.{ciphertext_under}
-use Rattle.noise_c.specs.declared.kept.NoiseCipher.{NoiseCipher}
-use Rattle.noise_c.specs.KeptCipher.{cipher_from_c, encrypted}
+use Rattle.noise_c.specs.declared.structs.NoiseCipher.{NoiseCipher}
+use Rattle.noise_c.specs.CipherStructs.{cipher_from_c, encrypted}
 use Rattle.noise_c.specs.TransportCodes.{cipher_code}
 use Rattle.noise_c.proofs.Numbers.{other}
 use Rattle.noise_c.proofs.Finished.{contrary}
@@ -27,5 +27,5 @@ refused c ad message cipher.Tag e r never text same = contrary (never (r.0, r.1,
 pub forged : (k : NoiseCipher) (c : CipherState) (ad message : List ℕ) (fault : CipherFault) (code : ℕ) → c ≡ cipher_from_c k → code ≡ cipher_code fault
     → DecryptRefused (keyed_in c) (nonce_in c) (length message) fault → (Accepted c ad message → false ≡ true)
     → code ≡ 16 → (text : List ℕ) → message ≡ encrypted k ad text → ⊥
-forged k c ad message fault code kept is r never e text same =
-    refused c ad message fault (sym is ∙ e) r never text (same ∙ ap (λ (z : CipherState). ciphertext_under (key_in z) (nonce_in z) ad text) (sym kept))
+forged k c ad message fault code stored is r never e text same =
+    refused c ad message fault (sym is ∙ e) r never text (same ∙ ap (λ (z : CipherState). ciphertext_under (key_in z) (nonce_in z) ad text) (sym stored))

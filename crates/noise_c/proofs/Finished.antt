@@ -1,25 +1,25 @@
--- The number that finishing tells.
+-- The number that finishing reports.
 use Rattle.std.proofs.Common.{◌≡◌, length, true, false, ap, sym, ◌∙◌, arith}
 use Rattle.std.proofs.lemmas.Bool.Decides.{nat_tests}
 use Rattle.noise_names.specs.Plan.{Plan}
-use Rattle.noise_handshake.specs.Held.{Held}
+use Rattle.noise_handshake.specs.HandshakeValue.{HandshakeValue}
 use Rattle.noise_keys.specs.Table.{Table}
-use Rattle.noise_c.specs.declared.kept.NoiseHandshake.{NoiseHandshake}
-use Rattle.noise_c.specs.Kept.{handshake_from_c}
+use Rattle.noise_c.specs.declared.structs.NoiseHandshake.{NoiseHandshake}
+use Rattle.noise_c.specs.HandshakeStructs.{handshake_from_c}
 use Rattle.noise_c.specs.Finishing.{finish_code}
 
-pub finish-done : (h : Held Table) → h.ended ≡ false → h.passed ≡ length h.pattern.messages → finish_code h ≡ 0
+pub finish-done : (h : HandshakeValue Table) → h.ended ≡ false → h.passed ≡ length h.pattern.messages → finish_code h ≡ 0
 finish-done h e n = grind (arith, nat_tests)
 
-pub finish-early : (h : Held Table) → h.ended ≡ false → (h.passed ≡ length h.pattern.messages → ⊥) → finish_code h ≡ 19
+pub finish-early : (h : HandshakeValue Table) → h.ended ≡ false → (h.passed ≡ length h.pattern.messages → ⊥) → finish_code h ≡ 19
 finish-early h e n = grind (arith, nat_tests)
 
-pub finish-ended : (h : Held Table) → h.ended ≡ true → finish_code h ≡ 13
+pub finish-ended : (h : HandshakeValue Table) → h.ended ≡ true → finish_code h ≡ 13
 finish-ended h e = grind (arith, nat_tests)
 
 pub contrary : false ≡ true → ⊥
 contrary e = cc
 
--- the handshake that was opened is what is kept, by its pattern
-pub kept-by : (k : NoiseHandshake) (h : Held Table) (p : Plan) → p ≡ h.pattern → h ≡ handshake_from_c h.pattern k → handshake_from_c p k ≡ h
-kept-by k h p one same = ap (λ (q : Plan). handshake_from_c q k) one ∙ sym same
+-- the handshake that was opened is that of the struct, by its pattern
+pub stored-by : (k : NoiseHandshake) (h : HandshakeValue Table) (p : Plan) → p ≡ h.pattern → h ≡ handshake_from_c h.pattern k → handshake_from_c p k ≡ h
+stored-by k h p one same = ap (λ (q : Plan). handshake_from_c q k) one ∙ sym same

@@ -13,7 +13,7 @@ use Rattle.noise_names.specs.Plan.{Plan, Place, does, place, message_places, pla
 use Rattle.noise_names.specs.Rules.{tokens-keep-rules}
 use Rattle.noise_names.specs.Validity.{IsValid, KeepsRules, dh_is_first, is_at, occurs}
 use Rattle.noise_handshake.specs.Counterparts.{is_dh}
-use Rattle.noise_handshake.specs.View.{tokens_at}
+use Rattle.noise_handshake.specs.Party.{tokens_at}
 use Rattle.std.proofs.lemmas.Bool.{or_right, or_left, not-true, or_parts}
 
 -- whether a token is among others
@@ -65,9 +65,9 @@ later t u before ts n front back e =
 
 none-after : (t : Token) (before ts : List Token) → NoRepeat t before ts → has t before ≡ true → times t ts ≡ 0
 none-after t before [] n h = refl
-none-after t before (u ∷ ts) n h = by (same_token u t) refl (none-after t (before ++ u ∷ []) ts (later t u before ts n) kept) where
-  kept : has t (before ++ u ∷ []) ≡ true
-  kept = list_any-append (λ (z : Token). same_token z t) before (u ∷ []) ∙ or_left (has t before) _ h
+none-after t before (u ∷ ts) n h = by (same_token u t) refl (none-after t (before ++ u ∷ []) ts (later t u before ts n) keeps) where
+  keeps : has t (before ++ u ∷ []) ≡ true
+  keeps = list_any-append (λ (z : Token). same_token z t) before (u ∷ []) ∙ or_left (has t before) _ h
 
   by : (b : Bool) → same_token u t ≡ b → times t ts ≡ 0 → times t (u ∷ ts) ≡ 0
   by true e rest =
@@ -118,9 +118,9 @@ module _ (p : Plan) (valid : IsValid p) where
       let before : List (List Token) = take i p.messages in
       let apart : p.messages ≡ before ++ (front ++ t ∷ back) ∷ drop (suc i) p.messages =
       message-apart p.messages i h ∙ ap (λ (ts : List Token). before ++ ts ∷ drop (suc i) p.messages) e in
-      let kept : KeepsRules (places_before p before front) (place (turn_from Initiator (length before)) (does t) (length before + 1) (length front)) =
+      let keeps : KeepsRules (places_before p before front) (place (turn_from Initiator (length before)) (does t) (length before + 1) (length front)) =
       tokens-keep-rules p valid before front t back (drop (suc i) p.messages) apart in
-      let clear : occurs t (places_before p before front) ≡ false = first-of t (places_before p before front) d kept.dh in
+      let clear : occurs t (places_before p before front) ≡ false = first-of t (places_before p before front) d keeps.dh in
       let party : Role = turn_from Initiator (length before) in
       let pre : List Place = (token_places Initiator 0 0 p.initiator ++ token_places Responder 0 0 p.responder) ++ message_places Initiator 1 before in
       let here : List Place = token_places party (length before + 1) 0 front in

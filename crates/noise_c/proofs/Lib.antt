@@ -4,7 +4,7 @@ pub mod AskingToWrite
 pub mod Four
 pub mod Runs
 pub mod Finished
-pub mod Keeps
+pub mod Stored
 pub mod Named
 pub mod Moved
 pub mod Starts

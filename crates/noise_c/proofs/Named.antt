@@ -9,7 +9,7 @@ use Rattle.noise_names.specs.Placing.{none-beyond, placed-once}
 use Rattle.noise_names.specs.Plan.{Plan}
 use Rattle.noise_names.specs.Fundamental.{fundamental_of}
 use Rattle.noise_names.specs.Limits.{Placed, first_beyond}
-use Rattle.noise_c.specs.Kept.{IsNamed}
+use Rattle.noise_c.specs.HandshakeStructs.{IsNamed}
 
 ok-same : {A : Type 0} {B : Type 0} (a b : A) → ◌≡◌ {A = Result A B} (Ok a) (Ok b) → a ≡ b
 ok-same a b e = cc

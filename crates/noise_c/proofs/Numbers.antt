@@ -9,10 +9,10 @@ use Rattle.noise_handshake.specs.declared.faults.ReadFault.TheVariants as read
 use Rattle.noise_handshake.specs.declared.faults.WriteFault.{WriteFault}
 use Rattle.noise_handshake.specs.declared.faults.WriteFault.TheVariants as write
 use Rattle.noise_handshake.specs.declared.late_faults.Want.{Want}
-use Rattle.noise_handshake.specs.Held.{IsAgreement}
-use Rattle.noise_c.specs.declared.kept.NoiseTold.{NoiseTold}
+use Rattle.noise_handshake.specs.HandshakeValue.{IsAgreement}
+use Rattle.noise_c.specs.declared.structs.NoiseResult.{NoiseResult}
 use Rattle.noise_c.specs.Codes.{cause_code, read_code, write_code}
-use Rattle.noise_c.specs.Kept.{ReportsWant}
+use Rattle.noise_c.specs.HandshakeStructs.{ReportsWant}
 use Rattle.noise_c.proofs.Wants.{want-code}
 
 -- it is another one
@@ -45,16 +45,16 @@ too-long n limit more less = absurd (omega (arith, more, less))
 
 -- ---- the numbers of a want: WANTED and WANTED_PSK
 
-pub wants-either : (want : Want) (told : NoiseTold) (code : ℕ) → ReportsWant want told code → (code ≡ 20) ⊎ (code ≡ 40)
-wants-either want told code t = want-code want told code (λ (n : ℕ). (n ≡ 20) ⊎ (n ≡ 40)) t (inl refl) (inr refl)
+pub wants-either : (want : Want) (results : NoiseResult) (code : ℕ) → ReportsWant want results code → (code ≡ 20) ⊎ (code ≡ 40)
+wants-either want results code t = want-code want results code (λ (n : ℕ). (n ≡ 20) ⊎ (n ≡ 40)) t (inl refl) (inr refl)
 
-pub wants-from : (want : Want) (told : NoiseTold) (code : ℕ) → ReportsWant want told code → 20 ≤ code
-wants-from want told code t = want-code want told code (λ (n : ℕ). 20 ≤ n) t (omega arith) (omega arith)
+pub wants-from : (want : Want) (results : NoiseResult) (code : ℕ) → ReportsWant want results code → 20 ≤ code
+wants-from want results code t = want-code want results code (λ (n : ℕ). 20 ≤ n) t (omega arith) (omega arith)
 
-pub wants-other : {A : Type 0} (want : Want) (told : NoiseTold) (code wanted : ℕ) → ReportsWant want told code → eqb 20 wanted ≡ false → eqb 40 wanted ≡ false
+pub wants-other : {A : Type 0} (want : Want) (results : NoiseResult) (code wanted : ℕ) → ReportsWant want results code → eqb 20 wanted ≡ false → eqb 40 wanted ≡ false
     → code ≡ wanted → A
-wants-other {A} want told code wanted t answer secret =
-    want-code want told code (λ (n : ℕ). n ≡ wanted → A) t (other 20 wanted answer) (other 40 wanted secret)
+wants-other {A} want results code wanted t answer psk =
+    want-code want results code (λ (n : ℕ). n ≡ wanted → A) t (other 20 wanted answer) (other 40 wanted psk)
 
 -- ---- the numbers of the faults of writing
 

@@ -4,7 +4,7 @@ use Rattle.std.specs.Prelude.{slice_range}
 use Rattle.noise_session.specs.declared.datagram_fault.DatagramFault.{DatagramFault}
 use Rattle.noise_session.specs.declared.datagram_fault.DatagramFault.TheVariants as declined
 use Rattle.noise_c.specs.TransportCodes.{datagram_code}
-use Rattle.noise_c.specs.KeptDatagramHalves.{IsDatagramCode}
+use Rattle.noise_c.specs.DatagramStructs.{IsDatagramCode}
 use Rattle.noise_c.proofs.Numbers.{other}
 
 datagram-codes : (fault : DatagramFault) → (11 ≤ datagram_code fault)

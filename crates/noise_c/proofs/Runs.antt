@@ -10,16 +10,16 @@ use Rattle.noise_names.specs.Validity.{IsValid}
 use Rattle.noise_keys.specs.declared.keys.Own.{Own}
 use Rattle.noise_keys.specs.declared.keys.Own.TheVariants.{Ephemeral, Static}
 use Rattle.noise_keys.specs.Table.{Table, TableEntry, answer_in, is_for, same_own}
-use Rattle.noise_handshake.specs.Held.{Held}
+use Rattle.noise_handshake.specs.HandshakeValue.{HandshakeValue}
 use Rattle.noise_handshake.specs.Late.{with_later}
-use Rattle.noise_handshake.specs.Party.{Stands}
-use Rattle.noise_handshake.specs.View.{View}
+use Rattle.noise_handshake.specs.Matching.{Matches}
+use Rattle.noise_handshake.specs.Party.{Party}
 use Rattle.noise_c.specs.Answers.{Answers, AnsweredIsWhole, AskedIsLacking, AskedToRead, AskedToWrite, FourSuffice, FourSufficeToWrite, HasKeys}
 use Rattle.noise_c.specs.Answers.{IsHandedIn, with_answers}
 use Rattle.noise_c.specs.Answers.AskedToRead.{ready as none_to_read, asked as one_to_read}
 use Rattle.noise_c.specs.Answers.AskedToWrite.{ready as none_to_write, asked as one_to_write}
-use Rattle.noise_c.specs.declared.kept.NoiseHandshake.{NoiseHandshake}
-use Rattle.noise_c.specs.Kept.{IsAdded, IsPatternOf, KeepsView, agreement_in, public_in, table_in}
+use Rattle.noise_c.specs.declared.structs.NoiseHandshake.{NoiseHandshake}
+use Rattle.noise_c.specs.HandshakeStructs.{IsAdded, IsPatternOf, KeepsParty, agreement_in, public_in, table_in}
 use Rattle.noise_c.specs.Answered.{ReadsByAnswers, WritesByAnswers, ReadsAsLibrary, WritesAsLibrary, answers_in}
 use Rattle.noise_c.specs.Answered.ReadsByAnswers.{ready as reads_now, answered as reads_later}
 use Rattle.noise_c.specs.Answered.WritesByAnswers.{ready as writes_now, answered as writes_later}
@@ -84,15 +84,15 @@ module _ (own : Own) (key x : List ℕ) where
     which o k y None t e = inr (only-one o k y (sym (ap (λ (z : Option (List ℕ)). option_or z (answer_in (entry ∷ []) o k)) t) ∙ e))
     which o k y (Some z) t e = inl (t ∙ (sym (ap (λ (w : Option (List ℕ)). option_or w (answer_in (entry ∷ []) o k)) t) ∙ e))
 
--- ---- what is kept
+-- ---- of the struct
 
-module _ (p : Plan) (v : View) where
+module _ (p : Plan) (v : Party) where
   abbrev Keeps : NoiseHandshake → Type 0
-  Keeps k = KeepsView k p (with_answers v (answers_in k))
+  Keeps k = KeepsParty k p (with_answers v (answers_in k))
 
   module _ (k next : NoiseHandshake) (own : Own) (key x : List ℕ) (added : IsAdded k next (record { own = own; remote = key; answer = x })) where
     table : table_in next ≡ record (table_in k) { entries = (table_in k).entries ++ record { own = own; remote = key; answer = x } ∷ [] }
-    table = ap (λ (h : Held Table). h.keys) (added.handshake p)
+    table = ap (λ (h : HandshakeValue Table). h.keys) (added.handshake p)
 
     pub answers-next : answers_in k own key ≡ None → IsHandedIn (answers_in k) (answers_in next) own key x
     answers-next none =
@@ -102,20 +102,20 @@ module _ (p : Plan) (v : View) where
     keeps-next c = record {
       pattern = subst (λ (bytes : List ℕ). IsPatternOf bytes p) (sym added.text) c.pattern;
       later = c.later;
-      stands = subst (λ (h : Held Table). Stands public_in agreement_in (with_later h c.later) (with_answers v (answers_in next))) (sym (added.handshake p)) (record {
-        pattern = c.stands.pattern;
-        role = c.stands.role;
-        secrets = c.stands.secrets;
-        own = c.stands.own;
+      matches = subst (λ (h : HandshakeValue Table). Matches public_in agreement_in (with_later h c.later) (with_answers v (answers_in next))) (sym (added.handshake p)) (record {
+        pattern = c.matches.pattern;
+        role = c.matches.role;
+        psks = c.matches.psks;
+        own = c.matches.own;
         agree = ap agreement_in (sym table);
-        remote = c.stands.remote;
-        passed = c.stands.passed;
-        history = c.stands.history;
-        ended = c.stands.ended;
+        remote = c.matches.remote;
+        passed = c.matches.passed;
+        history = c.matches.history;
+        ended = c.matches.ended;
       });
     }
 
-  -- each call that asks is one of the view's
+  -- each call that asks is one of the state's
   pub asked-to-read : AskedIsLacking → (all : Answers) (message : List ℕ) (k last : NoiseHandshake) (n : ℕ) → Keeps k → ReadsByAnswers p all message k n last
       → AskedToRead v all message (answers_in k) n (answers_in last) × Keeps last
   asked-to-read lacks all message k last n keeps (reads_now _) = (none_to_read (answers_in k), keeps)
@@ -134,9 +134,9 @@ module _ (p : Plan) (v : View) where
       let i = asked-to-write lacks all keys next last n (keeps-next k next own key x added keeps) more in
       (one_to_write (answers_in k) (answers_in next) (answers_in last) own key x n w is (answers-next k next own key x added none) i.0, i.1)
 
--- the pattern of the view is that of the name
-pattern-is : (p : Plan) (v : View) (k : NoiseHandshake) → KeepsView k p v → p ≡ v.pattern
-pattern-is p v k c = c.stands.pattern
+-- the pattern of the state is that of the name
+pattern-is : (p : Plan) (v : Party) (k : NoiseHandshake) → KeepsParty k p v → p ≡ v.pattern
+pattern-is p v k c = c.matches.pattern
 
 pub reads-as : AskedIsLacking → AnsweredIsWhole → FourSuffice → ReadsAsLibrary
 reads-as lacks whole four p v all message k last n valid keeps among run =

@@ -4,18 +4,18 @@ use Rattle.std.specs.Prelude.{Result, Ok, Err, Option, Some, None, MatchOption, 
 use Rattle.std.proofs.lemmas.Bool.Decides.{nat_tests}
 use Rattle.noise_names.specs.Plan.{Plan}
 use Rattle.noise_names.specs.Validity.{IsValid}
-use Rattle.noise_handshake.specs.Held.{Held}
+use Rattle.noise_handshake.specs.HandshakeValue.{HandshakeValue}
 use Rattle.noise_keys.specs.Table.{Table}
-use Rattle.noise_handshake.specs.View.{View}
-use Rattle.noise_handshake.specs.Party.{Stands}
+use Rattle.noise_handshake.specs.Party.{Party}
+use Rattle.noise_handshake.specs.Matching.{Matches}
 use Rattle.noise_handshake.specs.Late.{with_later}
-use Rattle.noise_c.specs.declared.kept.NoiseHandshake.{NoiseHandshake}
-use Rattle.noise_c.specs.Kept.{public_in, agreement_in, text_in, handshake_from_c, KeepsView, IsPatternOf, IsPatternFault, IsNoName, IsNoText, IsNotValid, is_text, IsStartCode, fault_in, code_of, start_code}
+use Rattle.noise_c.specs.declared.structs.NoiseHandshake.{NoiseHandshake}
+use Rattle.noise_c.specs.HandshakeStructs.{public_in, agreement_in, text_in, handshake_from_c, KeepsParty, IsPatternOf, IsPatternFault, IsNoName, IsNoText, IsNotValid, is_text, IsStartCode, fault_in, code_of, start_code}
 use Rattle.noise_handshake.specs.declared.remote.Remote.{Remote}
-use Rattle.noise_handshake.specs.Setup.{begun, setup_fault}
+use Rattle.noise_handshake.specs.Setup.{party_at_start, setup_fault}
 use Rattle.noise_names.specs.declared.token.Role.{Role}
 use Rattle.noise_c.specs.Codes.{setup_code}
-use Rattle.noise_c.specs.declared.kept.NoiseSetup.{NoiseSetup}
+use Rattle.noise_c.specs.declared.structs.NoiseSetup.{NoiseSetup}
 use Rattle.noise_keys.specs.declared.faults.SetupFault.{SetupFault}
 use Rattle.noise_keys.specs.declared.faults.SetupFault.TheVariants as setup
 
@@ -67,29 +67,29 @@ valid-pattern bytes p n h v one none = (λ e. absurd (none e), λ i. absurd (not
   not-both (inl t) = t.none p h
   not-both (inr t) = t.broken (subst (λ (z : Plan). IsValid z) (sym (one t.pattern t.named)) v)
 
-pub keeps-start : (new : NoiseHandshake) (h : Held Table) (p : Plan) (text : List ℕ) (later : List (List ℕ)) (v : View)
-    → text_in new ≡ text → IsPatternOf text p → h.pattern ≡ p → handshake_from_c h.pattern new ≡ h → Stands public_in agreement_in (with_later h later) v → KeepsView new p v
+pub keeps-start : (new : NoiseHandshake) (h : HandshakeValue Table) (p : Plan) (text : List ℕ) (later : List (List ℕ)) (v : Party)
+    → text_in new ≡ text → IsPatternOf text p → h.pattern ≡ p → handshake_from_c h.pattern new ≡ h → Matches public_in agreement_in (with_later h later) v → KeepsParty new p v
 keeps-start new h p text later v t named q same s = record {
   pattern = subst (λ (z : List ℕ). IsPatternOf z p) (sym t) named;
   later = later;
-  stands = subst (λ (z : Held Table). Stands public_in agreement_in (with_later z later) v) (sym (ap (λ (z : Plan). handshake_from_c z new) (sym q) ∙ same)) s;
+  matches = subst (λ (z : HandshakeValue Table). Matches public_in agreement_in (with_later z later) v) (sym (ap (λ (z : Plan). handshake_from_c z new) (sym q) ∙ same)) s;
 }
 
-ok-err : (h : Held Table) (f : SetupFault) → ◌≡◌ {A = Result (Held Table) SetupFault} (Ok h) (Err f) → ⊥
+ok-err : (h : HandshakeValue Table) (f : SetupFault) → ◌≡◌ {A = Result (HandshakeValue Table) SetupFault} (Ok h) (Err f) → ⊥
 ok-err h f e = cc
 
-err-same : (f g : SetupFault) → ◌≡◌ {A = Result (Held Table) SetupFault} (Err f) (Err g) → f ≡ g
+err-same : (f g : SetupFault) → ◌≡◌ {A = Result (HandshakeValue Table) SetupFault} (Err f) (Err g) → f ≡ g
 err-same f g e = cc
 
-code-ok : (o : Option SetupFault) (r : Result (Held Table) SetupFault) (h : Held Table) → r ≡ Ok h → MatchOption o (IsOk r) (λ f. r ≡ Err f) → 0 ≡ code_of o
+code-ok : (o : Option SetupFault) (r : Result (HandshakeValue Table) SetupFault) (h : HandshakeValue Table) → r ≡ Ok h → MatchOption o (IsOk r) (λ f. r ≡ Err f) → 0 ≡ code_of o
 code-ok None r h e m = refl
 code-ok (Some f) r h e m = absurd (ok-err h f (sym e ∙ m))
 
 not-both-values : false ≡ true → ⊥
 not-both-values e = cc
 
-code-err : (o : Option SetupFault) (r : Result (Held Table) SetupFault) (f : SetupFault) → r ≡ Err f → MatchOption o (IsOk r) (λ g. r ≡ Err g) → setup_code f ≡ code_of o
-code-err None r f e m = absurd (not-both-values (subst (λ (z : Result (Held Table) SetupFault). IsOk z) e m))
+code-err : (o : Option SetupFault) (r : Result (HandshakeValue Table) SetupFault) (f : SetupFault) → r ≡ Err f → MatchOption o (IsOk r) (λ g. r ≡ Err g) → setup_code f ≡ code_of o
+code-err None r f e m = absurd (not-both-values (subst (λ (z : Result (HandshakeValue Table) SetupFault). IsOk z) e m))
 code-err (Some g) r f e m = ap setup_code (err-same f g (sym e ∙ m))
 
 within : (n k : ℕ) → n ≤ k → nat_lt k n ≡ false
@@ -98,29 +98,29 @@ within n k a = grind (arith, nat_tests)
 code-is : (p : Plan) (prologue : List ℕ) (setup : NoiseSetup) → length prologue ≤ 65535 → setup.psk_count ≤ 9 → code_of (fault_in p setup) ≡ start_code p prologue setup
 code-is p prologue setup a b = rw (within (length prologue) 65535 a, within setup.psk_count 9 b) refl
 
-pub start-ok : (p : Plan) (prologue : List ℕ) (setup : NoiseSetup) (r : Result (Held Table) SetupFault) (h : Held Table) → r ≡ Ok h
+pub start-ok : (p : Plan) (prologue : List ℕ) (setup : NoiseSetup) (r : Result (HandshakeValue Table) SetupFault) (h : HandshakeValue Table) → r ≡ Ok h
     → length prologue ≤ 65535 → setup.psk_count ≤ 9 → MatchOption (fault_in p setup) (IsOk r) (λ f. r ≡ Err f) → 0 ≡ start_code p prologue setup
 start-ok p prologue setup r h e a b m = code-ok (fault_in p setup) r h e m ∙ code-is p prologue setup a b
 
-pub start-err : (p : Plan) (prologue : List ℕ) (setup : NoiseSetup) (r : Result (Held Table) SetupFault) (f : SetupFault) → r ≡ Err f
+pub start-err : (p : Plan) (prologue : List ℕ) (setup : NoiseSetup) (r : Result (HandshakeValue Table) SetupFault) (f : SetupFault) → r ≡ Err f
     → length prologue ≤ 65535 → setup.psk_count ≤ 9 → MatchOption (fault_in p setup) (IsOk r) (λ g. r ≡ Err g) → setup_code f ≡ start_code p prologue setup
 start-err p prologue setup r f e a b m = code-err (fault_in p setup) r f e m ∙ code-is p prologue setup a b
 
 pub remote-of : (e f s t : Option (List ℕ)) → e ≡ f → s ≡ t → ◌≡◌ {A = Remote} (record { e = e; s = s }) (record { e = f; s = t })
 remote-of e f s t a b = ap (λ (z : Option (List ℕ)). record { e = z; s = s }) a ∙ ap (λ (z : Option (List ℕ)). record { e = f; s = z }) b
 
-pub fault-moved : (p : Plan) (role role2 : Role) (t t2 : Table) (m m2 : Remote) (n : ℕ) (r : Result (Held Table) SetupFault) → role ≡ role2 → t ≡ t2 → m ≡ m2
+pub fault-moved : (p : Plan) (role role2 : Role) (t t2 : Table) (m m2 : Remote) (n : ℕ) (r : Result (HandshakeValue Table) SetupFault) → role ≡ role2 → t ≡ t2 → m ≡ m2
     → MatchOption (setup_fault p role (public_in t) m n) (IsOk r) (λ f. r ≡ Err f) → MatchOption (setup_fault p role2 (public_in t2) m2 n) (IsOk r) (λ f. r ≡ Err f)
 fault-moved p role role2 t t2 m m2 n r a b c h =
     subst (λ (z : Remote). MatchOption (setup_fault p role2 (public_in t2) z n) (IsOk r) (λ f. r ≡ Err f)) c
     (subst (λ (z : Table). MatchOption (setup_fault p role2 (public_in z) m n) (IsOk r) (λ f. r ≡ Err f)) b
     (subst (λ (z : Role). MatchOption (setup_fault p z (public_in t) m n) (IsOk r) (λ f. r ≡ Err f)) a h))
 
-pub stands-moved : (p : Plan) (prologue : List ℕ) (t : Table) (psks : List (List ℕ)) (role role2 : Role) (m m2 : Remote) (r : Result (Held Table) SetupFault) → role ≡ role2 → m ≡ m2
-    → IfOk r (λ h. (later : List (List ℕ)) → Stands public_in agreement_in (with_later h later) (begun p role prologue (public_in t) (agreement_in t) m (psks ++ later)))
-    → IfOk r (λ h. (later : List (List ℕ)) → Stands public_in agreement_in (with_later h later) (begun p role2 prologue (public_in t) (agreement_in t) m2 (psks ++ later)))
-stands-moved p prologue t psks role role2 m m2 r a b h =
-    subst (λ (z : Remote). IfOk r (λ y. (later : List (List ℕ)) → Stands public_in agreement_in (with_later y later)
-    (begun p role2 prologue (public_in t) (agreement_in t) z (psks ++ later)))) b
-    (subst (λ (z : Role). IfOk r (λ y. (later : List (List ℕ)) → Stands public_in agreement_in (with_later y later)
-    (begun p z prologue (public_in t) (agreement_in t) m (psks ++ later)))) a h)
+pub matches-moved : (p : Plan) (prologue : List ℕ) (t : Table) (psks : List (List ℕ)) (role role2 : Role) (m m2 : Remote) (r : Result (HandshakeValue Table) SetupFault) → role ≡ role2 → m ≡ m2
+    → IfOk r (λ h. (later : List (List ℕ)) → Matches public_in agreement_in (with_later h later) (party_at_start p role prologue (public_in t) (agreement_in t) m (psks ++ later)))
+    → IfOk r (λ h. (later : List (List ℕ)) → Matches public_in agreement_in (with_later h later) (party_at_start p role2 prologue (public_in t) (agreement_in t) m2 (psks ++ later)))
+matches-moved p prologue t psks role role2 m m2 r a b h =
+    subst (λ (z : Remote). IfOk r (λ y. (later : List (List ℕ)) → Matches public_in agreement_in (with_later y later)
+    (party_at_start p role2 prologue (public_in t) (agreement_in t) z (psks ++ later)))) b
+    (subst (λ (z : Role). IfOk r (λ y. (later : List (List ℕ)) → Matches public_in agreement_in (with_later y later)
+    (party_at_start p z prologue (public_in t) (agreement_in t) m (psks ++ later)))) a h)

@@ -2,11 +2,12 @@ pub mod Answered
 pub mod Answers
 pub mod Checked
 pub mod Codes
-pub mod Kept
+pub mod HandshakeStructs
+pub mod Header
 pub mod TransportCodes
 pub mod Finishing
-pub mod KeptHalves
-pub mod KeptDatagramHalves
-pub mod KeptCipher
-pub mod KeptStreams
+pub mod HalfStructs
+pub mod DatagramStructs
+pub mod CipherStructs
+pub mod StreamStructs
 pub mod Outcomes

@@ -1,79 +1,77 @@
 -- What writing and reading a message come to.
 use Rattle.std.specs.Prelude.{◌≡◌, ℕ, ◌+◌, ◌<◌, ◌≤◌, ◌⊎◌, List, Option, length, take, drop, slice_range, Some}
 use Rattle.noise_names.specs.Plan.{Plan}
-use Rattle.noise_handshake.specs.Held.{message_len_of}
-use Rattle.noise_handshake.specs.Late.{WantsSecretToRead, WantsSecretToWrite}
-use Rattle.noise_handshake.specs.View.{View}
+use Rattle.noise_handshake.specs.HandshakeValue.{message_len_of}
+use Rattle.noise_handshake.specs.Late.{WantsPskToRead, WantsPskToWrite}
+use Rattle.noise_handshake.specs.Party.{Party}
 use Rattle.noise_handshake.specs.Wanting.{WantsToRead, WantsToWrite}
 use Rattle.noise_c.specs.declared.codes.numbers.TheConstants.{AGREEMENT, DONE, LENGTH, NOT_YOUR_TURN, OK, ROOM, STRUCT, TAG, WANTED, WANTED_PSK}
-use Rattle.noise_c.specs.declared.kept.NoiseHandshake.{NoiseHandshake}
-use Rattle.noise_c.specs.declared.kept.NoiseTold.{NoiseTold}
-use Rattle.noise_c.specs.Kept.{handshake_from_c, own_in, remote_reported, text_in, ForView, HasMessageLen, IsPatternOf, IsUsable, KeepsView, ReportsAnswer, ReportsRemote, WasDeclined, WasRead, WasWithheld, WasWritten}
+use Rattle.noise_c.specs.declared.structs.NoiseHandshake.{NoiseHandshake}
+use Rattle.noise_c.specs.declared.structs.NoiseResult.{NoiseResult}
+use Rattle.noise_c.specs.HalfStructs.{IsAround}
+use Rattle.noise_c.specs.HandshakeStructs.{handshake_from_c, own_in, remote_reported, text_in, ForParty, HasMessageLen, IsPatternOf, IsUsable, KeepsParty, ReportsAnswer, ReportsRemote, WasDeclined, WasRead, WasWithheld, WasWritten}
 
 -- Of this struct, the payload, a buffer and what is reported, `noise_write` leaves the struct, the buffer and what is
 -- reported like this, and returns this number.
-pub data WriteOutcome (old : NoiseHandshake) (payload out : List ℕ) (told : NoiseTold)
-    (new : NoiseHandshake) (after : List ℕ) (next : NoiseTold) : ℕ → Type 0 where
+pub data WriteOutcome (old : NoiseHandshake) (payload out : List ℕ) (results : NoiseResult)
+    (new : NoiseHandshake) (after : List ℕ) (next : NoiseResult) : ℕ → Type 0 where
   written : IsUsable new → HasMessageLen old (length payload) (Some next.len)
-      → next ≡ record told { from = 0; len = next.len } → next.len ≤ length after
+      → next ≡ record results { from = 0; len = next.len } → next.len ≤ length after
       → drop next.len after ≡ drop next.len out
-      → ForView old (λ p v. WasWritten p v payload (take next.len after) new)
-      → WriteOutcome old payload out told new after next OK
-  wants_answer : ReportsAnswer told next → new ≡ old → after ≡ out
-      → ForView old (λ _ v. WantsToWrite v (own_in next.of_static) next.remote)
-      → WriteOutcome old payload out told new after next WANTED
-  wants_secret : ReportsRemote told next → new ≡ old → after ≡ out
-      → ForView old (λ _ v. WantsSecretToWrite v old.secret_count × (remote_reported next ≡ v.remote.s))
-      → WriteOutcome old payload out told new after next WANTED_PSK
-  withheld : (code : ℕ) → NOT_YOUR_TURN ≤ code → code ≤ AGREEMENT → next ≡ told → new ≡ old
+      → ForParty old (λ p v. WasWritten p v payload (take next.len after) new)
+      → WriteOutcome old payload out results new after next OK
+  wants_answer : ReportsAnswer results next → new ≡ old → after ≡ out
+      → ForParty old (λ _ v. WantsToWrite v (own_in next.of_static) next.remote)
+      → WriteOutcome old payload out results new after next WANTED
+  wants_psk : ReportsRemote results next → new ≡ old → after ≡ out
+      → ForParty old (λ _ v. WantsPskToWrite v old.psk_count × (remote_reported next ≡ v.remote.s))
+      → WriteOutcome old payload out results new after next WANTED_PSK
+  withheld : (code : ℕ) → NOT_YOUR_TURN ≤ code → code ≤ AGREEMENT → next ≡ results → new ≡ old
       → ((code ≡ AGREEMENT → ⊥) → after ≡ out)
-      → ForView old (λ _ v. (code < AGREEMENT) × WasWithheld v (length payload) code)
-      → WriteOutcome old payload out told new after next code
+      → ForParty old (λ _ v. (code < AGREEMENT) × WasWithheld v (length payload) code)
+      → WriteOutcome old payload out results new after next code
   no_room : HasMessageLen old (length payload) (Some next.len) → length out < next.len
-      → next ≡ record told { len = next.len } → new ≡ old → after ≡ out
-      → WriteOutcome old payload out told new after next ROOM
-  unusable : (IsUsable old → ⊥) → next ≡ told → new ≡ old → after ≡ out
-      → WriteOutcome old payload out told new after next STRUCT
-
--- the bytes before and after these places are unchanged
-abbrev pub IsAround : List ℕ → List ℕ → ℕ → ℕ → Type 0
-IsAround old new from to = (take from new ≡ take from old) × (drop to new ≡ drop to old)
+      → next ≡ record results { len = next.len } → new ≡ old → after ≡ out
+      → WriteOutcome old payload out results new after next ROOM
+  unusable : (IsUsable old → ⊥) → next ≡ results → new ≡ old → after ≡ out
+      → WriteOutcome old payload out results new after next STRUCT
 
 -- The same of `noise_read` and a message. A refusal ends the handshake.
-pub data ReadOutcome (old : NoiseHandshake) (message : List ℕ) (told : NoiseTold)
-    (new : NoiseHandshake) (after : List ℕ) (next : NoiseTold) : ℕ → Type 0 where
-  accepted : IsUsable new → next ≡ record told { from = next.from; len = next.len }
+pub data ReadOutcome (old : NoiseHandshake) (message : List ℕ) (results : NoiseResult)
+    (new : NoiseHandshake) (after : List ℕ) (next : NoiseResult) : ℕ → Type 0 where
+  accepted : IsUsable new → next ≡ record results { from = next.from; len = next.len }
       → next.from + next.len ≤ length after → IsAround message after next.from (next.from + next.len)
-      → ForView old (λ p v. WasRead p v message (slice_range after next.from (next.from + next.len)) new)
-      → ReadOutcome old message told new after next OK
-  wants_answer : ReportsAnswer told next → after ≡ message
-      → ForView old (λ _ v. WantsToRead v message (own_in next.of_static) next.remote)
-      → ReadOutcome old message told new after next WANTED
-  wants_secret : ReportsRemote told next → after ≡ message
-      → ForView old (λ _ v. WantsSecretToRead v old.secret_count message (remote_reported next))
-      → ReadOutcome old message told new after next WANTED_PSK
+      → ForParty old (λ p v. WasRead p v message (slice_range after next.from (next.from + next.len)) new)
+      → ReadOutcome old message results new after next OK
+  wants_answer : ReportsAnswer results next → after ≡ message
+      → ForParty old (λ _ v. WantsToRead v message (own_in next.of_static) next.remote)
+      → ReadOutcome old message results new after next WANTED
+  wants_psk : ReportsRemote results next → after ≡ message
+      → ForParty old (λ _ v. WantsPskToRead v old.psk_count message (remote_reported next))
+      → ReadOutcome old message results new after next WANTED_PSK
   declined : (code : ℕ) → (code ≡ NOT_YOUR_TURN) ⊎ ((DONE ≤ code) × (code ≤ TAG))
-      → next ≡ record told { token = next.token } → (IsUsable old → IsUsable new) → after ≡ message
-      → ForView old (λ p v. (code ≡ AGREEMENT → ⊥) × WasDeclined p v message code next.token new)
-      → ReadOutcome old message told new after next code
-  too_long : 65535 < length message → IsUsable old → next ≡ told → after ≡ message
-      → ReadOutcome old message told new after next LENGTH
-  unusable : (IsUsable old → ⊥) → next ≡ told → after ≡ message
-      → ReadOutcome old message told new after next STRUCT
+      → next ≡ record results { token = next.token } → (IsUsable old → IsUsable new) → after ≡ message
+      → ForParty old (λ p v. (code ≡ AGREEMENT → ⊥) × WasDeclined p v message code next.token new)
+      → ReadOutcome old message results new after next code
+  too_long : 65535 < length message → IsUsable old → next ≡ results → after ≡ message
+      → ReadOutcome old message results new after next LENGTH
+  unusable : (IsUsable old → ⊥) → next ≡ results → after ≡ message
+      → ReadOutcome old message results new after next STRUCT
 
 -- what there is too little room for isn't written
 abbrev pub RefusesRoom : NoiseHandshake → ℕ → ℕ → ℕ → Type 0
 RefusesRoom old payload room code = (p : Plan) → IsPatternOf (text_in old) p → (n : ℕ)
     → message_len_of (handshake_from_c p old) payload ≡ Some n → room < n → (code ≡ ROOM) ⊎ (code ≡ STRUCT)
 
--- Where a secret lacks first, it is asked for: to write a message that there is room for, and to read one, with the
+-- Where a psk lacks first, it is asked for: to write a message that there is room for, and to read one, with the
 -- other party's static key as it is known then.
 abbrev pub AsksToWrite : NoiseHandshake → ℕ → ℕ → ℕ → Type 0
-AsksToWrite old payload room code = IsUsable old → (p : Plan) (v : View) → KeepsView old p v
-    → WantsSecretToWrite v old.secret_count → (n : ℕ) → message_len_of (handshake_from_c p old) payload ≡ Some n
+AsksToWrite old payload room code = IsUsable old → (p : Plan) (v : Party) → KeepsParty old p v
+    → WantsPskToWrite v old.psk_count → (n : ℕ) → message_len_of (handshake_from_c p old) payload ≡ Some n
     → n ≤ room → code ≡ WANTED_PSK
 
-abbrev pub AsksToRead : NoiseHandshake → List ℕ → NoiseTold → ℕ → Type 0
-AsksToRead old message told code = IsUsable old → length message ≤ 65535 → (p : Plan) (v : View) → KeepsView old p v
-    → (remote : Option (List ℕ)) → WantsSecretToRead v old.secret_count message remote
-    → (code ≡ WANTED_PSK) × (remote_reported told ≡ remote)
+abbrev pub AsksToRead : NoiseHandshake → List ℕ → NoiseResult → ℕ → Type 0
+AsksToRead old message results code =
+    IsUsable old → length message ≤ 65535 → (p : Plan) (v : Party) → KeepsParty old p v
+    → (remote : Option (List ℕ)) → WantsPskToRead v old.psk_count message remote
+    → (code ≡ WANTED_PSK) × (remote_reported results ≡ remote)

@@ -11,8 +11,8 @@ use noise_names::TextFaultKind;
 use noise_session::{DatagramFault, OpenFault, SendFault};
 use noise_state::CipherFault;
 
-// What an export answers, with the numbers that `include/noise.h` has, the marks of the kept structs, and the lengths
-// that several exports test, in bytes.
+// What an export returns, with the numbers that `include/noise.h` has, the marks of the structs, and the lengths that
+// several exports test, in bytes.
 #[rattlefmt::skip]
 pub(crate) mod numbers {
     pub(crate) const OK: u32 = 0;
@@ -59,8 +59,8 @@ pub(crate) mod numbers {
     pub(crate) const CLOSED: u32 = 43;
     pub(crate) const CUT: u32 = 44;
 
-    // A kept struct begins with its mark: which kind of struct it is, in the second byte, and which version of its
-    // layout, in the first. A change of a layout gives its mark another version.
+    // A struct begins with its mark: which kind of struct it is, in the second byte, and which version of its layout,
+    // in the first. A change of a layout gives its mark another version.
     pub(crate) const HANDSHAKE: u32 = 0x4e6f_0101;
     pub(crate) const SENDER: u32 = 0x4e6f_0301;
     pub(crate) const RECEIVER: u32 = 0x4e6f_0401;
@@ -71,9 +71,16 @@ pub(crate) mod numbers {
     pub(crate) const STREAM_SENDER: u32 = 0x4e6f_0a01;
     pub(crate) const STREAM_RECEIVER: u32 = 0x4e6f_0b01;
 
-    // The longest message, and the most associated data (Noise, 3); and a tag (Noise, 4.2).
+    // The longest message, prologue and associated data (Noise, 3), and the longest payload; a tag (Noise, 4.2).
     pub(crate) const MESSAGE_MAX: usize = 65535;
+    pub(crate) const PAYLOAD_MAX: usize = 65519;
     pub(crate) const TAG_LEN: usize = 16;
+
+    // The length before a message in a frame, the nonce before one in a datagram, and each of these with a tag.
+    pub(crate) const HEAD_LEN: usize = 2;
+    pub(crate) const NONCE_LEN: usize = 8;
+    pub(crate) const FRAME_OVERHEAD: usize = 18;
+    pub(crate) const DATAGRAM_OVERHEAD: usize = 24;
 }
 
 // The value, or else a return of this code from the function around.

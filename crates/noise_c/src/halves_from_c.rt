@@ -1,16 +1,16 @@
-//! From what C keeps of halves, streams and cipher states to those, where a call has left it, and back.
+//! From C's structs of halves, streams and cipher states to those, where a call has left them, and back.
 
 ghost use Rattle.std.specs.Prelude.{◌≡◌, ◌⊎◌, ℕ, List, Some, IfSome, IfOk, IfErr, MatchResult, is_some, true};
 ghost use Rattle.noise_state.specs.Cipher.{key_in, nonce_in};
 ghost use Rattle.noise_session.specs.Parts.{half_in};
-ghost use Rattle.noise_c.specs.KeptHalves.{is_party, party_in, is_half, half_from_c, IsFromC, IsToC};
-ghost use Rattle.noise_c.specs.KeptDatagramHalves.{is_window, window_in, is_datagram_sender, datagram_sender_from_c, is_datagram_receiver, datagram_receiver_from_c};
-ghost use Rattle.noise_c.specs.KeptStreams.{is_state, state_in, is_stream_sender, stream_sender_from_c, is_stream_receiver, stream_receiver_from_c};
-ghost use Rattle.noise_c.specs.KeptCipher.{begun_cipher, cipher_from_c, is_cipher, struct_code};
+ghost use Rattle.noise_c.specs.HalfStructs.{is_party, party_in, is_half, half_from_c, IsFromC, IsToC};
+ghost use Rattle.noise_c.specs.DatagramStructs.{is_window, window_in, is_datagram_sender, datagram_sender_from_c, is_datagram_receiver, datagram_receiver_from_c};
+ghost use Rattle.noise_c.specs.StreamStructs.{is_state, state_in, is_stream_sender, stream_sender_from_c, is_stream_receiver, stream_receiver_from_c};
+ghost use Rattle.noise_c.specs.CipherStructs.{begun_cipher, cipher_from_c, is_cipher, struct_code};
 ghost use Rattle.noise_c.specs.declared.codes.numbers.TheConstants.{OK, ONE_WAY, STRUCT};
 
 use crate::codes::numbers::*;
-use crate::kept::*;
+use crate::structs::*;
 use noise_channel::{StreamReceiver, StreamSender, StreamState};
 use noise_names::Role;
 use noise_session::{
@@ -81,19 +81,19 @@ fn state_to_c(state: StreamState) -> u8
 }
 
 // The parts of a half of the kind with this mark.
-pub(crate) fn half_from_c(kept: &NoiseHalf, mark: u32) -> Option<HalfParts>
-    ensures known { is_some result ≡ is_half mark kept.now }
-    ensures same { IfSome result (λ parts. half_in parts ≡ half_from_c kept.now) }
+pub(crate) fn half_from_c(half: &NoiseHalf, mark: u32) -> Option<HalfParts>
+    ensures known { is_some result ≡ is_half mark half.now }
+    ensures value { IfSome result (λ parts. half_in parts ≡ half_from_c half.now) }
 {
-    if kept.mark != mark {
+    if half.mark != mark {
         return None;
     }
     Some(HalfParts {
-        role: role_from_c(kept.party)?,
-        one_way: kept.one_way != 0,
-        interval: kept.interval,
-        key: kept.key,
-        nonce: kept.nonce,
+        role: role_from_c(half.party)?,
+        one_way: half.one_way != 0,
+        interval: half.interval,
+        key: half.key,
+        nonce: half.nonce,
     })
 }
 
@@ -111,17 +111,17 @@ pub(crate) fn half_to_c(parts: HalfParts, mark: u32) -> NoiseHalf
     }
 }
 
-pub(crate) fn datagram_sender_from_c(kept: &NoiseDatagramSender) -> Option<DatagramSender>
-    ensures { IsFromC result (is_datagram_sender kept.now) (datagram_sender_from_c kept.now) }
+pub(crate) fn datagram_sender_from_c(half: &NoiseDatagramSender) -> Option<DatagramSender>
+    ensures { IsFromC result (is_datagram_sender half.now) (datagram_sender_from_c half.now) }
 {
-    if kept.mark != DATAGRAM_SENDER {
+    if half.mark != DATAGRAM_SENDER {
         return None;
     }
     Some(DatagramSender::from_parts(DatagramSenderParts {
-        role: role_from_c(kept.party)?,
-        one_way: kept.one_way != 0,
-        key: kept.key,
-        nonce: kept.nonce,
+        role: role_from_c(half.party)?,
+        one_way: half.one_way != 0,
+        key: half.key,
+        nonce: half.nonce,
     }))
 }
 
@@ -139,19 +139,19 @@ pub(crate) fn datagram_sender_to_c(sender: DatagramSender) -> NoiseDatagramSende
     }
 }
 
-pub(crate) fn datagram_receiver_from_c(kept: &NoiseDatagramReceiver) -> Option<DatagramReceiver>
-    ensures { IsFromC result (is_datagram_receiver kept.now) (datagram_receiver_from_c kept.now) }
+pub(crate) fn datagram_receiver_from_c(half: &NoiseDatagramReceiver) -> Option<DatagramReceiver>
+    ensures { IsFromC result (is_datagram_receiver half.now) (datagram_receiver_from_c half.now) }
 {
-    if kept.mark != DATAGRAM_RECEIVER {
+    if half.mark != DATAGRAM_RECEIVER {
         return None;
     }
     DatagramReceiver::from_parts(DatagramReceiverParts {
-        role: role_from_c(kept.party)?,
-        one_way: kept.one_way != 0,
-        key: kept.key,
-        window: window_from_c(kept.window)?,
-        greatest: kept.greatest,
-        words: kept.words,
+        role: role_from_c(half.party)?,
+        one_way: half.one_way != 0,
+        key: half.key,
+        window: window_from_c(half.window)?,
+        greatest: half.greatest,
+        words: half.words,
     })
 }
 
@@ -171,11 +171,11 @@ pub(crate) fn datagram_receiver_to_c(receiver: DatagramReceiver) -> NoiseDatagra
     }
 }
 
-pub(crate) fn stream_sender_from_c(kept: &NoiseStreamSender) -> Option<StreamSender>
-    ensures { IsFromC result (is_stream_sender kept.now) (stream_sender_from_c kept.now) }
+pub(crate) fn stream_sender_from_c(stream: &NoiseStreamSender) -> Option<StreamSender>
+    ensures { IsFromC result (is_stream_sender stream.now) (stream_sender_from_c stream.now) }
 {
-    let parts = half_from_c(&kept.half, STREAM_SENDER)?;
-    StreamSender::from_parts(Sender::from_parts(parts), kept.ended != 0)
+    let parts = half_from_c(&stream.half, STREAM_SENDER)?;
+    StreamSender::from_parts(Sender::from_parts(parts), stream.ended != 0)
 }
 
 pub(crate) fn stream_sender_to_c(sender: StreamSender) -> NoiseStreamSender
@@ -188,11 +188,11 @@ pub(crate) fn stream_sender_to_c(sender: StreamSender) -> NoiseStreamSender
     }
 }
 
-pub(crate) fn stream_receiver_from_c(kept: &NoiseStreamReceiver) -> Option<StreamReceiver>
-    ensures { IsFromC result (is_stream_receiver kept.now) (stream_receiver_from_c kept.now) }
+pub(crate) fn stream_receiver_from_c(stream: &NoiseStreamReceiver) -> Option<StreamReceiver>
+    ensures { IsFromC result (is_stream_receiver stream.now) (stream_receiver_from_c stream.now) }
 {
-    let parts = half_from_c(&kept.half, STREAM_RECEIVER)?;
-    let state = state_from_c(kept.state)?;
+    let parts = half_from_c(&stream.half, STREAM_RECEIVER)?;
+    let state = state_from_c(stream.state)?;
     StreamReceiver::from_parts(Receiver::from_parts(parts), state)
 }
 
@@ -207,32 +207,32 @@ pub(crate) fn stream_receiver_to_c(receiver: StreamReceiver) -> NoiseStreamRecei
 }
 
 // The cipher state, if the mark is known and it wasn't discarded; else the number of the fault.
-pub(crate) fn cipher_from_c(kept: &NoiseCipher, known: bool) -> Result<CipherState, u32>
+pub(crate) fn cipher_from_c(cipher: &NoiseCipher, known: bool) -> Result<CipherState, u32>
     ensures code { MatchResult result
-        (λ _. struct_code known kept.now ≡ OK) (λ code. struct_code known kept.now ≡ code) }
-    ensures same { IfOk result (λ cipher. cipher ≡ cipher_from_c kept.now) }
+        (λ _. struct_code known cipher.now ≡ OK) (λ code. struct_code known cipher.now ≡ code) }
+    ensures value { IfOk result (λ state. state ≡ cipher_from_c cipher.now) }
     ensures codes { IfErr result (λ code. (code ≡ STRUCT) ⊎ (code ≡ ONE_WAY)) }
 {
     if !known {
         return Err(STRUCT);
     }
-    if kept.one_way != 0 {
+    if cipher.one_way != 0 {
         return Err(ONE_WAY);
     }
-    Ok(CipherState::from_parts(Some(kept.key), kept.nonce))
+    Ok(CipherState::from_parts(Some(cipher.key), cipher.nonce))
 }
 
 // Whether it is a cipher state of either direction.
-pub(crate) fn is_cipher(kept: &NoiseCipher) -> bool
-    ensures { result ≡ is_cipher kept.now }
+pub(crate) fn is_cipher(cipher: &NoiseCipher) -> bool
+    ensures { result ≡ is_cipher cipher.now }
 {
-    kept.mark == SENDING_CIPHER || kept.mark == RECEIVING_CIPHER
+    cipher.mark == SENDING_CIPHER || cipher.mark == RECEIVING_CIPHER
 }
 
 // A cipher state that Split has made, or none of it where it is discarded.
 pub(crate) fn cipher_to_c(cipher: CipherState, mark: u32, discarded: bool) -> NoiseCipher
     ensures mark { result.mark ≡ mark }
-    ensures same { (key : List ℕ) → key_in cipher ≡ Some key → nonce_in cipher ≡ 0
+    ensures value { (key : List ℕ) → key_in cipher ≡ Some key → nonce_in cipher ≡ 0
         → result ≡ begun_cipher mark discarded key }
 {
     match cipher.into_parts() {

@@ -1,6 +1,6 @@
-//! Noise for C, Go and Rust: handshakes, and the halves and cipher states that they leave, whose memory the caller
-//! keeps. No call takes memory, and no key pair is used: the caller is shown which DH answer is wanted, and hands it
-//! in. `include/noise.h` has the order of the calls, and what the caller must ensure.
+//! Noise for C, Go and Rust: handshakes, and the halves and cipher states that they leave, in the
+//! caller's memory. No call takes memory, and no key pair is used: the caller is shown which DH result is wanted, and
+//! hands it in. `include/noise.h` has the order of the calls, and what the caller must ensure.
 #![tactic(auto)]
 
 mod asking;
@@ -11,12 +11,12 @@ mod finishing;
 mod from_c;
 mod halves;
 mod halves_from_c;
-mod kept;
-mod kept_keys;
 pub mod laws;
 mod messages;
 mod patterns;
 mod starting;
 mod streams;
+mod structs;
+mod supplied_keys;
 mod supplying;
 mod version;

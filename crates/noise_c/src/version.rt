@@ -1,8 +1,8 @@
-//! Exports: the version of the library, and how many bytes each kept struct takes in the caller's memory.
+//! Exports: the version of the library, and how many bytes each struct takes in the caller's memory.
 
 ghost use Rattle.std.specs.Prelude.{◌≡◌, ◌+◌, ◌*◌};
 
-use crate::kept::*;
+use crate::structs::*;
 use std::mem::size_of;
 
 // The numbers of `packaging/version`.
@@ -12,8 +12,7 @@ const MINOR: u32 = 0;
 
 const PATCH: u32 = 0;
 
-/// The version of this library, as `NOISE_VERSION` of its header: a program that may be run with another build compares
-/// the two.
+/// The version of this library, as `NOISE_VERSION` of its header.
 #[unsafe(no_mangle)]
 pub extern "C" fn noise_version() -> u32
     ensures { result ≡ 65536 * MAJOR + 256 * MINOR + PATCH }

@@ -3,7 +3,7 @@ use Rattle.std.proofs.Common.{◌≡◌, ◌≢◌, ℕ, ◌+◌, ◌-◌, List,
 use Rattle.noise_session.specs.declared.faults.OpenFault.{OpenFault}
 use Rattle.noise_session.specs.Frames.{frame_length, IsPartial}
 use Rattle.noise_channel.specs.Framing.{Begins}
-use Rattle.noise_channel.specs.Streams.{Direction, packet_at, frame_at}
+use Rattle.noise_channel.specs.Streams.{Direction, message_at, frame_at}
 use Rattle.noise_channel.specs.Reading.{ReaderState, Given, Reads, fault_at, IsUnopened}
 use Rattle.noise_channel.specs.Reading.ReaderState.{Listens, AtEnd, Broken}
 use Rattle.noise_channel.specs.Reading.Given.{Wants, Payload, End, Refused}
@@ -11,15 +11,15 @@ use Rattle.noise_channel.specs.Reading.Reads.{wants, gives, ends, refuses}
 use Rattle.noise_channel.proofs.Calls.{reads-once}
 use Rattle.noise_channel.proofs.Streams.{length-frame_at}
 
--- what each answer says of the buffer
+-- what each DH result says of the buffer
 abbrev pub Wanting : List ℕ → ℕ → Type 0
 Wanting b count = IsPartial b × (count ≡ frame_length b - length b)
 
 abbrev pub Giving : Direction → ℕ → List ℕ → List ℕ → ℕ → Type 0
-Giving d n b p used = (fault_at d n ≡ None) × Begins b (packet_at d n p) × (p ≢ []) × (used ≡ length p + 18)
+Giving d n b p used = (fault_at d n ≡ None) × Begins b (message_at d n p) × (p ≢ []) × (used ≡ length p + 18)
 
 abbrev pub Ending : Direction → ℕ → List ℕ → ℕ → Type 0
-Ending d n b used = (fault_at d n ≡ None) × Begins b (packet_at d n []) × (used ≡ 18)
+Ending d n b used = (fault_at d n ≡ None) × Begins b (message_at d n []) × (used ≡ 18)
 
 abbrev pub Refusing : Direction → ℕ → List ℕ → OpenFault → Type 0
 Refusing d n b cause = (message : List ℕ) × Begins b message × IsUnopened d n message cause

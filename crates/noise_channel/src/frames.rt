@@ -16,7 +16,7 @@ pub enum Framed {
     Message { from: usize, to: usize },
 }
 
-// How long the frame is that the buffer begins with, as far as its bytes tell.
+// How long the frame is that the buffer begins with, as far as its bytes show.
 pub(crate) fn frame_len(buffer: &[u8]) -> usize
     ensures len { result ≡ frame_length buffer.now }
     ensures range { (2 ≤ result) × (result ≤ 65537) }

@@ -2,7 +2,7 @@
 use Rattle.std.proofs.Common.{◌≡◌, ◌⊎◌, ◌↔◌, inl, inr, ℕ, ◌+◌, ◌-◌, List, [], ◌++◌, length, take, drop, Bool, true, false, not, refl, sym, ◌∙◌, ap, subst}
 use Rattle.std.proofs.Common.{append-nil}
 use Rattle.std.proofs.lemmas.List.{drop-drop, nil_from_length, take_rest}
-use Rattle.noise_session.specs.HeldTransport.{TransportView}
+use Rattle.noise_session.specs.TransportValue.{TransportState}
 use Rattle.noise_channel.specs.declared.next.StreamState.TheVariants as reading
 use Rattle.noise_channel.specs.Streams.{Direction, incoming, outgoing}
 use Rattle.noise_channel.specs.Writing.{WriterState, Call, WritesAll, payloads_taken, has_ended}
@@ -13,7 +13,7 @@ use Rattle.noise_channel.specs.Reading.{ReaderState, Given, Reads, Leaves, given
 use Rattle.noise_channel.specs.Reading.Given.{Wants, Payload, End, Refused, Closed}
 use Rattle.noise_channel.specs.Reading.Reads.{wants, gives, ends, refuses, closed_at_end, closed_broken}
 use Rattle.noise_channel.specs.Reading.ReaderState.{Listens, AtEnd, Broken}
-use Rattle.noise_channel.specs.Halves.{HeldReader, ReaderStands}
+use Rattle.noise_channel.specs.Halves.{ReaderValue, ReaderMatches}
 use Rattle.noise_channel.specs.Runs.{Run, Rests, ForgedAt, uses, payloads, sealed_on}
 use Rattle.noise_channel.specs.Runs.Run.{arrives, calls, stops}
 use Rattle.noise_channel_agreement.specs.Agreement.{IsWholeOrForged}
@@ -28,15 +28,15 @@ pub rest-of : (used : ℕ) (old new : List ℕ) → drop used new ≡ drop used 
 rest-of used old new same = take_rest new used ∙ same
 
 -- what reading on comes to, from one call to the next
-abbrev pub ReadsOn : TransportView → ReaderState → List ℕ → ℕ → HeldReader → Type 0
+abbrev pub ReadsOn : TransportState → ReaderState → List ℕ → ℕ → ReaderValue → Type 0
 ReadsOn v s came count after =
     (out : List (List ℕ)) × (left : List ℕ) × (t : ReaderState) × Run (incoming v) s came [] out t left × Rests (incoming v) t left
-    × (length left ≡ count) × ReaderStands after v t
+    × (length left ≡ count) × ReaderMatches after v t
 
 -- a call that used a frame
-pub goes-further : (v : TransportView) (s : ReaderState) (came rest : List ℕ) (g : Given) (count : ℕ) (mid after : HeldReader)
-    → (t : ReaderState) × Reads (incoming v) s came g t × ReaderStands mid v t → rest ≡ drop (uses g) came
-    → ((t : ReaderState) → ReaderStands mid v t → ReadsOn v t rest count after) → ReadsOn v s came count after
+pub goes-further : (v : TransportState) (s : ReaderState) (came rest : List ℕ) (g : Given) (count : ℕ) (mid after : ReaderValue)
+    → (t : ReaderState) × Reads (incoming v) s came g t × ReaderMatches mid v t → rest ≡ drop (uses g) came
+    → ((t : ReaderState) → ReaderMatches mid v t → ReadsOn v t rest count after) → ReadsOn v s came count after
 goes-further v s came rest g count mid after call same later =
     let o = later call.0 call.2 in (
       payloads g ++ o.0,
@@ -65,8 +65,8 @@ still-after d s t came g (closed_at_end _ _) still = (_, _, closed_at_end d came
 still-after d s t came g (closed_broken _ _) still = (_, _, closed_broken d came, tt)
 
 -- a call that used nothing
-module _ (v : TransportView) (s : ReaderState) (came new : List ℕ) (after : HeldReader) where
-  stays : (g : Given) → uses g ≡ 0 → payloads g ≡ [] → IsStill g → new ≡ came → (t : ReaderState) × Reads (incoming v) s came g t × ReaderStands after v t
+module _ (v : TransportState) (s : ReaderState) (came new : List ℕ) (after : ReaderValue) where
+  stays : (g : Given) → uses g ≡ 0 → payloads g ≡ [] → IsStill g → new ≡ came → (t : ReaderState) × Reads (incoming v) s came g t × ReaderMatches after v t
       → ReadsOn v s came (length new) after
   stays g none nothing still same call =
       let run : Run (incoming v) s came [] (payloads g ++ []) call.0 came =
@@ -82,17 +82,17 @@ module _ (v : TransportView) (s : ReaderState) (came new : List ℕ) (after : He
       )
 
   pub stops-there : (r : Next) → ((from to used : ℕ) → r ≡ next.Payload from to used → ⊥) → ((used : ℕ) → r ≡ next.End used → ⊥)
-      → Leaves came new r → (t : ReaderState) × Reads (incoming v) s came (given new r) t × ReaderStands after v t → ReadsOn v s came (length new) after
+      → Leaves came new r → (t : ReaderState) × Reads (incoming v) s came (given new r) t × ReaderMatches after v t → ReadsOn v s came (length new) after
   stops-there (next.Wants count) some none left call = stays (Wants count) refl refl tt left.0 call
   stops-there (next.Payload from to used) some none left call = absurd (some from to used refl)
   stops-there (next.End used) some none left call = absurd (none used refl)
   stops-there (next.Refused cause) some none left call = stays (Refused cause) refl refl tt left call
   stops-there next.Closed some none left call = stays Closed refl refl tt left call
 
-ended-as : (r : HeldReader) (w : TransportView) (t : ReaderState) → r.state ≡ reading.Ended → ReaderStands r w t → t ≡ AtEnd
-ended-as r w (Listens n) is stands = absurd (let e : reading.Ended ≡ reading.Open = sym is ∙ stands.0 in cc)
-ended-as r w AtEnd is stands = refl
-ended-as r w Broken is stands = absurd (let e : reading.Ended ≡ reading.Broken = sym is ∙ stands in cc)
+ended-as : (r : ReaderValue) (w : TransportState) (t : ReaderState) → r.state ≡ reading.Ended → ReaderMatches r w t → t ≡ AtEnd
+ended-as r w (Listens n) is matches = absurd (let e : reading.Ended ≡ reading.Open = sym is ∙ matches.0 in cc)
+ended-as r w AtEnd is matches = refl
+ended-as r w Broken is matches = absurd (let e : reading.Ended ≡ reading.Broken = sym is ∙ matches in cc)
 
 -- bytes that stand in the buffer came there at once
 came-at-once : (d : Direction) (s t : ReaderState) (came left : List ℕ) (out : List (List ℕ)) → Run d s came [] out t left → Run d s [] came out t left
@@ -103,44 +103,44 @@ pub was-off : (b : Bool) → not b ≡ true → b ≡ false
 was-off true e = let f : false ≡ true = e in cc
 was-off false e = refl
 
--- it is told whole just where the end has come and nothing is left
-abbrev pub Told : TransportView → ReaderState → List ℕ → Bool → Type 0
-Told v s came told =
+-- it is reported whole just where the end has come and nothing is left
+abbrev pub StepValue : TransportState → ReaderState → List ℕ → Bool → Type 0
+StepValue v s came reported =
     (out : List (List ℕ)) × (left : List ℕ) × (t : ReaderState) × Run (incoming v) s came [] out t left × Rests (incoming v) t left
-    × ((told ≡ true) ↔ ((t ≡ AtEnd) × (left ≡ [])))
+    × ((reported ≡ true) ↔ ((t ≡ AtEnd) × (left ≡ [])))
 
-at-end-as : (r : HeldReader) (v : TransportView) (t : ReaderState) → t ≡ AtEnd → ReaderStands r v t → r.state ≡ reading.Ended
-at-end-as r v t is stands = subst (λ (u : ReaderState). ReaderStands r v u) is stands
+at-end-as : (r : ReaderValue) (v : TransportState) (t : ReaderState) → t ≡ AtEnd → ReaderMatches r v t → r.state ≡ reading.Ended
+at-end-as r v t is matches = subst (λ (u : ReaderState). ReaderMatches r v u) is matches
 
-pub told-exactly : (v : TransportView) (s : ReaderState) (came : List ℕ) (count : ℕ) (after : HeldReader) (cut : Bool) → ReadsOn v s came count after
-    → (cut ≡ false ↔ (after.state ≡ reading.Ended) × (count ≡ 0)) → Told v s came (not cut)
-told-exactly v s came count after cut o told = (
+pub reported-exactly : (v : TransportState) (s : ReaderState) (came : List ℕ) (count : ℕ) (after : ReaderValue) (cut : Bool) → ReadsOn v s came count after
+    → (cut ≡ false ↔ (after.state ≡ reading.Ended) × (count ≡ 0)) → StepValue v s came (not cut)
+reported-exactly v s came count after cut o reported = (
   o.0,
   o.1,
   o.2,
   o.3,
   o.4,
   (
-    λ e. let h = told.0 (was-off cut e) in (ended-as after v o.2 h.0 o.6, nil_from_length o.1 (o.5 ∙ h.1)),
-    λ h. ap not (told.1 (at-end-as after v o.2 h.0 o.6, sym o.5 ∙ ap length h.1)),
+    λ e. let h = reported.0 (was-off cut e) in (ended-as after v o.2 h.0 o.6, nil_from_length o.1 (o.5 ∙ h.1)),
+    λ h. ap not (reported.1 (at-end-as after v o.2 h.0 o.6, sym o.5 ∙ ap length h.1)),
   ),
 )
 
-abbrev pub Whole : TransportView → TransportView → List Call → WriterState → List ℕ → Type 0
+abbrev pub Whole : TransportState → TransportState → List Call → WriterState → List ℕ → Type 0
 Whole v w made u came =
     (out : List (List ℕ)) × Run (incoming w) (Listens 0) [] came out AtEnd []
     × (((out ≡ payloads_taken made) × (has_ended u ≡ true))
     ⊎ ((i : ℕ) × ForgedAt (outgoing v) 0 (sealed_on (payloads_taken made) (has_ended u)) (sealed_on out true) came i))
 
-pub whole : (v w : TransportView) (made : List Call) (u : WriterState) (came left : List ℕ) (out : List (List ℕ)) (t : ReaderState) (r : HeldReader)
+pub whole : (v w : TransportState) (made : List Call) (u : WriterState) (came left : List ℕ) (out : List (List ℕ)) (t : ReaderState) (r : ReaderValue)
     → IsWholeOrForged v w → WritesAll (outgoing v) (Speaks 0) made u → Run (incoming w) (Listens 0) came [] out t left → length left ≡ 0
-    → r.state ≡ reading.Ended → ReaderStands r w t → Whole v w made u came
-whole v w made u came left out t r agrees all run none ended stands =
+    → r.state ≡ reading.Ended → ReaderMatches r w t → Whole v w made u came
+whole v w made u came left out t r agrees all run none ended matches =
     (out, over, elim (agrees made u came [] out AtEnd all over) [ inl h ↦ inl (written h) | inr h ↦ inr (h.0, h.2) ])
   where
     over : Run (incoming w) (Listens 0) [] came out AtEnd []
     over =
-        subst (λ (s : ReaderState). Run (incoming w) (Listens 0) [] came out s []) (ended-as r w t ended stands)
+        subst (λ (s : ReaderState). Run (incoming w) (Listens 0) [] came out s []) (ended-as r w t ended matches)
         (subst (λ (bytes : List ℕ). Run (incoming w) (Listens 0) [] came out t bytes) (nil_from_length left none)
         (came-at-once (incoming w) (Listens 0) t came left out run))
 

@@ -52,7 +52,8 @@ fn differing(
     found: Difference<'_, '_>,
 ) -> Result<LogReport, AllocError>
     requires { found.index < length log.now }
-    ensures { (right : List Logged) → IsFirstDifference right log.now found.entry.index (option_copied found.entry.right)
+    ensures { (right : List Logged)
+        → IsFirstDifference right log.now found.entry.index (option_copied found.entry.right)
         → IfOk result (λ report. IsReport right log.now report.finding report.text.items) }
 {
     let line = &log[found.index];

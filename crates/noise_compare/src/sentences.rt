@@ -22,7 +22,8 @@ struct Differs {
 /// place, if there is one.
 pub fn advice(logged: &Line<'_>, right: Option<&Line<'_>>) -> &'static str {
     let Some(right) = right else {
-        return "no line of the schedule is left for it: a step too many, or out of order, or a message that the file lacks";
+        return "no line of the schedule is left for it: a step too many, or out of order, or a message \
+                that the file lacks";
     };
     let differs = differing(logged, right);
     let is_alone = !(differs.bytes || differs.hash || differs.chaining_key || differs.key);

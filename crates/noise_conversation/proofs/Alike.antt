@@ -6,20 +6,20 @@ use Rattle.noise_names.specs.Plan.{Plan, is_one_way}
 use Rattle.noise_keys.specs.declared.keys.Own.{Own}
 use Rattle.noise_handshake.specs.declared.remote.Remote.{Remote}
 use Rattle.noise_handshake.specs.Setup.{setup_fault}
-use Rattle.noise_session.specs.Ends.{EndView, HeldEnd, IsToldBy, progress}
+use Rattle.noise_session.specs.Ends.{EndState, EndValue, IsReportedBy, progress}
 use Rattle.noise_session.specs.Progress.{role_of}
-use Rattle.noise_session.specs.Progress.Progress.{Handshaking, Open, Closed}
+use Rattle.noise_session.specs.Progress.Progress.{Handshaking, Open, HasEnded}
 
 role-in : (ended passed : Bool) (plan : Plan) (role : Role) (n : ℕ) (one_way : Bool) (sent received : ℕ)
-    → role_of (if ended then Closed role else if passed then Open role one_way sent received else Handshaking plan role n) ≡ role
+    → role_of (if ended then HasEnded role else if passed then Open role one_way sent received else Handshaking plan role n) ≡ role
 role-in true passed plan role n one_way sent received = refl
 role-in false true plan role n one_way sent received = refl
 role-in false false plan role n one_way sent received = refl
 
--- an end that tells what a view says is of its party's role
-pub role-told : {K : Type 0} (e : HeldEnd K) (v : EndView) → IsToldBy v e → role_of (progress e) ≡ v.party.role
-role-told e v told =
-    ap role_of told.progress
+-- an end that reports what a state says is of its party's role
+pub role-reported : {K : Type 0} (e : EndValue K) (v : EndState) → IsReportedBy v e → role_of (progress e) ≡ v.party.role
+role-reported e v reported =
+    ap role_of reported.progress
     ∙ role-in v.party.ended (v.party.passed == length v.party.pattern.messages) v.party.pattern v.party.role v.party.passed
     (is_one_way v.party.pattern) v.sent v.received
 

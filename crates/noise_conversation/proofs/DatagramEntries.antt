@@ -1,4 +1,4 @@
--- What the entries of a run of datagrams tell, and what two parties agree on by them.
+-- What the entries of a run of datagrams report, and what two parties agree on by them.
 use Rattle.std.proofs.Common.{◌≡◌, ◌≢◌, ◌≤◌, ◌<◌, ℕ, zero, suc, ◌+◌, List, [], ◌∷◌, ◌++◌, length, length-append, drop, map, Option, Some, None, Ok, slice_get}
 use Rattle.std.proofs.Common.{refl, sym, ◌∙◌, ap, subst, arith, inl, inr, ◌⊎◌}
 use Rattle.std.specs.Prelude.{Bool, true, false, ◌&&◌, ◌==◌, nat_le, nat_lt, if◌then◌else◌}
@@ -14,9 +14,9 @@ use Rattle.noise_session.specs.declared.faults.SendFault.{SendFault}
 use Rattle.noise_session.specs.declared.faults.SendFault.TheVariants as send
 use Rattle.noise_session.specs.declared.datagram_fault.DatagramFault.{DatagramFault}
 use Rattle.noise_session.specs.declared.datagram_fault.DatagramFault.TheVariants as fault
-use Rattle.noise_session.specs.Transport.{packet, split_key, last_nonce}
+use Rattle.noise_session.specs.Transport.{transport_message, split_key, last_nonce}
 use Rattle.noise_session.specs.Windows.{is_among, is_old, window_fault}
-use Rattle.noise_session.specs.Datagrams.{DatagramView, Opens, accepting, datagram, datagram_fault, nonce_named, unsealed}
+use Rattle.noise_session.specs.Datagrams.{DatagramState, Opens, accepting, datagram, datagram_fault, nonce_named, unsealed}
 use Rattle.noise_session.specs.Datagrams.Opens.{opened}
 use Rattle.noise_events.specs.DatagramEvents.{DatagramEvent, Seal, Open, Raw}
 use Rattle.noise_duel.specs.DatagramAgreement.{AreAtNonces, AreCounted, ArriveOnce, DatagramRunsAgree}
@@ -26,13 +26,14 @@ use Rattle.noise_duel.specs.DatagramRuns.DatagramHappens.{is_sealed, is_delivere
 use Rattle.noise_duel.specs.DatagramRuns.DatagramRun.{begins, ends}
 use Rattle.noise_duel.specs.DatagramRuns.PartyOpens.{opens, rejects}
 use Rattle.noise_duel.specs.DatagramRuns.PartySeals.{seals, seals_nothing}
-use Rattle.noise_duel.specs.DatagramSides.{DatagramSide, DatagramSides, NonceMessage, at_nonce, datagrams_in, meeting, new_party, of_nonce, opening, party, sealing, whole}
-use Rattle.noise_duel.specs.Forgery.{ForgedAt}
+use Rattle.noise_duel.specs.DatagramSides.{DatagramSide, DatagramSides, NonceMessage, at_nonce, sealed_datagrams, datagram_sides, new_party, of_nonce, opening, party, sealing, datagram_bytes}
+use Rattle.noise_duel.specs.Forgery.{ForgedMessage}
 use Rattle.noise_duel.specs.Sides.{Sides, TransportMessage}
-use Rattle.noise_conversation.specs.Datagrams.{nonce_in, SealedAt, OpenedAt, IsToldOfDatagrams, DatagramsAreTold, ForgedDatagram, EntriesArrive}
-use Rattle.noise_duel.specs.Clash.{ClashFound, ClashStands}
+use Rattle.noise_conversation.specs.Datagrams.{nonce_of_event, SealedAt, OpenedAt, IsReportedOfDatagrams, DatagramsAreReported, ForgedDatagram, EntriesArrive}
+use Rattle.noise_duel.specs.Clash.{ClashFound, ClashIsCollision}
 use Rattle.noise_duel.specs.Networks.{HaveOneHistory, HistoriesCollide}
-use Rattle.noise_conversation.specs.Datagrams.{DatagramEntriesAgree, DatagramKeysCome, HistoriesClash}
+use Rattle.noise_conversation.specs.Clash.{HistoriesClash}
+use Rattle.noise_conversation.specs.Datagrams.{DatagramEntriesAgree, DatagramKeysCome}
 use Rattle.std.proofs.lemmas.Option.{same_Some}
 use Rattle.noise_names.specs.Lists.{get-front, get-last}
 
@@ -51,10 +52,10 @@ get-either (z ∷ xs) y (suc n) x e = elim (get-either xs y n x e) [
   | inr new ↦ inr (ap suc new.0, new.1)
 ]
 
-get-whole : (ms : List NonceMessage) (n : ℕ) (bytes : List ℕ) → slice_get (map whole ms) n ≡ Some bytes
-    → (m : NonceMessage) × (slice_get ms n ≡ Some m) × (whole m ≡ bytes)
+get-whole : (ms : List NonceMessage) (n : ℕ) (bytes : List ℕ) → slice_get (map datagram_bytes ms) n ≡ Some bytes
+    → (m : NonceMessage) × (slice_get ms n ≡ Some m) × (datagram_bytes m ≡ bytes)
 get-whole [] n bytes e = absurd (none-some bytes e)
-get-whole (m ∷ ms) zero bytes e = (m, refl, same_Some (whole m) bytes e)
+get-whole (m ∷ ms) zero bytes e = (m, refl, same_Some (datagram_bytes m) bytes e)
 get-whole (m ∷ ms) (suc n) bytes e = get-whole ms n bytes e
 
 -- ---- nonces
@@ -72,7 +73,7 @@ low-nonce role one_way nonce n e =
     let c = no-fault (nat_le last_nonce nonce) send.Exhausted None b.1 in
     leb-false last_nonce nonce c.0
 
-not-accepted : (v : DatagramView) (bytes : List ℕ) → datagram_fault v bytes ≡ None → is_among v.accepted (nonce_named bytes) ≡ false
+not-accepted : (v : DatagramState) (bytes : List ℕ) → datagram_fault v bytes ≡ None → is_among v.accepted (nonce_named bytes) ≡ false
 not-accepted v bytes e =
     let n = nonce_named bytes in
     let window = window_fault v.width v.accepted n in
@@ -87,7 +88,7 @@ not-accepted v bytes e =
     let f = no-fault (is_old v.width v.accepted n) fault.Old seen d.1 in
     (no-fault (is_among v.accepted n) fault.Repeated None f.1).0
 
-fresh : (v : DatagramView) (bytes payload : List ℕ) (w : DatagramView) → Opens v bytes (Ok payload) w → is_among v.accepted (nonce_named bytes) ≡ false
+fresh : (v : DatagramState) (bytes payload : List ℕ) (w : DatagramState) → Opens v bytes (Ok payload) w → is_among v.accepted (nonce_named bytes) ≡ false
 fresh v bytes payload w (opened _ _ _ none is) = not-accepted v bytes none
 
 first-of : (m : NonceMessage) (ms : List NonceMessage) (n : ℕ) → m.nonce ≡ n → of_nonce (m ∷ ms) n ≡ Some m.message
@@ -98,11 +99,11 @@ later-of m ms n e = rw (ne_eqb m.nonce n e) refl
 
 -- A party's datagrams are numbered by their nonces, which have 8 bytes.
 record Numbered (s : DatagramSide) : Type 0 where
-  pub sending : s.view.sent ≡ length s.sealed
+  pub sending : s.state.sent ≡ length s.sealed
   pub few : length s.sealed ≤ last_nonce
   pub number : (n : ℕ) (m : NonceMessage) → slice_get s.sealed n ≡ Some m → (m.nonce ≡ n) × (n < last_nonce)
 
-whole-named : (m : NonceMessage) → m.nonce < last_nonce → nonce_named (whole m) ≡ m.nonce
+whole-named : (m : NonceMessage) → m.nonce < last_nonce → nonce_named (datagram_bytes m) ≡ m.nonce
 whole-named m low = from_be_bytes-to_be_bytes_8 m.nonce (omega arith)
 
 -- ---- one event, for one role
@@ -110,17 +111,17 @@ whole-named m low = from_be_bytes-to_be_bytes_8 m.nonce (omega arith)
 -- how bytes come to a role: from outside, or as a datagram that the other has sealed
 abbrev Came : Role → DatagramSide → DatagramEvent → List ℕ → Type 0
 Came role theirs event bytes =
-    (event ≡ Raw role bytes) ⊎ ((n : ℕ) × (event ≡ Open role n) × (slice_get (datagrams_in theirs) n ≡ Some bytes))
+    (event ≡ Raw role bytes) ⊎ ((n : ℕ) × (event ≡ Open role n) × (slice_get (sealed_datagrams theirs) n ≡ Some bytes))
 
 data OneStep : Role → DatagramSide → DatagramSide → DatagramEvent → Role × DatagramNote → DatagramSide → Type 0 where
   stays : (role : Role) (theirs s : DatagramSide) (event : DatagramEvent) (note : Role × DatagramNote)
       → ((n : ℕ) (bytes : List ℕ) → note ≢ (role, Sealed n bytes)) → ((payload : List ℕ) → note ≢ (role, Payload payload))
       → OneStep role theirs s event note s
-  has_sealed : (role : Role) (theirs s : DatagramSide) (payload : List ℕ) → unsealed s.view.role s.view.one_way s.view.sent (length payload) ≡ None
-      → OneStep role theirs s (Seal role payload) (role, Sealed (length s.sealed) (datagram s.view.history s.view.role s.view.sent payload))
+  has_sealed : (role : Role) (theirs s : DatagramSide) (payload : List ℕ) → unsealed s.state.role s.state.one_way s.state.sent (length payload) ≡ None
+      → OneStep role theirs s (Seal role payload) (role, Sealed (length s.sealed) (datagram s.state.history s.state.role s.state.sent payload))
       (sealing s payload)
   has_opened : (role : Role) (theirs s : DatagramSide) (event : DatagramEvent) (bytes payload : List ℕ) → Came role theirs event bytes
-      → is_among s.view.accepted (nonce_named bytes) ≡ false → OneStep role theirs s event (role, Payload payload) (opening s bytes payload)
+      → is_among s.state.accepted (nonce_named bytes) ≡ false → OneStep role theirs s event (role, Payload payload) (opening s bytes payload)
 
 roles-apart : (role : Role) → other role ≡ role → ⊥
 roles-apart Initiator e = cc
@@ -132,9 +133,9 @@ stays-other role theirs s event note =
     (λ n bytes e. roles-apart role (ap (λ (z : Role × DatagramNote). z.0) e))
     (λ payload e. roles-apart role (ap (λ (z : Role × DatagramNote). z.0) e))
 
-stays-told : (role : Role) (theirs s : DatagramSide) (event : DatagramEvent) (note : DatagramNote) → ((n : ℕ) (bytes : List ℕ) → note ≡ Sealed n bytes → ⊥)
+stays-reported : (role : Role) (theirs s : DatagramSide) (event : DatagramEvent) (note : DatagramNote) → ((n : ℕ) (bytes : List ℕ) → note ≡ Sealed n bytes → ⊥)
     → ((payload : List ℕ) → note ≡ Payload payload → ⊥) → OneStep role theirs s event (role, note) s
-stays-told role theirs s event note never none =
+stays-reported role theirs s event note never none =
     stays role theirs s event (role, note)
     (λ n bytes e. never n bytes (ap (λ (z : Role × DatagramNote). z.1) e))
     (λ payload e. none payload (ap (λ (z : Role × DatagramNote). z.1) e))
@@ -164,48 +165,48 @@ seal-step : (role : Role) (theirs s : DatagramSide) (payload : List ℕ) (note :
     → OneStep role theirs s (Seal role payload) (role, note) next
 seal-step role theirs s payload note next (seals _ _ e) = has_sealed role theirs s payload e
 seal-step role theirs s payload note next (seals_nothing _ _ why e) =
-    stays-told role theirs s (Seal role payload) (SealFault why) (fault-sealed why) (fault-payload why)
+    stays-reported role theirs s (Seal role payload) (SealFault why) (fault-sealed why) (fault-payload why)
 
 open-step : (role : Role) (theirs s : DatagramSide) (event : DatagramEvent) (bytes : List ℕ) (note : DatagramNote) (next : DatagramSide)
     → PartyOpens s bytes note next → Came role theirs event bytes → OneStep role theirs s event (role, note) next
 open-step role theirs s event bytes note next (opens _ _ payload o) came =
-    has_opened role theirs s event bytes payload came (fresh s.view bytes payload (accepting s.view (nonce_named bytes)) o)
+    has_opened role theirs s event bytes payload came (fresh s.state bytes payload (accepting s.state (nonce_named bytes)) o)
 open-step role theirs s event bytes note next (rejects _ _ why o) came =
-    stays-told role theirs s event (Rejected why) (rejected-sealed why) (rejected-payload why)
+    stays-reported role theirs s event (Rejected why) (rejected-sealed why) (rejected-payload why)
 
 miss-step : (role : Role) (theirs s : DatagramSide) (n : ℕ) → OneStep role theirs s (Open role n) (role, Missing n) s
-miss-step role theirs s n = stays-told role theirs s (Open role n) (Missing n) (missing-sealed n) (missing-payload n)
+miss-step role theirs s n = stays-reported role theirs s (Open role n) (Missing n) (missing-sealed n) (missing-payload n)
 
 step-of : (role : Role) (d next : DatagramSides) (event : DatagramEvent) (note : Role × DatagramNote) → DatagramHappens d event note next
     → OneStep role (party d (other role)) (party d role) event note (party next role)
-step-of Initiator d next event note (is_sealed _ Initiator payload told s p) = seal-step Initiator d.responder d.initiator payload told s p
-step-of Initiator d next event note (is_sealed _ Responder payload told s p) =
-    stays-other Initiator d.responder d.initiator (Seal Responder payload) told
-step-of Initiator d next event note (is_delivered _ Initiator n bytes told s got p) =
-    open-step Initiator d.responder d.initiator (Open Initiator n) bytes told s p (inr (n, refl, got))
-step-of Initiator d next event note (is_delivered _ Responder n bytes told s got p) =
-    stays-other Initiator d.responder d.initiator (Open Responder n) told
+step-of Initiator d next event note (is_sealed _ Initiator payload reported s p) = seal-step Initiator d.responder d.initiator payload reported s p
+step-of Initiator d next event note (is_sealed _ Responder payload reported s p) =
+    stays-other Initiator d.responder d.initiator (Seal Responder payload) reported
+step-of Initiator d next event note (is_delivered _ Initiator n bytes reported s got p) =
+    open-step Initiator d.responder d.initiator (Open Initiator n) bytes reported s p (inr (n, refl, got))
+step-of Initiator d next event note (is_delivered _ Responder n bytes reported s got p) =
+    stays-other Initiator d.responder d.initiator (Open Responder n) reported
 step-of Initiator d next event note (is_missing _ Initiator n none) = miss-step Initiator d.responder d.initiator n
 step-of Initiator d next event note (is_missing _ Responder n none) =
     stays-other Initiator d.responder d.initiator (Open Responder n) (Missing n)
-step-of Initiator d next event note (is_put_in _ Initiator bytes told s p) =
-    open-step Initiator d.responder d.initiator (Raw Initiator bytes) bytes told s p (inl refl)
-step-of Initiator d next event note (is_put_in _ Responder bytes told s p) =
-    stays-other Initiator d.responder d.initiator (Raw Responder bytes) told
-step-of Responder d next event note (is_sealed _ Responder payload told s p) = seal-step Responder d.initiator d.responder payload told s p
-step-of Responder d next event note (is_sealed _ Initiator payload told s p) =
-    stays-other Responder d.initiator d.responder (Seal Initiator payload) told
-step-of Responder d next event note (is_delivered _ Responder n bytes told s got p) =
-    open-step Responder d.initiator d.responder (Open Responder n) bytes told s p (inr (n, refl, got))
-step-of Responder d next event note (is_delivered _ Initiator n bytes told s got p) =
-    stays-other Responder d.initiator d.responder (Open Initiator n) told
+step-of Initiator d next event note (is_put_in _ Initiator bytes reported s p) =
+    open-step Initiator d.responder d.initiator (Raw Initiator bytes) bytes reported s p (inl refl)
+step-of Initiator d next event note (is_put_in _ Responder bytes reported s p) =
+    stays-other Initiator d.responder d.initiator (Raw Responder bytes) reported
+step-of Responder d next event note (is_sealed _ Responder payload reported s p) = seal-step Responder d.initiator d.responder payload reported s p
+step-of Responder d next event note (is_sealed _ Initiator payload reported s p) =
+    stays-other Responder d.initiator d.responder (Seal Initiator payload) reported
+step-of Responder d next event note (is_delivered _ Responder n bytes reported s got p) =
+    open-step Responder d.initiator d.responder (Open Responder n) bytes reported s p (inr (n, refl, got))
+step-of Responder d next event note (is_delivered _ Initiator n bytes reported s got p) =
+    stays-other Responder d.initiator d.responder (Open Initiator n) reported
 step-of Responder d next event note (is_missing _ Responder n none) = miss-step Responder d.initiator d.responder n
 step-of Responder d next event note (is_missing _ Initiator n none) =
     stays-other Responder d.initiator d.responder (Open Initiator n) (Missing n)
-step-of Responder d next event note (is_put_in _ Responder bytes told s p) =
-    open-step Responder d.initiator d.responder (Raw Responder bytes) bytes told s p (inl refl)
-step-of Responder d next event note (is_put_in _ Initiator bytes told s p) =
-    stays-other Responder d.initiator d.responder (Raw Initiator bytes) told
+step-of Responder d next event note (is_put_in _ Responder bytes reported s p) =
+    open-step Responder d.initiator d.responder (Raw Responder bytes) bytes reported s p (inl refl)
+step-of Responder d next event note (is_put_in _ Initiator bytes reported s p) =
+    stays-other Responder d.initiator d.responder (Raw Initiator bytes) reported
 
 -- ---- what a step keeps
 
@@ -213,8 +214,8 @@ numbered-step : (role : Role) (theirs s : DatagramSide) (event : DatagramEvent) 
     → OneStep role theirs s event note t → Numbered s → Numbered t
 numbered-step role theirs s event note t (stays _ _ _ _ _ _ _) h = h
 numbered-step role theirs s event note t (has_sealed _ _ _ payload e) h =
-    let m : NonceMessage = at_nonce s.view.sent (packet s.view.history s.view.role 0 s.view.sent payload) payload in
-    let low = low-nonce s.view.role s.view.one_way s.view.sent (length payload) e in
+    let m : NonceMessage = at_nonce s.state.sent (transport_message s.state.history s.state.role 0 s.state.sent payload) payload in
+    let low = low-nonce s.state.role s.state.one_way s.state.sent (length payload) e in
     let long = length-append s.sealed (m ∷ []) in
     let before = h.sending in
     record {
@@ -228,16 +229,16 @@ numbered-step role theirs s event note t (has_sealed _ _ _ payload e) h =
 numbered-step role theirs s event note t (has_opened _ _ _ _ bytes payload came new) h =
     record { sending = h.sending; few = h.few; number = h.number }
 
-kept-step : (role : Role) (theirs s : DatagramSide) (event : DatagramEvent) (note : Role × DatagramNote) (t : DatagramSide)
+unchanged-step : (role : Role) (theirs s : DatagramSide) (event : DatagramEvent) (note : Role × DatagramNote) (t : DatagramSide)
     → OneStep role theirs s event note t → (n : ℕ) (m : NonceMessage) → slice_get s.sealed n ≡ Some m → slice_get t.sealed n ≡ Some m
-kept-step role theirs s event note t (stays _ _ _ _ _ _ _) n m e = e
-kept-step role theirs s event note t (has_sealed _ _ _ payload _) n m e =
-    get-front s.sealed (at_nonce s.view.sent (packet s.view.history s.view.role 0 s.view.sent payload) payload ∷ []) n m e
-kept-step role theirs s event note t (has_opened _ _ _ _ bytes payload came new) n m e = e
+unchanged-step role theirs s event note t (stays _ _ _ _ _ _ _) n m e = e
+unchanged-step role theirs s event note t (has_sealed _ _ _ payload _) n m e =
+    get-front s.sealed (at_nonce s.state.sent (transport_message s.state.history s.state.role 0 s.state.sent payload) payload ∷ []) n m e
+unchanged-step role theirs s event note t (has_opened _ _ _ _ bytes payload came new) n m e = e
 
 -- a nonce that was opened, with its message
 record Has (s : DatagramSide) (n : ℕ) (m : TransportMessage) : Type 0 where
-  pub among : is_among s.view.accepted n ≡ true
+  pub among : is_among s.state.accepted n ≡ true
   pub message : of_nonce s.opened n ≡ Some m
 
 has-step : (role : Role) (theirs s : DatagramSide) (event : DatagramEvent) (note : Role × DatagramNote) (t : DatagramSide)
@@ -245,34 +246,34 @@ has-step : (role : Role) (theirs s : DatagramSide) (event : DatagramEvent) (note
 has-step role theirs s event note t (stays _ _ _ _ _ _ _) n m h = h
 has-step role theirs s event note t (has_sealed _ _ _ payload _) n m h = record { among = h.among; message = h.message }
 has-step role theirs s event note t (has_opened _ _ _ _ bytes payload came new) n m h =
-    let apart : nonce_named bytes ≢ n = λ same. false≢true (sym new ∙ ap (is_among s.view.accepted) same ∙ h.among) in
+    let apart : nonce_named bytes ≢ n = λ same. false≢true (sym new ∙ ap (is_among s.state.accepted) same ∙ h.among) in
     record {
-      among = or_right (nonce_named bytes == n) (is_among s.view.accepted n) h.among;
+      among = or_right (nonce_named bytes == n) (is_among s.state.accepted n) h.among;
       message = later-of (at_nonce (nonce_named bytes) (drop 8 bytes) payload) s.opened n apart ∙ h.message;
     }
 
 -- a nonce that isn't accepted yet wasn't before
 less-step : (role : Role) (theirs s : DatagramSide) (event : DatagramEvent) (note : Role × DatagramNote) (t : DatagramSide)
-    → OneStep role theirs s event note t → (n : ℕ) → is_among t.view.accepted n ≡ false → is_among s.view.accepted n ≡ false
+    → OneStep role theirs s event note t → (n : ℕ) → is_among t.state.accepted n ≡ false → is_among s.state.accepted n ≡ false
 less-step role theirs s event note t (stays _ _ _ _ _ _ _) n e = e
 less-step role theirs s event note t (has_sealed _ _ _ payload _) n e = e
 less-step role theirs s event note t (has_opened _ _ _ _ bytes payload came new) n e =
-    (or_parts (nonce_named bytes == n) (is_among s.view.accepted n) e).1
+    (or_parts (nonce_named bytes == n) (is_among s.state.accepted n) e).1
 
 -- ---- what a run keeps
 
-kept : (role : Role) (d last : DatagramSides) (events : List DatagramEvent) (notes : List (Role × DatagramNote)) → DatagramRun d events notes last
+unchanged : (role : Role) (d last : DatagramSides) (events : List DatagramEvent) (notes : List (Role × DatagramNote)) → DatagramRun d events notes last
     → (n : ℕ) (m : NonceMessage) → slice_get (party d role).sealed n ≡ Some m → slice_get (party last role).sealed n ≡ Some m
-kept role d last events notes (ends _) n m e = e
-kept role d last events notes (begins _ next _ event more note rest now run) n m e =
-    kept role next last more rest run n m
-    (kept-step role (party d (other role)) (party d role) event note (party next role) (step-of role d next event note now) n m e)
+unchanged role d last events notes (ends _) n m e = e
+unchanged role d last events notes (begins _ next _ event more note rest now run) n m e =
+    unchanged role next last more rest run n m
+    (unchanged-step role (party d (other role)) (party d role) event note (party next role) (step-of role d next event note now) n m e)
 
-has-kept : (role : Role) (d last : DatagramSides) (events : List DatagramEvent) (notes : List (Role × DatagramNote)) → DatagramRun d events notes last
+has-unchanged : (role : Role) (d last : DatagramSides) (events : List DatagramEvent) (notes : List (Role × DatagramNote)) → DatagramRun d events notes last
     → (n : ℕ) (m : TransportMessage) → Has (party d role) n m → Has (party last role) n m
-has-kept role d last events notes (ends _) n m h = h
-has-kept role d last events notes (begins _ next _ event more note rest now run) n m h =
-    has-kept role next last more rest run n m
+has-unchanged role d last events notes (ends _) n m h = h
+has-unchanged role d last events notes (begins _ next _ event more note rest now run) n m h =
+    has-unchanged role next last more rest run n m
     (has-step role (party d (other role)) (party d role) event note (party next role) (step-of role d next event note now) n m h)
 
 numbered-next : (role : Role) (d next : DatagramSides) (event : DatagramEvent) (note : Role × DatagramNote) → DatagramHappens d event note next
@@ -280,13 +281,13 @@ numbered-next : (role : Role) (d next : DatagramSides) (event : DatagramEvent) (
 numbered-next role d next event note now h =
     numbered-step role (party d (other role)) (party d role) event note (party next role) (step-of role d next event note now) h
 
--- ---- what entries tell of sealed datagrams
+-- ---- what entries report of sealed datagrams
 
 -- A role's datagram of this number has these bytes, and it has the payload that the event gives.
 record SealedAs (role : Role) (s : DatagramSide) (event : Option DatagramEvent) (n : ℕ) (bytes : List ℕ) : Type 0 where
   pub message : NonceMessage
   pub at : slice_get s.sealed n ≡ Some message
-  pub bytes_are : whole message ≡ bytes
+  pub bytes_are : datagram_bytes message ≡ bytes
   pub given : event ≡ Some (Seal role message.message.payload)
 
 number-same : (k n : ℕ) (bytes other_bytes : List ℕ) → Sealed k bytes ≡ Sealed n other_bytes → (k ≡ n) × (bytes ≡ other_bytes)
@@ -296,8 +297,8 @@ sealed-now : (role : Role) (theirs s : DatagramSide) (event : DatagramEvent) (no
     → OneStep role theirs s event note t → (n : ℕ) (bytes : List ℕ) → note ≡ (role, Sealed n bytes) → SealedAs role t (Some event) n bytes
 sealed-now role theirs s event note t (stays _ _ _ _ _ never _) n bytes e = absurd (never n bytes e)
 sealed-now role theirs s event note t (has_sealed _ _ _ payload _) n bytes e =
-    let m : NonceMessage = at_nonce s.view.sent (packet s.view.history s.view.role 0 s.view.sent payload) payload in
-    let same = number-same (length s.sealed) n (whole m) bytes (ap (λ (z : Role × DatagramNote). z.1) e) in
+    let m : NonceMessage = at_nonce s.state.sent (transport_message s.state.history s.state.role 0 s.state.sent payload) payload in
+    let same = number-same (length s.sealed) n (datagram_bytes m) bytes (ap (λ (z : Role × DatagramNote). z.1) e) in
     record {
       message = m;
       at = ap (slice_get (s.sealed ++ m ∷ [])) (sym same.0) ∙ get-last s.sealed m;
@@ -315,7 +316,7 @@ sealed-at role d last events notes (begins _ next _ event more note rest now run
     (same_Some note (role, Sealed n bytes) e) in
     record {
       message = s.message;
-      at = kept role next last more rest run n s.message s.at;
+      at = unchanged role next last more rest run n s.message s.at;
       bytes_are = s.bytes_are;
       given = s.given;
     }
@@ -324,22 +325,22 @@ sealed-at role d last events notes (begins _ next _ event more note rest now run
 
 found-now : (role : Role) (theirs s : DatagramSide) (event : DatagramEvent) (note : Role × DatagramNote) (t : DatagramSide)
     → OneStep role theirs s event note t → (n : ℕ) (m : NonceMessage) → slice_get t.sealed n ≡ Some m
-    → (slice_get s.sealed n ≡ Some m) ⊎ ((event ≡ Seal role m.message.payload) × (note ≡ (role, Sealed n (whole m))))
+    → (slice_get s.sealed n ≡ Some m) ⊎ ((event ≡ Seal role m.message.payload) × (note ≡ (role, Sealed n (datagram_bytes m))))
 found-now role theirs s event note t (stays _ _ _ _ _ _ _) n m e = inl e
 found-now role theirs s event note t (has_sealed _ _ _ payload _) n m e =
-    let new : NonceMessage = at_nonce s.view.sent (packet s.view.history s.view.role 0 s.view.sent payload) payload in
+    let new : NonceMessage = at_nonce s.state.sent (transport_message s.state.history s.state.role 0 s.state.sent payload) payload in
     elim (get-either s.sealed new n m e) [
       | inl old ↦ inl old
       | inr h ↦ inr (
         ap (λ (z : NonceMessage). Seal role z.message.payload) (sym h.1),
-        ap (λ (k : ℕ). (role, Sealed k (whole new))) (sym h.0) ∙ ap (λ (z : NonceMessage). (role, Sealed n (whole z))) (sym h.1),
+        ap (λ (k : ℕ). (role, Sealed k (datagram_bytes new))) (sym h.0) ∙ ap (λ (z : NonceMessage). (role, Sealed n (datagram_bytes z))) (sym h.1),
       )
     ]
 found-now role theirs s event note t (has_opened _ _ _ _ bytes payload came new) n m e = inl e
 
 find-sealed : (role : Role) (d last : DatagramSides) (events : List DatagramEvent) (notes : List (Role × DatagramNote)) → DatagramRun d events notes last
     → (n : ℕ) (m : NonceMessage) → slice_get (party last role).sealed n ≡ Some m
-    → (slice_get (party d role).sealed n ≡ Some m) ⊎ ((i : ℕ) × SealedAt events notes i role n m.message.payload (whole m))
+    → (slice_get (party d role).sealed n ≡ Some m) ⊎ ((i : ℕ) × SealedAt events notes i role n m.message.payload (datagram_bytes m))
 find-sealed role d last events notes (ends _) n m e = inl e
 find-sealed role d last events notes (begins _ next _ event more note rest now run) n m e =
     elim (find-sealed role next last more rest run n m e) [
@@ -350,20 +351,20 @@ find-sealed role d last events notes (begins _ next _ event more note rest now r
       ]
     ]
 
--- ---- what entries tell of opened datagrams
+-- ---- what entries report of opened datagrams
 
 -- bytes that come name the nonce of their event
 came-named : (role : Role) (theirs : DatagramSide) (event : DatagramEvent) (bytes : List ℕ) → Came role theirs event bytes → Numbered theirs
-    → nonce_in event ≡ Some (nonce_named bytes)
+    → nonce_of_event event ≡ Some (nonce_named bytes)
 came-named role theirs event bytes came h = elim came [
-  | inl raw ↦ ap nonce_in raw
+  | inl raw ↦ ap nonce_of_event raw
   | inr numbered ↦ (
       let n = numbered.0 in
       let found = get-whole theirs.sealed n bytes numbered.2 in
       let at = h.number n found.0 found.1 in
       let same : found.0.nonce ≡ n = at.0 in
       let low : found.0.nonce < last_nonce = (let below = at.1 in omega (arith, same, below)) in
-      ap nonce_in numbered.1 ∙ ap Some (sym same ∙ sym (whole-named found.0 low) ∙ ap nonce_named found.2)
+      ap nonce_of_event numbered.1 ∙ ap Some (sym same ∙ sym (whole-named found.0 low) ∙ ap nonce_named found.2)
       )
 ]
 
@@ -378,31 +379,31 @@ payload-same : (p q : List ℕ) → Payload p ≡ Payload q → p ≡ q
 payload-same p q e = cc
 
 opened-now : (role : Role) (theirs s : DatagramSide) (event : DatagramEvent) (note : Role × DatagramNote) (t : DatagramSide)
-    → OneStep role theirs s event note t → Numbered theirs → (n : ℕ) (payload : List ℕ) → note ≡ (role, Payload payload) → nonce_in event ≡ Some n
-    → OpenedAs role theirs t (Some event) n payload × (is_among s.view.accepted n ≡ false)
+    → OneStep role theirs s event note t → Numbered theirs → (n : ℕ) (payload : List ℕ) → note ≡ (role, Payload payload) → nonce_of_event event ≡ Some n
+    → OpenedAs role theirs t (Some event) n payload × (is_among s.state.accepted n ≡ false)
 opened-now role theirs s event note t (stays _ _ _ _ _ _ none) h n payload e f = absurd (none payload e)
 opened-now role theirs s event note t (has_sealed _ _ _ given _) h n payload e f =
-    absurd (sealed-payload (length s.sealed) (datagram s.view.history s.view.role s.view.sent given) payload (ap (λ (z : Role × DatagramNote). z.1) e))
-opened-now role theirs s event note t (has_opened _ _ _ _ bytes told came new) h n payload e f =
+    absurd (sealed-payload (length s.sealed) (datagram s.state.history s.state.role s.state.sent given) payload (ap (λ (z : Role × DatagramNote). z.1) e))
+opened-now role theirs s event note t (has_opened _ _ _ _ bytes reported came new) h n payload e f =
     let named : nonce_named bytes ≡ n = same_Some (nonce_named bytes) n (sym (came-named role theirs event bytes came h) ∙ f) in
-    let same : told ≡ payload = payload-same told payload (ap (λ (z : Role × DatagramNote). z.1) e) in (
+    let same : reported ≡ payload = payload-same reported payload (ap (λ (z : Role × DatagramNote). z.1) e) in (
       record {
         message = drop 8 bytes;
         has = record {
-          among = or_left (nonce_named bytes == n) (is_among s.view.accepted n) (eq-eqb (nonce_named bytes) n named);
-          message = first-of (at_nonce (nonce_named bytes) (drop 8 bytes) told) s.opened n named
+          among = or_left (nonce_named bytes == n) (is_among s.state.accepted n) (eq-eqb (nonce_named bytes) n named);
+          message = first-of (at_nonce (nonce_named bytes) (drop 8 bytes) reported) s.opened n named
               ∙ ap (λ (p : List ℕ). Some (record { message = drop 8 bytes; payload = p })) same;
         };
         from = elim came [
           | inl raw ↦ inl (bytes, ap Some raw, named, refl)
           | inr numbered ↦ (
               let found = get-whole theirs.sealed numbered.0 bytes numbered.2 in
-              let number : numbered.0 ≡ n = same_Some numbered.0 n (sym (ap nonce_in numbered.1) ∙ f) in
+              let number : numbered.0 ≡ n = same_Some numbered.0 n (sym (ap nonce_of_event numbered.1) ∙ f) in
               inr (found.0, ap (slice_get theirs.sealed) (sym number) ∙ found.1, ap (drop 8) found.2)
               )
         ];
       },
-      ap (is_among s.view.accepted) (sym named) ∙ new,
+      ap (is_among s.state.accepted) (sym named) ∙ new,
     )
 
 later : (events : List DatagramEvent) (notes : List (Role × DatagramNote)) (event : DatagramEvent) (note : Role × DatagramNote) (i : ℕ) (role : Role)
@@ -412,10 +413,10 @@ later events notes event note i role n payload h = record { event = h.event; at 
 first-now : (role : Role) (d next : DatagramSides) (event : DatagramEvent) (note : Role × DatagramNote) (events : List DatagramEvent)
     (notes : List (Role × DatagramNote)) → DatagramHappens d event note next → Numbered (party d (other role)) → (n : ℕ) (payload : List ℕ)
     → OpenedAt (event ∷ events) (note ∷ notes) 0 role n payload
-    → OpenedAs role (party d (other role)) (party next role) (Some event) n payload × (is_among (party d role).view.accepted n ≡ false)
+    → OpenedAs role (party d (other role)) (party next role) (Some event) n payload × (is_among (party d role).state.accepted n ≡ false)
 first-now role d next event note events notes now h n payload o =
     opened-now role (party d (other role)) (party d role) event note (party next role) (step-of role d next event note now) h n payload
-    (same_Some note (role, Payload payload) o.entry) (ap nonce_in (same_Some event o.event o.at) ∙ o.nonce)
+    (same_Some note (role, Payload payload) o.entry) (ap nonce_of_event (same_Some event o.event o.at) ∙ o.nonce)
 
 opened-at : (role : Role) (d last : DatagramSides) (events : List DatagramEvent) (notes : List (Role × DatagramNote)) → DatagramRun d events notes last
     → Numbered (party d (other role)) → (i n : ℕ) (payload : List ℕ) → OpenedAt events notes i role n payload
@@ -425,13 +426,13 @@ opened-at role d last events notes (begins _ next _ event more note rest now run
     let a = (first-now role d next event note more rest now h n payload o).0 in
     record {
       message = a.message;
-      has = has-kept role next last more rest run n (record { message = a.message; payload = payload }) a.has;
+      has = has-unchanged role next last more rest run n (record { message = a.message; payload = payload }) a.has;
       from = elim a.from [
         | inl raw ↦ inl raw
         | inr own ↦ inr (
           own.0,
-          kept (other role) next last more rest run n own.0
-              (kept-step (other role) (party d (other (other role))) (party d (other role)) event note (party next (other role))
+          unchanged (other role) next last more rest run n own.0
+              (unchanged-step (other role) (party d (other (other role))) (party d (other role)) event note (party next (other role))
               (step-of (other role) d next event note now) n own.0 own.1),
           own.2,
         )
@@ -444,7 +445,7 @@ opened-at role d last events notes (begins _ next _ event more note rest now run
 -- before it is opened a nonce isn't accepted
 not-before : (role : Role) (d last : DatagramSides) (events : List DatagramEvent) (notes : List (Role × DatagramNote)) → DatagramRun d events notes last
     → Numbered (party d (other role)) → (i n : ℕ) (payload : List ℕ) → OpenedAt events notes i role n payload
-    → is_among (party d role).view.accepted n ≡ false
+    → is_among (party d role).state.accepted n ≡ false
 not-before role d last events notes (ends _) h i n payload o = absurd (none-some (role, Payload payload) o.entry)
 not-before role d last events notes (begins _ next _ event more note rest now run) h zero n payload o =
     (first-now role d next event note more rest now h n payload o).1
@@ -471,7 +472,7 @@ opened-once role d last events notes (begins _ next _ event more note rest now r
 
 opened-found : (role : Role) (theirs s : DatagramSide) (event : DatagramEvent) (note : Role × DatagramNote) (t : DatagramSide)
     → OneStep role theirs s event note t → Numbered theirs → (n : ℕ) (m : TransportMessage) → of_nonce t.opened n ≡ Some m
-    → (of_nonce s.opened n ≡ Some m) ⊎ ((nonce_in event ≡ Some n) × (note ≡ (role, Payload m.payload)))
+    → (of_nonce s.opened n ≡ Some m) ⊎ ((nonce_of_event event ≡ Some n) × (note ≡ (role, Payload m.payload)))
 opened-found role theirs s event note t (stays _ _ _ _ _ _ _) h n m e = inl e
 opened-found role theirs s event note t (has_sealed _ _ _ payload _) h n m e = inl e
 opened-found role theirs s event note t (has_opened _ _ _ _ bytes payload came new) h n m e =
@@ -499,15 +500,15 @@ find-opened role d last events notes (begins _ next _ event more note rest now r
 
 -- ---- both parties
 
-numbered-new : (v : DatagramView) → v.sent ≡ 0 → Numbered (new_party v)
+numbered-new : (v : DatagramState) → v.sent ≡ 0 → Numbered (new_party v)
 numbered-new v e = record { sending = e; few = omega arith; number = λ n m f. absurd (none-some m f) }
 
 payload-of : (role : Role) (p q : List ℕ) → Some (Seal role p) ≡ Some (Seal role q) → p ≡ q
 payload-of role p q e = cc
 
-is-told : (role : Role) (d last : DatagramSides) (events : List DatagramEvent) (notes : List (Role × DatagramNote)) → DatagramRun d events notes last
-    → Numbered (party d (other role)) → (party d role).sealed ≡ [] → (party d role).opened ≡ [] → IsToldOfDatagrams role events notes (party last role)
-is-told role d last events notes run h none unopened = record {
+is-reported : (role : Role) (d last : DatagramSides) (events : List DatagramEvent) (notes : List (Role × DatagramNote)) → DatagramRun d events notes last
+    → Numbered (party d (other role)) → (party d role).sealed ≡ [] → (party d role).opened ≡ [] → IsReportedOfDatagrams role events notes (party last role)
+is-reported role d last events notes run h none unopened = record {
   sealed = λ n m e. elim (find-sealed role d last events notes run n m e) [
     | inl old ↦ absurd (none-some m (sym (ap (λ (z : List NonceMessage). slice_get z n) none) ∙ old))
     | inr f ↦ f
@@ -526,10 +527,10 @@ is-told role d last events notes run h none unopened = record {
       );
 }
 
-pub datagrams-are-told : DatagramsAreTold
-datagrams-are-told v w events notes last b run = (
-  is-told Initiator (meeting v w) last events notes run (numbered-new w b.responder_sent) refl refl,
-  is-told Responder (meeting v w) last events notes run (numbered-new v b.initiator_sent) refl refl,
+pub datagrams-are-reported : DatagramsAreReported
+datagrams-are-reported v w events notes last b run = (
+  is-reported Initiator (datagram_sides v w) last events notes run (numbered-new w b.responder_sent) refl refl,
+  is-reported Responder (datagram_sides v w) last events notes run (numbered-new v b.initiator_sent) refl refl,
 )
 
 -- ---- one direction
@@ -546,11 +547,11 @@ counted-of r writer n (suc k) (x ∷ ms) m h e =
     later-of x ms (n + suc k) apart ∙ ap (of_nonce ms) step ∙ counted-of r writer (n + 1) k ms m h.2 e
 
 at-nonce : (r : History) (writer : Role) (ms : List NonceMessage) (n : ℕ) (m : TransportMessage) → AreAtNonces r writer ms → of_nonce ms n ≡ Some m
-    → m.message ≡ packet r writer 0 n m.payload
+    → m.message ≡ transport_message r writer 0 n m.payload
 at-nonce r writer [] n m h e = absurd (none-some m e)
 at-nonce r writer (x ∷ ms) n m h e = elim (eqb_tells x.nonce n) [
-  | inl y ↦ subst (λ (z : TransportMessage). z.message ≡ packet r writer 0 n z.payload) (same_Some x.message m (sym (first-of x ms n y.1) ∙ e))
-      (subst (λ (i : ℕ). x.message.message ≡ packet r writer 0 i x.message.payload) y.1 h.0)
+  | inl y ↦ subst (λ (z : TransportMessage). z.message ≡ transport_message r writer 0 n z.payload) (same_Some x.message m (sym (first-of x ms n y.1) ∙ e))
+      (subst (λ (i : ℕ). x.message.message ≡ transport_message r writer 0 i x.message.payload) y.1 h.0)
   | inr y ↦ at-nonce r writer ms n m h.1 (sym (later-of x ms n y.1) ∙ e)
 ]
 
@@ -569,8 +570,8 @@ module _ (r : History) (writer : Role) (d last : DatagramSides) (events : List D
     found : OpenedAs (other writer) (party last (other (other writer))) (party last (other writer)) (slice_get events i) n payload
     found = opened-at (other writer) d last events notes run reads i n payload at
 
-    the-packet : found.message ≡ packet r writer 0 n payload
-    the-packet = at-nonce r writer (party last (other writer)).opened n (record { message = found.message; payload = payload }) placed found.has.message
+    the-transport_message : found.message ≡ transport_message r writer 0 n payload
+    the-transport_message = at-nonce r writer (party last (other writer)).opened n (record { message = found.message; payload = payload }) placed found.has.message
 
     own-entry : slice_get (party last writer).sealed n ≡ Some (record { nonce = n; message = record { message = found.message; payload = payload } })
         → (j : ℕ) × SealedAt events notes j writer n payload (datagram r writer n payload)
@@ -578,11 +579,11 @@ module _ (r : History) (writer : Role) (d last : DatagramSides) (events : List D
       | inl old ↦ absurd (none-some (at_nonce n found.message payload) (sym (ap (λ (z : List NonceMessage). slice_get z n) empty) ∙ old))
       | inr f ↦ (
         f.0,
-        record { event = f.1.event; entry = f.1.entry ∙ ap (λ (z : List ℕ). Some (writer, Sealed n (to_be_bytes w64 n ++ z))) the-packet },
+        record { event = f.1.event; entry = f.1.entry ∙ ap (λ (z : List ℕ). Some (writer, Sealed n (to_be_bytes w64 n ++ z))) the-transport_message },
       )
     ]
 
-    forged-entry : ForgedAt r writer 0 (of_nonce (party last writer).sealed) (of_nonce (party last (other writer)).opened) n
+    forged-entry : ForgedMessage r writer 0 (of_nonce (party last writer).sealed) (of_nonce (party last (other writer)).opened) n
         → ForgedDatagram r writer events notes i n payload
     forged-entry f =
         let same : f.forged ≡ record { message = found.message; payload = payload } =
@@ -593,10 +594,10 @@ module _ (r : History) (writer : Role) (d last : DatagramSides) (events : List D
             bytes = raw.0;
             came = raw.1;
             nonce = raw.2;
-            message = raw.3 ∙ the-packet;
+            message = raw.3 ∙ the-transport_message;
             unsealed = λ j e.
                 (let s = sealed-at writer d last events notes run j n (datagram r writer n payload) e in
-                f.unwritten s.message.message (sealed-of n s.message s.at) (ap (drop 8) s.bytes_are ∙ sym the-packet ∙ sym text));
+                f.unwritten s.message.message (sealed-of n s.message s.at) (ap (drop 8) s.bytes_are ∙ sym the-transport_message ∙ sym text));
           }
           | inr own ↦ absurd (f.unwritten own.0.message
               (sealed-of n own.0 (ap (λ (z : DatagramSide). slice_get z.sealed n) (sym back) ∙ own.1)) (own.2 ∙ sym text))
@@ -615,31 +616,31 @@ module _ (agree : DatagramRunsAgree) where
   pub datagram-entries-agree : DatagramEntriesAgree
   datagram-entries-agree v w events notes last b run =
       let a = agree v w events notes last b run in (
-        arrives v.history Initiator (meeting v w) last events notes run (numbered-new v b.initiator_sent) refl refl
+        arrives v.history Initiator (datagram_sides v w) last events notes run (numbered-new v b.initiator_sent) refl refl
             a.initiator.sealed a.responder.opened a.there,
-        arrives v.history Responder (meeting v w) last events notes run (numbered-new w b.responder_sent) refl refl
+        arrives v.history Responder (datagram_sides v w) last events notes run (numbered-new w b.responder_sent) refl refl
             a.responder.sealed a.initiator.opened a.back,
       )
 
   pub datagram-keys-come : DatagramKeysCome
   datagram-keys-come v w events notes last duel b run pictures =
       let a = agree v w events notes last b run in
-      let there : split_key last.responder.view.history (other last.responder.view.role) ≡ split_key last.initiator.view.history last.initiator.view.role =
-      ap (λ (r : History). split_key r (other last.responder.view.role)) (a.responder.history ∙ sym a.initiator.history)
-      ∙ ap (split_key last.initiator.view.history) (ap other a.responder.role_is ∙ sym a.initiator.role_is) in
-      let back : split_key last.initiator.view.history (other last.initiator.view.role) ≡ split_key last.responder.view.history last.responder.view.role =
-      ap (λ (r : History). split_key r (other last.initiator.view.role)) (a.initiator.history ∙ sym a.responder.history)
-      ∙ ap (split_key last.responder.view.history) (ap other a.initiator.role_is ∙ sym a.responder.role_is) in
+      let there : split_key last.responder.state.history (other last.responder.state.role) ≡ split_key last.initiator.state.history last.initiator.state.role =
+      ap (λ (r : History). split_key r (other last.responder.state.role)) (a.responder.history ∙ sym a.initiator.history)
+      ∙ ap (split_key last.initiator.state.history) (ap other a.responder.role_is ∙ sym a.initiator.role_is) in
+      let back : split_key last.initiator.state.history (other last.initiator.state.role) ≡ split_key last.responder.state.history last.responder.state.role =
+      ap (λ (r : History). split_key r (other last.initiator.state.role)) (a.initiator.history ∙ sym a.responder.history)
+      ∙ ap (split_key last.responder.state.history) (ap other a.initiator.role_is ∙ sym a.responder.role_is) in
       record {
-        there = pictures.responder.receive_key ∙ ap Some there ∙ sym pictures.initiator.send_key;
-        back = pictures.initiator.receive_key ∙ ap Some back ∙ sym pictures.responder.send_key;
+        there = pictures.responder.receiver.key ∙ ap Some there ∙ sym pictures.initiator.sender.key;
+        back = pictures.initiator.receiver.key ∙ ap Some back ∙ sym pictures.responder.sender.key;
       }
 
 -- ---- with equal hashes
 
 -- what follows of one history, or the position of a clash
-pub or-clash : {A : Type 0} → ClashStands → ClashFound → (d : Sides) → (HaveOneHistory d → A) → HaveOneHistory d ⊎ HistoriesCollide d → A ⊎ HistoriesClash d
-or-clash stands first d one (inl same) = inl (one same)
-or-clash stands first d one (inr (i, c)) =
-    let at = first d.initiator.view.party.history d.responder.view.party.history i c in
-    inr (at.0, at.1, stands d.initiator.view.party.history d.responder.view.party.history at.0 at.1)
+pub or-clash : {A : Type 0} → ClashIsCollision → ClashFound → (d : Sides) → (HaveOneHistory d → A) → HaveOneHistory d ⊎ HistoriesCollide d → A ⊎ HistoriesClash d
+or-clash matches first d one (inl same) = inl (one same)
+or-clash matches first d one (inr (i, c)) =
+    let at = first d.initiator.state.party.history d.responder.state.party.history i c in
+    inr (at.0, at.1, matches d.initiator.state.party.history d.responder.state.party.history at.0 at.1)

@@ -9,35 +9,35 @@ use Rattle.noise_handshake.specs.declared.faults.Cause.{Cause}
 use Rattle.noise_handshake.specs.declared.faults.Cause.TheVariants.{Short, Tag}
 use Rattle.noise_handshake.specs.declared.faults.ReadFault.{ReadFault}
 use Rattle.noise_handshake.specs.declared.faults.ReadFault.TheVariants as read
-use Rattle.noise_handshake.specs.View.{View, Listens, Accepts, Refuses}
-use Rattle.noise_handshake.specs.Party.{DoesNotRead}
-use Rattle.noise_session.specs.Transport.{packet}
-use Rattle.noise_session.specs.Steps.{Told}
-use Rattle.noise_session.specs.Steps.Told.{Dropped, Exhausted}
+use Rattle.noise_handshake.specs.Party.{Party, Listens, Accepts, Refuses}
+use Rattle.noise_handshake.specs.Matching.{DoesNotRead}
+use Rattle.noise_session.specs.Transport.{transport_message}
+use Rattle.noise_session.specs.Steps.{StepValue}
+use Rattle.noise_session.specs.Steps.StepValue.{Dropped, Exhausted}
 use Rattle.noise_session.specs.Progress.{is_open}
-use Rattle.noise_session.specs.Progress.Progress.{Handshaking, Open, Closed}
-use Rattle.noise_session.specs.Ends.{EndView, progress_of}
+use Rattle.noise_session.specs.Progress.Progress.{Handshaking, Open, HasEnded}
+use Rattle.noise_session.specs.Ends.{EndState, progress_of}
 use Rattle.noise_session.specs.Taking.{Judges}
 use Rattle.noise_session.specs.Taking.Judges.{accepted, refused, opened, dropped, exhausted}
 use Rattle.noise_session.specs.Exactly.{Encodes, AcceptedExactly}
-use Rattle.noise_conversation.specs.Exactly.{IsDropped, IsExhausted, ToldExactly, Answers, ReadExactly}
+use Rattle.noise_conversation.specs.Exactly.{IsDropped, HasNoNonce, ReportedExactly, IsReadResult, ReadExactly}
 use Rattle.std.proofs.lemmas.Bool.{eqb-true}
 
 -- ---- an open end has seen all messages of its handshake
 
 open-by : (ended done : Bool) (role : Role) (one_way : Bool) (sent received : ℕ) (pattern : Plan) (passed : ℕ)
-    → IsTrue (is_open (if ended then Closed role else if done then Open role one_way sent received else Handshaking pattern role passed)) → done ≡ true
+    → IsTrue (is_open (if ended then HasEnded role else if done then Open role one_way sent received else Handshaking pattern role passed)) → done ≡ true
 open-by true done role one_way sent received pattern passed h = cc
 open-by false true role one_way sent received pattern passed h = refl
 open-by false false role one_way sent received pattern passed h = cc
 
-pub open-passed : (v : EndView) → IsTrue (is_open (progress_of v)) → v.party.passed ≡ length v.party.pattern.messages
+pub open-passed : (v : EndState) → IsTrue (is_open (progress_of v)) → v.party.passed ≡ length v.party.pattern.messages
 open-passed v opens =
     eqb-true v.party.passed (length v.party.pattern.messages)
     (open-by v.party.ended (v.party.passed == length v.party.pattern.messages) v.party.role
     (is_one_way v.party.pattern) v.sent v.received v.party.pattern v.party.passed opens)
 
-pub none-due : (v : EndView) → IsTrue (is_open (progress_of v)) → v.party.passed < length v.party.pattern.messages → ⊥
+pub none-due : (v : EndState) → IsTrue (is_open (progress_of v)) → v.party.passed < length v.party.pattern.messages → ⊥
 none-due v opens more = let all = open-passed v opens in omega (arith, more, all)
 
 -- ---- what is dropped
@@ -53,55 +53,55 @@ either-way false P Q R m f g = g m
 cause-same : (c d : Cause) → Dropped c ≡ Dropped d → c ≡ d
 cause-same c d e = cc
 
-no-payload : (v : EndView) (message : List ℕ) → IsTrue (is_open (progress_of v))
-    → ((payload : List ℕ) → message ≢ packet v.party.history (other v.party.role) v.interval v.received payload)
+no-payload : (v : EndState) (message : List ℕ) → IsTrue (is_open (progress_of v))
+    → ((payload : List ℕ) → message ≢ transport_message v.party.history (other v.party.role) v.interval v.received payload)
     → (payload : List ℕ) → Encodes v message payload → ⊥
 no-payload v message opens never payload e =
     either-way (is_open (progress_of v)) _ _ ⊥ e (λ h here. never payload here.1) (λ here. none-due v opens (here.1).listens.more)
 
-told-dropped : (v next : EndView) (message : List ℕ) (cause : Cause) (told : Told) → Judges v message told next → told ≡ Dropped cause
+reported-dropped : (v next : EndState) (message : List ℕ) (cause : Cause) (reported : StepValue) → Judges v message reported next → reported ≡ Dropped cause
     → IsDropped v message cause
-told-dropped v next message cause told (accepted _ _ p xs a) e = absurd (cc)
-told-dropped v next message cause told (refused _ _ k c a) e = absurd (cc)
-told-dropped v next message cause told (opened _ _ p opens low is) e = absurd (cc)
-told-dropped v next message cause told (dropped _ _ opens low never) e = record {
+reported-dropped v next message cause reported (accepted _ _ p xs a) e = absurd (cc)
+reported-dropped v next message cause reported (refused _ _ k c a) e = absurd (cc)
+reported-dropped v next message cause reported (opened _ _ p opens low is) e = absurd (cc)
+reported-dropped v next message cause reported (dropped _ _ opens low never) e = record {
   opens = opens;
   nonce = low;
   none = no-payload v message opens never;
   why = sym (cause-same (if nat_lt (length message) 16 then Short else Tag) cause e);
 }
-told-dropped v next message cause told (exhausted _ _ opens last) e = absurd (cc)
+reported-dropped v next message cause reported (exhausted _ _ opens last) e = absurd (cc)
 
-dropped-told : (v next : EndView) (message : List ℕ) (cause : Cause) (told : Told) → Judges v message told next → IsDropped v message cause
-    → told ≡ Dropped cause
-dropped-told v next message cause told (accepted _ _ p xs a) d = absurd (none-due v d.opens a.listens.more)
-dropped-told v next message cause told (refused _ _ k c a) d = absurd (none-due v d.opens a.listens.more)
-dropped-told v next message cause told (opened _ _ p opens low is) d = absurd (d.none p (where-open (is_open (progress_of v)) _ _ opens (low, is)))
-dropped-told v next message cause told (dropped _ _ opens low never) d = ap Dropped (sym d.why)
-dropped-told v next message cause told (exhausted _ _ opens last) d = absurd (d.nonce last)
+dropped-reported : (v next : EndState) (message : List ℕ) (cause : Cause) (reported : StepValue) → Judges v message reported next → IsDropped v message cause
+    → reported ≡ Dropped cause
+dropped-reported v next message cause reported (accepted _ _ p xs a) d = absurd (none-due v d.opens a.listens.more)
+dropped-reported v next message cause reported (refused _ _ k c a) d = absurd (none-due v d.opens a.listens.more)
+dropped-reported v next message cause reported (opened _ _ p opens low is) d = absurd (d.none p (where-open (is_open (progress_of v)) _ _ opens (low, is)))
+dropped-reported v next message cause reported (dropped _ _ opens low never) d = ap Dropped (sym d.why)
+dropped-reported v next message cause reported (exhausted _ _ opens last) d = absurd (d.nonce last)
 
 -- ---- and where no nonce is left
 
-told-exhausted : (v next : EndView) (message : List ℕ) (told : Told) → Judges v message told next → told ≡ Exhausted → IsExhausted v
-told-exhausted v next message told (accepted _ _ p xs a) e = absurd (cc)
-told-exhausted v next message told (refused _ _ k c a) e = absurd (cc)
-told-exhausted v next message told (opened _ _ p opens low is) e = absurd (cc)
-told-exhausted v next message told (dropped _ _ opens low never) e = absurd (cc)
-told-exhausted v next message told (exhausted _ _ opens last) e = record { opens = opens; nonce = last }
+reported-exhausted : (v next : EndState) (message : List ℕ) (reported : StepValue) → Judges v message reported next → reported ≡ Exhausted → HasNoNonce v
+reported-exhausted v next message reported (accepted _ _ p xs a) e = absurd (cc)
+reported-exhausted v next message reported (refused _ _ k c a) e = absurd (cc)
+reported-exhausted v next message reported (opened _ _ p opens low is) e = absurd (cc)
+reported-exhausted v next message reported (dropped _ _ opens low never) e = absurd (cc)
+reported-exhausted v next message reported (exhausted _ _ opens last) e = record { opens = opens; nonce = last }
 
-exhausted-told : (v next : EndView) (message : List ℕ) (told : Told) → Judges v message told next → IsExhausted v → told ≡ Exhausted
-exhausted-told v next message told (accepted _ _ p xs a) x = absurd (none-due v x.opens a.listens.more)
-exhausted-told v next message told (refused _ _ k c a) x = absurd (none-due v x.opens a.listens.more)
-exhausted-told v next message told (opened _ _ p opens low is) x = absurd (low x.nonce)
-exhausted-told v next message told (dropped _ _ opens low never) x = absurd (low x.nonce)
-exhausted-told v next message told (exhausted _ _ opens last) x = refl
+exhausted-reported : (v next : EndState) (message : List ℕ) (reported : StepValue) → Judges v message reported next → HasNoNonce v → reported ≡ Exhausted
+exhausted-reported v next message reported (accepted _ _ p xs a) x = absurd (none-due v x.opens a.listens.more)
+exhausted-reported v next message reported (refused _ _ k c a) x = absurd (none-due v x.opens a.listens.more)
+exhausted-reported v next message reported (opened _ _ p opens low is) x = absurd (low x.nonce)
+exhausted-reported v next message reported (dropped _ _ opens low never) x = absurd (low x.nonce)
+exhausted-reported v next message reported (exhausted _ _ opens last) x = refl
 
-pub told-exactly : AcceptedExactly → ToldExactly
-told-exactly law v next message told j = record {
-  payload = (law v next message told j).payload;
-  refused = (law v next message told j).refused;
-  dropped = λ c. (told-dropped v next message c told j, dropped-told v next message c told j);
-  exhausted = (told-exhausted v next message told j, exhausted-told v next message told j);
+pub reported-exactly : AcceptedExactly → ReportedExactly
+reported-exactly law v next message reported j = record {
+  payload = (law v next message reported j).payload;
+  refused = (law v next message reported j).refused;
+  dropped = λ c. (reported-dropped v next message c reported j, dropped-reported v next message c reported j);
+  exhausted = (reported-exhausted v next message reported j, exhausted-reported v next message reported j);
 }
 
 -- ---- a handshake by itself
@@ -117,40 +117,40 @@ err-same : (x y : ReadFault) (a : Result (List ℕ) ReadFault) → a ≡ Err x �
 err-same x y a e f = let both = sym e ∙ f in cc
 
 -- where a message is due, it isn't accepted only if it is refused
-pub record IsRefused (v : View) (message : List ℕ) (fault : ReadFault) : Type 0 where
+pub record IsRefused (v : Party) (message : List ℕ) (fault : ReadFault) : Type 0 where
   pub token : ℕ
   pub cause : Cause
   pub is : fault ≡ read.Refused token cause
   pub refuses : Refuses v message token cause
 
-declined : (v : View) (message : List ℕ) (fault : ReadFault) → Listens v → DoesNotRead v message fault → IsRefused v message fault
+declined : (v : Party) (message : List ℕ) (fault : ReadFault) → Listens v → DoesNotRead v message fault → IsRefused v message fault
 declined v message read.NotYourTurn l d = absurd (other-apart v.role (turn_from Initiator v.passed) l.turn d.turn)
 declined v message read.Done l d = absurd (omega (arith, l.more, d.1))
 declined v message read.Ended l d = absurd (let going = l.going in cc)
 declined v message (read.Refused token cause) l d = record { token = token; cause = cause; is = refl; refuses = d }
 
-module _ (one : (v : View) (message : List ℕ) (xs ys : List (List ℕ)) (p q : List ℕ) → Accepts v message xs p → Accepts v message ys q
+module _ (one : (v : Party) (message : List ℕ) (xs ys : List (List ℕ)) (p q : List ℕ) → Accepts v message xs p → Accepts v message ys q
     → (xs ≡ ys) × (p ≡ q))
-    (refused-one : (v : View) (message : List ℕ) (k j : ℕ) (c d : Cause) → Refuses v message k c → Refuses v message j d → (k ≡ j) × (c ≡ d))
-    (apart : (v : View) (message : List ℕ) (xs : List (List ℕ)) (p : List ℕ) (k : ℕ) (c : Cause) → Accepts v message xs p → Refuses v message k c → ⊥) where
-  is-payload : (v : View) (message payload : List ℕ) (answer : Result (List ℕ) ReadFault) → Answers v message answer → answer ≡ Ok payload
+    (refused-one : (v : Party) (message : List ℕ) (k j : ℕ) (c d : Cause) → Refuses v message k c → Refuses v message j d → (k ≡ j) × (c ≡ d))
+    (apart : (v : Party) (message : List ℕ) (xs : List (List ℕ)) (p : List ℕ) (k : ℕ) (c : Cause) → Accepts v message xs p → Refuses v message k c → ⊥) where
+  is-payload : (v : Party) (message payload : List ℕ) (answer : Result (List ℕ) ReadFault) → IsReadResult v message answer → answer ≡ Ok payload
       → (xs : List (List ℕ)) × Accepts v message xs payload
   is-payload v message payload (Ok p) a e = (a.0, subst (λ (q : List ℕ). Accepts v message a.0 q) (ok-same p payload (Ok p) refl e) a.1)
   is-payload v message payload (Err f) a e = absurd (cc)
 
-  payload-is : (v : View) (message payload : List ℕ) (answer : Result (List ℕ) ReadFault) → Listens v → Answers v message answer
+  payload-is : (v : Party) (message payload : List ℕ) (answer : Result (List ℕ) ReadFault) → Listens v → IsReadResult v message answer
       → (xs : List (List ℕ)) → Accepts v message xs payload → answer ≡ Ok payload
   payload-is v message payload (Ok p) l a xs b = ap Ok (one v message a.0 xs p payload a.1 b).1
   payload-is v message payload (Err f) l a xs b =
       let r = declined v message f l a in absurd (apart v message xs payload r.token r.cause b r.refuses)
 
-  is-refused : (v : View) (message : List ℕ) (token : ℕ) (cause : Cause) (answer : Result (List ℕ) ReadFault) → Answers v message answer
+  is-refused : (v : Party) (message : List ℕ) (token : ℕ) (cause : Cause) (answer : Result (List ℕ) ReadFault) → IsReadResult v message answer
       → answer ≡ Err (read.Refused token cause) → Refuses v message token cause
   is-refused v message token cause (Ok p) a e = absurd (cc)
   is-refused v message token cause (Err f) a e =
       subst (λ (g : ReadFault). DoesNotRead v message g) (err-same f (read.Refused token cause) (Err f) refl e) a
 
-  refused-is : (v : View) (message : List ℕ) (token : ℕ) (cause : Cause) (answer : Result (List ℕ) ReadFault) → Listens v → Answers v message answer
+  refused-is : (v : Party) (message : List ℕ) (token : ℕ) (cause : Cause) (answer : Result (List ℕ) ReadFault) → Listens v → IsReadResult v message answer
       → Refuses v message token cause → answer ≡ Err (read.Refused token cause)
   refused-is v message token cause (Ok p) l a b = absurd (apart v message a.0 p token cause a.1 b)
   refused-is v message token cause (Err f) l a b =

@@ -4,7 +4,7 @@ use Rattle.std.specs.Prelude.{IsOk, MatchOption}
 use Rattle.noise_keys.specs.declared.faults.SetupFault.{SetupFault}
 use Rattle.noise_conversation.specs.declared.fault.ConversationFault.{ConversationFault}
 use Rattle.noise_conversation.specs.declared.fault.ConversationFault.TheVariants.{Setup, Memory}
-use Rattle.noise_conversation.specs.Setup.{IsFault, or_next}
+use Rattle.noise_conversation.specs.Setup.{IsReportedFault, or_next}
 
 -- where something was made there is no fault, and else it is the one that is reported
 pub none-found : {T : Type 0} (found : Option SetupFault) (result : Result T SetupFault) (value : T) → result ≡ Ok value
@@ -20,15 +20,15 @@ pub one-found : {T : Type 0} (found : Option SetupFault) (result : Result T Setu
 one-found None result fault is m = let bad = rw is at m in cc
 one-found (Some why) result fault is m = ap Some (err-same why fault result m is)
 
-pub first-told : (found next : Option SetupFault) (fault : ConversationFault) → IsFault found fault → IsFault (or_next found next) fault
-first-told None next (Setup why) h = absurd (cc)
-first-told (Some first) next (Setup why) h = h
-first-told found next Memory h = tt
+pub first-reported : (found next : Option SetupFault) (fault : ConversationFault) → IsReportedFault found fault → IsReportedFault (or_next found next) fault
+first-reported None next (Setup why) h = absurd (cc)
+first-reported (Some first) next (Setup why) h = h
+first-reported found next Memory h = tt
 
-pub next-told : (found next : Option SetupFault) (fault : ConversationFault) → found ≡ None → IsFault next fault → IsFault (or_next found next) fault
-next-told None next fault e h = h
-next-told (Some why) next fault e h = absurd (cc)
+pub next-reported : (found next : Option SetupFault) (fault : ConversationFault) → found ≡ None → IsReportedFault next fault → IsReportedFault (or_next found next) fault
+next-reported None next fault e h = h
+next-reported (Some why) next fault e h = absurd (cc)
 
-pub none-told : (found next : Option SetupFault) → found ≡ None → next ≡ None → or_next found next ≡ None
-none-told None next e f = f
-none-told (Some why) next e f = e
+pub none-reported : (found next : Option SetupFault) → found ≡ None → next ≡ None → or_next found next ≡ None
+none-reported None next e f = f
+none-reported (Some why) next e f = e

@@ -9,7 +9,7 @@ use Rattle.noise_names.specs.Plan.{Plan, is_one_way}
 use Rattle.noise_names.specs.Overhead.{overhead_of}
 use Rattle.noise_session.specs.Transport.{last_nonce}
 use Rattle.noise_duel.specs.Conversation.{InTurn, notes_of_lines}
-use Rattle.noise_conversation.specs.Lines.{line_fits, lines_fit_from, untaken}
+use Rattle.noise_conversation.specs.Lines.{line_fits, lines_fit_from, bytes_not_taken}
 use Rattle.std.proofs.lemmas.Bool.{and_parts, ltb-true}
 use Rattle.noise_names.specs.Roles.{same_role-true}
 
@@ -49,14 +49,14 @@ zero-more : (b : Bool) (n : ℕ) → n ≡ 0 → (if b then 0 else 0) + n ≡ 0
 zero-more true n h = omega arith
 zero-more false n h = omega arith
 
-none-two : (role r : Role) (i j : ℕ) (payload : List ℕ) (lines : List (Role × List ℕ)) → untaken role (notes_of_lines (i + 1) j lines) ≡ 0
-    → untaken role (notes_of_lines i (j + 1) lines) ≡ 0 → untaken role (notes_of_lines i j ((r, payload) ∷ lines)) ≡ 0
+none-two : (role r : Role) (i j : ℕ) (payload : List ℕ) (lines : List (Role × List ℕ)) → bytes_not_taken role (notes_of_lines (i + 1) j lines) ≡ 0
+    → bytes_not_taken role (notes_of_lines i (j + 1) lines) ≡ 0 → bytes_not_taken role (notes_of_lines i j ((r, payload) ∷ lines)) ≡ 0
 none-two role Initiator i j payload lines f g = zero-more (same_role Initiator role) _ (zero-more (same_role Responder role) _ f)
 none-two role Responder i j payload lines f g = zero-more (same_role Responder role) _ (zero-more (same_role Initiator role) _ g)
 
-pub none-untaken : (role : Role) (i j : ℕ) (lines : List (Role × List ℕ)) → untaken role (notes_of_lines i j lines) ≡ 0
-none-untaken role i j [] = refl
-none-untaken role i j (l ∷ lines) = none-two role l.0 i j l.1 lines (none-untaken role (i + 1) j lines) (none-untaken role i (j + 1) lines)
+pub none-left-ended_party : (role : Role) (i j : ℕ) (lines : List (Role × List ℕ)) → bytes_not_taken role (notes_of_lines i j lines) ≡ 0
+none-left-ended_party role i j [] = refl
+none-left-ended_party role i j (l ∷ lines) = none-two role l.0 i j l.1 lines (none-left-ended_party role (i + 1) j lines) (none-left-ended_party role i (j + 1) lines)
 
 turn-suc : (party : Role) (n : ℕ) → turn_from party (suc n) ≡ other (turn_from party n)
 turn-suc party zero = refl

@@ -1,4 +1,4 @@
--- What a report tells of payloads and keys, from what agreement says of the run.
+-- What a report reports of payloads and keys, from what agreement says of the run.
 use Rattle.std.proofs.Common.{◌≡◌, ℕ, ◌+◌, List, [], ◌∷◌, ◌++◌, length, map, take, drop, refl, ap, sym, subst, ◌∙◌, arith, inl, inr, append_assoc, length-append, Option, Some, None}
 use Rattle.std.proofs.Math.Seq.{take-append-add}
 use Rattle.std.proofs.lemmas.List.{length-map}
@@ -12,20 +12,20 @@ use Rattle.noise_keys.specs.declared.keys.Own.{Own}
 use Rattle.noise_state.specs.History.{History, hash}
 use Rattle.noise_session.specs.declared.phase.Phase.{Phase}
 use Rattle.noise_session.specs.declared.phase.Phase.TheVariants as phase
-use Rattle.noise_session.specs.Ends.{EndView, PhaseStands, session_hash}
+use Rattle.noise_session.specs.Ends.{EndState, PhaseMatches, session_hash}
 use Rattle.noise_session.specs.Frames.{frame}
-use Rattle.noise_session.specs.Transport.{packet, transport_key}
-use Rattle.noise_duel.specs.Forgery.{ForgedAt, PrefixOrForged, contents, in_stream}
-use Rattle.noise_duel.specs.Invariant.{EndsStand}
+use Rattle.noise_session.specs.Transport.{transport_message, transport_key}
+use Rattle.noise_duel.specs.Forgery.{ForgedMessage, PrefixOrForgedMessage, contents, in_stream}
+use Rattle.noise_duel.specs.Invariant.{EndsComeOfMessages}
 use Rattle.noise_duel.specs.Messages.{HandshakeMessage}
-use Rattle.noise_duel.specs.Networks.{HaveOneHistory, PayloadsAgree, PayloadsCome, SecretsMakeOne}
+use Rattle.noise_duel.specs.Networks.{HaveOneHistory, PayloadsAgree, PayloadsCome, PsksMakeOne}
 use Rattle.noise_duel.specs.Notes.{Note}
 use Rattle.noise_duel.specs.OwnFrames.{EndsFrame, own_messages}
 use Rattle.noise_duel.specs.Reports.{receive_key_in, send_key_in}
 use Rattle.noise_duel.specs.Sides.{Side, TransportMessage}
-use Rattle.noise_conversation.specs.Entries.{turns_of, ForgedFrame, FrontOrForged, EntriesAgree, EntriesCome, KeysMeet, KeysCome}
-use Rattle.noise_conversation.specs.Payloads.{own_payloads, told_to, written_by}
-use Rattle.noise_conversation.proofs.Payloads.{Kept, ends-kept, payloads-are-told}
+use Rattle.noise_conversation.specs.Entries.{turns_of, ForgedFrame, PrefixOrForgedFrame, EntriesAgree, EntriesCome, KeysMeet, KeysCome}
+use Rattle.noise_conversation.specs.Payloads.{own_payloads, reported_to, written_by}
+use Rattle.noise_conversation.proofs.Payloads.{Unchanged, ends-unchanged, payloads-are-reported}
 use Rattle.noise_conversation.proofs.Places.{placed}
 use Rattle.std.proofs.lemmas.Bool.{eqb-true}
 
@@ -109,8 +109,8 @@ with_message message payload = record { message = message; payload = payload }
 module _ (r : History) (writer : Role) (interval opening : ℕ) (frames mine own written : List (List ℕ)) (notes : List (Role × Note))
     (sent received : List TransportMessage) where
   front-or-forged : frames ≡ map frame (mine ++ map (λ (m : TransportMessage). m.message) sent) → opening ≡ length mine → opening ≡ length own
-      → written ≡ own ++ contents sent → told_to (other writer) notes ≡ own ++ contents received → PrefixOrForged r writer interval sent received
-      → FrontOrForged r writer interval opening frames received written notes
+      → written ≡ own ++ contents sent → reported_to (other writer) notes ≡ own ++ contents received → PrefixOrForgedMessage r writer interval sent received
+      → PrefixOrForgedFrame r writer interval opening frames received written notes
   front-or-forged f m o w t agree = elim agree [
     | inl front ↦ inl (
       front.0,
@@ -120,19 +120,19 @@ module _ (r : History) (writer : Role) (interval opening : ℕ) (frames mine own
     | inr forged ↦ inr (forged.0 + opening, before forged.0 forged.1, at forged.0 forged.2)
   ]
     where
-      before : (n : ℕ) → take n (contents received) ≡ take n (contents sent) → take (n + opening) (told_to (other writer) notes) ≡ take (n + opening) written
+      before : (n : ℕ) → take n (contents received) ≡ take n (contents sent) → take (n + opening) (reported_to (other writer) notes) ≡ take (n + opening) written
       before n e =
           let same : n + opening ≡ length own + n = omega (arith, o) in
-          ap (λ (k : ℕ). take k (told_to (other writer) notes)) same ∙ ap (take (length own + n)) t ∙ take-after own (contents received) (contents sent) n e
+          ap (λ (k : ℕ). take k (reported_to (other writer) notes)) same ∙ ap (take (length own + n)) t ∙ take-after own (contents received) (contents sent) n e
           ∙ ap (take (length own + n)) (sym w) ∙ ap (λ (k : ℕ). take k written) (sym same)
 
-      at : (n : ℕ) → ForgedAt r writer interval (in_stream sent) (in_stream received) n
+      at : (n : ℕ) → ForgedMessage r writer interval (in_stream sent) (in_stream received) n
           → ForgedFrame r writer interval opening frames received notes (n + opening)
       at n forged =
           let same : n + opening ≡ length own + n = omega (arith, o) in
           let turned : n + opening ≡ opening + n = omega arith in
-          let there : slice_get (told_to (other writer) notes) (n + opening) ≡ Some forged.forged.payload =
-          ap (slice_get (told_to (other writer) notes)) same ∙ ap (λ (z : List (List ℕ)). slice_get z (length own + n)) t
+          let there : slice_get (reported_to (other writer) notes) (n + opening) ≡ Some forged.forged.payload =
+          ap (slice_get (reported_to (other writer) notes)) same ∙ ap (λ (z : List (List ℕ)). slice_get z (length own + n)) t
           ∙ get-after own (contents received) n ∙ slice_get-map (λ (z : TransportMessage). z.payload) received n
           ∙ ap (option_map (λ (z : TransportMessage). z.payload)) forged.came in
           let p = placed (other writer) notes (n + opening) forged.forged.payload there in
@@ -140,20 +140,20 @@ module _ (r : History) (writer : Role) (interval opening : ℕ) (frames mine own
             payload = forged.forged.payload;
             nonce = n;
             number = turned;
-            came = forged.came ∙ ap (λ (m : List ℕ). Some (with_message m forged.forged.payload)) forged.packet_at;
+            came = forged.came ∙ ap (λ (m : List ℕ). Some (with_message m forged.forged.payload)) forged.message_at;
             place = p.0;
             is_at = p.1;
             entry = there;
             unwritten = λ e.
-                let sealed = frame-after mine sent frames opening n (packet r writer interval n forged.forged.payload) f m
+                let sealed = frame-after mine sent frames opening n (transport_message r writer interval n forged.forged.payload) f m
                 (sym (ap (slice_get frames) turned) ∙ e) in
-                forged.unwritten sealed.0 sealed.1 (sealed.2 ∙ sym forged.packet_at);
+                forged.unwritten sealed.0 sealed.1 (sealed.2 ∙ sym forged.message_at);
           }
 
 -- ---- both ends
 
--- an end that tells a hash has seen all messages
-hashed : (v : EndView) (h : List ℕ) → session_hash v ≡ Some h → v.party.passed ≡ length v.party.pattern.messages
+-- an end that reports a hash has seen all messages
+hashed : (v : EndState) (h : List ℕ) → session_hash v ≡ Some h → v.party.passed ≡ length v.party.pattern.messages
 hashed v h e = by (v.party.passed == length v.party.pattern.messages) refl e
   where
     by : (b : Bool) → (v.party.passed == length v.party.pattern.messages) ≡ b → (if b then Some (hash v.party.history) else None) ≡ Some h
@@ -161,15 +161,15 @@ hashed v h e = by (v.party.passed == length v.party.pattern.messages) refl e
     by true f g = eqb-true v.party.passed (length v.party.pattern.messages) f
     by false f g = absurd (cc)
 
-all-passed : (p : Plan) (role : Role) (s : Side) (h : List ℕ) → Kept p role s → session_hash s.view ≡ Some h → length s.passed ≡ length p.messages
-all-passed p role s h k e = k.count ∙ hashed s.view h e ∙ ap (λ (q : Plan). length q.messages) k.pattern_is
+all-passed : (p : Plan) (role : Role) (s : Side) (h : List ℕ) → Unchanged p role s → session_hash s.state ≡ Some h → length s.passed ≡ length p.messages
+all-passed p role s h k e = k.count ∙ hashed s.state h e ∙ ap (λ (q : Plan). length q.messages) k.pattern_is
 
-module _ (framed : EndsFrame) (one : SecretsMakeOne) (come : PayloadsCome) where
+module _ (framed : EndsFrame) (one : PsksMakeOne) (come : PayloadsCome) where
   pub entries-come : EntriesCome
-  entries-come p a b interval events notes d run hashes secrets =
-      elim (one p a b interval interval events notes d run hashes secrets) [
+  entries-come p a b interval events notes d run hashes psks =
+      elim (one p a b interval interval events notes d run hashes psks) [
         | inr clash ↦ inr clash
-        | inl history ↦ elim (come p a b interval events notes d run hashes secrets) [
+        | inl history ↦ elim (come p a b interval events notes d run hashes psks) [
           | inr clash ↦ inr clash
           | inl agree ↦ inl (entries history agree)
         ]
@@ -178,93 +178,93 @@ module _ (framed : EndsFrame) (one : SecretsMakeOne) (come : PayloadsCome) where
       entries : HaveOneHistory d → PayloadsAgree interval d
           → EntriesAgree p interval events notes d.initiator.frames d.responder.frames d
       entries history agree =
-          let k = ends-kept p a b interval interval events notes d run in
+          let k = ends-unchanged p a b interval interval events notes d run in
           let f = framed p a b interval interval events notes d run in
-          let t = payloads-are-told p a b interval interval events notes d run in
+          let t = payloads-are-reported p a b interval interval events notes d run in
           let ps : List HandshakeMessage = d.initiator.passed in
           let qs : List HandshakeMessage = d.responder.passed in
           let all : length ps ≡ length p.messages = all-passed p Initiator d.initiator hashes.hash k.0 hashes.initiator in
           let also : length qs ≡ length p.messages = all-passed p Responder d.responder hashes.hash k.1 hashes.responder in
           record {
-            there = front-or-forged d.initiator.view.party.history Initiator interval (turns_of Initiator (length p.messages)) d.initiator.frames
+            there = front-or-forged d.initiator.state.party.history Initiator interval (turns_of Initiator (length p.messages)) d.initiator.frames
                 (own_messages Initiator 0 ps) (own_payloads Initiator 0 ps) (written_by Initiator events notes) notes
                 d.initiator.sent d.responder.received
                 (f.0 ∙ ap (λ (r : Role). map frame (own_messages r 0 ps ++ map (λ (m : TransportMessage). m.message) d.initiator.sent)) k.0.role_is)
                 (own-count Initiator ps (length p.messages) all ∙ sym (own-as-many Initiator 0 ps)) (own-count Initiator ps (length p.messages) all)
                 t.0.written
-                (t.1.told ∙ ap (λ (ms : List HandshakeMessage). own_payloads Initiator 0 ms ++ contents d.responder.received) (sym history.passed))
+                (t.1.reported ∙ ap (λ (ms : List HandshakeMessage). own_payloads Initiator 0 ms ++ contents d.responder.received) (sym history.passed))
                 agree.there;
-            back = front-or-forged d.initiator.view.party.history Responder interval (turns_of Responder (length p.messages)) d.responder.frames
+            back = front-or-forged d.initiator.state.party.history Responder interval (turns_of Responder (length p.messages)) d.responder.frames
                 (own_messages Responder 0 qs) (own_payloads Responder 0 qs) (written_by Responder events notes) notes
                 d.responder.sent d.initiator.received
                 (f.1 ∙ ap (λ (r : Role). map frame (own_messages r 0 qs ++ map (λ (m : TransportMessage). m.message) d.responder.sent)) k.1.role_is)
                 (own-count Responder qs (length p.messages) also ∙ sym (own-as-many Responder 0 qs)) (own-count Responder qs (length p.messages) also)
                 t.1.written
-                (t.0.told ∙ ap (λ (ms : List HandshakeMessage). own_payloads Responder 0 ms ++ contents d.initiator.received) history.passed)
-                (let P : History → Type 0 = λ r. PrefixOrForged r Responder interval d.responder.sent d.initiator.received in
+                (t.0.reported ∙ ap (λ (ms : List HandshakeMessage). own_payloads Responder 0 ms ++ contents d.initiator.received) history.passed)
+                (let P : History → Type 0 = λ r. PrefixOrForgedMessage r Responder interval d.responder.sent d.initiator.received in
                 subst P (sym history.history) agree.back);
           }
 
 -- ---- keys
 
 module _ {K : Type 0} (public_of : K → Own → Option (List ℕ)) (agreement : K → Own → List ℕ → Option (List ℕ)) where
-  sending-key : (x : Phase K) (v : EndView) (k : List ℕ) → PhaseStands public_of agreement x v → send_key_in x ≡ Some k
+  sending-key : (x : Phase K) (v : EndState) (k : List ℕ) → PhaseMatches public_of agreement x v → send_key_in x ≡ Some k
       → k ≡ transport_key v.party.history v.party.role v.interval v.sent
   sending-key (phase.Handshaking h i) v k s e = absurd (cc)
-  sending-key (phase.Open t) v k s e = let is = s.transport.send_key in cc
+  sending-key (phase.Open t) v k s e = let is = s.transport.sender.key in cc
   sending-key (phase.Ended r o) v k s e = absurd (cc)
 
-  receiving-key : (x : Phase K) (v : EndView) (k : List ℕ) → PhaseStands public_of agreement x v → receive_key_in x ≡ Some k
+  receiving-key : (x : Phase K) (v : EndState) (k : List ℕ) → PhaseMatches public_of agreement x v → receive_key_in x ≡ Some k
       → k ≡ transport_key v.party.history (other v.party.role) v.interval v.received
   receiving-key (phase.Handshaking h i) v k s e = absurd (cc)
-  receiving-key (phase.Open t) v k s e = let is = s.transport.receive_key in cc
+  receiving-key (phase.Open t) v k s e = let is = s.transport.receiver.key in cc
   receiving-key (phase.Ended r o) v k s e = absurd (cc)
 
 -- as many were received as were sent
-as-many : (own written told : List (List ℕ)) (sent received : List TransportMessage) (n m : ℕ) → written ≡ own ++ contents sent
-    → told ≡ own ++ contents received → length told ≡ length written → n ≡ length sent → m ≡ length received → m ≡ n
-as-many own written told sent received n m w t e f g =
+as-many : (own written reported : List (List ℕ)) (sent received : List TransportMessage) (n m : ℕ) → written ≡ own ++ contents sent
+    → reported ≡ own ++ contents received → length reported ≡ length written → n ≡ length sent → m ≡ length received → m ≡ n
+as-many own written reported sent received n m w t e f g =
     let a = ap length w ∙ length-append own (contents sent) in
     let b = ap length t ∙ length-append own (contents received) in
     let c : length (contents sent) ≡ length sent = simp length-map in
     let d : length (contents received) ≡ length received = simp length-map in
     omega (arith, a, b, c, d, e, f, g)
 
-keys-same : (v w : EndView) (k l : List ℕ) → k ≡ transport_key v.party.history v.party.role v.interval v.sent
+keys-same : (v w : EndState) (k l : List ℕ) → k ≡ transport_key v.party.history v.party.role v.interval v.sent
     → l ≡ transport_key w.party.history (other w.party.role) w.interval w.received
     → w.party.history ≡ v.party.history → other w.party.role ≡ v.party.role → w.interval ≡ v.interval → w.received ≡ v.sent → l ≡ k
 keys-same v w k l e f history role interval count = cc
 
 module _ {A B : Type 0} (public_a : A → Own → Option (List ℕ)) (agreement_a : A → Own → List ℕ → Option (List ℕ))
-    (public_b : B → Own → Option (List ℕ)) (agreement_b : B → Own → List ℕ → Option (List ℕ)) (stand : EndsStand) (one : SecretsMakeOne) where
+    (public_b : B → Own → Option (List ℕ)) (agreement_b : B → Own → List ℕ → Option (List ℕ)) (stand : EndsComeOfMessages) (one : PsksMakeOne) where
   pub keys-come : KeysCome public_a agreement_a public_b agreement_b
-  keys-come p a b interval events notes d duel run stands hashes secrets =
-      elim (one p a b interval interval events notes d run hashes secrets) [
+  keys-come p a b interval events notes d duel run matches hashes psks =
+      elim (one p a b interval interval events notes d run hashes psks) [
         | inr clash ↦ inr clash
         | inl history ↦ inl (keys history)
       ]
     where
       keys : HaveOneHistory d → KeysMeet events notes duel
       keys history =
-          let n = ends-kept p a b interval interval events notes d run in
-          let t = payloads-are-told p a b interval interval events notes d run in
+          let n = ends-unchanged p a b interval interval events notes d run in
+          let t = payloads-are-reported p a b interval interval events notes d run in
           let s = stand p a b interval interval events notes d run in
-          let same : d.responder.view.interval ≡ d.initiator.view.interval = s.1.interval_is ∙ sym s.0.interval_is in
+          let same : d.responder.state.interval ≡ d.initiator.state.interval = s.1.interval_is ∙ sym s.0.interval_is in
           record {
-            there = λ e k l f g. keys-same d.initiator.view d.responder.view k l
-                (sending-key public_a agreement_a duel.initiator.phase d.initiator.view k stands.initiator.phase f)
-                (receiving-key public_b agreement_b duel.responder.phase d.responder.view l stands.responder.phase g)
+            there = λ e k l f g. keys-same d.initiator.state d.responder.state k l
+                (sending-key public_a agreement_a duel.initiator.phase d.initiator.state k matches.initiator.phase f)
+                (receiving-key public_b agreement_b duel.responder.phase d.responder.state l matches.responder.phase g)
                 (sym history.history) (ap other n.1.role_is ∙ sym n.0.role_is) same
-                (as-many (own_payloads Initiator 0 d.initiator.passed) (written_by Initiator events notes) (told_to Responder notes)
-                d.initiator.sent d.responder.received d.initiator.view.sent d.responder.view.received t.0.written
-                (t.1.told ∙ ap (λ (ms : List HandshakeMessage). own_payloads Initiator 0 ms ++ contents d.responder.received) (sym history.passed))
+                (as-many (own_payloads Initiator 0 d.initiator.passed) (written_by Initiator events notes) (reported_to Responder notes)
+                d.initiator.sent d.responder.received d.initiator.state.sent d.responder.state.received t.0.written
+                (t.1.reported ∙ ap (λ (ms : List HandshakeMessage). own_payloads Initiator 0 ms ++ contents d.responder.received) (sym history.passed))
                 e s.0.sending s.1.receiving);
-            back = λ e k l f g. keys-same d.responder.view d.initiator.view k l
-                (sending-key public_b agreement_b duel.responder.phase d.responder.view k stands.responder.phase f)
-                (receiving-key public_a agreement_a duel.initiator.phase d.initiator.view l stands.initiator.phase g)
+            back = λ e k l f g. keys-same d.responder.state d.initiator.state k l
+                (sending-key public_b agreement_b duel.responder.phase d.responder.state k matches.responder.phase f)
+                (receiving-key public_a agreement_a duel.initiator.phase d.initiator.state l matches.initiator.phase g)
                 history.history (ap other n.0.role_is ∙ sym n.1.role_is) (sym same)
-                (as-many (own_payloads Responder 0 d.responder.passed) (written_by Responder events notes) (told_to Initiator notes)
-                d.responder.sent d.initiator.received d.responder.view.sent d.initiator.view.received t.1.written
-                (t.0.told ∙ ap (λ (ms : List HandshakeMessage). own_payloads Responder 0 ms ++ contents d.initiator.received) history.passed)
+                (as-many (own_payloads Responder 0 d.responder.passed) (written_by Responder events notes) (reported_to Initiator notes)
+                d.responder.sent d.initiator.received d.responder.state.sent d.initiator.state.received t.1.written
+                (t.0.reported ∙ ap (λ (ms : List HandshakeMessage). own_payloads Responder 0 ms ++ contents d.initiator.received) history.passed)
                 e s.1.sending s.0.receiving);
           }

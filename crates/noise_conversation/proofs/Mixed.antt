@@ -9,11 +9,11 @@ use Rattle.sha2.specs.Sha256.{sha256}
 use Rattle.noise_kdf.specs.Hkdf.{second_output}
 use Rattle.noise_state.specs.declared.symmetric.SymmetricState.{SymmetricState}
 use Rattle.noise_state.specs.History.{History, Entry, MixHash, Ciphertext, MixKey, MixKeyAndHash, and_then, chaining_key_of, hash, hash_of}
-use Rattle.noise_state.specs.Standing.{StateStands}
-use Rattle.noise_duel.specs.Clash.{ClashStands, clash_position, first_clash}
+use Rattle.noise_state.specs.Standing.{StateMatches}
+use Rattle.noise_duel.specs.Clash.{ClashIsCollision, clash_position, first_clash}
 use Rattle.noise_duel.specs.Collision.{hash_texts, hash_texts_of, hashed, hashed_of}
 use Rattle.noise_duel.specs.Entries.{bytes_of}
-use Rattle.noise_conversation.specs.declared.clashing.HashClash.{HashClash}
+use Rattle.noise_conversation.specs.declared.clash.HashClash.{HashClash}
 use Rattle.noise_conversation.specs.Mixed.{HasMixed, IsHashClash}
 
 -- the history of a name that mixed these texts and nothing else, the newest first
@@ -52,20 +52,20 @@ has-mixed name xs = record { named = refl; mixed = hashed-mixing name (reverse x
 
 -- After these pieces the state and the texts are those of the history that mixed them.
 pub record Mixes (name : List ℕ) (pieces : List (Vec ℕ Global)) (state : SymmetricState) (texts : List (Vec ℕ Global)) : Type 0 where
-  pub stands : StateStands state (mixing name (reverse (bytes_of pieces)))
+  pub matches : StateMatches state (mixing name (reverse (bytes_of pieces)))
   pub texts_are : bytes_of texts ≡ hash_texts (mixing name (reverse (bytes_of pieces)))
 
 pub mixes-more : (name : List ℕ) (pieces texts : List (Vec ℕ Global)) (piece text : Vec ℕ Global) (old new : SymmetricState) (h : List ℕ)
     → Mixes name pieces old texts → h ≡ hash (mixing name (reverse (bytes_of pieces))) → text.items ≡ h ++ piece.items
-    → StateStands new (and_then (mixing name (reverse (bytes_of pieces))) (MixHash piece.items))
+    → StateMatches new (and_then (mixing name (reverse (bytes_of pieces))) (MixHash piece.items))
     → Mixes name (pieces ++ piece ∷ []) new (texts ++ text ∷ [])
-mixes-more name pieces texts piece text old new h mixes is-hash is-text stands =
+mixes-more name pieces texts piece text old new h mixes is-hash is-text matches =
     let r : History = mixing name (reverse (bytes_of pieces)) in
     let items : Vec ℕ Global → List ℕ = λ f. f.items in
     let more : reverse (bytes_of (pieces ++ piece ∷ [])) ≡ piece.items ∷ reverse (bytes_of pieces) =
     ap (λ (xs : List (List ℕ)). reverse xs) (map-append items pieces (piece ∷ [])) ∙ reverse-append (bytes_of pieces) (piece.items ∷ []) in
     record {
-      stands = subst (λ (xs : List (List ℕ)). StateStands new (mixing name xs)) (sym more) stands;
+      matches = subst (λ (xs : List (List ℕ)). StateMatches new (mixing name xs)) (sym more) matches;
       texts_are =
           map-append items texts (text ∷ [])
           ∙ ap (λ (ts : List (List ℕ)). ts ++ text.items ∷ []) mixes.texts_are
@@ -96,19 +96,19 @@ got xs i v h e =
     slice_get-map (λ (f : Vec ℕ Global). f.items) xs i
     ∙ ap (λ (o : Option (Vec ℕ Global)). option_map (λ (f : Vec ℕ Global). f.items) o) (slice_get_read xs (length xs) i v refl h e)
 
-pub both-within : ClashStands → (r s : History) (i : ℕ) (fs gs : List (Vec ℕ Global)) → bytes_of fs ≡ hash_texts r → bytes_of gs ≡ hash_texts s
+pub both-within : ClashIsCollision → (r s : History) (i : ℕ) (fs gs : List (Vec ℕ Global)) → bytes_of fs ≡ hash_texts r → bytes_of gs ≡ hash_texts s
     → clash_position r s ≡ Some i → (i < length fs) × (i < length gs)
-both-within stands r s i fs gs e f at =
-    let both = stands r s i at in (
+both-within matches r s i fs gs e f at =
+    let both = matches r s i at in (
       within fs i both.left (subst (λ (xs : List (List ℕ)). slice_get xs i ≡ Some both.left) (sym e) both.at_left),
       within gs i both.right (subst (λ (xs : List (List ℕ)). slice_get xs i ≡ Some both.right) (sym f) both.at_right),
     )
 
-pub is-hash-clash : ClashStands → (r s : History) (c : HashClash) (fs gs : List (Vec ℕ Global)) → bytes_of fs ≡ hash_texts r → bytes_of gs ≡ hash_texts s
+pub is-hash-clash : ClashIsCollision → (r s : History) (c : HashClash) (fs gs : List (Vec ℕ Global)) → bytes_of fs ≡ hash_texts r → bytes_of gs ≡ hash_texts s
     → clash_position r s ≡ Some c.position → c.position < length fs → c.position < length gs
     → c.left ≡ get_or fs c.position c.left → c.right ≡ get_or gs c.position c.right → IsHashClash r s c
-is-hash-clash stands r s c fs gs e f at in-left in-right left right =
-    let both = stands r s c.position at in
+is-hash-clash matches r s c fs gs e f at in-left in-right left right =
+    let both = matches r s c.position at in
     let at-left = subst (λ (xs : List (List ℕ)). slice_get xs c.position ≡ Some c.left.items) e (got fs c.position c.left in-left left) in
     let at-right = subst (λ (xs : List (List ℕ)). slice_get xs c.position ≡ Some c.right.items) f (got gs c.position c.right in-right right) in
     let is-left : both.left ≡ c.left.items = same_Some both.left c.left.items (sym both.at_left ∙ at-left) in

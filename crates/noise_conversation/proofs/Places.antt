@@ -6,25 +6,25 @@ use Rattle.std.specs.Prelude.{slice_get, if◌then◌else◌}
 use Rattle.noise_names.specs.declared.token.Role.{Role}
 use Rattle.noise_names.specs.declared.token.Role.TheVariants.{Initiator, Responder}
 use Rattle.noise_names.specs.Tokens.{same_role}
-use Rattle.noise_session.specs.Steps.{Told}
-use Rattle.noise_session.specs.Steps.Told.{Ended, YourTurn, Silent, More, Payload, Dropped, Refused, Exhausted}
+use Rattle.noise_session.specs.Steps.{StepValue}
+use Rattle.noise_session.specs.Steps.StepValue.{Ended, YourTurn, Silent, More, Payload, Dropped, Refused, Exhausted}
 use Rattle.noise_duel.specs.Notes.{Note, Wrote, WriteFault, Judged, Left, Missing, Held}
 use Rattle.noise_conversation.specs.Entries.{IsPayloadAt}
-use Rattle.noise_conversation.specs.Payloads.{about, payload_told, told_to}
+use Rattle.noise_conversation.specs.Payloads.{notes_about, payload_reported, reported_to}
 use Rattle.std.proofs.lemmas.Option.{same_Some}
 
--- what one note tells a role
-abbrev told_by : Role → Role × Note → List (List ℕ)
-told_by role n = flat_map payload_told (if same_role n.0 role then n.1 ∷ [] else [])
+-- what one note reports a role
+abbrev reported_by : Role → Role × Note → List (List ℕ)
+reported_by role n = flat_map payload_reported (if same_role n.0 role then n.1 ∷ [] else [])
 
-told-more : (role : Role) (n : Role × Note) (notes : List (Role × Note)) → told_to role (n ∷ notes) ≡ told_by role n ++ told_to role notes
-told-more role n notes = flat_map-append payload_told (if same_role n.0 role then n.1 ∷ [] else []) (about role notes)
+reported-more : (role : Role) (n : Role × Note) (notes : List (Role × Note)) → reported_to role (n ∷ notes) ≡ reported_by role n ++ reported_to role notes
+reported-more role n notes = flat_map-append payload_reported (if same_role n.0 role then n.1 ∷ [] else []) (notes_about role notes)
 
 -- it is no payload, or one
 abbrev OneOrNone : Role → Role × Note → Type 0
-OneOrNone role n = (told_by role n ≡ []) ⊎ ((payload : List ℕ) × (n ≡ (role, Judged (Payload payload))) × (told_by role n ≡ payload ∷ []))
+OneOrNone role n = (reported_by role n ≡ []) ⊎ ((payload : List ℕ) × (n ≡ (role, Judged (Payload payload))) × (reported_by role n ≡ payload ∷ []))
 
-own-step : (role : Role) (step : Told) → OneOrNone role (role, Judged step)
+own-step : (role : Role) (step : StepValue) → OneOrNone role (role, Judged step)
 own-step Initiator (Payload payload) = inr (payload, refl, refl)
 own-step Initiator Ended = inl refl
 own-step Initiator YourTurn = inl refl
@@ -65,42 +65,42 @@ none-some : {X : Type 0} (x : X) → None ≡ Some x → ⊥
 none-some x e = cc
 
 -- past a note that is no payload
-past : (role : Role) (n : Role × Note) (notes : List (Role × Note)) (i : ℕ) (payload : List ℕ) → told_by role n ≡ []
+past : (role : Role) (n : Role × Note) (notes : List (Role × Note)) (i : ℕ) (payload : List ℕ) → reported_by role n ≡ []
     → ((place : ℕ) × IsPayloadAt role notes i place payload) → (place : ℕ) × IsPayloadAt role (n ∷ notes) i place payload
 past role n notes i payload none p =
-    let later : told_to role (n ∷ take p.0 notes) ≡ told_to role (take p.0 notes) =
-    told-more role n (take p.0 notes) ∙ ap (λ (z : List (List ℕ)). z ++ told_to role (take p.0 notes)) none in
+    let later : reported_to role (n ∷ take p.0 notes) ≡ reported_to role (take p.0 notes) =
+    reported-more role n (take p.0 notes) ∙ ap (λ (z : List (List ℕ)). z ++ reported_to role (take p.0 notes)) none in
     (suc p.0, record { entry = p.1.entry; before = ap length later ∙ p.1.before })
 
-told-one : (role : Role) (n : Role × Note) (notes : List (Role × Note)) (first : List ℕ) → told_by role n ≡ first ∷ []
-    → told_to role (n ∷ notes) ≡ first ∷ told_to role notes
-told-one role n notes first one = told-more role n notes ∙ ap (λ (z : List (List ℕ)). z ++ told_to role notes) one
+reported-one : (role : Role) (n : Role × Note) (notes : List (Role × Note)) (first : List ℕ) → reported_by role n ≡ first ∷ []
+    → reported_to role (n ∷ notes) ≡ first ∷ reported_to role notes
+reported-one role n notes first one = reported-more role n notes ∙ ap (λ (z : List (List ℕ)). z ++ reported_to role notes) one
 
 -- past one
-past-one : (role : Role) (n : Role × Note) (notes : List (Role × Note)) (i : ℕ) (payload first : List ℕ) → told_by role n ≡ first ∷ []
+past-one : (role : Role) (n : Role × Note) (notes : List (Role × Note)) (i : ℕ) (payload first : List ℕ) → reported_by role n ≡ first ∷ []
     → ((place : ℕ) × IsPayloadAt role notes i place payload) → (place : ℕ) × IsPayloadAt role (n ∷ notes) (suc i) place payload
 past-one role n notes i payload first one p =
-    (suc p.0, record { entry = p.1.entry; before = ap length (told-one role n (take p.0 notes) first one) ∙ ap suc p.1.before })
+    (suc p.0, record { entry = p.1.entry; before = ap length (reported-one role n (take p.0 notes) first one) ∙ ap suc p.1.before })
 
 -- the place of the payload of this number
-pub placed : (role : Role) (notes : List (Role × Note)) (i : ℕ) (payload : List ℕ) → slice_get (told_to role notes) i ≡ Some payload
+pub placed : (role : Role) (notes : List (Role × Note)) (i : ℕ) (payload : List ℕ) → slice_get (reported_to role notes) i ≡ Some payload
     → (place : ℕ) × IsPayloadAt role notes i place payload
 placed role [] i payload e = absurd (none-some payload e)
 placed role (n ∷ notes) zero payload e = elim (one-or-none role n.0 n.1) [
   | inl none ↦ past role n notes zero payload none (placed role notes zero payload
-      (sym (ap (λ (z : List (List ℕ)). slice_get z zero) (told-more role n notes ∙ ap (λ (z : List (List ℕ)). z ++ told_to role notes) none)) ∙ e))
+      (sym (ap (λ (z : List (List ℕ)). slice_get z zero) (reported-more role n notes ∙ ap (λ (z : List (List ℕ)). z ++ reported_to role notes) none)) ∙ e))
   | inr one ↦ (
     zero,
     record {
       entry = ap Some one.1 ∙ ap (λ (z : List ℕ). Some (role, Judged (Payload z)))
-          (same_Some one.0 payload (sym (ap (λ (z : List (List ℕ)). slice_get z zero) (told-one role n notes one.0 one.2)) ∙ e));
+          (same_Some one.0 payload (sym (ap (λ (z : List (List ℕ)). slice_get z zero) (reported-one role n notes one.0 one.2)) ∙ e));
       before = refl;
     },
   )
 ]
 placed role (n ∷ notes) (suc i) payload e = elim (one-or-none role n.0 n.1) [
   | inl none ↦ past role n notes (suc i) payload none (placed role notes (suc i) payload
-      (sym (ap (λ (z : List (List ℕ)). slice_get z (suc i)) (told-more role n notes ∙ ap (λ (z : List (List ℕ)). z ++ told_to role notes) none)) ∙ e))
+      (sym (ap (λ (z : List (List ℕ)). slice_get z (suc i)) (reported-more role n notes ∙ ap (λ (z : List (List ℕ)). z ++ reported_to role notes) none)) ∙ e))
   | inr one ↦ past-one role n notes i payload one.0 one.2 (placed role notes i payload
-      (sym (ap (λ (z : List (List ℕ)). slice_get z (suc i)) (told-one role n notes one.0 one.2)) ∙ e))
+      (sym (ap (λ (z : List (List ℕ)). slice_get z (suc i)) (reported-one role n notes one.0 one.2)) ∙ e))
 ]

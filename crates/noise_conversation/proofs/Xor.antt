@@ -1,4 +1,4 @@
--- The toy keys have an answer at each DH.
+-- The toy keys have a DH result at each DH.
 use Rattle.std.proofs.Common.{◌≡◌, refl, ℕ, List, Option, Some, None}
 use Rattle.std.specs.Prelude.{true, is_some, IsSome}
 use Rattle.noise_names.specs.declared.token.Role.{Role}
@@ -10,11 +10,11 @@ use Rattle.noise_keys.specs.declared.keys.Own.TheVariants.{Ephemeral, Static}
 use Rattle.noise_keys.specs.Keys.{key_of, xor_answer}
 use Rattle.noise_handshake.specs.Counterparts.{is_dh}
 use Rattle.noise_handshake.specs.Setup.{public_keys}
-use Rattle.noise_handshake.specs.View.{answered, own_at, remote_at}
+use Rattle.noise_handshake.specs.Party.{dh_result_of, own_at, remote_at}
 use Rattle.noise_conversation.specs.Setup.{XorKeysAnswer}
 
 gives : (e s : Option (List ℕ)) (x : Own) (l : Option (List ℕ)) → IsSome e → IsSome s → IsSome l
-    → is_some (answered (λ own remote. xor_answer (key_of own e s) remote) x l) ≡ true
+    → is_some (dh_result_of (λ own remote. xor_answer (key_of own e s) remote) x l) ≡ true
 gives None s x l he hs hl = absurd (cc)
 gives (Some e) None x l he hs hl = absurd (cc)
 gives (Some e) (Some s) x None he hs hl = absurd (cc)
@@ -36,7 +36,7 @@ there Responder e s Se d f g = g
 there Responder e s Ss d f g = g
 
 pub xor-keys-answer : XorKeysAnswer
-xor-keys-answer p prologue psks a b ae as-is be bs t d o = (
+xor-keys-answer p a b ae as-is be bs t d o = (
   gives a.e a.s (own_at Initiator t) (remote_at Initiator (public_keys (λ own. key_of own b.e b.s)) t) ae as-is (there Initiator b.e b.s t d be bs),
   gives b.e b.s (own_at Responder t) (remote_at Responder (public_keys (λ own. key_of own a.e a.s)) t) be bs (there Responder a.e a.s t d ae as-is),
 )

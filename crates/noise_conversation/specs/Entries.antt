@@ -1,4 +1,4 @@
--- What two ends with one hash agree on of a report: the payloads that it tells of, and the keys of the next messages.
+-- What two ends with one hash agree on of a report: the payloads that it reports of, and the keys of the next messages.
 use Rattle.std.specs.Prelude.{◌≡◌, ◌≢◌, ◌⊎◌, ℕ, zero, suc, ◌+◌, List, ◌++◌, length, take, Option, Some, slice_get, if◌then◌else◌}
 use Rattle.noise_names.specs.declared.token.Role.{Role}
 use Rattle.noise_names.specs.declared.token.Role.TheVariants.{Initiator, Responder}
@@ -7,18 +7,18 @@ use Rattle.noise_names.specs.Plan.{Plan}
 use Rattle.noise_keys.specs.declared.keys.Own.{Own}
 use Rattle.noise_state.specs.History.{History}
 use Rattle.noise_session.specs.Frames.{frame}
-use Rattle.noise_session.specs.Steps.Told.{Payload}
-use Rattle.noise_session.specs.Transport.{packet}
+use Rattle.noise_session.specs.Steps.StepValue.{Payload}
+use Rattle.noise_session.specs.Transport.{transport_message}
 use Rattle.noise_events.specs.Events.{Event}
-use Rattle.noise_duel.specs.Conversation.{facing}
-use Rattle.noise_duel.specs.HeldDuel.{HeldDuel, DuelStands}
+use Rattle.noise_duel.specs.Conversation.{sides_at_start}
+use Rattle.noise_duel.specs.DuelValue.{DuelValue, DuelMatches}
 use Rattle.noise_duel.specs.Messages.{Start}
-use Rattle.noise_duel.specs.Networks.{HaveOneHash, HistoriesCollide, ShareSecrets}
+use Rattle.noise_duel.specs.Networks.{HaveOneHash, HistoriesCollide, SharePsks}
 use Rattle.noise_duel.specs.Notes.{Note, Judged}
 use Rattle.noise_duel.specs.Reports.{receive_key_in, send_key_in}
 use Rattle.noise_duel.specs.Runs.{Run}
 use Rattle.noise_duel.specs.Sides.{Sides, TransportMessage}
-use Rattle.noise_conversation.specs.Payloads.{told_to, written_by}
+use Rattle.noise_conversation.specs.Payloads.{reported_to, written_by}
 
 -- how many of the first n handshake messages a role writes (Noise 5.3: the initiator writes first, then they take
 -- turns)
@@ -29,12 +29,12 @@ turns_of role (suc n) = turns_of role n + (if same_role (turn_from Initiator n) 
 -- Entry `place`, counted from 0, is payload number i that a role received.
 pub record IsPayloadAt (role : Role) (notes : List (Role × Note)) (i place : ℕ) (payload : List ℕ) : Type 0 where
   pub entry : slice_get notes place ≡ Some (role, Judged (Payload payload))
-  pub before : length (told_to role (take place notes)) ≡ i
+  pub before : length (reported_to role (take place notes)) ≡ i
 
 -- A forged frame was accepted: payload number i that a role received, at a place among all entries, came in the
 -- transport message of a nonce, which is the number after the handshake messages of the writer. That message is the
--- writer's packet of the payload there, and the writer's frame number i isn't that packet's, or there is none (Noise
--- 5.2, 12.3).
+-- writer's transport message of the payload there, and the writer's frame number i isn't that transport message's, or
+-- there is none (Noise 5.2, 12.3).
 pub record ForgedFrame (r : History) (writer : Role) (interval opening : ℕ) (frames : List (List ℕ))
     (accepted : List TransportMessage)
     (notes : List (Role × Note)) (i : ℕ) : Type 0 where
@@ -42,19 +42,19 @@ pub record ForgedFrame (r : History) (writer : Role) (interval opening : ℕ) (f
   pub nonce : ℕ
   pub number : i ≡ opening + nonce
   pub came : slice_get accepted nonce
-      ≡ Some (record { message = packet r writer interval nonce payload; payload = payload })
+      ≡ Some (record { message = transport_message r writer interval nonce payload; payload = payload })
   pub place : ℕ
   pub is_at : IsPayloadAt (other writer) notes i place payload
-  pub entry : slice_get (told_to (other writer) notes) i ≡ Some payload
-  pub unwritten : slice_get frames i ≢ Some (frame (packet r writer interval nonce payload))
+  pub entry : slice_get (reported_to (other writer) notes) i ≡ Some payload
+  pub unwritten : slice_get frames i ≢ Some (frame (transport_message r writer interval nonce payload))
 
 -- what the other role was reported are the first of the payloads that the writer wrote, in order, or the first that
 -- isn't came in a forged frame
-abbrev pub FrontOrForged : History → Role → ℕ → ℕ → List (List ℕ) → List TransportMessage → List (List ℕ)
+abbrev pub PrefixOrForgedFrame : History → Role → ℕ → ℕ → List (List ℕ) → List TransportMessage → List (List ℕ)
     → List (Role × Note) → Type 0
-FrontOrForged r writer interval opening frames accepted written notes =
-    ((rest : List (List ℕ)) × (written ≡ told_to (other writer) notes ++ rest))
-    ⊎ ((i : ℕ) × (take i (told_to (other writer) notes) ≡ take i written)
+PrefixOrForgedFrame r writer interval opening frames accepted written notes =
+    ((rest : List (List ℕ)) × (written ≡ reported_to (other writer) notes ++ rest))
+    ⊎ ((i : ℕ) × (take i (reported_to (other writer) notes) ≡ take i written)
     × ForgedFrame r writer interval opening frames accepted notes i)
 
 -- In each direction, over all of the session, the handshake too: the frames are those that the two roles wrote, the
@@ -62,34 +62,34 @@ FrontOrForged r writer interval opening frames accepted written notes =
 pub record EntriesAgree (p : Plan) (interval : ℕ) (events : List Event) (notes : List (Role × Note))
     (initiator responder : List (List ℕ))
     (d : Sides) : Type 0 where
-  pub there : FrontOrForged d.initiator.view.party.history Initiator interval
+  pub there : PrefixOrForgedFrame d.initiator.state.party.history Initiator interval
       (turns_of Initiator (length p.messages)) initiator d.responder.received
       (written_by Initiator events notes) notes
-  pub back : FrontOrForged d.initiator.view.party.history Responder interval
+  pub back : PrefixOrForgedFrame d.initiator.state.party.history Responder interval
       (turns_of Responder (length p.messages)) responder d.initiator.received
       (written_by Responder events notes) notes
 
--- With equal hashes, the same secrets and equal intervals so it is, or two texts that they hashed collide.
+-- With equal hashes, the same psks and equal intervals so it is, or two texts that they hashed collide.
 abbrev pub EntriesCome : Type 0
 EntriesCome = (p : Plan) (a b : Start) (interval : ℕ) (events : List Event) (notes : List (Role × Note)) (d : Sides)
-    → Run (facing p a b interval interval) events notes d → HaveOneHash d → ShareSecrets p a b d
+    → Run (sides_at_start p a b interval interval) events notes d → HaveOneHash d → SharePsks p a b d
     → EntriesAgree p interval events notes d.initiator.frames d.responder.frames d ⊎ HistoriesCollide d
 
 -- Where a role received as many payloads as the other wrote, it opens the next message by the key that the other writes
 -- it by, if both are open.
 pub record KeysMeet {A B : Type 0} (events : List Event) (notes : List (Role × Note))
-    (duel : HeldDuel A B) : Type 0 where
-  pub there : length (told_to Responder notes) ≡ length (written_by Initiator events notes) → (k l : List ℕ)
+    (duel : DuelValue A B) : Type 0 where
+  pub there : length (reported_to Responder notes) ≡ length (written_by Initiator events notes) → (k l : List ℕ)
       → send_key_in duel.initiator.phase ≡ Some k → receive_key_in duel.responder.phase ≡ Some l → l ≡ k
-  pub back : length (told_to Initiator notes) ≡ length (written_by Responder events notes) → (k l : List ℕ)
+  pub back : length (reported_to Initiator notes) ≡ length (written_by Responder events notes) → (k l : List ℕ)
       → send_key_in duel.responder.phase ≡ Some k → receive_key_in duel.initiator.phase ≡ Some l → l ≡ k
 
 module _ {A B : Type 0} (public_a : A → Own → Option (List ℕ)) (agreement_a : A → Own → List ℕ → Option (List ℕ))
     (public_b : B → Own → Option (List ℕ)) (agreement_b : B → Own → List ℕ → Option (List ℕ)) where
-  -- With equal hashes, the same secrets and equal intervals so it is, or two texts that they hashed collide.
+  -- With equal hashes, the same psks and equal intervals so it is, or two texts that they hashed collide.
   abbrev pub KeysCome : Type 0
   KeysCome = (p : Plan) (a b : Start) (interval : ℕ) (events : List Event) (notes : List (Role × Note)) (d : Sides)
-      (duel : HeldDuel A B)
-      → Run (facing p a b interval interval) events notes d
-      → DuelStands public_a agreement_a public_b agreement_b duel d
-      → HaveOneHash d → ShareSecrets p a b d → KeysMeet events notes duel ⊎ HistoriesCollide d
+      (duel : DuelValue A B)
+      → Run (sides_at_start p a b interval interval) events notes d
+      → DuelMatches public_a agreement_a public_b agreement_b duel d
+      → HaveOneHash d → SharePsks p a b d → KeysMeet events notes duel ⊎ HistoriesCollide d

@@ -10,3 +10,4 @@ pub mod Payloads
 pub mod Setup
 pub mod Taking
 pub mod Turns
+pub mod inner

@@ -28,10 +28,10 @@ left_over (Left step n) = n
 left_over (Held n) = n
 left_over (Wrote n) = 0
 left_over (WriteFault why) = 0
-left_over (Judged told) = 0
+left_over (Judged reported) = 0
 left_over (Missing n) = 0
 
 -- how many bytes that came to a role it didn't take as part of a frame
-abbrev pub untaken : Role → List (Role × Note) → ℕ
-untaken role [] = 0
-untaken role (n ∷ notes) = (if same_role n.0 role then left_over n.1 else 0) + untaken role notes
+abbrev pub bytes_not_taken : Role → List (Role × Note) → ℕ
+bytes_not_taken role [] = 0
+bytes_not_taken role (n ∷ notes) = (if same_role n.0 role then left_over n.1 else 0) + bytes_not_taken role notes

@@ -4,7 +4,7 @@ use Rattle.sha2.specs.Sha256.{sha256}
 use Rattle.noise_state.specs.History.{History}
 use Rattle.noise_duel.specs.Clash.{clash_position}
 use Rattle.noise_duel.specs.Collision.{hash_texts, hashed}
-use Rattle.noise_conversation.specs.declared.clashing.HashClash.{HashClash}
+use Rattle.noise_conversation.specs.declared.clash.HashClash.{HashClash}
 
 -- A history of this protocol name whose hash came of mixing these texts, the first one first (MixHash, Noise 5.2).
 pub record HasMixed (r : History) (name : List ℕ) (texts : List (List ℕ)) : Type 0 where

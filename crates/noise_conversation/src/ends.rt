@@ -5,19 +5,17 @@ ghost use Rattle.std.specs.Prelude.{◌≡◌, ◌≤◌, ℕ, List, length, IfO
 ghost use Rattle.noise_names.specs.Limits.{IsPattern};
 ghost use Rattle.noise_names.specs.Validity.{IsValid};
 ghost use Rattle.noise_handshake.specs.Counterparts.{shown_before};
-ghost use Rattle.noise_handshake.specs.Setup.{begun, setup_fault};
-ghost use Rattle.noise_session.specs.Ends.{EndStands, end_of, progress};
+ghost use Rattle.noise_handshake.specs.Setup.{party_at_start, setup_fault};
+ghost use Rattle.noise_session.specs.Ends.{EndMatches, end_of, progress};
 ghost use Rattle.noise_session.specs.Progress.{role_of};
-ghost use Rattle.noise_duel.specs.Conversation.{facing};
-ghost use Rattle.noise_duel.specs.HeldDuel.{DuelStands};
-ghost use Rattle.noise_duel.specs.SetUpAlike.{AreSetUpAlike, HasLongKeys};
-ghost use Rattle.noise_conversation.specs.Setup.{IsFault, fault_of, starts};
+ghost use Rattle.noise_conversation.specs.Setup.{IsReportedFault, starts};
+ghost use Rattle.noise_conversation.specs.inner.NewEnds.{MakesEnds};
 
 use crate::ConversationFault;
 use noise_duel::Duel;
 use noise_handshake::{Agreeing, Handshake, Keys, Own, Remote};
 use noise_names::{Role, Token, ValidPattern};
-use noise_session::{End, end_is_told};
+use noise_session::{End, end_is_reported};
 use std::alloc::{AllocError, Global};
 
 // Both ends of this pattern, with equal prologue, psks and interval, each of which knows the keys of the other's
@@ -32,14 +30,8 @@ pub(crate) fn make_ends<K: Agreeing>(
     interval: u64,
 ) -> Result<Duel<K, K>, ConversationFault>
     requires { length prologue.now ≤ 65535 }
-    ensures setup { let s = starts K.public_of K.agreement pattern prologue.now psks.now initiator responder in
-        MatchResult result (λ _. fault_of pattern s ≡ None) (λ fault. IsFault (fault_of pattern s) fault) }
-    ensures stands { let s = starts K.public_of K.agreement pattern prologue.now psks.now initiator responder in
-        IfOk result (λ duel. DuelStands K.public_of K.agreement K.public_of K.agreement duel
-        (facing pattern s.initiator s.responder interval interval)) }
-    ensures alike { let s = starts K.public_of K.agreement pattern prologue.now psks.now initiator responder in
-        IfOk result (λ _. AreSetUpAlike pattern prologue.now s.initiator s.responder
-        × HasLongKeys s.initiator × HasLongKeys s.responder × IsPattern pattern × IsValid pattern) }
+    ensures { MakesEnds K.public_of K.agreement pattern
+        (starts K.public_of K.agreement pattern prologue.now psks.now initiator responder) interval result }
 {
     let of_initiator = shown(&pattern, Role::Initiator, &initiator);
     let of_responder = shown(&pattern, Role::Responder, &responder);
@@ -82,9 +74,10 @@ fn make_end<K: Keys>(
 ) -> Result<End<K>, ConversationFault>
     requires { length prologue.now ≤ 65535 }
     ensures setup { let found = setup_fault pattern role (K.public_of keys) remote (length psks.now) in
-        MatchResult result (λ _. found ≡ None) (λ fault. IsFault found fault) }
-    ensures stands { IfOk result (λ end. EndStands K.public_of K.agreement end
-        (end_of (begun pattern role prologue.now (K.public_of keys) (K.agreement keys) remote psks.now) interval)) }
+        MatchResult result (λ _. found ≡ None) (λ fault. IsReportedFault found fault) }
+    ensures matches { IfOk result (λ end. EndMatches K.public_of K.agreement end
+        (end_of (party_at_start pattern role prologue.now (K.public_of keys)
+        (K.agreement keys) remote psks.now) interval)) }
     ensures role { IfOk result (λ end. role_of (progress end) ≡ role) }
     ensures valid { IfOk result (λ _. IsPattern pattern × IsValid pattern) }
 {
@@ -92,7 +85,7 @@ fn make_end<K: Keys>(
         Ok(handshake) => handshake,
         Err(fault) => return Err(ConversationFault::Setup(fault)),
     };
-    end_is_told::<K>();
+    end_is_reported::<K>();
     match End::new(alloc, handshake, interval) {
         Ok(end) => Ok(end),
         Err(_) => Err(ConversationFault::Memory),

@@ -4,7 +4,7 @@
 ghost use Rattle.std.specs.Prelude.{◌≡◌, ℕ, List, length};
 ghost use Rattle.noise_names.specs.declared.token.Role.TheVariants.{Initiator};
 ghost use Rattle.noise_names.specs.Tokens.{same_role, turn_from};
-ghost use Rattle.noise_duel.specs.Acts.{lines_of};
+ghost use Rattle.noise_duel.specs.Acts.{roles_and_payloads};
 ghost use Rattle.noise_conversation.specs.Lines.{line_fits, lines_fit_from};
 ghost use Rattle.noise_conversation.specs.Turns.{LinesTakeTurns};
 
@@ -19,7 +19,7 @@ const PAYLOAD_MAX: usize = 65519;
 /// Whether lines, a role and a payload each, fit: the roles of the handshake's messages take turns, each message has at
 /// most 65535 bytes, in a one-way pattern the initiator alone writes what follows, and there is a nonce for each line.
 pub fn lines_fit(pattern: &ValidPattern, lines: &[(Role, Vec<u8>, Cuts)]) -> bool
-    ensures { result ≡ lines_fit_from pattern.now 0 (lines_of lines.now) }
+    ensures { result ≡ lines_fit_from pattern.now 0 (roles_and_payloads lines.now) }
 {
     let mut turn = Role::Initiator;
     let mut place = 0;

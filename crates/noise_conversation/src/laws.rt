@@ -1,24 +1,21 @@
 //! Laws of what is reported of a message.
 #![tactic(auto)]
 
-ghost use Rattle.noise_conversation.specs.Exactly.{ReadExactly, ToldExactly};
+ghost use Rattle.noise_conversation.specs.Exactly.{ReadExactly, ReportedExactly};
 
-use noise_handshake::{accepted_once, refused_once};
+use noise_handshake::laws::{accepted_once, refused_once};
 use noise_session::accepted_exactly;
 
-/// All that is reported of a whole message that comes to an end that listens: a payload exactly where the message is
-/// one of it there, a refusal exactly where the party of a handshake refuses it so, that it is dropped exactly where
-/// the open end has a nonce left and the message is one of no payload, and that the nonces are exhausted exactly where
-/// the open end has none left.
-pub fn told_exactly()
-    ensures { ToldExactly }
+/// An end that listens reports each step of a whole message in exactly one case, and so a payload exactly if the
+/// message is one of that payload there.
+pub fn reported_exactly()
+    ensures { ReportedExactly }
 {
     accepted_exactly();
 }
 
-/// What a handshake by itself answers where the other party's message is due: a payload exactly where the party accepts
-/// the message as it, with some texts of the tokens, and a refusal at a token for a cause exactly where it refuses it
-/// so.
+/// A handshake that reads next returns a payload exactly if the party accepts the message as one of it, and refuses the
+/// message at a token for a cause exactly if the party does.
 pub fn read_exactly()
     ensures { ReadExactly }
 {

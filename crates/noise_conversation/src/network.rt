@@ -1,30 +1,30 @@
 //! Two ends of equal setup over any network.
 #![tactic(auto)]
 
-ghost use Rattle.std.specs.Prelude.{◌≡◌, ◌≤◌, length, IfOk, MatchResult, None};
+ghost use Rattle.std.specs.Prelude.{◌≤◌, length};
 ghost use Rattle.noise_events.specs.Events.{events_of};
-ghost use Rattle.noise_conversation.specs.Agreement.{AgreeOverNetwork, HashIsTold};
-ghost use Rattle.noise_conversation.specs.Setup.{IsFault, fault_of, starts};
+ghost use Rattle.noise_conversation.specs.Agreement.{HashIsReported, RunsOverNetwork};
+ghost use Rattle.noise_conversation.specs.Setup.{starts};
 
 use crate::ConversationFault;
 use crate::ends::make_ends;
-use crate::entries::{entries_agree, keys_meet, payloads_told};
+use crate::entries::{entries_agree, keys_meet, payloads_reported};
 use noise_duel::{Duel, Event, Report};
 use noise_handshake::{Agreeing, Keys};
 use noise_names::ValidPattern;
-use noise_session::end_is_told;
+use noise_session::end_is_reported;
 use std::alloc::Global;
 
 /// Two new ends of one pattern, with equal prologue, psks and interval and with keys that agree, and any events between
 /// them: frames get lost, come twice or in another order, or were written by nobody.
 ///
-/// Where both ends then tell one hash, they had all of the conversation in common, and what each accepted is the first
-/// of what the other wrote, up to a forged message; or two texts that they hashed collide. So the payloads that the
-/// report tells of a role as accepted are the first of those that it tells of the other as written, or the number of a
-/// forged frame is named; and where all of them came, open ends have equal keys for the next message.
+/// Where both ends then report one hash, they had all of the conversation in common, and what each accepted is the
+/// first of what the other wrote, up to a forged message; or two texts that they hashed collide. So the payloads that
+/// the report reports of a role as accepted are the first of those that it reports of the other as written, or the
+/// number of a forged frame is named; and where all of them came, open ends have equal keys for the next message.
 ///
-/// Whatever the hashes are, the payloads that the report tells of each role are those of the messages that it wrote and
-/// accepted.
+/// Whatever the hashes are, the payloads that the report reports of each role are those of the messages that it wrote
+/// and accepted.
 ///
 /// A setup with a fault, or lack of memory, is reported instead.
 pub fn run_events<K: Agreeing>(
@@ -38,27 +38,25 @@ pub fn run_events<K: Agreeing>(
     events: &[Event],
 ) -> Result<(Duel<K, K>, Report), ConversationFault>
     requires { length prologue.now ≤ 65535 }
-    ensures setup { let found = fault_of pattern
-        (starts K.public_of K.agreement pattern prologue.now psks.now initiator responder) in
-        MatchResult result (λ _. found ≡ None) (λ fault. IsFault found fault) }
-    ensures agrees { let s = starts K.public_of K.agreement pattern prologue.now psks.now initiator responder in
-        IfOk result (λ r. AgreeOverNetwork K.public_of K.agreement pattern s interval (events_of events.now) r.0 r.1) }
+    ensures { RunsOverNetwork K.public_of K.agreement pattern
+        (starts K.public_of K.agreement pattern prologue.now psks.now initiator responder)
+        interval (events_of events.now) result }
 {
     let duel = make_ends(
         alloc, pattern, prologue, initiator, responder, psks, interval,
     )?;
-    hash_is_told::<K, K>();
-    payloads_told();
+    hash_is_reported::<K, K>();
+    payloads_reported();
     entries_agree();
     keys_meet::<K, K>();
     let made = duel.run(alloc, events)?;
     Ok(made)
 }
 
-/// Where both ends of a duel tell one hash, they have the one hash that the laws on agreement speak of.
-pub fn hash_is_told<A: Keys, B: Keys>()
-    ensures { HashIsTold A.public_of A.agreement B.public_of B.agreement }
+/// Where both ends of a duel report one hash, they have the one hash that the laws on agreement speak of.
+pub fn hash_is_reported<A: Keys, B: Keys>()
+    ensures { HashIsReported A.public_of A.agreement B.public_of B.agreement }
 {
-    end_is_told::<A>();
-    end_is_told::<B>();
+    end_is_reported::<A>();
+    end_is_reported::<B>();
 }

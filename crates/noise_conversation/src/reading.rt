@@ -2,8 +2,8 @@
 #![tactic(auto)]
 
 ghost use Rattle.std.specs.Prelude.{◌≡◌, ◌≤◌, ◌↔◌, ℕ, List, length, true};
-ghost use Rattle.noise_handshake.specs.Party.{Stands};
-ghost use Rattle.noise_handshake.specs.View.{View, Accepts, Listens};
+ghost use Rattle.noise_handshake.specs.Matching.{Matches};
+ghost use Rattle.noise_handshake.specs.Party.{Party, Accepts, Listens};
 ghost use Rattle.noise_conversation.specs.Taking.{IsReadAs};
 
 use crate::laws::read_exactly;
@@ -15,9 +15,9 @@ use noise_handshake::{Handshake, Keys};
 /// The handshake is left as `Handshake::read` leaves it.
 pub fn reads_as<K: Keys>(handshake: &mut Handshake<K>, message: &mut [u8], payload: &[u8]) -> bool
     requires { length message.old ≤ 65535 }
-    ensures exactly { (v : View) → Stands K.public_of K.agreement handshake.old v → Listens v
+    ensures exactly { (v : Party) → Matches K.public_of K.agreement handshake.old v → Listens v
         → (result ≡ true ↔ ((xs : List (List ℕ)) × Accepts v message.old xs payload.now)) }
-    ensures reads { (v : View) → Stands K.public_of K.agreement handshake.old v
+    ensures reads { (v : Party) → Matches K.public_of K.agreement handshake.old v
         → IsReadAs K.public_of K.agreement v message.old payload.now handshake.new result }
 {
     read_exactly();

@@ -1,4 +1,4 @@
--- Keys that agree give the same answers, token by token.
+-- Keys that agree give the same DH results, token by token.
 use Rattle.std.proofs.Common.{◌≡◌, ℕ, ◌+◌, List, [], ◌∷◌, drop, count_by, refl, ap, sym, subst, ◌∙◌}
 use Rattle.std.specs.Prelude.{Bool, true, false, not, Option, Some, None}
 use Rattle.noise_names.specs.declared.token.Role.{Role}
@@ -13,16 +13,16 @@ use Rattle.noise_keys.specs.declared.keys.Own.{Own}
 use Rattle.noise_keys.specs.declared.keys.Own.TheVariants.{Ephemeral, Static}
 use Rattle.noise_handshake.specs.declared.remote.Remote.{Remote}
 use Rattle.noise_handshake.specs.Message.{token_bytes, after_token, after_tokens, message_bytes, after_payload}
-use Rattle.noise_handshake.specs.View.{View, Reader, Fit, Fits, reader, known_after, learned, secrets_after, tokens_at, tokens_now, answered, own_at}
-use Rattle.noise_handshake.specs.View.{remote_at}
+use Rattle.noise_handshake.specs.Party.{Party, Reader, Fit, Fits, reader, known_after, remote_after, psks_after, tokens_at, tokens_now, dh_result_of, own_at}
+use Rattle.noise_handshake.specs.Party.{remote_at}
 use Rattle.noise_handshake.specs.Writing.{Writer, Given, Gives, writer}
-use Rattle.noise_handshake.specs.Party.{after_own, after_message}
+use Rattle.noise_handshake.specs.Matching.{after_own, after_message}
 use Rattle.noise_duel.specs.Messages.{HandshakeMessage, Exchanged, Start}
 use Rattle.noise_duel.specs.Messages.Exchanged.{none, wrote, took}
 use Rattle.noise_duel.specs.Agreement.{KeysAgree, Knows}
 use Rattle.noise_duel.proofs.HashedTexts.{Alike}
 use Rattle.noise_duel.proofs.HashedMessages.{AreLines, AllAlike}
-use Rattle.noise_duel.proofs.Forward.{SecretAt, SecretsFit, UseSecrets, message-same}
+use Rattle.noise_duel.proofs.Forward.{PskAt, PsksFit, UsePsks, message-same}
 use Rattle.noise_names.specs.Roles.{same_role-self, same_role-other}
 use Rattle.noise_names.specs.Lists.{cons-same}
 
@@ -37,7 +37,7 @@ abbrev pub UsesAt : Bool → Role → (Own → Option (List ℕ)) → (Own → L
 UsesAt mine role own agree known E x = IsOwnIf mine (own Ephemeral) x
 UsesAt mine role own agree known S x = IsOwnIf mine (own Static) x
 UsesAt mine role own agree known Psk x = Unit {0}
-UsesAt mine role own agree known dh x = answered agree (own_at role dh) (remote_at role known dh) ≡ Some x
+UsesAt mine role own agree known dh x = dh_result_of agree (own_at role dh) (remote_at role known dh) ≡ Some x
 
 abbrev pub known_next : Bool → Remote → Token → List ℕ → Remote
 known_next true known t x = known
@@ -50,7 +50,7 @@ Uses mine role own agree known (t ∷ ts) (x ∷ xs) = UsesAt mine role own agre
 
 abbrev pub known_after_all : Bool → Remote → List Token → List (List ℕ) → Remote
 known_after_all true known ts xs = known
-known_after_all false known ts xs = learned known ts xs
+known_after_all false known ts xs = remote_after known ts xs
 
 abbrev pub writes_now : Role → ℕ → Bool
 writes_now role n = same_role (turn_from Initiator n) role
@@ -61,51 +61,51 @@ UsesAll p role own agree n known (m ∷ ms) =
     Uses (writes_now role n) role own agree known (tokens_at p.messages n) m.carried
     × UsesAll p role own agree (n + 1) (known_after_all (writes_now role n) known (tokens_at p.messages n) m.carried) ms
 
-gives-uses : (w : Writer) (known : Remote) (secrets : List (List ℕ)) (t : Token) (x : List ℕ) → Gives w known secrets t x
+gives-uses : (w : Writer) (known : Remote) (psks : List (List ℕ)) (t : Token) (x : List ℕ) → Gives w known psks t x
     → UsesAt true w.role w.own w.agree known t x
-gives-uses w known secrets E x h = h.0
-gives-uses w known secrets S x h = h.0
-gives-uses w known secrets Psk x h = tt
-gives-uses w known secrets Ee x h = h
-gives-uses w known secrets Es x h = h
-gives-uses w known secrets Se x h = h
-gives-uses w known secrets Ss x h = h
+gives-uses w known psks E x h = h.0
+gives-uses w known psks S x h = h.0
+gives-uses w known psks Psk x h = tt
+gives-uses w known psks Ee x h = h
+gives-uses w known psks Es x h = h
+gives-uses w known psks Se x h = h
+gives-uses w known psks Ss x h = h
 
-fits-uses : (v : Reader) (own : Own → Option (List ℕ)) (known : Remote) (secrets : List (List ℕ)) (t : Token) (x : List ℕ) → Fits v known secrets t x
+fits-uses : (v : Reader) (own : Own → Option (List ℕ)) (known : Remote) (psks : List (List ℕ)) (t : Token) (x : List ℕ) → Fits v known psks t x
     → UsesAt false v.role own v.agree known t x
-fits-uses v own known secrets E x h = tt
-fits-uses v own known secrets S x h = tt
-fits-uses v own known secrets Psk x h = tt
-fits-uses v own known secrets Ee x h = h
-fits-uses v own known secrets Es x h = h
-fits-uses v own known secrets Se x h = h
-fits-uses v own known secrets Ss x h = h
+fits-uses v own known psks E x h = tt
+fits-uses v own known psks S x h = tt
+fits-uses v own known psks Psk x h = tt
+fits-uses v own known psks Ee x h = h
+fits-uses v own known psks Es x h = h
+fits-uses v own known psks Se x h = h
+fits-uses v own known psks Ss x h = h
 
-given-uses : (w : Writer) (known : Remote) (secrets : List (List ℕ)) (ts : List Token) (xs : List (List ℕ)) → Given w known secrets ts xs
+given-uses : (w : Writer) (known : Remote) (psks : List (List ℕ)) (ts : List Token) (xs : List (List ℕ)) → Given w known psks ts xs
     → Uses true w.role w.own w.agree known ts xs
-given-uses w known secrets [] xs h = tt
-given-uses w known secrets (t ∷ ts) [] h = tt
-given-uses w known secrets (t ∷ ts) (x ∷ xs) h = (gives-uses w known secrets t x h.0, given-uses w known (secrets_after secrets t) ts xs h.1)
+given-uses w known psks [] xs h = tt
+given-uses w known psks (t ∷ ts) [] h = tt
+given-uses w known psks (t ∷ ts) (x ∷ xs) h = (gives-uses w known psks t x h.0, given-uses w known (psks_after psks t) ts xs h.1)
 
-fit-uses : (v : Reader) (own : Own → Option (List ℕ)) (known : Remote) (secrets : List (List ℕ)) (ts : List Token) (xs : List (List ℕ))
-    → Fit v known secrets ts xs → Uses false v.role own v.agree known ts xs
-fit-uses v own known secrets [] xs h = tt
-fit-uses v own known secrets (t ∷ ts) [] h = tt
-fit-uses v own known secrets (t ∷ ts) (x ∷ xs) h =
-    (fits-uses v own known secrets t x h.0, fit-uses v own (known_after known t x) (secrets_after secrets t) ts xs h.1)
+fit-uses : (v : Reader) (own : Own → Option (List ℕ)) (known : Remote) (psks : List (List ℕ)) (ts : List Token) (xs : List (List ℕ))
+    → Fit v known psks ts xs → Uses false v.role own v.agree known ts xs
+fit-uses v own known psks [] xs h = tt
+fit-uses v own known psks (t ∷ ts) [] h = tt
+fit-uses v own known psks (t ∷ ts) (x ∷ xs) h =
+    (fits-uses v own known psks t x h.0, fit-uses v own (known_after known t x) (psks_after psks t) ts xs h.1)
 
-pub passes-uses : (v w : View) (ps : List HandshakeMessage) → Exchanged v ps w → UsesAll v.pattern v.role v.own v.agree v.passed v.remote ps
+pub passes-uses : (v w : Party) (ps : List HandshakeMessage) → Exchanged v ps w → UsesAll v.pattern v.role v.own v.agree v.passed v.remote ps
 passes-uses v w [] (none _) = tt
 passes-uses v w (p ∷ ps) (wrote _ _ _ _ here more) =
     let mine : writes_now v.role v.passed ≡ true = ap (λ (r : Role). same_role r v.role) here.speaks.turn ∙ same_role-self v.role in
     subst (λ (b : Bool). Uses b v.role v.own v.agree v.remote (tokens_now v) p.carried
     × UsesAll v.pattern v.role v.own v.agree (v.passed + 1) (known_after_all b v.remote (tokens_now v) p.carried) ps) (sym mine)
-    (given-uses (writer v) v.remote v.secrets (tokens_now v) p.carried here.given, passes-uses (after_own v p.carried p.payload) w ps more)
+    (given-uses (writer v) v.remote v.psks (tokens_now v) p.carried here.given, passes-uses (after_own v p.carried p.payload) w ps more)
 passes-uses v w (p ∷ ps) (took _ _ _ _ here more) =
     let mine : writes_now v.role v.passed ≡ false = ap (λ (r : Role). same_role r v.role) here.listens.turn ∙ same_role-other v.role in
     subst (λ (b : Bool). Uses b v.role v.own v.agree v.remote (tokens_now v) p.carried
     × UsesAll v.pattern v.role v.own v.agree (v.passed + 1) (known_after_all b v.remote (tokens_now v) p.carried) ps) (sym mine)
-    (fit-uses (reader v) v.own v.remote v.secrets (tokens_now v) p.carried here.reads.fit, passes-uses (after_message v p.carried p.payload) w ps more)
+    (fit-uses (reader v) v.own v.remote v.psks (tokens_now v) p.carried here.reads.fit, passes-uses (after_message v p.carried p.payload) w ps more)
 
 -- ---- two parties
 
@@ -135,22 +135,22 @@ turns-apart Responder = refl
 module _ (a b : Start) (agrees : KeysAgree a b) where
   dh-same : (x y : Own) (known other : Option (List ℕ)) (s t : List ℕ) → ((k : List ℕ) → known ≡ Some k → b.own y ≡ Some k)
       → ((k : List ℕ) → other ≡ Some k → a.own x ≡ Some k)
-      → answered a.agree x known ≡ Some s → answered b.agree y other ≡ Some t → s ≡ t
+      → dh_result_of a.agree x known ≡ Some s → dh_result_of b.agree y other ≡ Some t → s ≡ t
   dh-same x y None other s t f g h i = cc
   dh-same x y (Some k) None s t f g h i = cc
   dh-same x y (Some k) (Some l) s t f g h i = agrees x y l k s t (g l refl) (f k refl) h i
 
-  module _ (psks : Bool) where
-    text-same : (mine : Bool) (ka kb : Remote) (secrets : List (List ℕ)) (r : History) (t : Token) (x y : List ℕ) → Knows ka b.own → Knows kb a.own
-        → UsesAt mine Initiator a.own a.agree ka t x → UsesAt (not mine) Responder b.own b.agree kb t y → SecretAt secrets t x → SecretAt secrets t y
+  module _ (has_psks : Bool) where
+    text-same : (mine : Bool) (ka kb : Remote) (psks : List (List ℕ)) (r : History) (t : Token) (x y : List ℕ) → Knows ka b.own → Knows kb a.own
+        → UsesAt mine Initiator a.own a.agree ka t x → UsesAt (not mine) Responder b.own b.agree kb t y → PskAt psks t x → PskAt psks t y
         → token_bytes r t x ≡ token_bytes r t y → x ≡ y
-    text-same mine ka kb secrets r E x y f g u w m n e = e
-    text-same mine ka kb secrets r S x y f g u w m n e = ciphertext-same r x y e
-    text-same mine ka kb secrets r Psk x y f g u w m n e = m ∙ sym n
-    text-same mine ka kb secrets r Ee x y f g u w m n e = dh-same Ephemeral Ephemeral ka.e kb.e x y f.e g.e u w
-    text-same mine ka kb secrets r Es x y f g u w m n e = dh-same Ephemeral Static ka.s kb.e x y f.s g.e u w
-    text-same mine ka kb secrets r Se x y f g u w m n e = dh-same Static Ephemeral ka.e kb.s x y f.e g.s u w
-    text-same mine ka kb secrets r Ss x y f g u w m n e = dh-same Static Static ka.s kb.s x y f.s g.s u w
+    text-same mine ka kb psks r E x y f g u w m n e = e
+    text-same mine ka kb psks r S x y f g u w m n e = ciphertext-same r x y e
+    text-same mine ka kb psks r Psk x y f g u w m n e = m ∙ sym n
+    text-same mine ka kb psks r Ee x y f g u w m n e = dh-same Ephemeral Ephemeral ka.e kb.e x y f.e g.e u w
+    text-same mine ka kb psks r Es x y f g u w m n e = dh-same Ephemeral Static ka.s kb.e x y f.s g.e u w
+    text-same mine ka kb psks r Se x y f g u w m n e = dh-same Static Ephemeral ka.e kb.s x y f.e g.s u w
+    text-same mine ka kb psks r Ss x y f g u w m n e = dh-same Static Static ka.s kb.s x y f.s g.s u w
 
     -- what each of them knows after a token
     knows-token : (mine : Bool) (ka kb : Remote) (t : Token) (x y : List ℕ) → Knows ka b.own → Knows kb a.own → x ≡ y
@@ -170,11 +170,11 @@ module _ (a b : Start) (agrees : KeysAgree a b) where
     wider true ka kb t ts x y xs ys e h = record { texts = cons-same e h.texts; left = h.left; right = h.right }
     wider false ka kb t ts x y xs ys e h = record { texts = cons-same e h.texts; left = h.left; right = h.right }
 
-    front-agree : (mine : Bool) (ka kb : Remote) (secrets : List (List ℕ)) (r : History) (ts : List Token) (xs ys : List (List ℕ)) → Knows ka b.own
+    front-agree : (mine : Bool) (ka kb : Remote) (psks : List (List ℕ)) (r : History) (ts : List Token) (xs ys : List (List ℕ)) → Knows ka b.own
         → Knows kb a.own
-        → Uses mine Initiator a.own a.agree ka ts xs → Uses (not mine) Responder b.own b.agree kb ts ys → SecretsFit secrets ts xs → SecretsFit secrets ts ys
-        → Alike psks r r ts xs ys → Same mine ka kb ts xs ys
-    front-agree mine ka kb secrets r [] [] [] f g u w m n h = record { texts = refl; left = none-left mine; right = none-right mine }
+        → Uses mine Initiator a.own a.agree ka ts xs → Uses (not mine) Responder b.own b.agree kb ts ys → PsksFit psks ts xs → PsksFit psks ts ys
+        → Alike has_psks r r ts xs ys → Same mine ka kb ts xs ys
+    front-agree mine ka kb psks r [] [] [] f g u w m n h = record { texts = refl; left = none-left mine; right = none-right mine }
       where
         none-left : (mine : Bool) → Knows (known_after_all mine ka [] []) b.own
         none-left true = f
@@ -183,30 +183,30 @@ module _ (a b : Start) (agrees : KeysAgree a b) where
         none-right : (mine : Bool) → Knows (known_after_all (not mine) kb [] []) a.own
         none-right true = g
         none-right false = g
-    front-agree mine ka kb secrets r [] [] (y ∷ ys) f g u w m n h = absurd h
-    front-agree mine ka kb secrets r [] (x ∷ xs) ys f g u w m n h = absurd h
-    front-agree mine ka kb secrets r (t ∷ ts) [] ys f g u w m n h = absurd h
-    front-agree mine ka kb secrets r (t ∷ ts) (x ∷ xs) [] f g u w m n h = absurd h
-    front-agree mine ka kb secrets r (t ∷ ts) (x ∷ xs) (y ∷ ys) f g u w m n h =
-        let e : x ≡ y = text-same mine ka kb secrets r t x y f g u.0 w.0 m.0 n.0 h.0 in
+    front-agree mine ka kb psks r [] [] (y ∷ ys) f g u w m n h = absurd h
+    front-agree mine ka kb psks r [] (x ∷ xs) ys f g u w m n h = absurd h
+    front-agree mine ka kb psks r (t ∷ ts) [] ys f g u w m n h = absurd h
+    front-agree mine ka kb psks r (t ∷ ts) (x ∷ xs) [] f g u w m n h = absurd h
+    front-agree mine ka kb psks r (t ∷ ts) (x ∷ xs) (y ∷ ys) f g u w m n h =
+        let e : x ≡ y = text-same mine ka kb psks r t x y f g u.0 w.0 m.0 n.0 h.0 in
         let knows = knows-token mine ka kb t x y f g e u.0 w.0 in
         wider mine ka kb t ts x y xs ys e
-        (front-agree mine (known_next mine ka t x) (known_next (not mine) kb t y) (secrets_after secrets t) (after_token psks r t x) ts xs ys knows.0
+        (front-agree mine (known_next mine ka t x) (known_next (not mine) kb t y) (psks_after psks t) (after_token has_psks r t x) ts xs ys knows.0
         knows.1 u.1 w.1 m.1 n.1
-        (subst (λ (z : List ℕ). Alike psks (after_token psks r t x) (after_token psks r t z) ts xs ys) (sym e) h.1))
+        (subst (λ (z : List ℕ). Alike has_psks (after_token has_psks r t x) (after_token has_psks r t z) ts xs ys) (sym e) h.1))
 
-  pub all-agree : (p : Plan) (n : ℕ) (ka kb : Remote) (secrets : List (List ℕ)) (r : History) (ps qs : List HandshakeMessage) → Knows ka b.own → Knows kb a.own
-      → UsesAll p Initiator a.own a.agree n ka ps → UsesAll p Responder b.own b.agree n kb qs → UseSecrets p n secrets ps → UseSecrets p n secrets qs
+  pub all-agree : (p : Plan) (n : ℕ) (ka kb : Remote) (psks : List (List ℕ)) (r : History) (ps qs : List HandshakeMessage) → Knows ka b.own → Knows kb a.own
+      → UsesAll p Initiator a.own a.agree n ka ps → UsesAll p Responder b.own b.agree n kb qs → UsePsks p n psks ps → UsePsks p n psks qs
       → AreLines p n r ps → AreLines p n r qs → AllAlike p n r r ps qs → ps ≡ qs
-  all-agree p n ka kb secrets r [] [] f g u w m k c d h = refl
-  all-agree p n ka kb secrets r [] (q ∷ qs) f g u w m k c d h = absurd h
-  all-agree p n ka kb secrets r (x ∷ xs) [] f g u w m k c d h = absurd h
-  all-agree p n ka kb secrets r (x ∷ xs) (y ∷ ys) f g u w m k c d h =
+  all-agree p n ka kb psks r [] [] f g u w m k c d h = refl
+  all-agree p n ka kb psks r [] (q ∷ qs) f g u w m k c d h = absurd h
+  all-agree p n ka kb psks r (x ∷ xs) [] f g u w m k c d h = absurd h
+  all-agree p n ka kb psks r (x ∷ xs) (y ∷ ys) f g u w m k c d h =
       let ts : List Token = tokens_at p.messages n in
       let mine : Bool = writes_now Initiator n in
       let turned = subst (λ (z : Bool). Uses z Responder b.own b.agree kb ts y.carried
       × UsesAll p Responder b.own b.agree (n + 1) (known_after_all z kb ts y.carried) ys) (turns-apart (turn_from Initiator n)) w in
-      let here = front-agree (has_psk p) mine ka kb secrets r ts x.carried y.carried f g u.0 turned.0 m.0 k.0 h.0.0 in
+      let here = front-agree (has_psk p) mine ka kb psks r ts x.carried y.carried f g u.0 turned.0 m.0 k.0 h.0.0 in
       let payload : x.payload ≡ y.payload =
       ciphertext-same (after_tokens (has_psk p) r ts x.carried) x.payload y.payload
       (h.0.1 ∙ ap (λ (zs : List (List ℕ)). ciphertext (after_tokens (has_psk p) r ts zs) y.payload) (sym here.texts)) in
@@ -216,7 +216,7 @@ module _ (a b : Start) (agrees : KeysAgree a b) where
       let after : after_payload (has_psk p) r ts x.carried x.payload ≡ after_payload (has_psk p) r ts y.carried y.payload =
       ap (λ (z : HandshakeMessage). after_payload (has_psk p) r ts z.carried z.payload) one in
       cons-same one
-      (all-agree p (n + 1) (known_after_all mine ka ts x.carried) (known_after_all (not mine) kb ts y.carried) (drop (count_by is_psk ts) secrets)
+      (all-agree p (n + 1) (known_after_all mine ka ts x.carried) (known_after_all (not mine) kb ts y.carried) (drop (count_by is_psk ts) psks)
       (after_payload (has_psk p) r ts x.carried x.payload) xs ys
       here.left here.right u.1 turned.1 m.1 k.1 c.1
       (subst (λ (s : History). AreLines p (n + 1) s ys) (sym after) d.1)

@@ -3,9 +3,9 @@ use Rattle.std.proofs.Common.{◌≡◌, ◌≢◌, ◌≤◌, ◌+◌, ℕ, zer
 use Rattle.std.specs.Prelude.{Bool, true, false, not, Some, if◌then◌else◌, bytes_eq}
 use Rattle.std.proofs.lemmas.Slice.Eq.{bytes_eq-Decides}
 use Rattle.sha2.specs.Sha256.{sha256}
-use Rattle.noise_duel.specs.Clash.{clash, first_clash, clash_position, ClashStands, ClashFound, ClashTold}
+use Rattle.noise_duel.specs.Clash.{clash, first_clash, clash_position, ClashIsCollision, ClashFound, ClashReported}
 use Rattle.noise_duel.specs.Collision.{hash_texts, CollisionAt}
-use Rattle.noise_duel.specs.Networks.{HashesTell}
+use Rattle.noise_duel.specs.Networks.{HashesReport}
 use Rattle.std.proofs.lemmas.Bool.{and_parts, and_from}
 use Rattle.std.proofs.lemmas.Option.{same_Some}
 
@@ -31,24 +31,24 @@ is-clash x y f e =
 later : (x y : List ℕ) (xs ys : List (List ℕ)) (k : ℕ) → CollisionAt xs ys k → CollisionAt (x ∷ xs) (y ∷ ys) (suc k)
 later x y xs ys k c = record { left = c.left; right = c.right; at_left = c.at_left; at_right = c.at_right; differ = c.differ; same = c.same }
 
-abbrev StandsFrom : ℕ → ℕ → List (List ℕ) → List (List ℕ) → Type 0
-StandsFrom n i xs ys = (k : ℕ) × (i ≡ n + k) × CollisionAt xs ys k
+abbrev MatchesFrom : ℕ → ℕ → List (List ℕ) → List (List ℕ) → Type 0
+MatchesFrom n i xs ys = (k : ℕ) × (i ≡ n + k) × CollisionAt xs ys k
 
-stands-by : (b : Bool) (n i : ℕ) (x y : List ℕ) (xs ys : List (List ℕ)) → clash x y ≡ b
-    → (if b then Some n else first_clash (n + 1) xs ys) ≡ Some i → (first_clash (n + 1) xs ys ≡ Some i → StandsFrom (n + 1) i xs ys)
-    → StandsFrom n i (x ∷ xs) (y ∷ ys)
-stands-by true n i x y xs ys c e more =
+matches-by : (b : Bool) (n i : ℕ) (x y : List ℕ) (xs ys : List (List ℕ)) → clash x y ≡ b
+    → (if b then Some n else first_clash (n + 1) xs ys) ≡ Some i → (first_clash (n + 1) xs ys ≡ Some i → MatchesFrom (n + 1) i xs ys)
+    → MatchesFrom n i (x ∷ xs) (y ∷ ys)
+matches-by true n i x y xs ys c e more =
     let here : n ≡ i = same_Some n i e in
     (0, omega arith, record { left = x; right = y; at_left = refl; at_right = refl; differ = clash-differs x y c; same = clash-same x y c })
-stands-by false n i x y xs ys c e more =
+matches-by false n i x y xs ys c e more =
     let r = more e in
     let count : i ≡ (n + 1) + r.0 = r.1 in
     (suc r.0, omega arith, later x y xs ys r.0 r.2)
 
-stands-from : (n i : ℕ) (xs ys : List (List ℕ)) → first_clash n xs ys ≡ Some i → StandsFrom n i xs ys
-stands-from n i [] ys e = absurd (cc)
-stands-from n i (x ∷ xs) [] e = absurd (cc)
-stands-from n i (x ∷ xs) (y ∷ ys) e = stands-by (clash x y) n i x y xs ys refl e (stands-from (n + 1) i xs ys)
+matches-from : (n i : ℕ) (xs ys : List (List ℕ)) → first_clash n xs ys ≡ Some i → MatchesFrom n i xs ys
+matches-from n i [] ys e = absurd (cc)
+matches-from n i (x ∷ xs) [] e = absurd (cc)
+matches-from n i (x ∷ xs) (y ∷ ys) e = matches-by (clash x y) n i x y xs ys refl e (matches-from (n + 1) i xs ys)
 
 abbrev FoundFrom : ℕ → ℕ → List (List ℕ) → List (List ℕ) → Type 0
 FoundFrom n k xs ys = (j : ℕ) × (first_clash n xs ys ≡ Some j) × (j ≤ n + k)
@@ -73,10 +73,10 @@ found-from n k [] ys c = absurd (let e = c.at_left in cc)
 found-from n k (x ∷ xs) [] c = absurd (let e = c.at_right in cc)
 found-from n k (x ∷ xs) (y ∷ ys) c = found-by (clash x y) n k x y xs ys refl c (λ m. found-from (n + 1) m xs ys)
 
-pub clash-stands : ClashStands
+pub clash-matches : ClashIsCollision
 unfolding clash_position
-clash-stands r s i e =
-    let w = stands-from 0 i (hash_texts r) (hash_texts s) e in
+clash-matches r s i e =
+    let w = matches-from 0 i (hash_texts r) (hash_texts s) e in
     let same : w.0 ≡ i = let count : i ≡ 0 + w.0 = w.1 in omega arith in
     subst (λ (k : ℕ). CollisionAt (hash_texts r) (hash_texts s) k) same w.2
 
@@ -87,9 +87,9 @@ clash-found r s i c =
     let low : w.0 ≤ 0 + i = w.2 in
     (w.0, w.1, omega arith)
 
-pub clash-told : HashesTell → ClashTold
-clash-told tell p a b i j events notes d run one differ =
-    elim (tell p a b i j events notes d run one) [
+pub clash-reported : HashesReport → ClashReported
+clash-reported report_step p a b i j events notes d run one differ =
+    elim (report_step p a b i j events notes d run one) [
       | inl same ↦ absurd (differ same)
-      | inr c ↦ (let w = clash-found _ _ c.0 c.1 in (w.0, w.1, clash-stands _ _ w.0 w.1))
+      | inr c ↦ (let w = clash-found _ _ c.0 c.1 in (w.0, w.1, clash-matches _ _ w.0 w.1))
     ]

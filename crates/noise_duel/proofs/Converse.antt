@@ -1,4 +1,4 @@
--- Conversations that are the same as far as they can be seen, with the same secrets and answers, are one.
+-- Conversations that are the same as far as they can be seen, with the same psks and DH results, are one.
 use Rattle.std.proofs.Common.{◌≡◌, ℕ, ◌+◌, List, [], ◌∷◌, ◌++◌, length, drop, count_by, refl, ap, sym, subst, ◌∙◌, append_assoc}
 use Rattle.std.specs.Prelude.{Bool, is_some, if◌then◌else◌}
 use Rattle.noise_names.specs.declared.token.Role.TheVariants.{Initiator, Responder}
@@ -11,15 +11,15 @@ use Rattle.noise_state.specs.History.{History, MixHash, and_then, cipher_key, ci
 use Rattle.noise_state.specs.Ciphertexts.{length-ciphertext, ciphertext-same}
 use Rattle.noise_handshake.specs.Message.{token_bytes, after_token, before_payload, after_tokens, after_payload}
 use Rattle.noise_handshake.specs.Length.{Carry, Carries}
-use Rattle.noise_handshake.specs.View.{View, secrets_after, tokens_at, with_premessage}
-use Rattle.noise_handshake.specs.Party.{after_own, after_message}
+use Rattle.noise_handshake.specs.Party.{Party, psks_after, tokens_at, with_premessage}
+use Rattle.noise_handshake.specs.Matching.{after_own, after_message}
 use Rattle.noise_handshake.specs.Setup.{public_keys}
 use Rattle.noise_duel.specs.Below.{LawsBelow}
 use Rattle.noise_duel.specs.Messages.{HandshakeMessage, Exchanged, begun_as, answers, answers_from, messages_of}
 use Rattle.noise_duel.specs.Messages.Exchanged.{none, wrote, took}
 use Rattle.noise_duel.specs.Agreement.{VisiblyEqualIsOne}
 use Rattle.noise_duel.proofs.HashedMessages.{after_all, AreLines, passes-lines}
-use Rattle.noise_duel.proofs.Forward.{SecretAt, SecretsFit, UseSecrets, passes-secrets, message-same, pre-same}
+use Rattle.noise_duel.proofs.Forward.{PskAt, PsksFit, UsePsks, passes-psks, message-same, pre-same}
 use Rattle.noise_names.specs.Lists.{heads, tails, split-apart, cons-same}
 
 -- each message carries keys of 32 bytes
@@ -27,57 +27,57 @@ abbrev pub AllCarry : Plan → ℕ → List HandshakeMessage → Type 0
 AllCarry p n [] = Unit {0}
 AllCarry p n (m ∷ ms) = Carry (tokens_at p.messages n) m.carried × AllCarry p (n + 1) ms
 
-pub passes-carry : LawsBelow → (v w : View) (ps : List HandshakeMessage) → Exchanged v ps w → AllCarry v.pattern v.passed ps
+pub passes-carry : LawsBelow → (v w : Party) (ps : List HandshakeMessage) → Exchanged v ps w → AllCarry v.pattern v.passed ps
 passes-carry laws v w [] (none _) = tt
 passes-carry laws v w (p ∷ ps) (wrote _ _ _ _ here more) =
     (laws.written_carries v p.payload p.message p.carried here, passes-carry laws (after_own v p.carried p.payload) w ps more)
 passes-carry laws v w (p ∷ ps) (took _ _ _ _ here more) =
     (laws.accepted_carries v p.payload p.message p.carried here, passes-carry laws (after_message v p.carried p.payload) w ps more)
 
-token-equal : (r : History) (secrets : List (List ℕ)) (t : Token) (ts : List Token) (x y p q : List ℕ) (xs ys others rest : List (List ℕ)) → Carries t x
+token-equal : (r : History) (psks : List (List ℕ)) (t : Token) (ts : List Token) (x y p q : List ℕ) (xs ys others rest : List (List ℕ)) → Carries t x
     → Carries t y
-    → SecretAt secrets t x → SecretAt secrets t y → answers (t ∷ ts) (x ∷ xs) ++ others ≡ answers (t ∷ ts) (y ∷ ys) ++ rest
+    → PskAt psks t x → PskAt psks t y → answers (t ∷ ts) (x ∷ xs) ++ others ≡ answers (t ∷ ts) (y ∷ ys) ++ rest
     → token_bytes r t x ++ p ≡ token_bytes r t y ++ q → (x ≡ y) × (p ≡ q) × (answers ts xs ++ others ≡ answers ts ys ++ rest)
-token-equal r secrets E ts x y p q xs ys others rest c d f g h e = let z = split-apart x y p q (c ∙ sym d) e in (z.0, z.1, h)
-token-equal r secrets S ts x y p q xs ys others rest c d f g h e =
+token-equal r psks E ts x y p q xs ys others rest c d f g h e = let z = split-apart x y p q (c ∙ sym d) e in (z.0, z.1, h)
+token-equal r psks S ts x y p q xs ys others rest c d f g h e =
     let n : length (ciphertext r x) ≡ length (ciphertext r y) =
     length-ciphertext r x ∙ ap (λ (k : ℕ). if is_some (cipher_key r) then k + 16 else k) (c ∙ sym d) ∙ sym (length-ciphertext r y) in
     let z = split-apart (ciphertext r x) (ciphertext r y) p q n e in
     (ciphertext-same r x y z.0, z.1, h)
-token-equal r secrets Psk ts x y p q xs ys others rest c d f g h e = (f ∙ sym g, e, h)
-token-equal r secrets Ee ts x y p q xs ys others rest c d f g h e = (heads x y _ _ h, e, tails x y _ _ h)
-token-equal r secrets Es ts x y p q xs ys others rest c d f g h e = (heads x y _ _ h, e, tails x y _ _ h)
-token-equal r secrets Se ts x y p q xs ys others rest c d f g h e = (heads x y _ _ h, e, tails x y _ _ h)
-token-equal r secrets Ss ts x y p q xs ys others rest c d f g h e = (heads x y _ _ h, e, tails x y _ _ h)
+token-equal r psks Psk ts x y p q xs ys others rest c d f g h e = (f ∙ sym g, e, h)
+token-equal r psks Ee ts x y p q xs ys others rest c d f g h e = (heads x y _ _ h, e, tails x y _ _ h)
+token-equal r psks Es ts x y p q xs ys others rest c d f g h e = (heads x y _ _ h, e, tails x y _ _ h)
+token-equal r psks Se ts x y p q xs ys others rest c d f g h e = (heads x y _ _ h, e, tails x y _ _ h)
+token-equal r psks Ss ts x y p q xs ys others rest c d f g h e = (heads x y _ _ h, e, tails x y _ _ h)
 
-front-equal : (psks : Bool) (r : History) (secrets : List (List ℕ)) (ts : List Token) (xs ys : List (List ℕ)) (p q : List ℕ) (others rest : List (List ℕ))
+front-equal : (has_psks : Bool) (r : History) (psks : List (List ℕ)) (ts : List Token) (xs ys : List (List ℕ)) (p q : List ℕ) (others rest : List (List ℕ))
     → Carry ts xs → Carry ts ys
-    → SecretsFit secrets ts xs → SecretsFit secrets ts ys → answers ts xs ++ others ≡ answers ts ys ++ rest
-    → before_payload psks r ts xs ++ p ≡ before_payload psks r ts ys ++ q → (xs ≡ ys) × (p ≡ q) × (others ≡ rest)
-front-equal psks r secrets [] [] [] p q others rest c d f g h e = (refl, e, h)
-front-equal psks r secrets [] [] (y ∷ ys) p q others rest c d f g h e = absurd d
-front-equal psks r secrets [] (x ∷ xs) ys p q others rest c d f g h e = absurd c
-front-equal psks r secrets (t ∷ ts) [] ys p q others rest c d f g h e = absurd c
-front-equal psks r secrets (t ∷ ts) (x ∷ xs) [] p q others rest c d f g h e = absurd d
-front-equal psks r secrets (t ∷ ts) (x ∷ xs) (y ∷ ys) p q others rest c d f g h e =
-    let a : List ℕ = before_payload psks (after_token psks r t x) ts xs in
-    let b : List ℕ = before_payload psks (after_token psks r t y) ts ys in
-    let here = token-equal r secrets t ts x y (a ++ p) (b ++ q) xs ys others rest c.0 d.0 f.0 g.0 h
+    → PsksFit psks ts xs → PsksFit psks ts ys → answers ts xs ++ others ≡ answers ts ys ++ rest
+    → before_payload has_psks r ts xs ++ p ≡ before_payload has_psks r ts ys ++ q → (xs ≡ ys) × (p ≡ q) × (others ≡ rest)
+front-equal has_psks r psks [] [] [] p q others rest c d f g h e = (refl, e, h)
+front-equal has_psks r psks [] [] (y ∷ ys) p q others rest c d f g h e = absurd d
+front-equal has_psks r psks [] (x ∷ xs) ys p q others rest c d f g h e = absurd c
+front-equal has_psks r psks (t ∷ ts) [] ys p q others rest c d f g h e = absurd c
+front-equal has_psks r psks (t ∷ ts) (x ∷ xs) [] p q others rest c d f g h e = absurd d
+front-equal has_psks r psks (t ∷ ts) (x ∷ xs) (y ∷ ys) p q others rest c d f g h e =
+    let a : List ℕ = before_payload has_psks (after_token has_psks r t x) ts xs in
+    let b : List ℕ = before_payload has_psks (after_token has_psks r t y) ts ys in
+    let here = token-equal r psks t ts x y (a ++ p) (b ++ q) xs ys others rest c.0 d.0 f.0 g.0 h
     (sym (append_assoc (token_bytes r t x) a p) ∙ e ∙ append_assoc (token_bytes r t y) b q) in
-    let later = front-equal psks (after_token psks r t x) (secrets_after secrets t) ts xs ys p q others rest c.1 d.1 f.1 g.1 here.2
-    (here.1 ∙ ap (λ (z : List ℕ). before_payload psks (after_token psks r t z) ts ys ++ q) (sym here.0)) in
+    let later = front-equal has_psks (after_token has_psks r t x) (psks_after psks t) ts xs ys p q others rest c.1 d.1 f.1 g.1 here.2
+    (here.1 ∙ ap (λ (z : List ℕ). before_payload has_psks (after_token has_psks r t z) ts ys ++ q) (sym here.0)) in
     (cons-same here.0 later.0, later.1, later.2)
 
-all-equal : (p : Plan) (n : ℕ) (r : History) (secrets : List (List ℕ)) (ps qs : List HandshakeMessage) → messages_of ps ≡ messages_of qs → AllCarry p n ps
+all-equal : (p : Plan) (n : ℕ) (r : History) (psks : List (List ℕ)) (ps qs : List HandshakeMessage) → messages_of ps ≡ messages_of qs → AllCarry p n ps
     → AllCarry p n qs
-    → AreLines p n r ps → AreLines p n r qs → UseSecrets p n secrets ps → UseSecrets p n secrets qs → answers_from p n ps ≡ answers_from p n qs → ps ≡ qs
-all-equal p n r secrets [] [] a k l b c f g h = refl
-all-equal p n r secrets [] (q ∷ qs) a k l b c f g h = cc
-all-equal p n r secrets (m ∷ ms) [] a k l b c f g h = cc
-all-equal p n r secrets (m ∷ ms) (q ∷ qs) a k l b c f g h =
+    → AreLines p n r ps → AreLines p n r qs → UsePsks p n psks ps → UsePsks p n psks qs → answers_from p n ps ≡ answers_from p n qs → ps ≡ qs
+all-equal p n r psks [] [] a k l b c f g h = refl
+all-equal p n r psks [] (q ∷ qs) a k l b c f g h = cc
+all-equal p n r psks (m ∷ ms) [] a k l b c f g h = cc
+all-equal p n r psks (m ∷ ms) (q ∷ qs) a k l b c f g h =
     let ts : List Token = tokens_at p.messages n in
     let bytes : m.message ≡ q.message = heads m.message q.message (messages_of ms) (messages_of qs) a in
-    let here = front-equal (has_psk p) r secrets ts m.carried q.carried (ciphertext (after_tokens (has_psk p) r ts m.carried) m.payload)
+    let here = front-equal (has_psk p) r psks ts m.carried q.carried (ciphertext (after_tokens (has_psk p) r ts m.carried) m.payload)
     (ciphertext (after_tokens (has_psk p) r ts q.carried) q.payload)
     (answers_from p (n + 1) ms) (answers_from p (n + 1) qs) k.0 l.0 f.0 g.0 h (sym b.0.1 ∙ bytes ∙ c.0.1) in
     let payload : m.payload ≡ q.payload =
@@ -87,12 +87,12 @@ all-equal p n r secrets (m ∷ ms) (q ∷ qs) a k l b c f g h =
     let after : after_payload (has_psk p) r ts m.carried m.payload ≡ after_payload (has_psk p) r ts q.carried q.payload =
     ap (λ (z : HandshakeMessage). after_payload (has_psk p) r ts z.carried z.payload) one in
     cons-same one
-    (all-equal p (n + 1) (after_payload (has_psk p) r ts m.carried m.payload) (drop (count_by is_psk ts) secrets) ms qs
+    (all-equal p (n + 1) (after_payload (has_psk p) r ts m.carried m.payload) (drop (count_by is_psk ts) psks) ms qs
     (tails m.message q.message (messages_of ms) (messages_of qs) a) k.1 l.1 b.1
     (subst (λ (s : History). AreLines p (n + 1) s qs) (sym after) c.1) f.1 g.1 here.2)
 
 pub visibly-equal-is-one : LawsBelow → VisiblyEqualIsOne
-visibly-equal-is-one laws p a b ps qs v w left right prologue before messages secrets answered =
+visibly-equal-is-one laws p a b ps qs v w left right prologue before messages psks answered =
     let name : List ℕ = name_bytes (record { base = p.base; places = p.places }) in
     let r0 : History = (begun_as p Initiator a).history in
     let s0 : History = (begun_as p Responder b).history in
@@ -105,9 +105,9 @@ visibly-equal-is-one laws p a b ps qs v w left right prologue before messages se
     (ap (λ (z : List ℕ). and_then (record { name = name; entries = [] }) (MixHash z)) prologue) (before Initiator)) (before Responder) in
     let l = passes-lines (begun_as p Initiator a) v ps left in
     let m = passes-lines (begun_as p Responder b) w qs right in
-    let one : ps ≡ qs = all-equal p 0 r0 a.secrets ps qs messages
+    let one : ps ≡ qs = all-equal p 0 r0 a.psks ps qs messages
     (passes-carry laws (begun_as p Initiator a) v ps left) (passes-carry laws (begun_as p Responder b) w qs right) l.lines
     (subst (λ (z : History). AreLines p 0 z qs) (sym first) m.lines)
-    (passes-secrets (begun_as p Initiator a) v ps left)
-    (subst (λ (z : List (List ℕ)). UseSecrets p 0 z qs) (sym secrets) (passes-secrets (begun_as p Responder b) w qs right)) answered in
+    (passes-psks (begun_as p Initiator a) v ps left)
+    (subst (λ (z : List (List ℕ)). UsePsks p 0 z qs) (sym psks) (passes-psks (begun_as p Responder b) w qs right)) answered in
     (one, l.history ∙ ap (λ (z : History). after_all p 0 z ps) first ∙ ap (after_all p 0 s0) one ∙ sym m.history)

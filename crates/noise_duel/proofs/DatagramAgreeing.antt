@@ -9,12 +9,12 @@ use Rattle.noise_names.specs.declared.token.Role.{Role}
 use Rattle.noise_names.specs.declared.token.Role.TheVariants.{Initiator, Responder}
 use Rattle.noise_names.specs.Tokens.{other, same_role}
 use Rattle.noise_state.specs.History.{History}
-use Rattle.noise_handshake.specs.View.{View}
+use Rattle.noise_handshake.specs.Party.{Party}
 use Rattle.noise_session.specs.declared.datagram_fault.DatagramFault.{DatagramFault}
 use Rattle.noise_session.specs.declared.datagram_fault.DatagramFault.TheVariants as fault
-use Rattle.noise_session.specs.Transport.{packet, last_nonce}
+use Rattle.noise_session.specs.Transport.{transport_message, last_nonce}
 use Rattle.noise_session.specs.Windows.{is_among, is_old, window_fault}
-use Rattle.noise_session.specs.Datagrams.{AreOnce, DatagramView, IsSealed, Opens, datagram_fault, nonce_named}
+use Rattle.noise_session.specs.Datagrams.{AreOnce, DatagramState, IsSealed, Opens, datagram_fault, nonce_named}
 use Rattle.noise_session.specs.Datagrams.Opens.{opened}
 use Rattle.noise_duel.specs.DatagramAgreement.{AreAtNonces, AreCounted, ArriveOnce, ComesOfDatagrams}
 use Rattle.noise_duel.specs.DatagramAgreement.{DatagramRunsAgree, RunsMakeOneBeginning}
@@ -26,21 +26,21 @@ use Rattle.noise_duel.specs.DatagramRuns.DatagramRun.{begins, ends}
 use Rattle.noise_duel.specs.DatagramRuns.PartyOpens.{opens, rejects}
 use Rattle.noise_duel.specs.DatagramRuns.PartySeals.{seals, seals_nothing}
 use Rattle.noise_duel.specs.DatagramSides.{DatagramSide, DatagramSides, NonceMessage, at_nonce, new_party, nonces_of, of_nonce}
-use Rattle.noise_duel.specs.Forgery.{ForgedAt}
+use Rattle.noise_duel.specs.Forgery.{ForgedMessage}
 use Rattle.noise_duel.specs.Sides.{TransportMessage}
 use Rattle.noise_duel.specs.Messages.{begun_as}
 use Rattle.noise_duel.proofs.Chain.{same-or}
 use Rattle.noise_duel.proofs.Invariant.{ends-stand}
 use Rattle.noise_duel.proofs.Networks.{passes-role}
-use Rattle.noise_duel.proofs.Prefixes.{packet-same}
+use Rattle.noise_duel.proofs.Prefixes.{transport_message-same}
 use Rattle.std.proofs.lemmas.Option.{same_Some}
 
--- ---- what is opened is the packet of a nonce that wasn't accepted
+-- ---- what is opened is the transport message of a nonce that wasn't accepted
 no-fault : {X : Type 0} (b : Bool) (x : X) (rest : Option X) → (if b then Some x else rest) ≡ None → (b ≡ false) × (rest ≡ None)
 no-fault true x rest e = cc
 no-fault false x rest e = (refl, e)
 
-fresh : (v : DatagramView) (bytes : List ℕ) → datagram_fault v bytes ≡ None → is_among v.accepted (nonce_named bytes) ≡ false
+fresh : (v : DatagramState) (bytes : List ℕ) → datagram_fault v bytes ≡ None → is_among v.accepted (nonce_named bytes) ≡ false
 fresh v bytes e =
     let n = nonce_named bytes in
     let window = window_fault v.width v.accepted n in
@@ -55,22 +55,22 @@ fresh v bytes e =
     let f = no-fault (is_old v.width v.accepted n) fault.Old seen d.1 in
     (no-fault (is_among v.accepted n) fault.Repeated None f.1).0
 
-opened-as : (v : DatagramView) (bytes payload : List ℕ) (w : DatagramView) → Opens v bytes (Ok payload) w → (datagram_fault v bytes ≡ None) × IsSealed v bytes payload
+opened-as : (v : DatagramState) (bytes payload : List ℕ) (w : DatagramState) → Opens v bytes (Ok payload) w → (datagram_fault v bytes ≡ None) × IsSealed v bytes payload
 opened-as v bytes payload w (opened _ _ _ none is) = (none, is)
 
 -- ---- one event
 counted-more : (r : History) (writer : Role) (n : ℕ) (ms : List NonceMessage) (m : NonceMessage) → AreCounted r writer n ms → m.nonce ≡ n + length ms
-    → m.message.message ≡ packet r writer 0 (n + length ms) m.message.payload → AreCounted r writer n (ms ++ m ∷ [])
+    → m.message.message ≡ transport_message r writer 0 (n + length ms) m.message.payload → AreCounted r writer n (ms ++ m ∷ [])
 counted-more r writer n [] m h is e = (
   is ∙ omega arith,
-  subst (λ (k : ℕ). m.message.message ≡ packet r writer 0 k m.message.payload) (omega arith) e,
+  subst (λ (k : ℕ). m.message.message ≡ transport_message r writer 0 k m.message.payload) (omega arith) e,
   tt,
 )
 counted-more r writer n (x ∷ ms) m h is e =
     let next : n + length (x ∷ ms) ≡ (n + 1) + length ms = omega arith in (
       h.0,
       h.1,
-      counted-more r writer (n + 1) ms m h.2 (is ∙ next) (subst (λ (k : ℕ). m.message.message ≡ packet r writer 0 k m.message.payload) next e),
+      counted-more r writer (n + 1) ms m h.2 (is ∙ next) (subst (λ (k : ℕ). m.message.message ≡ transport_message r writer 0 k m.message.payload) next e),
     )
 
 record Holds (role : Role) (r : History) (s : DatagramSide) : Type 0 where
@@ -86,12 +86,12 @@ holds-sealed : (role : Role) (r : History) (s : DatagramSide) (payload : List �
 holds-sealed role r s payload next note (seals_nothing _ _ why e) h = h
 holds-sealed role r s payload next note (seals _ _ e) h =
     let c = h.comes in
-    let message = packet s.view.history s.view.role 0 s.view.sent payload in
-    let m : NonceMessage = at_nonce s.view.sent message payload in
-    let same : message ≡ packet r role 0 (0 + length s.sealed) payload =
-    ap (λ (q : History). packet q s.view.role 0 s.view.sent payload) c.history
-    ∙ ap (λ (q : Role). packet r q 0 s.view.sent payload) c.role_is
-    ∙ ap (λ (k : ℕ). packet r role 0 k payload) (c.sending ∙ omega arith) in
+    let message = transport_message s.state.history s.state.role 0 s.state.sent payload in
+    let m : NonceMessage = at_nonce s.state.sent message payload in
+    let same : message ≡ transport_message r role 0 (0 + length s.sealed) payload =
+    ap (λ (q : History). transport_message q s.state.role 0 s.state.sent payload) c.history
+    ∙ ap (λ (q : Role). transport_message r q 0 s.state.sent payload) c.role_is
+    ∙ ap (λ (k : ℕ). transport_message r role 0 k payload) (c.sending ∙ omega arith) in
     record {
       comes = record {
         role_is = c.role_is;
@@ -109,7 +109,7 @@ holds-opened : (role : Role) (r : History) (s : DatagramSide) (bytes : List ℕ)
 holds-opened role r s bytes next note (rejects _ _ why o) h = h
 holds-opened role r s bytes next note (opens _ _ payload o) h =
     let c = h.comes in
-    let is = opened-as s.view bytes payload _ o in
+    let is = opened-as s.state bytes payload _ o in
     let n = nonce_named bytes in
     record {
       comes = record {
@@ -119,29 +119,29 @@ holds-opened role r s bytes next note (opens _ _ payload o) h =
         accepted = ap (λ (ns : List ℕ). n ∷ ns) c.accepted;
         sealed = c.sealed;
         opened = (
-          is.1 ∙ ap (λ (q : History). packet q (other s.view.role) 0 n payload) c.history
-              ∙ ap (λ (q : Role). packet r (other q) 0 n payload) c.role_is,
+          is.1 ∙ ap (λ (q : History). transport_message q (other s.state.role) 0 n payload) c.history
+              ∙ ap (λ (q : Role). transport_message r (other q) 0 n payload) c.role_is,
           c.opened,
         );
       };
-      once = (ap (λ (ns : List ℕ). is_among ns n) (sym c.accepted) ∙ fresh s.view bytes is.0, h.once);
+      once = (ap (λ (ns : List ℕ). is_among ns n) (sym c.accepted) ∙ fresh s.state bytes is.0, h.once);
     }
 
 hold-happened : (r : History) (d next : DatagramSides) (event : DatagramEvent) (note : Role × DatagramNote) → DatagramHappens d event note next
     → HoldBoth r d → HoldBoth r next
-hold-happened r d next event note (is_sealed _ Initiator payload told s p) h =
-    record { initiator = holds-sealed Initiator r d.initiator payload s told p h.initiator; responder = h.responder }
-hold-happened r d next event note (is_sealed _ Responder payload told s p) h =
-    record { initiator = h.initiator; responder = holds-sealed Responder r d.responder payload s told p h.responder }
-hold-happened r d next event note (is_delivered _ Initiator n bytes told s got p) h =
-    record { initiator = holds-opened Initiator r d.initiator bytes s told p h.initiator; responder = h.responder }
-hold-happened r d next event note (is_delivered _ Responder n bytes told s got p) h =
-    record { initiator = h.initiator; responder = holds-opened Responder r d.responder bytes s told p h.responder }
+hold-happened r d next event note (is_sealed _ Initiator payload reported s p) h =
+    record { initiator = holds-sealed Initiator r d.initiator payload s reported p h.initiator; responder = h.responder }
+hold-happened r d next event note (is_sealed _ Responder payload reported s p) h =
+    record { initiator = h.initiator; responder = holds-sealed Responder r d.responder payload s reported p h.responder }
+hold-happened r d next event note (is_delivered _ Initiator n bytes reported s got p) h =
+    record { initiator = holds-opened Initiator r d.initiator bytes s reported p h.initiator; responder = h.responder }
+hold-happened r d next event note (is_delivered _ Responder n bytes reported s got p) h =
+    record { initiator = h.initiator; responder = holds-opened Responder r d.responder bytes s reported p h.responder }
 hold-happened r d next event note (is_missing _ role n none) h = h
-hold-happened r d next event note (is_put_in _ Initiator bytes told s p) h =
-    record { initiator = holds-opened Initiator r d.initiator bytes s told p h.initiator; responder = h.responder }
-hold-happened r d next event note (is_put_in _ Responder bytes told s p) h =
-    record { initiator = h.initiator; responder = holds-opened Responder r d.responder bytes s told p h.responder }
+hold-happened r d next event note (is_put_in _ Initiator bytes reported s p) h =
+    record { initiator = holds-opened Initiator r d.initiator bytes s reported p h.initiator; responder = h.responder }
+hold-happened r d next event note (is_put_in _ Responder bytes reported s p) h =
+    record { initiator = h.initiator; responder = holds-opened Responder r d.responder bytes s reported p h.responder }
 
 hold-run : (r : History) (d last : DatagramSides) (events : List DatagramEvent) (notes : List (Role × DatagramNote)) → DatagramRun d events notes last
     → HoldBoth r d → HoldBoth r last
@@ -174,29 +174,29 @@ later-of m ms n e = rw (ne_eqb m.nonce n e) refl
 module _ (r : History) (writer : Role) where
   -- of a writer's messages from nonce n on, that of nonce n + k has the number k
   counted-at : (n k : ℕ) (ms : List NonceMessage) (w : TransportMessage) → AreCounted r writer n ms → of_nonce ms (n + k) ≡ Some w
-      → (slice_get ms k ≡ Some (record { nonce = n + k; message = w })) × (w.message ≡ packet r writer 0 (n + k) w.payload)
+      → (slice_get ms k ≡ Some (record { nonce = n + k; message = w })) × (w.message ≡ transport_message r writer 0 (n + k) w.payload)
   counted-at n k [] w h e = absurd (none-some w e)
   counted-at n zero (m ∷ ms) w h e =
       let here : m.nonce ≡ n + 0 = h.0 ∙ omega arith in
       let same : m.message ≡ w = same_Some m.message w (sym (first-of m ms (n + 0) here) ∙ e) in (
         ap Some (same-nonce m (n + 0) w here same),
-        subst (λ (z : TransportMessage). z.message ≡ packet r writer 0 (n + 0) z.payload) same
-            (subst (λ (i : ℕ). m.message.message ≡ packet r writer 0 i m.message.payload) (omega arith) h.1),
+        subst (λ (z : TransportMessage). z.message ≡ transport_message r writer 0 (n + 0) z.payload) same
+            (subst (λ (i : ℕ). m.message.message ≡ transport_message r writer 0 i m.message.payload) (omega arith) h.1),
       )
   counted-at n (suc k) (m ∷ ms) w h e =
       let apart : m.nonce ≢ n + suc k = λ same. let first = h.0 in absurd (omega (arith, first, same)) in
       let step : (n + 1) + k ≡ n + suc k = omega arith in
       let more = counted-at (n + 1) k ms w h.2 (ap (of_nonce ms) step ∙ sym (later-of m ms (n + suc k) apart) ∙ e) in (
         more.0 ∙ ap (λ (i : ℕ). Some (record { nonce = i; message = w })) step,
-        subst (λ (i : ℕ). w.message ≡ packet r writer 0 i w.payload) step more.1,
+        subst (λ (i : ℕ). w.message ≡ transport_message r writer 0 i w.payload) step more.1,
       )
 
   at-nonces-at : (ms : List NonceMessage) (n : ℕ) (w : TransportMessage) → AreAtNonces r writer ms → of_nonce ms n ≡ Some w
-      → w.message ≡ packet r writer 0 n w.payload
+      → w.message ≡ transport_message r writer 0 n w.payload
   at-nonces-at [] n w h e = absurd (none-some w e)
   at-nonces-at (m ∷ ms) n w h e = elim (eqb_tells m.nonce n) [
-    | inl y ↦ subst (λ (z : TransportMessage). z.message ≡ packet r writer 0 n z.payload) (same_Some m.message w (sym (first-of m ms n y.1) ∙ e))
-        (subst (λ (i : ℕ). m.message.message ≡ packet r writer 0 i m.message.payload) y.1 h.0)
+    | inl y ↦ subst (λ (z : TransportMessage). z.message ≡ transport_message r writer 0 n z.payload) (same_Some m.message w (sym (first-of m ms n y.1) ∙ e))
+        (subst (λ (i : ℕ). m.message.message ≡ transport_message r writer 0 i m.message.payload) y.1 h.0)
     | inr y ↦ at-nonces-at ms n w h.1 (sym (later-of m ms n y.1) ∙ e)
   ]
 
@@ -205,32 +205,32 @@ module _ (r : History) (writer : Role) where
   arrive sealed came f g one = record { once = one; own = λ i m e. at i m e (of_nonce sealed i) refl }
     where
       at : (i : ℕ) (m : TransportMessage) → of_nonce came i ≡ Some m → (w : Option TransportMessage) → of_nonce sealed i ≡ w
-          → (slice_get sealed i ≡ Some (record { nonce = i; message = m })) ⊎ ForgedAt r writer 0 (of_nonce sealed) (of_nonce came) i
+          → (slice_get sealed i ≡ Some (record { nonce = i; message = m })) ⊎ ForgedMessage r writer 0 (of_nonce sealed) (of_nonce came) i
       at i m e None none = inr (record {
         forged = m;
         came = e;
         unwritten = λ x there. absurd (none-some x (sym none ∙ there));
-        packet_at = at-nonces-at came i m g e;
+        message_at = at-nonces-at came i m g e;
       })
       at i m e (Some w) there =
           let number : 0 + i ≡ i = omega arith in
           let own = counted-at 0 i sealed w f (ap (of_nonce sealed) number ∙ there) in
-          let made : w.message ≡ packet r writer 0 i w.payload = subst (λ (k : ℕ). w.message ≡ packet r writer 0 k w.payload) number own.1 in
-          let is : m.message ≡ packet r writer 0 i m.payload = at-nonces-at came i m g e in
+          let made : w.message ≡ transport_message r writer 0 i w.payload = subst (λ (k : ℕ). w.message ≡ transport_message r writer 0 k w.payload) number own.1 in
+          let is : m.message ≡ transport_message r writer 0 i m.payload = at-nonces-at came i m g e in
           elim (same-or w.message m.message) [
             | inl same ↦ inl (own.0 ∙ ap (λ (k : ℕ). Some (record { nonce = k; message = w })) number
                 ∙ ap (λ (z : TransportMessage). Some (record { nonce = i; message = z }))
-                (same-message w m same (packet-same r writer 0 i w.payload m.payload (sym made ∙ same ∙ is))))
+                (same-message w m same (transport_message-same r writer 0 i w.payload m.payload (sym made ∙ same ∙ is))))
             | inr differ ↦ inr (record {
               forged = m;
               came = e;
               unwritten = λ x here same. differ (ap (λ (z : TransportMessage). z.message) (same_Some w x (sym there ∙ here)) ∙ same);
-              packet_at = is;
+              message_at = is;
             })
           ]
 
 -- ---- the run
-starts : (role : Role) (v : DatagramView) → v.role ≡ role → v.sent ≡ 0 → v.accepted ≡ [] → (r : History) → v.history ≡ r → Holds role r (new_party v)
+starts : (role : Role) (v : DatagramState) → v.role ≡ role → v.sent ≡ 0 → v.accepted ≡ [] → (r : History) → v.history ≡ r → Holds role r (new_party v)
 starts role v is sent none r same = record {
   comes = record { role_is = is; history = same; sending = sent; accepted = none; sealed = tt; opened = tt };
   once = tt;
@@ -255,8 +255,8 @@ pub runs-make-one-beginning : RunsMakeOneBeginning
 runs-make-one-beginning p a b i j events notes d window run one =
     let both = ends-stand p a b i j events notes d run in
     record {
-      initiator = ap (λ (v : View). v.role) both.0.party ∙ passes-role (begun_as p Initiator a) both.0.last d.initiator.passed both.0.passes;
-      responder = ap (λ (v : View). v.role) both.1.party ∙ passes-role (begun_as p Responder b) both.1.last d.responder.passed both.1.passes;
+      initiator = ap (λ (v : Party). v.role) both.0.party ∙ passes-role (begun_as p Initiator a) both.0.last d.initiator.passed both.0.passes;
+      responder = ap (λ (v : Party). v.role) both.1.party ∙ passes-role (begun_as p Responder b) both.1.last d.responder.passed both.1.passes;
       history = sym one.history;
       initiator_sent = refl;
       responder_sent = refl;

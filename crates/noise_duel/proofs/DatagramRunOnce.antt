@@ -4,7 +4,7 @@ use Rattle.std.specs.Prelude.{Ok, Err, Result}
 use Rattle.noise_names.specs.declared.token.Role.{Role}
 use Rattle.noise_names.specs.Tokens.{other}
 use Rattle.noise_session.specs.declared.datagram_fault.DatagramFault.{DatagramFault}
-use Rattle.noise_session.specs.Datagrams.{DatagramView, Opens, nonce_named}
+use Rattle.noise_session.specs.Datagrams.{DatagramState, Opens, nonce_named}
 use Rattle.noise_session.specs.Datagrams.Opens.{opened, refused, forged}
 use Rattle.noise_events.specs.DatagramEvents.{DatagramEvent}
 use Rattle.noise_duel.specs.DatagramNotes.{DatagramNote, Payload, Rejected, SealFault}
@@ -14,7 +14,7 @@ use Rattle.noise_duel.specs.DatagramRuns.DatagramRun.{begins, ends}
 use Rattle.noise_duel.specs.DatagramRuns.PartyOpens.{opens, rejects}
 use Rattle.noise_duel.specs.DatagramRuns.PartySeals.{seals, seals_nothing}
 use Rattle.noise_duel.specs.DatagramSides.{DatagramSide, DatagramSides, opening, party, with_party}
-use Rattle.noise_duel.proofs.Prefixes.{packet-same}
+use Rattle.noise_duel.proofs.Prefixes.{transport_message-same}
 use Rattle.std.proofs.lemmas.Option.{same_Some}
 
 some-none : {X : Type 0} (o : Option X) (x : X) → o ≡ Some x → o ≡ None → ⊥
@@ -35,9 +35,9 @@ err-same x y e = cc
 not-both : (p : List ℕ) (why : DatagramFault) → opens_as p ≡ refused_as why → ⊥
 not-both p why e = cc
 
-opens-once : (v : DatagramView) (bytes : List ℕ) (w x : DatagramView) (p q : Result (List ℕ) DatagramFault) → Opens v bytes p w → Opens v bytes q x → p ≡ q
+opens-once : (v : DatagramState) (bytes : List ℕ) (w x : DatagramState) (p q : Result (List ℕ) DatagramFault) → Opens v bytes p w → Opens v bytes q x → p ≡ q
 opens-once v bytes w x p q (opened _ _ a none is) (opened _ _ b also be) =
-    ap opens_as (packet-same v.history (other v.role) 0 (nonce_named bytes) a b (sym is ∙ be))
+    ap opens_as (transport_message-same v.history (other v.role) 0 (nonce_named bytes) a b (sym is ∙ be))
 opens-once v bytes w x p q (opened _ _ a none is) (refused _ _ why e) = absurd (some-none _ why e none)
 opens-once v bytes w x p q (opened _ _ a none is) (forged _ _ also never) = absurd (never a is)
 opens-once v bytes w x p q (refused _ _ why e) (opened _ _ b none is) = absurd (some-none _ why e none)
@@ -55,29 +55,29 @@ party-seals-once s payload x y m n (seals_nothing _ _ why e) (seals_nothing _ _ 
 
 party-opens-once : (s : DatagramSide) (bytes : List ℕ) (x y : DatagramSide) (m n : DatagramNote) → PartyOpens s bytes m x → PartyOpens s bytes n y → (m ≡ n) × (x ≡ y)
 party-opens-once s bytes x y m n (opens _ _ a o) (opens _ _ b u) =
-    let same = ok-same a b (opens-once s.view bytes _ _ (opens_as a) (opens_as b) o u) in (ap Payload same, ap (opening s bytes) same)
+    let same = ok-same a b (opens-once s.state bytes _ _ (opens_as a) (opens_as b) o u) in (ap Payload same, ap (opening s bytes) same)
 party-opens-once s bytes x y m n (opens _ _ a o) (rejects _ _ why u) =
-    absurd (not-both a why (opens-once s.view bytes _ _ (opens_as a) (refused_as why) o u))
+    absurd (not-both a why (opens-once s.state bytes _ _ (opens_as a) (refused_as why) o u))
 party-opens-once s bytes x y m n (rejects _ _ why o) (opens _ _ b u) =
-    absurd (not-both b why (opens-once s.view bytes _ _ (opens_as b) (refused_as why) u o))
+    absurd (not-both b why (opens-once s.state bytes _ _ (opens_as b) (refused_as why) u o))
 party-opens-once s bytes x y m n (rejects _ _ why o) (rejects _ _ because u) =
-    (ap Rejected (err-same why because (opens-once s.view bytes _ _ (refused_as why) (refused_as because) o u)), refl)
+    (ap Rejected (err-same why because (opens-once s.state bytes _ _ (refused_as why) (refused_as because) o u)), refl)
 
 happens-once : (d x y : DatagramSides) (event : DatagramEvent) (m n : Role × DatagramNote) → DatagramHappens d event m x → DatagramHappens d event n y
     → (m ≡ n) × (x ≡ y)
-happens-once d x y event m n (is_sealed _ role payload note next h) (is_sealed _ _ _ told after k) =
-    let one = party-seals-once (party d role) payload next after note told h k in
+happens-once d x y event m n (is_sealed _ role payload note next h) (is_sealed _ _ _ reported after k) =
+    let one = party-seals-once (party d role) payload next after note reported h k in
     (ap (λ (z : DatagramNote). (role, z)) one.0, ap (with_party d role) one.1)
-happens-once d x y event m n (is_delivered _ role i bytes note next at h) (is_delivered _ _ _ others told after there k) =
+happens-once d x y event m n (is_delivered _ role i bytes note next at h) (is_delivered _ _ _ others reported after there k) =
     let same : bytes ≡ others = same_Some bytes others (sym at ∙ there) in
-    let one = party-opens-once (party d role) bytes next after note told h
-    (subst (λ (z : List ℕ). PartyOpens (party d role) z told after) (sym same) k) in
+    let one = party-opens-once (party d role) bytes next after note reported h
+    (subst (λ (z : List ℕ). PartyOpens (party d role) z reported after) (sym same) k) in
     (ap (λ (z : DatagramNote). (role, z)) one.0, ap (with_party d role) one.1)
 happens-once d x y event m n (is_delivered _ role i bytes note next at h) (is_missing _ _ _ none) = absurd (some-none _ bytes at none)
 happens-once d x y event m n (is_missing _ role i none) (is_delivered _ _ _ bytes note next at h) = absurd (some-none _ bytes at none)
 happens-once d x y event m n (is_missing _ role i none) (is_missing _ _ _ also) = (refl, refl)
-happens-once d x y event m n (is_put_in _ role bytes note next h) (is_put_in _ _ _ told after k) =
-    let one = party-opens-once (party d role) bytes next after note told h k in
+happens-once d x y event m n (is_put_in _ role bytes note next h) (is_put_in _ _ _ reported after k) =
+    let one = party-opens-once (party d role) bytes next after note reported h k in
     (ap (λ (z : DatagramNote). (role, z)) one.0, ap (with_party d role) one.1)
 
 pub datagram-run-once : DatagramRunOnce

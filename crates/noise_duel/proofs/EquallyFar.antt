@@ -15,21 +15,21 @@ use Rattle.noise_handshake.specs.declared.remote.Remote.{Remote}
 use Rattle.noise_handshake.specs.Length.{Carry}
 use Rattle.noise_handshake.specs.Message.{message_bytes, after_payload}
 use Rattle.noise_handshake.specs.Passed.{passed_places}
-use Rattle.noise_handshake.specs.View.{View, Speaks, tokens_at, tokens_now}
+use Rattle.noise_handshake.specs.Party.{Party, Speaks, tokens_at, tokens_now}
 use Rattle.noise_handshake.specs.Writing.{Given, writer}
-use Rattle.noise_handshake.specs.Party.{after_own, after_message}
+use Rattle.noise_handshake.specs.Matching.{after_own, after_message}
 use Rattle.noise_handshake.specs.Setup.{token_of}
 use Rattle.noise_handshake.specs.Counterparts.{Counterparts, counterpart, IsEquipped, shown_after}
 use Rattle.noise_duel.specs.Below.{LawsBelow}
 use Rattle.noise_session.specs.Frames.{frame}
-use Rattle.noise_session.specs.Transport.{packet, last_nonce}
-use Rattle.noise_session.specs.Steps.Told.{Payload}
+use Rattle.noise_session.specs.Transport.{transport_message, last_nonce}
+use Rattle.noise_session.specs.Steps.StepValue.{Payload}
 use Rattle.noise_duel.specs.Messages.{HandshakeMessage}
 use Rattle.noise_duel.specs.Sides.{TransportMessage, Side, Sides, side, wrote_handshake, accepted_handshake, wrote_transport, accepted_transport}
 use Rattle.noise_events.specs.Events.{Say}
 use Rattle.noise_duel.specs.Notes.{Note, Wrote, Judged}
 use Rattle.noise_duel.specs.Runs.{Happens}
-use Rattle.noise_duel.specs.Conversation.{KeyMaterial, carried_by, packets_of, frames_by}
+use Rattle.noise_duel.specs.Conversation.{KeyMaterial, carried_by, transport_messages_of, frames_by}
 use Rattle.noise_duel.proofs.Parts.{HasMaterial, equipped, given-carried, true-answer}
 use Rattle.noise_duel.proofs.Lines.{say-happens}
 use Rattle.noise_duel.proofs.Steps.{HandshakeStep, step-handshake, TransportStep, step-transport, below-too, not-both}
@@ -38,91 +38,91 @@ use Rattle.std.proofs.lemmas.Bool.{false_from_ne_true, and_left, and_right}
 -- ---- two ends that have come equally far
 
 pub record EquallyFar (w : KeyMaterial) (n : ℕ) (d : Sides) : Type 0 where
-  pub valid : IsValid d.initiator.view.party.pattern
-  pub role : d.initiator.view.party.role ≡ Initiator
-  pub counterparts : Counterparts d.initiator.view.party d.responder.view.party
-  pub mine : HasMaterial w d.initiator.view.party.pattern Initiator d.initiator.view.party.own d.initiator.view.party.agree
-  pub theirs : HasMaterial w d.initiator.view.party.pattern Responder d.responder.view.party.own d.responder.view.party.agree
-  pub keyed : is_some (cipher_key d.initiator.view.party.history)
-      ≡ has_key d.initiator.view.party.pattern (passed_places d.initiator.view.party.pattern d.initiator.view.party.passed)
-  pub before : n < length d.initiator.view.party.pattern.messages → d.initiator.view.party.passed ≡ n
-  pub beyond : length d.initiator.view.party.pattern.messages ≤ n → d.initiator.view.party.passed ≡ length d.initiator.view.party.pattern.messages
-  pub held : d.initiator.view.held ≡ []
-  pub held_there : d.responder.view.held ≡ []
-  pub interval : d.responder.view.interval ≡ d.initiator.view.interval
-  pub came_there : d.responder.view.received ≡ d.initiator.view.sent
-  pub came_back : d.initiator.view.received ≡ d.responder.view.sent
-  pub few : d.initiator.view.sent ≤ n
-  pub few_there : d.responder.view.sent ≤ n
+  pub valid : IsValid d.initiator.state.party.pattern
+  pub role : d.initiator.state.party.role ≡ Initiator
+  pub counterparts : Counterparts d.initiator.state.party d.responder.state.party
+  pub mine : HasMaterial w d.initiator.state.party.pattern Initiator d.initiator.state.party.own d.initiator.state.party.agree
+  pub theirs : HasMaterial w d.initiator.state.party.pattern Responder d.responder.state.party.own d.responder.state.party.agree
+  pub keyed : is_some (cipher_key d.initiator.state.party.history)
+      ≡ has_key d.initiator.state.party.pattern (passed_places d.initiator.state.party.pattern d.initiator.state.party.passed)
+  pub before : n < length d.initiator.state.party.pattern.messages → d.initiator.state.party.passed ≡ n
+  pub beyond : length d.initiator.state.party.pattern.messages ≤ n → d.initiator.state.party.passed ≡ length d.initiator.state.party.pattern.messages
+  pub partial : d.initiator.state.partial ≡ []
+  pub held_there : d.responder.state.partial ≡ []
+  pub interval : d.responder.state.interval ≡ d.initiator.state.interval
+  pub came_there : d.responder.state.received ≡ d.initiator.state.sent
+  pub came_back : d.initiator.state.received ≡ d.responder.state.sent
+  pub few : d.initiator.state.sent ≤ n
+  pub few_there : d.responder.state.sent ≤ n
   pub passed : d.responder.passed ≡ d.initiator.passed
   pub there : d.responder.received ≡ d.initiator.sent
   pub back : d.initiator.received ≡ d.responder.sent
 
 -- the message that is due, by the key material
-abbrev pub due_of : KeyMaterial → View → List ℕ → HandshakeMessage
+abbrev pub due_of : KeyMaterial → Party → List ℕ → HandshakeMessage
 due_of w v payload = record {
-  message = message_bytes (has_psk v.pattern) v.history (tokens_now v) (carried_by w (turn_from Initiator v.passed) v.secrets (tokens_now v)) payload;
-  carried = carried_by w (turn_from Initiator v.passed) v.secrets (tokens_now v);
+  message = message_bytes (has_psk v.pattern) v.history (tokens_now v) (carried_by w (turn_from Initiator v.passed) v.psks (tokens_now v)) payload;
+  carried = carried_by w (turn_from Initiator v.passed) v.psks (tokens_now v);
   payload = payload;
 }
 
-abbrev pub after_due : KeyMaterial → View → List ℕ → History
-after_due w v payload = after_payload (has_psk v.pattern) v.history (tokens_now v) (carried_by w (turn_from Initiator v.passed) v.secrets (tokens_now v)) payload
+abbrev pub after_due : KeyMaterial → Party → List ℕ → History
+after_due w v payload = after_payload (has_psk v.pattern) v.history (tokens_now v) (carried_by w (turn_from Initiator v.passed) v.psks (tokens_now v)) payload
 
 -- what a line leaves
 pub record AfterLine (w : KeyMaterial) (n : ℕ) (role : Role) (payload : List ℕ) (d e : Sides) : Type 0 where
   pub frames : length (side e role).frames ≡ length (side d role).frames + 1
   pub others : (side e (other role)).frames ≡ (side d (other role)).frames
-  pub interval : e.initiator.view.interval ≡ d.initiator.view.interval
+  pub interval : e.initiator.state.interval ≡ d.initiator.state.interval
   pub equally_far : EquallyFar w (n + 1) e
 
 pub record InHandshake (w : KeyMaterial) (payload : List ℕ) (d e : Sides) : Type 0 where
-  pub pattern : e.initiator.view.party.pattern ≡ d.initiator.view.party.pattern
-  pub count : e.initiator.view.party.passed ≡ d.initiator.view.party.passed + 1
-  pub secrets : e.initiator.view.party.secrets ≡ drop (count_by is_psk (tokens_now d.initiator.view.party)) d.initiator.view.party.secrets
-  pub history : e.initiator.view.party.history ≡ after_due w d.initiator.view.party payload
-  pub passed : e.initiator.passed ≡ d.initiator.passed ++ due_of w d.initiator.view.party payload ∷ []
-  pub sent : e.initiator.view.sent ≡ d.initiator.view.sent
-  pub sent_there : e.responder.view.sent ≡ d.responder.view.sent
+  pub pattern : e.initiator.state.party.pattern ≡ d.initiator.state.party.pattern
+  pub count : e.initiator.state.party.passed ≡ d.initiator.state.party.passed + 1
+  pub psks : e.initiator.state.party.psks ≡ drop (count_by is_psk (tokens_now d.initiator.state.party)) d.initiator.state.party.psks
+  pub history : e.initiator.state.party.history ≡ after_due w d.initiator.state.party payload
+  pub passed : e.initiator.passed ≡ d.initiator.passed ++ due_of w d.initiator.state.party payload ∷ []
+  pub sent : e.initiator.state.sent ≡ d.initiator.state.sent
+  pub sent_there : e.responder.state.sent ≡ d.responder.state.sent
   pub frames : (r : Role) (rest : List (Role × List ℕ))
-      → (side d r).frames ++ frames_by r ((turn_from Initiator d.initiator.view.party.passed, (due_of w d.initiator.view.party payload).message) ∷ rest)
+      → (side d r).frames ++ frames_by r ((turn_from Initiator d.initiator.state.party.passed, (due_of w d.initiator.state.party payload).message) ∷ rest)
       ≡ (side e r).frames ++ frames_by r rest
 
 pub record InTransport (role : Role) (payload : List ℕ) (d e : Sides) : Type 0 where
   pub frames : (r : Role) (lines : List (Role × List ℕ))
       → (side d r).frames ++ frames_by r
-      (packets_of d.initiator.view.party.history d.initiator.view.interval d.initiator.view.sent d.responder.view.sent ((role, payload) ∷ lines))
-      ≡ (side e r).frames ++ frames_by r (packets_of e.initiator.view.party.history e.initiator.view.interval e.initiator.view.sent e.responder.view.sent lines)
-  pub party : e.initiator.view.party ≡ d.initiator.view.party
+      (transport_messages_of d.initiator.state.party.history d.initiator.state.interval d.initiator.state.sent d.responder.state.sent ((role, payload) ∷ lines))
+      ≡ (side e r).frames ++ frames_by r (transport_messages_of e.initiator.state.party.history e.initiator.state.interval e.initiator.state.sent e.responder.state.sent lines)
+  pub party : e.initiator.state.party ≡ d.initiator.state.party
   pub passed : e.initiator.passed ≡ d.initiator.passed
 
 abbrev pub handshake_message : List ℕ → List ℕ → List (List ℕ) → HandshakeMessage
 handshake_message payload message xs = record { message = message; carried = xs; payload = payload }
 
-message-same : (payload m : List ℕ) (xs ys : List (List ℕ)) (v : View) → xs ≡ ys → m ≡ message_bytes (has_psk v.pattern) v.history (tokens_now v) xs payload
+message-same : (payload m : List ℕ) (xs ys : List (List ℕ)) (v : Party) → xs ≡ ys → m ≡ message_bytes (has_psk v.pattern) v.history (tokens_now v) xs payload
     → handshake_message payload m xs ≡ handshake_message payload (message_bytes (has_psk v.pattern) v.history (tokens_now v) ys payload) ys
 message-same payload m xs ys v e f =
     ap (λ (z : List ℕ). handshake_message payload z xs) f
     ∙ ap (λ (zs : List (List ℕ)). handshake_message payload (message_bytes (has_psk v.pattern) v.history (tokens_now v) zs payload) zs) e
 
 -- what a party's message carries is that of the key material
-carried-is : LawsBelow → (w : KeyMaterial) (v u : View) (role : Role) (xs : List (List ℕ)) → IsValid v.pattern → Counterparts v u → v.role ≡ role
+carried-is : LawsBelow → (w : KeyMaterial) (v u : Party) (role : Role) (xs : List (List ℕ)) → IsValid v.pattern → Counterparts v u → v.role ≡ role
     → turn_from Initiator v.passed ≡ role
-    → HasMaterial w v.pattern role v.own v.agree → HasMaterial w v.pattern (other role) u.own u.agree → Given (writer v) v.remote v.secrets (tokens_now v) xs
-    → xs ≡ carried_by w role v.secrets (tokens_now v)
+    → HasMaterial w v.pattern role v.own v.agree → HasMaterial w v.pattern (other role) u.own u.agree → Given (writer v) v.remote v.psks (tokens_now v) xs
+    → xs ≡ carried_by w role v.psks (tokens_now v)
 carried-is laws w v u role xs valid m is turn mine theirs given =
     let p : Plan = v.pattern in
     let at : (t : Token) → is_among (turn_from Initiator v.passed) t (places_of p) ≡ true → is_among role t (places_of p) ≡ true =
     λ t h. subst (λ (r : Role). is_among r t (places_of p) ≡ true) turn h in
-    let shown : Given (writer v) (shown_after p (other role) v.passed u.own) v.secrets (tokens_now v) xs =
-    subst (λ (z : Remote). Given (writer v) z v.secrets (tokens_now v) xs) (laws.known v u m ∙ ap (λ (r : Role). shown_after p (other r) v.passed u.own) is)
+    let shown : Given (writer v) (shown_after p (other role) v.passed u.own) v.psks (tokens_now v) xs =
+    subst (λ (z : Remote). Given (writer v) z v.psks (tokens_now v) xs) (laws.known v u m ∙ ap (λ (r : Role). shown_after p (other r) v.passed u.own) is)
     given in
-    let here : Given (record { role = role; psks = has_psk p; own = v.own; agree = v.agree }) (shown_after p (other role) v.passed u.own) v.secrets
+    let here : Given (record { role = role; has_psks = has_psk p; own = v.own; agree = v.agree }) (shown_after p (other role) v.passed u.own) v.psks
     (tokens_now v) xs =
-    subst (λ (r : Role). Given (record { role = r; psks = has_psk p; own = v.own; agree = v.agree }) (shown_after p (other role) v.passed u.own) v.secrets
+    subst (λ (r : Role). Given (record { role = r; has_psks = has_psk p; own = v.own; agree = v.agree }) (shown_after p (other role) v.passed u.own) v.psks
     (tokens_now v) xs) is shown in
     given-carried laws w (has_psk p) role v.own u.own v.agree (is_among (other role) E (passed_places p v.passed))
-    (is_among (other role) S (passed_places p v.passed)) v.secrets (tokens_now v) xs (
+    (is_among (other role) S (passed_places p v.passed)) v.psks (tokens_now v) xs (
       λ x h. mine.keys x (at (token_of x) (laws.sent_is_among p v.passed (token_of x) h)),
       λ t h d. true-answer laws w p valid role v.own u.own v.agree u.agree mine theirs t d
           (laws.among_occurs (turn_from Initiator v.passed) t (places_of p) (laws.sent_is_among p v.passed t h)),
@@ -153,19 +153,19 @@ module _ (laws : LawsBelow) (w : KeyMaterial) (long : (role : Role) (k : Own) �
     pub past_line : AfterLine w n role payload d e
     pub handshake : InHandshake w payload d e
 
-  pub handshake-at : (n : ℕ) (role : Role) (payload : List ℕ) (d : Sides) → EquallyFar w n d → n < length d.initiator.view.party.pattern.messages
-      → role ≡ turn_from Initiator n → overhead_of d.initiator.view.party.pattern (n + 1) + length payload ≤ 65535
+  pub handshake-at : (n : ℕ) (role : Role) (payload : List ℕ) (d : Sides) → EquallyFar w n d → n < length d.initiator.state.party.pattern.messages
+      → role ≡ turn_from Initiator n → overhead_of d.initiator.state.party.pattern (n + 1) + length payload ≤ 65535
       → HandshakeStep (side d role) (side d (other role)) payload
   handshake-at n Initiator payload d a more turn room =
       let s : Side = d.initiator in
       let t : Side = d.responder in
-      let v : View = s.view.party in
-      let u : View = t.view.party in
+      let v : Party = s.state.party in
+      let u : Party = t.state.party in
       let p : Plan = v.pattern in
       let at : v.passed ≡ n = a.before more in
       let due : v.passed < length p.messages = subst (λ (k : ℕ). k < length p.messages) (sym at) more in
       let mine : turn_from Initiator v.passed ≡ Initiator = ap (turn_from Initiator) at ∙ sym turn in
-      let speaks : Speaks v = record { going = ap (λ (z : View). z.ended) a.counterparts.back; more = due; turn = mine ∙ sym a.role } in
+      let speaks : Speaks v = record { going = ap (λ (z : Party). z.ended) a.counterparts.back; more = due; turn = mine ∙ sym a.role } in
       let has : IsEquipped p v.role v.own v.agree u.own =
       subst (λ (r : Role). IsEquipped p r v.own v.agree u.own) (sym a.role)
       (equipped laws w p a.valid Initiator v.own u.own v.agree u.agree long a.mine a.theirs) in
@@ -174,37 +174,37 @@ module _ (laws : LawsBelow) (w : KeyMaterial) (long : (role : Role) (k : Own) �
   handshake-at n Responder payload d a more turn room =
       let s : Side = d.responder in
       let t : Side = d.initiator in
-      let v : View = t.view.party in
-      let u : View = s.view.party in
+      let v : Party = t.state.party in
+      let u : Party = s.state.party in
       let p : Plan = v.pattern in
       let turned : Counterparts u v = laws.turned v u a.counterparts in
       let at : v.passed ≡ n = a.before more in
       let due : v.passed < length p.messages = subst (λ (k : ℕ). k < length p.messages) (sym at) more in
       let mine : turn_from Initiator v.passed ≡ Responder = ap (turn_from Initiator) at ∙ sym turn in
-      let there : (P : View → Type 0) → P (counterpart v u.own u.agree) → P u = λ P h. subst P (sym a.counterparts.there) h in
-      let role : u.role ≡ Responder = ap (λ (z : View). z.role) a.counterparts.there ∙ ap other a.role in
+      let there : (P : Party → Type 0) → P (counterpart v u.own u.agree) → P u = λ P h. subst P (sym a.counterparts.there) h in
+      let role : u.role ≡ Responder = ap (λ (z : Party). z.role) a.counterparts.there ∙ ap other a.role in
       let speaks : Speaks u = there (λ z. Speaks z) (record { going = refl; more = due; turn = mine ∙ sym (ap other a.role) }) in
       let valid : IsValid u.pattern = there (λ z. IsValid z.pattern) a.valid in
       let has1 : IsEquipped p Responder u.own u.agree v.own = equipped laws w p a.valid Responder u.own v.own u.agree v.agree long a.theirs a.mine in
       let has2 : IsEquipped p u.role u.own u.agree v.own = subst (λ (r : Role). IsEquipped p r u.own u.agree v.own) (sym role) has1 in
       let has : IsEquipped u.pattern u.role u.own u.agree v.own =
-      subst (λ (q : Plan). IsEquipped q u.role u.own u.agree v.own) (ap (λ (z : View). z.pattern) turned.there) has2 in
+      subst (λ (q : Plan). IsEquipped q u.role u.own u.agree v.own) (ap (λ (z : Party). z.pattern) turned.there) has2 in
       let keyed : is_some (cipher_key u.history) ≡ has_key u.pattern (passed_places u.pattern u.passed) =
       there (λ z. is_some (cipher_key z.history) ≡ has_key z.pattern (passed_places z.pattern z.passed)) a.keyed in
       let fits : overhead_of u.pattern (u.passed + 1) + length payload ≤ 65535 =
       there (λ z. overhead_of z.pattern (z.passed + 1) + length payload ≤ 65535)
       (subst (λ (k : ℕ). overhead_of p (k + 1) + length payload ≤ 65535) (sym at) room) in
-      step-handshake laws s t payload valid turned has speaks keyed fits a.held
+      step-handshake laws s t payload valid turned has speaks keyed fits a.partial
 
   pub handshake-line : (n : ℕ) (role : Role) (payload : List ℕ) (d e : Sides) (notes : List (Role × Note)) → EquallyFar w n d
-      → n < length d.initiator.view.party.pattern.messages
-      → role ≡ turn_from Initiator n → overhead_of d.initiator.view.party.pattern (n + 1) + length payload ≤ 65535 → Happens d (Say role payload) notes e
+      → n < length d.initiator.state.party.pattern.messages
+      → role ≡ turn_from Initiator n → overhead_of d.initiator.state.party.pattern (n + 1) + length payload ≤ 65535 → Happens d (Say role payload) notes e
       → HandshakeLine n role payload d e notes
   handshake-line n Initiator payload d e notes a more turn room does =
       let s : Side = d.initiator in
       let t : Side = d.responder in
-      let v : View = s.view.party in
-      let u : View = t.view.party in
+      let v : Party = s.state.party in
+      let u : Party = t.state.party in
       let p : Plan = v.pattern in
       let at : v.passed ≡ n = a.before more in
       let due : v.passed < length p.messages = subst (λ (k : ℕ). k < length p.messages) (sym at) more in
@@ -215,9 +215,9 @@ module _ (laws : LawsBelow) (w : KeyMaterial) (long : (role : Role) (k : Own) �
       let after : Sides = record { initiator = wrote_handshake s m; responder = accepted_handshake t m } in
       let out = say-happens d e Initiator payload sp.message notes (wrote_handshake s m) (accepted_handshake t m) sp.lacks sp.written refl sp.receives refl
       does in
-      let is : xs ≡ carried_by w (turn_from Initiator v.passed) v.secrets (tokens_now v) =
+      let is : xs ≡ carried_by w (turn_from Initiator v.passed) v.psks (tokens_now v) =
       carried-is laws w v u Initiator xs a.valid a.counterparts a.role mine a.mine a.theirs sp.writes.given
-      ∙ ap (λ (r : Role). carried_by w r v.secrets (tokens_now v)) (sym mine) in
+      ∙ ap (λ (r : Role). carried_by w r v.psks (tokens_now v)) (sym mine) in
       let carry : Carry (tokens_at p.messages v.passed) xs = laws.written_carries v payload sp.message xs sp.writes in
       let equally_far : EquallyFar w (n + 1) after = record {
         valid = a.valid;
@@ -228,7 +228,7 @@ module _ (laws : LawsBelow) (w : KeyMaterial) (long : (role : Role) (k : Own) �
         keyed = laws.keyed_next p v.passed v.history xs payload due carry a.keyed;
         before = λ h. ap (λ (k : ℕ). k + 1) at;
         beyond = λ h. omega (arith, h, more, at);
-        held = a.held;
+        partial = a.partial;
         held_there = refl;
         interval = a.interval;
         came_there = a.came_there;
@@ -240,13 +240,13 @@ module _ (laws : LawsBelow) (w : KeyMaterial) (long : (role : Role) (k : Own) �
         back = a.back;
       } in
       let same : m ≡ due_of w v payload =
-      message-same payload sp.message xs (carried_by w (turn_from Initiator v.passed) v.secrets (tokens_now v)) v is sp.writes.spelled in
+      message-same payload sp.message xs (carried_by w (turn_from Initiator v.passed) v.psks (tokens_now v)) v is sp.writes.spelled in
       let past_line : AfterLine w n Initiator payload d after =
       record { frames = length-append s.frames (frame sp.message ∷ []); others = refl; interval = refl; equally_far = equally_far } in
       let handshake : InHandshake w payload d after = record {
         pattern = refl;
         count = refl;
-        secrets = refl;
+        psks = refl;
         history = ap (λ (zs : List (List ℕ)). after_payload (has_psk p) v.history (tokens_now v) zs payload) is;
         passed = ap (λ (z : HandshakeMessage). s.passed ++ z ∷ []) same;
         sent = refl;
@@ -264,15 +264,15 @@ module _ (laws : LawsBelow) (w : KeyMaterial) (long : (role : Role) (k : Own) �
   handshake-line n Responder payload d e notes a more turn room does =
       let s : Side = d.responder in
       let t : Side = d.initiator in
-      let v : View = t.view.party in
-      let u : View = s.view.party in
+      let v : Party = t.state.party in
+      let u : Party = s.state.party in
       let p : Plan = v.pattern in
       let turned : Counterparts u v = laws.turned v u a.counterparts in
       let at : v.passed ≡ n = a.before more in
       let due : v.passed < length p.messages = subst (λ (k : ℕ). k < length p.messages) (sym at) more in
       let mine : turn_from Initiator v.passed ≡ Responder = ap (turn_from Initiator) at ∙ sym turn in
-      let there : (P : View → Type 0) → P (counterpart v u.own u.agree) → P u = λ P h. subst P (sym a.counterparts.there) h in
-      let role : u.role ≡ Responder = ap (λ (z : View). z.role) a.counterparts.there ∙ ap other a.role in
+      let there : (P : Party → Type 0) → P (counterpart v u.own u.agree) → P u = λ P h. subst P (sym a.counterparts.there) h in
+      let role : u.role ≡ Responder = ap (λ (z : Party). z.role) a.counterparts.there ∙ ap other a.role in
       let valid : IsValid u.pattern = there (λ z. IsValid z.pattern) a.valid in
       let sp = handshake-at n Responder payload d a more turn room in
       let xs : List (List ℕ) = sp.carried in
@@ -283,10 +283,10 @@ module _ (laws : LawsBelow) (w : KeyMaterial) (long : (role : Role) (k : Own) �
       let own1 : HasMaterial w u.pattern Responder u.own u.agree = there (λ z. HasMaterial w z.pattern Responder u.own u.agree) a.theirs in
       let own2 : HasMaterial w u.pattern Initiator v.own v.agree = there (λ z. HasMaterial w z.pattern Initiator v.own v.agree) a.mine in
       let whose : turn_from Initiator u.passed ≡ Responder = there (λ z. turn_from Initiator z.passed ≡ Responder) mine in
-      let is : xs ≡ carried_by w (turn_from Initiator v.passed) v.secrets (tokens_now v) =
+      let is : xs ≡ carried_by w (turn_from Initiator v.passed) v.psks (tokens_now v) =
       carried-is laws w u v Responder xs valid turned role whose own1 own2 sp.writes.given
-      ∙ ap (λ (z : View). carried_by w Responder z.secrets (tokens_now z)) a.counterparts.there
-      ∙ ap (λ (r : Role). carried_by w r v.secrets (tokens_now v)) (sym mine) in
+      ∙ ap (λ (z : Party). carried_by w Responder z.psks (tokens_now z)) a.counterparts.there
+      ∙ ap (λ (r : Role). carried_by w r v.psks (tokens_now v)) (sym mine) in
       let carry : Carry (tokens_at p.messages v.passed) xs = laws.accepted_carries v payload sp.message xs sp.accepts in
       let equally_far : EquallyFar w (n + 1) after = record {
         valid = a.valid;
@@ -297,7 +297,7 @@ module _ (laws : LawsBelow) (w : KeyMaterial) (long : (role : Role) (k : Own) �
         keyed = laws.keyed_next p v.passed v.history xs payload due carry a.keyed;
         before = λ h. ap (λ (k : ℕ). k + 1) at;
         beyond = λ h. omega (arith, h, more, at);
-        held = refl;
+        partial = refl;
         held_there = a.held_there;
         interval = a.interval;
         came_there = a.came_there;
@@ -309,13 +309,13 @@ module _ (laws : LawsBelow) (w : KeyMaterial) (long : (role : Role) (k : Own) �
         back = a.back;
       } in
       let same : m ≡ due_of w v payload =
-      message-same payload sp.message xs (carried_by w (turn_from Initiator v.passed) v.secrets (tokens_now v)) v is sp.accepts.reads.spelled in
+      message-same payload sp.message xs (carried_by w (turn_from Initiator v.passed) v.psks (tokens_now v)) v is sp.accepts.reads.spelled in
       let past_line : AfterLine w n Responder payload d after =
       record { frames = length-append s.frames (frame sp.message ∷ []); others = refl; interval = refl; equally_far = equally_far } in
       let handshake : InHandshake w payload d after = record {
         pattern = refl;
         count = refl;
-        secrets = refl;
+        psks = refl;
         history = ap (λ (zs : List (List ℕ)). after_payload (has_psk p) v.history (tokens_now v) zs payload) is;
         passed = ap (λ (z : HandshakeMessage). t.passed ++ z ∷ []) same;
         sent = refl;
@@ -333,8 +333,8 @@ module _ (laws : LawsBelow) (w : KeyMaterial) (long : (role : Role) (k : Own) �
 
 -- ---- a line of the transport
 
-abbrev pub transport_message : List ℕ → List ℕ → TransportMessage
-transport_message message payload = record { message = message; payload = payload }
+abbrev pub with_payload : List ℕ → List ℕ → TransportMessage
+with_payload message payload = record { message = message; payload = payload }
 
 module _ (w : KeyMaterial) where
   pub record TransportLine (n : ℕ) (role : Role) (payload : List ℕ) (d e : Sides) (notes : List (Role × Note)) : Type 0 where
@@ -342,58 +342,58 @@ module _ (w : KeyMaterial) where
     pub past_line : AfterLine w n role payload d e
     pub transport : InTransport role payload d e
 
-  pub transport-at : (n : ℕ) (role : Role) (payload : List ℕ) (d : Sides) → EquallyFar w n d → length d.initiator.view.party.pattern.messages ≤ n
-      → (IsTrue (is_one_way d.initiator.view.party.pattern) → role ≡ Initiator) → length payload ≤ 65519 → n < last_nonce
+  pub transport-at : (n : ℕ) (role : Role) (payload : List ℕ) (d : Sides) → EquallyFar w n d → length d.initiator.state.party.pattern.messages ≤ n
+      → (IsTrue (is_one_way d.initiator.state.party.pattern) → role ≡ Initiator) → length payload ≤ 65519 → n < last_nonce
       → TransportStep (side d role) (side d (other role)) payload
-  transport-at n Initiator payload d a over one short low =
+  transport-at n Initiator payload d a ended_party one short low =
       let s : Side = d.initiator in
       let t : Side = d.responder in
-      let v : View = s.view.party in
-      let u : View = t.view.party in
+      let v : Party = s.state.party in
+      let u : Party = t.state.party in
       let p : Plan = v.pattern in
-      let there : (P : View → Type 0) → P (counterpart v u.own u.agree) → P u = λ P h. subst P (sym a.counterparts.there) h in
-      let going : v.ended ≡ false = ap (λ (z : View). z.ended) a.counterparts.back in
-      let going_t : u.ended ≡ false = ap (λ (z : View). z.ended) a.counterparts.there in
-      let all : v.passed ≡ length p.messages = a.beyond over in
+      let there : (P : Party → Type 0) → P (counterpart v u.own u.agree) → P u = λ P h. subst P (sym a.counterparts.there) h in
+      let going : v.ended ≡ false = ap (λ (z : Party). z.ended) a.counterparts.back in
+      let going_t : u.ended ≡ false = ap (λ (z : Party). z.ended) a.counterparts.there in
+      let all : v.passed ≡ length p.messages = a.beyond ended_party in
       let all_t : u.passed ≡ length u.pattern.messages = there (λ z. z.passed ≡ length z.pattern.messages) all in
-      let role_t : u.role ≡ Responder = ap (λ (z : View). z.role) a.counterparts.there ∙ ap other a.role in
+      let role_t : u.role ≡ Responder = ap (λ (z : Party). z.role) a.counterparts.there ∙ ap other a.role in
       step-transport s t payload all all_t
       (and_right (is_one_way p) (same_role v.role Responder) (ap (λ (r : Role). same_role r Responder) a.role))
       (and_right (is_one_way u.pattern) (same_role u.role Initiator) (ap (λ (r : Role). same_role r Initiator) role_t))
-      going going_t short (below-too s.view.sent n last_nonce a.few low) a.came_there (ap (λ (z : View). z.history) a.counterparts.there) a.interval
+      going going_t short (below-too s.state.sent n last_nonce a.few low) a.came_there (ap (λ (z : Party). z.history) a.counterparts.there) a.interval
       (ap other role_t ∙ sym a.role) a.held_there
-  transport-at n Responder payload d a over one short low =
+  transport-at n Responder payload d a ended_party one short low =
       let s : Side = d.responder in
       let t : Side = d.initiator in
-      let v : View = t.view.party in
-      let u : View = s.view.party in
+      let v : Party = t.state.party in
+      let u : Party = s.state.party in
       let p : Plan = v.pattern in
-      let there : (P : View → Type 0) → P (counterpart v u.own u.agree) → P u = λ P h. subst P (sym a.counterparts.there) h in
-      let going : v.ended ≡ false = ap (λ (z : View). z.ended) a.counterparts.back in
-      let going_s : u.ended ≡ false = ap (λ (z : View). z.ended) a.counterparts.there in
-      let all : v.passed ≡ length p.messages = a.beyond over in
+      let there : (P : Party → Type 0) → P (counterpart v u.own u.agree) → P u = λ P h. subst P (sym a.counterparts.there) h in
+      let going : v.ended ≡ false = ap (λ (z : Party). z.ended) a.counterparts.back in
+      let going_s : u.ended ≡ false = ap (λ (z : Party). z.ended) a.counterparts.there in
+      let all : v.passed ≡ length p.messages = a.beyond ended_party in
       let all_s : u.passed ≡ length u.pattern.messages = there (λ z. z.passed ≡ length z.pattern.messages) all in
-      let role_s : u.role ≡ Responder = ap (λ (z : View). z.role) a.counterparts.there ∙ ap other a.role in
+      let role_s : u.role ≡ Responder = ap (λ (z : Party). z.role) a.counterparts.there ∙ ap other a.role in
       let two : is_one_way p ≡ false = false_from_ne_true (is_one_way p) (λ h. not-both (one h)) in
       let two_s : is_one_way u.pattern ≡ false = there (λ z. is_one_way z.pattern ≡ false) two in
       step-transport s t payload all_s all
       (and_left (is_one_way u.pattern) (same_role u.role Responder) two_s) (and_left (is_one_way p) (same_role v.role Initiator) two)
-      going_s going short (below-too s.view.sent n last_nonce a.few_there low) a.came_back (sym (ap (λ (z : View). z.history) a.counterparts.there))
-      (sym a.interval) (ap other a.role ∙ sym role_s) a.held
+      going_s going short (below-too s.state.sent n last_nonce a.few_there low) a.came_back (sym (ap (λ (z : Party). z.history) a.counterparts.there))
+      (sym a.interval) (ap other a.role ∙ sym role_s) a.partial
 
   pub transport-line : (n : ℕ) (role : Role) (payload : List ℕ) (d e : Sides) (notes : List (Role × Note)) → EquallyFar w n d
-      → length d.initiator.view.party.pattern.messages ≤ n
-      → (IsTrue (is_one_way d.initiator.view.party.pattern) → role ≡ Initiator) → length payload ≤ 65519 → n < last_nonce → Happens d (Say role payload) notes e
+      → length d.initiator.state.party.pattern.messages ≤ n
+      → (IsTrue (is_one_way d.initiator.state.party.pattern) → role ≡ Initiator) → length payload ≤ 65519 → n < last_nonce → Happens d (Say role payload) notes e
       → TransportLine n role payload d e notes
-  transport-line n Initiator payload d e notes a over one short low does =
+  transport-line n Initiator payload d e notes a ended_party one short low does =
       let s : Side = d.initiator in
       let t : Side = d.responder in
-      let v : View = s.view.party in
-      let u : View = t.view.party in
+      let v : Party = s.state.party in
+      let u : Party = t.state.party in
       let p : Plan = v.pattern in
-      let all : v.passed ≡ length p.messages = a.beyond over in
-      let sp = transport-at n Initiator payload d a over one short low in
-      let m : TransportMessage = transport_message sp.message payload in
+      let all : v.passed ≡ length p.messages = a.beyond ended_party in
+      let sp = transport-at n Initiator payload d a ended_party one short low in
+      let m : TransportMessage = with_payload sp.message payload in
       let after : Sides = record { initiator = wrote_transport s m; responder = accepted_transport t m } in
       let out = say-happens d e Initiator payload sp.message notes (wrote_transport s m) (accepted_transport t m) sp.lacks sp.written refl sp.receives refl
       does in
@@ -404,9 +404,9 @@ module _ (w : KeyMaterial) where
         mine = a.mine;
         theirs = a.theirs;
         keyed = a.keyed;
-        before = λ h. absurd (omega (arith, h, over));
+        before = λ h. absurd (omega (arith, h, ended_party));
         beyond = λ h. all;
-        held = a.held;
+        partial = a.partial;
         held_there = refl;
         interval = a.interval;
         came_there = ap (λ (k : ℕ). k + 1) a.came_there;
@@ -425,21 +425,21 @@ module _ (w : KeyMaterial) where
           party = refl;
           passed = refl;
           frames = λ r lines. ap
-              (λ (z : List ℕ). (side d r).frames ++ frames_by r ((Initiator, z) ∷ packets_of v.history s.view.interval (s.view.sent + 1) t.view.sent lines))
-              (ap (λ (q : Role). packet v.history q s.view.interval s.view.sent payload) (sym a.role) ∙ sym sp.is)
-              ∙ frames-on Initiator r d after sp.message (packets_of v.history s.view.interval (s.view.sent + 1) t.view.sent lines) refl refl;
+              (λ (z : List ℕ). (side d r).frames ++ frames_by r ((Initiator, z) ∷ transport_messages_of v.history s.state.interval (s.state.sent + 1) t.state.sent lines))
+              (ap (λ (q : Role). transport_message v.history q s.state.interval s.state.sent payload) (sym a.role) ∙ sym sp.is)
+              ∙ frames-on Initiator r d after sp.message (transport_messages_of v.history s.state.interval (s.state.sent + 1) t.state.sent lines) refl refl;
         });
       }
-  transport-line n Responder payload d e notes a over one short low does =
+  transport-line n Responder payload d e notes a ended_party one short low does =
       let s : Side = d.responder in
       let t : Side = d.initiator in
-      let v : View = t.view.party in
-      let u : View = s.view.party in
+      let v : Party = t.state.party in
+      let u : Party = s.state.party in
       let p : Plan = v.pattern in
-      let all : v.passed ≡ length p.messages = a.beyond over in
-      let role_s : u.role ≡ Responder = ap (λ (z : View). z.role) a.counterparts.there ∙ ap other a.role in
-      let sp = transport-at n Responder payload d a over one short low in
-      let m : TransportMessage = transport_message sp.message payload in
+      let all : v.passed ≡ length p.messages = a.beyond ended_party in
+      let role_s : u.role ≡ Responder = ap (λ (z : Party). z.role) a.counterparts.there ∙ ap other a.role in
+      let sp = transport-at n Responder payload d a ended_party one short low in
+      let m : TransportMessage = with_payload sp.message payload in
       let after : Sides = record { initiator = accepted_transport t m; responder = wrote_transport s m } in
       let out = say-happens d e Responder payload sp.message notes (wrote_transport s m) (accepted_transport t m) sp.lacks sp.written refl sp.receives refl
       does in
@@ -450,9 +450,9 @@ module _ (w : KeyMaterial) where
         mine = a.mine;
         theirs = a.theirs;
         keyed = a.keyed;
-        before = λ h. absurd (omega (arith, h, over));
+        before = λ h. absurd (omega (arith, h, ended_party));
         beyond = λ h. all;
-        held = refl;
+        partial = refl;
         held_there = a.held_there;
         interval = a.interval;
         came_there = a.came_there;
@@ -471,10 +471,10 @@ module _ (w : KeyMaterial) where
           party = refl;
           passed = refl;
           frames = λ r lines. ap
-              (λ (z : List ℕ). (side d r).frames ++ frames_by r ((Responder, z) ∷ packets_of v.history t.view.interval t.view.sent (s.view.sent + 1) lines))
-              (ap (λ (q : Role). packet v.history q t.view.interval s.view.sent payload) (sym role_s)
-              ∙ ap (λ (k : ℕ). packet v.history u.role k s.view.sent payload) (sym a.interval)
-              ∙ ap (λ (h : History). packet h u.role s.view.interval s.view.sent payload) (sym (ap (λ (z : View). z.history) a.counterparts.there)) ∙ sym sp.is)
-              ∙ frames-on Responder r d after sp.message (packets_of v.history t.view.interval t.view.sent (s.view.sent + 1) lines) refl refl;
+              (λ (z : List ℕ). (side d r).frames ++ frames_by r ((Responder, z) ∷ transport_messages_of v.history t.state.interval t.state.sent (s.state.sent + 1) lines))
+              (ap (λ (q : Role). transport_message v.history q t.state.interval s.state.sent payload) (sym role_s)
+              ∙ ap (λ (k : ℕ). transport_message v.history u.role k s.state.sent payload) (sym a.interval)
+              ∙ ap (λ (h : History). transport_message h u.role s.state.interval s.state.sent payload) (sym (ap (λ (z : Party). z.history) a.counterparts.there)) ∙ sym sp.is)
+              ∙ frames-on Responder r d after sp.message (transport_messages_of v.history t.state.interval t.state.sent (s.state.sent + 1) lines) refl refl;
         });
       }

@@ -1,4 +1,4 @@
--- With the same secrets and answers the same bytes are the same conversation, from the first message on.
+-- With the same psks and returns the same bytes are the same conversation, from the first message on.
 use Rattle.std.proofs.Common.{◌≡◌, ℕ, ◌+◌, List, [], ◌∷◌, ◌++◌, drop, count_by, refl, ap, sym, subst, ◌∙◌, inl, inr}
 use Rattle.std.specs.Prelude.{Bool, unwrap_or}
 use Rattle.noise_names.specs.declared.token.Role.TheVariants.{Initiator, Responder}
@@ -11,92 +11,92 @@ use Rattle.noise_state.specs.History.{History, MixHash, and_then, ciphertext}
 use Rattle.noise_state.specs.Ciphertexts.{ciphertext-same}
 use Rattle.noise_handshake.specs.declared.remote.Remote.{Remote}
 use Rattle.noise_handshake.specs.Message.{token_bytes, after_token, after_tokens, message_bytes, after_payload, with_ephemeral}
-use Rattle.noise_handshake.specs.View.{View, Reader, Fit, Fits, reader, known_after, secrets_after, first_secret, tokens_at, tokens_now, with_premessage}
-use Rattle.noise_handshake.specs.View.{start}
+use Rattle.noise_handshake.specs.Party.{Party, Reader, Fit, Fits, reader, known_after, psks_after, first_psk, tokens_at, tokens_now, with_premessage}
+use Rattle.noise_handshake.specs.Party.{start}
 use Rattle.noise_handshake.specs.Writing.{Writer, Given, Gives, writer}
-use Rattle.noise_handshake.specs.Party.{after_own, after_message}
+use Rattle.noise_handshake.specs.Matching.{after_own, after_message}
 use Rattle.noise_handshake.specs.Setup.{public_keys}
 use Rattle.noise_duel.specs.Collision.{hashed}
 use Rattle.noise_duel.specs.Messages.{HandshakeMessage, Exchanged, begun_as, answers, answers_from, pre_keys}
 use Rattle.noise_duel.specs.Messages.Exchanged.{none, wrote, took}
-use Rattle.noise_duel.specs.Agreement.{SecretsTell}
+use Rattle.noise_duel.specs.Agreement.{PsksReport}
 use Rattle.noise_duel.proofs.HashedTexts.{Alike, pre-back}
 use Rattle.noise_duel.proofs.HashedMessages.{after_all, AreLines, AllAlike, passes-lines}
-use Rattle.noise_duel.proofs.HashTells.{SameBytes, bytes-or}
+use Rattle.noise_duel.proofs.HashReports.{SameBytes, bytes-or}
 use Rattle.noise_names.specs.Lists.{heads, tails, cons-same}
 
--- ---- secrets
+-- ---- psks
 
-abbrev pub SecretAt : List (List ℕ) → Token → List ℕ → Type 0
-SecretAt secrets Psk x = x ≡ first_secret secrets
-SecretAt secrets _ x = Unit {0}
+abbrev pub PskAt : List (List ℕ) → Token → List ℕ → Type 0
+PskAt psks Psk x = x ≡ first_psk psks
+PskAt psks _ x = Unit {0}
 
--- the psk tokens carry these secrets in turn
-abbrev pub SecretsFit : List (List ℕ) → List Token → List (List ℕ) → Type 0
-SecretsFit secrets [] xs = Unit {0}
-SecretsFit secrets (t ∷ ts) [] = Unit {0}
-SecretsFit secrets (t ∷ ts) (x ∷ xs) = SecretAt secrets t x × SecretsFit (secrets_after secrets t) ts xs
+-- the psk tokens carry these psks in turn
+abbrev pub PsksFit : List (List ℕ) → List Token → List (List ℕ) → Type 0
+PsksFit psks [] xs = Unit {0}
+PsksFit psks (t ∷ ts) [] = Unit {0}
+PsksFit psks (t ∷ ts) (x ∷ xs) = PskAt psks t x × PsksFit (psks_after psks t) ts xs
 
-abbrev pub UseSecrets : Plan → ℕ → List (List ℕ) → List HandshakeMessage → Type 0
-UseSecrets p n secrets [] = Unit {0}
-UseSecrets p n secrets (m ∷ ms) =
-    SecretsFit secrets (tokens_at p.messages n) m.carried × UseSecrets p (n + 1) (drop (count_by is_psk (tokens_at p.messages n)) secrets) ms
+abbrev pub UsePsks : Plan → ℕ → List (List ℕ) → List HandshakeMessage → Type 0
+UsePsks p n psks [] = Unit {0}
+UsePsks p n psks (m ∷ ms) =
+    PsksFit psks (tokens_at p.messages n) m.carried × UsePsks p (n + 1) (drop (count_by is_psk (tokens_at p.messages n)) psks) ms
 
-fits-secret : (v : Reader) (known : Remote) (secrets : List (List ℕ)) (t : Token) (x : List ℕ) → Fits v known secrets t x → SecretAt secrets t x
-fits-secret v known secrets Psk x h = h
-fits-secret v known secrets _ x h = tt
+fits-psk : (v : Reader) (known : Remote) (psks : List (List ℕ)) (t : Token) (x : List ℕ) → Fits v known psks t x → PskAt psks t x
+fits-psk v known psks Psk x h = h
+fits-psk v known psks _ x h = tt
 
-gives-secret : (w : Writer) (known : Remote) (secrets : List (List ℕ)) (t : Token) (x : List ℕ) → Gives w known secrets t x → SecretAt secrets t x
-gives-secret w known secrets Psk x h = h
-gives-secret w known secrets _ x h = tt
+gives-psk : (w : Writer) (known : Remote) (psks : List (List ℕ)) (t : Token) (x : List ℕ) → Gives w known psks t x → PskAt psks t x
+gives-psk w known psks Psk x h = h
+gives-psk w known psks _ x h = tt
 
-fit-secrets : (v : Reader) (known : Remote) (secrets : List (List ℕ)) (ts : List Token) (xs : List (List ℕ)) → Fit v known secrets ts xs
-    → SecretsFit secrets ts xs
-fit-secrets v known secrets [] xs h = tt
-fit-secrets v known secrets (t ∷ ts) [] h = tt
-fit-secrets v known secrets (t ∷ ts) (x ∷ xs) h =
-    (fits-secret v known secrets t x h.0, fit-secrets v (known_after known t x) (secrets_after secrets t) ts xs h.1)
+fit-psks : (v : Reader) (known : Remote) (psks : List (List ℕ)) (ts : List Token) (xs : List (List ℕ)) → Fit v known psks ts xs
+    → PsksFit psks ts xs
+fit-psks v known psks [] xs h = tt
+fit-psks v known psks (t ∷ ts) [] h = tt
+fit-psks v known psks (t ∷ ts) (x ∷ xs) h =
+    (fits-psk v known psks t x h.0, fit-psks v (known_after known t x) (psks_after psks t) ts xs h.1)
 
-given-secrets : (w : Writer) (known : Remote) (secrets : List (List ℕ)) (ts : List Token) (xs : List (List ℕ)) → Given w known secrets ts xs
-    → SecretsFit secrets ts xs
-given-secrets w known secrets [] xs h = tt
-given-secrets w known secrets (t ∷ ts) [] h = tt
-given-secrets w known secrets (t ∷ ts) (x ∷ xs) h = (gives-secret w known secrets t x h.0, given-secrets w known (secrets_after secrets t) ts xs h.1)
+given-psks : (w : Writer) (known : Remote) (psks : List (List ℕ)) (ts : List Token) (xs : List (List ℕ)) → Given w known psks ts xs
+    → PsksFit psks ts xs
+given-psks w known psks [] xs h = tt
+given-psks w known psks (t ∷ ts) [] h = tt
+given-psks w known psks (t ∷ ts) (x ∷ xs) h = (gives-psk w known psks t x h.0, given-psks w known (psks_after psks t) ts xs h.1)
 
-pub passes-secrets : (v w : View) (ps : List HandshakeMessage) → Exchanged v ps w → UseSecrets v.pattern v.passed v.secrets ps
-passes-secrets v w [] (none _) = tt
-passes-secrets v w (p ∷ ps) (wrote _ _ _ _ here more) =
-    (given-secrets (writer v) v.remote v.secrets (tokens_now v) p.carried here.given, passes-secrets (after_own v p.carried p.payload) w ps more)
-passes-secrets v w (p ∷ ps) (took _ _ _ _ here more) =
-    (fit-secrets (reader v) v.remote v.secrets (tokens_now v) p.carried here.reads.fit, passes-secrets (after_message v p.carried p.payload) w ps more)
+pub passes-psks : (v w : Party) (ps : List HandshakeMessage) → Exchanged v ps w → UsePsks v.pattern v.passed v.psks ps
+passes-psks v w [] (none _) = tt
+passes-psks v w (p ∷ ps) (wrote _ _ _ _ here more) =
+    (given-psks (writer v) v.remote v.psks (tokens_now v) p.carried here.given, passes-psks (after_own v p.carried p.payload) w ps more)
+passes-psks v w (p ∷ ps) (took _ _ _ _ here more) =
+    (fit-psks (reader v) v.remote v.psks (tokens_now v) p.carried here.reads.fit, passes-psks (after_message v p.carried p.payload) w ps more)
 
 -- ---- forward along a message
 
-module _ (psks : Bool) where
-  token-on : (r : History) (secrets : List (List ℕ)) (t : Token) (ts : List Token) (x y : List ℕ) (xs ys others rest : List (List ℕ))
+module _ (has_psks : Bool) where
+  token-on : (r : History) (psks : List (List ℕ)) (t : Token) (ts : List Token) (x y : List ℕ) (xs ys others rest : List (List ℕ))
       → token_bytes r t x ≡ token_bytes r t y
-      → SecretAt secrets t x → SecretAt secrets t y → answers (t ∷ ts) (x ∷ xs) ++ others ≡ answers (t ∷ ts) (y ∷ ys) ++ rest
+      → PskAt psks t x → PskAt psks t y → answers (t ∷ ts) (x ∷ xs) ++ others ≡ answers (t ∷ ts) (y ∷ ys) ++ rest
       → (x ≡ y) × (answers ts xs ++ others ≡ answers ts ys ++ rest)
-  token-on r secrets E ts x y xs ys others rest e f g h = (e, h)
-  token-on r secrets S ts x y xs ys others rest e f g h = (ciphertext-same r x y e, h)
-  token-on r secrets Psk ts x y xs ys others rest e f g h = (f ∙ sym g, h)
-  token-on r secrets Ee ts x y xs ys others rest e f g h = (heads x y _ _ h, tails x y _ _ h)
-  token-on r secrets Es ts x y xs ys others rest e f g h = (heads x y _ _ h, tails x y _ _ h)
-  token-on r secrets Se ts x y xs ys others rest e f g h = (heads x y _ _ h, tails x y _ _ h)
-  token-on r secrets Ss ts x y xs ys others rest e f g h = (heads x y _ _ h, tails x y _ _ h)
+  token-on r psks E ts x y xs ys others rest e f g h = (e, h)
+  token-on r psks S ts x y xs ys others rest e f g h = (ciphertext-same r x y e, h)
+  token-on r psks Psk ts x y xs ys others rest e f g h = (f ∙ sym g, h)
+  token-on r psks Ee ts x y xs ys others rest e f g h = (heads x y _ _ h, tails x y _ _ h)
+  token-on r psks Es ts x y xs ys others rest e f g h = (heads x y _ _ h, tails x y _ _ h)
+  token-on r psks Se ts x y xs ys others rest e f g h = (heads x y _ _ h, tails x y _ _ h)
+  token-on r psks Ss ts x y xs ys others rest e f g h = (heads x y _ _ h, tails x y _ _ h)
 
-  front-on : (r : History) (secrets : List (List ℕ)) (ts : List Token) (xs ys others rest : List (List ℕ)) → Alike psks r r ts xs ys
-      → SecretsFit secrets ts xs → SecretsFit secrets ts ys
+  front-on : (r : History) (psks : List (List ℕ)) (ts : List Token) (xs ys others rest : List (List ℕ)) → Alike has_psks r r ts xs ys
+      → PsksFit psks ts xs → PsksFit psks ts ys
       → answers ts xs ++ others ≡ answers ts ys ++ rest → (xs ≡ ys) × (others ≡ rest)
-  front-on r secrets [] [] [] others rest a f g h = (refl, h)
-  front-on r secrets [] [] (y ∷ ys) others rest a f g h = absurd a
-  front-on r secrets [] (x ∷ xs) ys others rest a f g h = absurd a
-  front-on r secrets (t ∷ ts) [] ys others rest a f g h = absurd a
-  front-on r secrets (t ∷ ts) (x ∷ xs) [] others rest a f g h = absurd a
-  front-on r secrets (t ∷ ts) (x ∷ xs) (y ∷ ys) others rest a f g h =
-      let here = token-on r secrets t ts x y xs ys others rest a.0 f.0 g.0 h in
-      let later = front-on (after_token psks r t x) (secrets_after secrets t) ts xs ys others rest
-      (subst (λ (z : List ℕ). Alike psks (after_token psks r t x) (after_token psks r t z) ts xs ys) (sym here.0) a.1) f.1 g.1 here.1 in
+  front-on r psks [] [] [] others rest a f g h = (refl, h)
+  front-on r psks [] [] (y ∷ ys) others rest a f g h = absurd a
+  front-on r psks [] (x ∷ xs) ys others rest a f g h = absurd a
+  front-on r psks (t ∷ ts) [] ys others rest a f g h = absurd a
+  front-on r psks (t ∷ ts) (x ∷ xs) [] others rest a f g h = absurd a
+  front-on r psks (t ∷ ts) (x ∷ xs) (y ∷ ys) others rest a f g h =
+      let here = token-on r psks t ts x y xs ys others rest a.0 f.0 g.0 h in
+      let later = front-on (after_token has_psks r t x) (psks_after psks t) ts xs ys others rest
+      (subst (λ (z : List ℕ). Alike has_psks (after_token has_psks r t x) (after_token has_psks r t z) ts xs ys) (sym here.0) a.1) f.1 g.1 here.1 in
       (cons-same here.0 later.0, later.1)
 
 pub message-same : (m q : HandshakeMessage) → m.message ≡ q.message → m.carried ≡ q.carried → m.payload ≡ q.payload → m ≡ q
@@ -105,15 +105,15 @@ message-same m q e f g =
     ∙ ap (λ (z : List (List ℕ)). record { message = q.message; carried = z; payload = m.payload }) f
     ∙ ap (λ (z : List ℕ). record { message = q.message; carried = q.carried; payload = z }) g
 
-all-on : (p : Plan) (n : ℕ) (r : History) (secrets : List (List ℕ)) (ps qs : List HandshakeMessage) → AllAlike p n r r ps qs → AreLines p n r ps
+all-on : (p : Plan) (n : ℕ) (r : History) (psks : List (List ℕ)) (ps qs : List HandshakeMessage) → AllAlike p n r r ps qs → AreLines p n r ps
     → AreLines p n r qs
-    → UseSecrets p n secrets ps → UseSecrets p n secrets qs → answers_from p n ps ≡ answers_from p n qs → ps ≡ qs
-all-on p n r secrets [] [] a b c f g h = refl
-all-on p n r secrets [] (q ∷ qs) a b c f g h = absurd a
-all-on p n r secrets (m ∷ ms) [] a b c f g h = absurd a
-all-on p n r secrets (m ∷ ms) (q ∷ qs) a b c f g h =
+    → UsePsks p n psks ps → UsePsks p n psks qs → answers_from p n ps ≡ answers_from p n qs → ps ≡ qs
+all-on p n r psks [] [] a b c f g h = refl
+all-on p n r psks [] (q ∷ qs) a b c f g h = absurd a
+all-on p n r psks (m ∷ ms) [] a b c f g h = absurd a
+all-on p n r psks (m ∷ ms) (q ∷ qs) a b c f g h =
     let ts : List Token = tokens_at p.messages n in
-    let here = front-on (has_psk p) r secrets ts m.carried q.carried (answers_from p (n + 1) ms) (answers_from p (n + 1) qs) a.0.0 f.0 g.0 h in
+    let here = front-on (has_psk p) r psks ts m.carried q.carried (answers_from p (n + 1) ms) (answers_from p (n + 1) qs) a.0.0 f.0 g.0 h in
     let payload : m.payload ≡ q.payload =
     ciphertext-same (after_tokens (has_psk p) r ts m.carried) m.payload q.payload
     (a.0.1 ∙ ap (λ (zs : List (List ℕ)). ciphertext (after_tokens (has_psk p) r ts zs) q.payload) (sym here.0)) in
@@ -122,29 +122,29 @@ all-on p n r secrets (m ∷ ms) (q ∷ qs) a b c f g h =
     let one : m ≡ q = message-same m q message here.0 payload in
     let after : after_payload (has_psk p) r ts m.carried m.payload ≡ after_payload (has_psk p) r ts q.carried q.payload =
     ap (λ (z : HandshakeMessage). after_payload (has_psk p) r ts z.carried z.payload) one in
-    let later = all-on p (n + 1) (after_payload (has_psk p) r ts m.carried m.payload) (drop (count_by is_psk ts) secrets) ms qs
+    let later = all-on p (n + 1) (after_payload (has_psk p) r ts m.carried m.payload) (drop (count_by is_psk ts) psks) ms qs
     (subst (λ (s : History). AllAlike p (n + 1) (after_payload (has_psk p) r ts m.carried m.payload) s ms qs) (sym after) a.1) b.1
     (subst (λ (s : History). AreLines p (n + 1) s qs) (sym after) c.1) f.1 g.1 here.1 in
     cons-same one later
 
 -- ---- the start
 
-pub pre-same : (psks : Bool) (k l : Remote) (ts : List Token) (r s : History) → r ≡ s → pre_keys k ts ≡ pre_keys l ts
-    → with_premessage psks k ts r ≡ with_premessage psks l ts s
-pre-same psks k l [] r s e f = e
-pre-same psks k l (E ∷ ts) r s e f =
+pub pre-same : (has_psks : Bool) (k l : Remote) (ts : List Token) (r s : History) → r ≡ s → pre_keys k ts ≡ pre_keys l ts
+    → with_premessage has_psks k ts r ≡ with_premessage has_psks l ts s
+pre-same has_psks k l [] r s e f = e
+pre-same has_psks k l (E ∷ ts) r s e f =
     let x : List ℕ = unwrap_or k.e [] in
     let y : List ℕ = unwrap_or l.e [] in
     let same : x ≡ y = heads x y (pre_keys k ts) (pre_keys l ts) f in
-    pre-same psks k l ts (with_ephemeral psks r x) (with_ephemeral psks s y)
-    (ap (λ (h : History). with_ephemeral psks h x) e ∙ ap (with_ephemeral psks s) same) (tails x y (pre_keys k ts) (pre_keys l ts) f)
-pre-same psks k l (S ∷ ts) r s e f =
+    pre-same has_psks k l ts (with_ephemeral has_psks r x) (with_ephemeral has_psks s y)
+    (ap (λ (h : History). with_ephemeral has_psks h x) e ∙ ap (with_ephemeral has_psks s) same) (tails x y (pre_keys k ts) (pre_keys l ts) f)
+pre-same has_psks k l (S ∷ ts) r s e f =
     let x : List ℕ = unwrap_or k.s [] in
     let y : List ℕ = unwrap_or l.s [] in
     let same : x ≡ y = heads x y (pre_keys k ts) (pre_keys l ts) f in
-    pre-same psks k l ts (and_then r (MixHash x)) (and_then s (MixHash y))
+    pre-same has_psks k l ts (and_then r (MixHash x)) (and_then s (MixHash y))
     (ap (λ (h : History). and_then h (MixHash x)) e ∙ ap (λ (z : List ℕ). and_then s (MixHash z)) same) (tails x y (pre_keys k ts) (pre_keys l ts) f)
-pre-same psks k l (_ ∷ ts) r s e f = pre-same psks k l ts r s e f
+pre-same has_psks k l (_ ∷ ts) r s e f = pre-same has_psks k l ts r s e f
 
 pub starts-same : (name : List ℕ) (p : Plan) (a b : List ℕ) (i j k l : Remote) → hashed (start name p a i j) ≡ hashed (start name p b k l)
     → start name p a i j ≡ start name p b k l
@@ -159,8 +159,8 @@ starts-same name p a b i j k l e =
     pre-same (has_psk p) j l (pre_of Responder p) (with_premessage (has_psk p) i (pre_of Initiator p) r) (with_premessage (has_psk p) k (pre_of Initiator p) s)
     (pre-same (has_psk p) i k (pre_of Initiator p) r s first here.1) later.1
 
-pub secrets-tell : SecretsTell
-secrets-tell p a b ps qs v w left right count e secrets answered =
+pub psks-report : PsksReport
+psks-report p a b ps qs v w left right count e psks answered =
     elim (bytes-or p a b ps qs v w left right count e) [ inl h ↦ inl (whole h) | inr c ↦ inr c ]
   where
     whole : SameBytes p a b ps qs v w left right count → (ps ≡ qs) × (v.history ≡ w.history)
@@ -171,9 +171,9 @@ secrets-tell p a b ps qs v w left right count e secrets answered =
         let l = passes-lines (begun_as p Initiator a) v ps left in
         let m = passes-lines (begun_as p Responder b) w qs right in
         let first : r0 ≡ s0 = starts-same name p a.prologue b.prologue (public_keys a.own) a.remote b.remote (public_keys b.own) h.start in
-        let one : ps ≡ qs = all-on p 0 r0 a.secrets ps qs
+        let one : ps ≡ qs = all-on p 0 r0 a.psks ps qs
         (subst (λ (s : History). AllAlike p 0 r0 s ps qs) (sym first) h.lines) l.lines
         (subst (λ (s : History). AreLines p 0 s qs) (sym first) m.lines)
-        (passes-secrets (begun_as p Initiator a) v ps left)
-        (subst (λ (z : List (List ℕ)). UseSecrets p 0 z qs) (sym secrets) (passes-secrets (begun_as p Responder b) w qs right)) answered in
+        (passes-psks (begun_as p Initiator a) v ps left)
+        (subst (λ (z : List (List ℕ)). UsePsks p 0 z qs) (sym psks) (passes-psks (begun_as p Responder b) w qs right)) answered in
         (one, l.history ∙ ap (λ (s : History). after_all p 0 s ps) first ∙ ap (after_all p 0 s0) one ∙ sym m.history)

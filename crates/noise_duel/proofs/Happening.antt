@@ -9,13 +9,13 @@ use Rattle.noise_names.specs.Tokens.{other}
 use Rattle.noise_keys.specs.declared.keys.Own.{Own}
 use Rattle.noise_session.specs.declared.faults.SendFault.{SendFault}
 use Rattle.noise_session.specs.Frames.{frame}
-use Rattle.noise_session.specs.Ends.{HeldEnd}
+use Rattle.noise_session.specs.Ends.{EndValue}
 use Rattle.noise_duel.specs.declared.entry.Entry.{Entry}
 use Rattle.noise_duel.specs.declared.report.Report.{Report}
 use Rattle.noise_duel.specs.Entries.{note_of, notes_of, written_note}
 use Rattle.noise_events.specs.Events.{Event, Write, Say, Deliver, Raw}
 use Rattle.noise_duel.specs.Notes.{Note, Wrote, Missing, held_note, noted_by}
-use Rattle.noise_duel.specs.HeldDuel.{HeldDuel, DuelStands, HasFrames}
+use Rattle.noise_duel.specs.DuelValue.{DuelValue, DuelMatches, HasFrames}
 use Rattle.noise_duel.specs.OneEnd.{HasReceived}
 use Rattle.noise_duel.specs.OneEvent.{HasTaken, RoleWrote, HasHappened, HasComeTo}
 use Rattle.noise_duel.specs.Reports.{Reports}
@@ -28,9 +28,9 @@ use Rattle.std.proofs.lemmas.Option.{same_Some}
 use Rattle.noise_names.specs.Lists.{get-last}
 
 -- one entry more
-pub told-more : (before after : List (Role × Entry)) (entry : Role × Entry) → after ≡ before ++ entry ∷ []
+pub reported-more : (before after : List (Role × Entry)) (entry : Role × Entry) → after ≡ before ++ entry ∷ []
     → notes_of after ≡ notes_of before ++ (entry.0, note_of entry.1) ∷ []
-told-more before after entry is = ap notes_of is ∙ map-append (λ (e : Role × Entry). (e.0, note_of e.1)) before (entry ∷ [])
+reported-more before after entry is = ap notes_of is ∙ map-append (λ (e : Role × Entry). (e.0, note_of e.1)) before (entry ∷ [])
 
 -- ---- a frame that was written is there
 
@@ -50,7 +50,7 @@ record Delivery (d e : Sides) (role : Role) (n : ℕ) (notes : List (Role × Not
   pub reader : Side
   pub got : slice_get (side d (other role)).frames n ≡ Some bytes
   pub receives : SideReceives (side d role) bytes heard reader
-  pub notes_are : notes ≡ noted_by role (heard ++ held_note (length reader.view.held))
+  pub notes_are : notes ≡ noted_by role (heard ++ held_note (length reader.state.partial))
   pub beyond : e ≡ with_side d role reader
 
 delivery : (d e : Sides) (role : Role) (n : ℕ) (notes : List (Role × Note)) (bytes : List ℕ) → slice_get (side d (other role)).frames n ≡ Some bytes
@@ -81,52 +81,52 @@ module _ {A B : Type 0} (public_a : A → Own → Option (List ℕ)) (agreement_
     (public_b : B → Own → Option (List ℕ)) (agreement_b : B → Own → List ℕ → Option (List ℕ)) where
   -- ---- writing
 
-  pub written : (d : Sides) (role : Role) (payload : List ℕ) (number : Option ℕ) (duel : HeldDuel A B) (before after : Report)
+  pub written : (d : Sides) (role : Role) (payload : List ℕ) (number : Option ℕ) (duel : DuelValue A B) (before after : Report)
       → RoleWrote public_a agreement_a public_b agreement_b d role payload number duel before after
       → HasHappened public_a agreement_a public_b agreement_b d (Write role payload) duel before after
   written d role payload number duel before after w = record {
     next = with_side d role w.next;
-    notes = (role, written_note w.told) ∷ [];
-    happens = writes d role payload (written_note w.told) w.next w.writes;
-    stands = w.stands;
+    notes = (role, written_note w.reported) ∷ [];
+    happens = writes d role payload (written_note w.reported) w.next w.writes;
+    matches = w.matches;
     frames = w.frames;
     entries = w.entries;
   }
 
-  pub said-nothing : (d : Sides) (role : Role) (payload : List ℕ) (number : Option ℕ) (duel : HeldDuel A B) (before after : Report)
+  pub said-nothing : (d : Sides) (role : Role) (payload : List ℕ) (number : Option ℕ) (duel : DuelValue A B) (before after : Report)
       → RoleWrote public_a agreement_a public_b agreement_b d role payload number duel before after → number ≡ None
       → HasHappened public_a agreement_a public_b agreement_b d (Say role payload) duel before after
   said-nothing d role payload number duel before after w none = record {
     next = with_side d role w.next;
-    notes = (role, written_note w.told) ∷ [];
-    happens = at w.told (sym w.number_is ∙ none) w.writes;
-    stands = w.stands;
+    notes = (role, written_note w.reported) ∷ [];
+    happens = at w.reported (sym w.number_is ∙ none) w.writes;
+    matches = w.matches;
     frames = w.frames;
     entries = w.entries;
   }
     where
-      at : (told : Result ℕ SendFault) → result_ok told ≡ None → SideWrites (side d role) payload (written_note told) w.next
-          → Happens d (Say role payload) ((role, written_note told) ∷ []) (with_side d role w.next)
+      at : (reported : Result ℕ SendFault) → result_ok reported ≡ None → SideWrites (side d role) payload (written_note reported) w.next
+          → Happens d (Say role payload) ((role, written_note reported) ∷ []) (with_side d role w.next)
       at (Ok n) e h = cc
       at (Err why) e h = says_nothing d role payload why w.next h
 
-  pub said : (d : Sides) (role : Role) (payload : List ℕ) (number : Option ℕ) (n : ℕ) (between duel : HeldDuel A B) (before middle after : Report)
+  pub said : (d : Sides) (role : Role) (payload : List ℕ) (number : Option ℕ) (n : ℕ) (between duel : DuelValue A B) (before middle after : Report)
       → (w : RoleWrote public_a agreement_a public_b agreement_b d role payload number between before middle) → number ≡ Some n
       → HasHappened public_a agreement_a public_b agreement_b (with_side d role w.next) (Deliver (other role) n) duel middle after
       → HasHappened public_a agreement_a public_b agreement_b d (Say role payload) duel before after
   said d role payload number n between duel before middle after w some h =
-      let told = at w.told (sym w.number_is ∙ some) w.writes w.entries in record {
+      let reported = at w.reported (sym w.number_is ∙ some) w.writes w.entries in record {
         next = h.next;
         notes = (role, Wrote n) ∷ h.notes;
-        happens = say-of d h.next role payload n w.next h.notes told.0 h.happens;
-        stands = h.stands;
+        happens = say-of d h.next role payload n w.next h.notes reported.0 h.happens;
+        matches = h.matches;
         frames = h.frames;
-        entries = h.entries ∙ ap (λ (ns : List (Role × Note)). ns ++ h.notes) told.1
+        entries = h.entries ∙ ap (λ (ns : List (Role × Note)). ns ++ h.notes) reported.1
             ∙ append_assoc (notes_of before.entries.items) ((role, Wrote n) ∷ []) h.notes;
       }
     where
-      at : (told : Result ℕ SendFault) → result_ok told ≡ Some n → SideWrites (side d role) payload (written_note told) w.next
-          → notes_of middle.entries.items ≡ notes_of before.entries.items ++ (role, written_note told) ∷ []
+      at : (reported : Result ℕ SendFault) → result_ok reported ≡ Some n → SideWrites (side d role) payload (written_note reported) w.next
+          → notes_of middle.entries.items ≡ notes_of before.entries.items ++ (role, written_note reported) ∷ []
           → SideWrites (side d role) payload (Wrote n) w.next × (notes_of middle.entries.items ≡ notes_of before.entries.items ++ (role, Wrote n) ∷ [])
       at (Ok k) e x y =
           let same : k ≡ n = same_Some k n e in (
@@ -137,45 +137,45 @@ module _ {A B : Type 0} (public_a : A → Own → Option (List ℕ)) (agreement_
 
   -- ---- receiving
 
-  came-initiator : (d : Sides) (event : Event) (bytes : List ℕ) (duel : HeldDuel A B) (end : HeldEnd A) (before after : Report)
-      → DuelStands public_a agreement_a public_b agreement_b duel d → HasFrames before d
+  came-initiator : (d : Sides) (event : Event) (bytes : List ℕ) (duel : DuelValue A B) (end : EndValue A) (before after : Report)
+      → DuelMatches public_a agreement_a public_b agreement_b duel d → HasFrames before d
       → before.initiator ≡ after.initiator → before.responder ≡ after.responder
       → (h : HasReceived public_a agreement_a d.initiator Initiator bytes end before.entries.items after.entries.items)
-      → Happens d event (noted_by Initiator (h.notes ++ held_note (length h.next.view.held))) (with_side d Initiator h.next)
+      → Happens d event (noted_by Initiator (h.notes ++ held_note (length h.next.state.partial))) (with_side d Initiator h.next)
       → HasHappened public_a agreement_a public_b agreement_b d event (record { initiator = end; responder = duel.responder }) before after
   came-initiator d event bytes duel end before after st fr one two h happens = record {
     next = with_side d Initiator h.next;
-    notes = noted_by Initiator (h.notes ++ held_note (length h.next.view.held));
+    notes = noted_by Initiator (h.notes ++ held_note (length h.next.state.partial));
     happens = happens;
-    stands = record { initiator = h.stands; responder = st.responder };
+    matches = record { initiator = h.matches; responder = st.responder };
     frames = record {
       initiator = ap (λ (v : Vec (Vec ℕ Global) Global). map (λ f. f.items) v.items) (sym one) ∙ fr.initiator ∙ sym h.frames;
       responder = ap (λ (v : Vec (Vec ℕ Global) Global). map (λ f. f.items) v.items) (sym two) ∙ fr.responder;
     };
-    entries = h.told;
+    entries = h.reported;
   }
 
-  came-responder : (d : Sides) (event : Event) (bytes : List ℕ) (duel : HeldDuel A B) (end : HeldEnd B) (before after : Report)
-      → DuelStands public_a agreement_a public_b agreement_b duel d → HasFrames before d
+  came-responder : (d : Sides) (event : Event) (bytes : List ℕ) (duel : DuelValue A B) (end : EndValue B) (before after : Report)
+      → DuelMatches public_a agreement_a public_b agreement_b duel d → HasFrames before d
       → before.initiator ≡ after.initiator → before.responder ≡ after.responder
       → (h : HasReceived public_b agreement_b d.responder Responder bytes end before.entries.items after.entries.items)
-      → Happens d event (noted_by Responder (h.notes ++ held_note (length h.next.view.held))) (with_side d Responder h.next)
+      → Happens d event (noted_by Responder (h.notes ++ held_note (length h.next.state.partial))) (with_side d Responder h.next)
       → HasHappened public_a agreement_a public_b agreement_b d event (record { initiator = duel.initiator; responder = end }) before after
   came-responder d event bytes duel end before after st fr one two h happens = record {
     next = with_side d Responder h.next;
-    notes = noted_by Responder (h.notes ++ held_note (length h.next.view.held));
+    notes = noted_by Responder (h.notes ++ held_note (length h.next.state.partial));
     happens = happens;
-    stands = record { initiator = st.initiator; responder = h.stands };
+    matches = record { initiator = st.initiator; responder = h.matches };
     frames = record {
       initiator = ap (λ (v : Vec (Vec ℕ Global) Global). map (λ f. f.items) v.items) (sym one) ∙ fr.initiator;
       responder = ap (λ (v : Vec (Vec ℕ Global) Global). map (λ f. f.items) v.items) (sym two) ∙ fr.responder ∙ sym h.frames;
     };
-    entries = h.told;
+    entries = h.reported;
   }
 
   -- bytes come in one piece
-  pub injected-initiator : (d : Sides) (role : Role) (bytes : List ℕ) (duel : HeldDuel A B) (end : HeldEnd A) (before after : Report) → role ≡ Initiator
-      → DuelStands public_a agreement_a public_b agreement_b duel d → HasFrames before d
+  pub injected-initiator : (d : Sides) (role : Role) (bytes : List ℕ) (duel : DuelValue A B) (end : EndValue A) (before after : Report) → role ≡ Initiator
+      → DuelMatches public_a agreement_a public_b agreement_b duel d → HasFrames before d
       → before.initiator ≡ after.initiator → before.responder ≡ after.responder
       → HasReceived public_a agreement_a d.initiator role bytes end before.entries.items after.entries.items
       → HasHappened public_a agreement_a public_b agreement_b d (Raw role bytes) (record { initiator = end; responder = duel.responder }) before after
@@ -183,8 +183,8 @@ module _ {A B : Type 0} (public_a : A → Own → Option (List ℕ)) (agreement_
       came-initiator d (Raw Initiator bytes) bytes duel end before after st fr one two h (injects d Initiator bytes h.notes h.next h.receives)
   injected-initiator d Responder bytes duel end before after is st fr one two h = cc
 
-  pub injected-responder : (d : Sides) (role : Role) (bytes : List ℕ) (duel : HeldDuel A B) (end : HeldEnd B) (before after : Report) → role ≡ Responder
-      → DuelStands public_a agreement_a public_b agreement_b duel d → HasFrames before d
+  pub injected-responder : (d : Sides) (role : Role) (bytes : List ℕ) (duel : DuelValue A B) (end : EndValue B) (before after : Report) → role ≡ Responder
+      → DuelMatches public_a agreement_a public_b agreement_b duel d → HasFrames before d
       → before.initiator ≡ after.initiator → before.responder ≡ after.responder
       → HasReceived public_b agreement_b d.responder role bytes end before.entries.items after.entries.items
       → HasHappened public_a agreement_a public_b agreement_b d (Raw role bytes) (record { initiator = duel.initiator; responder = end }) before after
@@ -193,9 +193,9 @@ module _ {A B : Type 0} (public_a : A → Own → Option (List ℕ)) (agreement_
       came-responder d (Raw Responder bytes) bytes duel end before after st fr one two h (injects d Responder bytes h.notes h.next h.receives)
 
   -- a frame comes, or there is none of that number
-  pub took-initiator : (d : Sides) (role : Role) (n : ℕ) (found : Option (List ℕ)) (duel : HeldDuel A B) (end : HeldEnd A) (before after : Report)
+  pub took-initiator : (d : Sides) (role : Role) (n : ℕ) (found : Option (List ℕ)) (duel : DuelValue A B) (end : EndValue A) (before after : Report)
       → role ≡ Initiator → slice_get d.responder.frames n ≡ found
-      → DuelStands public_a agreement_a public_b agreement_b duel d → HasFrames before d
+      → DuelMatches public_a agreement_a public_b agreement_b duel d → HasFrames before d
       → before.initiator ≡ after.initiator → before.responder ≡ after.responder
       → HasTaken public_a agreement_a d.initiator role n found end before.entries.items after.entries.items
       → HasHappened public_a agreement_a public_b agreement_b d (Deliver role n) (record { initiator = end; responder = duel.responder }) before after
@@ -206,7 +206,7 @@ module _ {A B : Type 0} (public_a : A → Own → Option (List ℕ)) (agreement_
     next = d;
     notes = (Initiator, Missing n) ∷ [];
     happens = misses d Initiator n got;
-    stands = record { initiator = h.0; responder = st.responder };
+    matches = record { initiator = h.0; responder = st.responder };
     frames = record {
       initiator = ap (λ (v : Vec (Vec ℕ Global) Global). map (λ f. f.items) v.items) (sym one) ∙ fr.initiator;
       responder = ap (λ (v : Vec (Vec ℕ Global) Global). map (λ f. f.items) v.items) (sym two) ∙ fr.responder;
@@ -214,9 +214,9 @@ module _ {A B : Type 0} (public_a : A → Own → Option (List ℕ)) (agreement_
     entries = h.1;
   }
 
-  pub took-responder : (d : Sides) (role : Role) (n : ℕ) (found : Option (List ℕ)) (duel : HeldDuel A B) (end : HeldEnd B) (before after : Report)
+  pub took-responder : (d : Sides) (role : Role) (n : ℕ) (found : Option (List ℕ)) (duel : DuelValue A B) (end : EndValue B) (before after : Report)
       → role ≡ Responder → slice_get d.initiator.frames n ≡ found
-      → DuelStands public_a agreement_a public_b agreement_b duel d → HasFrames before d
+      → DuelMatches public_a agreement_a public_b agreement_b duel d → HasFrames before d
       → before.initiator ≡ after.initiator → before.responder ≡ after.responder
       → HasTaken public_b agreement_b d.responder role n found end before.entries.items after.entries.items
       → HasHappened public_a agreement_a public_b agreement_b d (Deliver role n) (record { initiator = duel.initiator; responder = end }) before after
@@ -227,7 +227,7 @@ module _ {A B : Type 0} (public_a : A → Own → Option (List ℕ)) (agreement_
     next = d;
     notes = (Responder, Missing n) ∷ [];
     happens = misses d Responder n got;
-    stands = record { initiator = st.initiator; responder = h.0 };
+    matches = record { initiator = st.initiator; responder = h.0 };
     frames = record {
       initiator = ap (λ (v : Vec (Vec ℕ Global) Global). map (λ f. f.items) v.items) (sym one) ∙ fr.initiator;
       responder = ap (λ (v : Vec (Vec ℕ Global) Global). map (λ f. f.items) v.items) (sym two) ∙ fr.responder;
@@ -237,17 +237,17 @@ module _ {A B : Type 0} (public_a : A → Own → Option (List ℕ)) (agreement_
 
   -- ---- events, one after another
 
-  pub nothing-yet : (d : Sides) (events : List Event) (duel : HeldDuel A B) (report : Report)
-      → DuelStands public_a agreement_a public_b agreement_b duel d → HasFrames report d → report.entries.items ≡ []
+  pub nothing-yet : (d : Sides) (events : List Event) (duel : DuelValue A B) (report : Report)
+      → DuelMatches public_a agreement_a public_b agreement_b duel d → HasFrames report d → report.entries.items ≡ []
       → HasComeTo public_a agreement_a public_b agreement_b d events events duel report
   nothing-yet d events duel report st fr empty = record {
     now = d;
     goes_on = λ notes last h. subst (λ (es : List (Role × Entry)). Run d events (notes_of es ++ notes) last) (sym empty) h;
-    stands = st;
+    matches = st;
     frames = fr;
   }
 
-  pub one-more : (d : Sides) (events rest more : List Event) (event : Event) (duel next : HeldDuel A B) (report after : Report) → rest ≡ event ∷ more
+  pub one-more : (d : Sides) (events rest more : List Event) (event : Event) (duel next : DuelValue A B) (report after : Report) → rest ≡ event ∷ more
       → (h : HasComeTo public_a agreement_a public_b agreement_b d events rest duel report)
       → HasHappened public_a agreement_a public_b agreement_b h.now event next report after
       → HasComeTo public_a agreement_a public_b agreement_b d events more next after
@@ -258,11 +258,11 @@ module _ {A B : Type 0} (public_a : A → Own → Option (List ℕ)) (agreement_
         (sym (ap (λ (ns : List (Role × Note)). ns ++ notes) t.entries ∙ append_assoc (notes_of report.entries.items) t.notes notes))
         (h.goes_on (t.notes ++ notes) last
         (subst (λ (es : List Event). Run h.now es (t.notes ++ notes) last) (sym is) (begins h.now t.next last event more t.notes notes t.happens run)));
-    stands = t.stands;
+    matches = t.matches;
     frames = t.frames;
   }
 
-  pub all-come : (d : Sides) (events rest : List Event) (duel : HeldDuel A B) (report : Report) → rest ≡ []
+  pub all-come : (d : Sides) (events rest : List Event) (duel : DuelValue A B) (report : Report) → rest ≡ []
       → HasComeTo public_a agreement_a public_b agreement_b d events rest duel report
       → Reports public_a agreement_a public_b agreement_b d events duel report
   all-come d events rest duel report is h = record {
@@ -270,5 +270,5 @@ module _ {A B : Type 0} (public_a : A → Own → Option (List ℕ)) (agreement_
     run = subst (λ (ns : List (Role × Note)). Run d events ns h.now) (append-nil (notes_of report.entries.items))
         (h.goes_on [] h.now (subst (λ (es : List Event). Run h.now es [] h.now) (sym is) (ends h.now)));
     frames = h.frames;
-    stands = h.stands;
+    matches = h.matches;
   }

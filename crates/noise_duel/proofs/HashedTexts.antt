@@ -8,7 +8,7 @@ use Rattle.noise_state.specs.History.{History, MixHash, and_then, cipher_key, ch
 use Rattle.noise_handshake.specs.declared.remote.Remote.{Remote}
 use Rattle.noise_handshake.specs.Message.{with_ephemeral, token_bytes, after_token, before_payload, after_tokens, after_payload}
 use Rattle.noise_handshake.specs.Length.{keyed_after, keyed_after_tokens}
-use Rattle.noise_handshake.specs.View.{with_premessage}
+use Rattle.noise_handshake.specs.Party.{with_premessage}
 use Rattle.noise_duel.specs.Collision.{hashed}
 use Rattle.noise_duel.specs.Messages.{OneEach, clear_keys, pre_keys}
 use Rattle.noise_names.specs.Lists.{heads, tails, cons-same}
@@ -114,7 +114,7 @@ module _ (psks : Bool) where
       let here = token-back r s t x y later.0 in
       (here.0, (here.1, later.1))
 
-  -- what it hashed tells a message's bytes, token by token
+  -- what it hashed reports a message's bytes, token by token
   pub line-back : (r s : History) (ts : List Token) (xs ys : List (List ℕ)) (p q : List ℕ) → OneEach ts xs → OneEach ts ys
       → hashed (after_payload psks r ts xs p) ≡ hashed (after_payload psks s ts ys q)
       → (hashed r ≡ hashed s) × Alike r s ts xs ys × (ciphertext (after_tokens psks r ts xs) p ≡ ciphertext (after_tokens psks s ts ys) q)
@@ -140,7 +140,7 @@ module _ (psks : Bool) where
       (tails x y (hashed r) (hashed s) later.0, cons-same (heads x y (hashed r) (hashed s) later.0) later.1)
   pre-back r s k l (_ ∷ ts) e = pre-back r s k l ts e
 
-  -- ---- what the same bytes tell
+  -- ---- what the same bytes report
 
   pub front-same : (r s : History) (ts : List Token) (xs ys : List (List ℕ)) → Alike r s ts xs ys → before_payload psks r ts xs ≡ before_payload psks s ts ys
   front-same r s [] [] [] h = refl

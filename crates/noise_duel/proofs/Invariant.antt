@@ -6,24 +6,24 @@ use Rattle.noise_names.specs.declared.token.Role.{Role}
 use Rattle.noise_names.specs.declared.token.Role.TheVariants.{Initiator, Responder}
 use Rattle.noise_names.specs.Tokens.{other}
 use Rattle.noise_state.specs.History.{History}
-use Rattle.noise_handshake.specs.View.{View, Accepts}
+use Rattle.noise_handshake.specs.Party.{Party, Accepts}
 use Rattle.noise_handshake.specs.Writing.{Writes}
-use Rattle.noise_handshake.specs.Party.{after_own, after_message}
+use Rattle.noise_handshake.specs.Matching.{after_own, after_message}
 use Rattle.noise_session.specs.declared.faults.SendFault.{SendFault}
 use Rattle.noise_session.specs.Faults.{ends}
-use Rattle.noise_session.specs.Transport.{packet}
-use Rattle.noise_session.specs.Steps.{Told}
+use Rattle.noise_session.specs.Transport.{transport_message}
+use Rattle.noise_session.specs.Steps.{StepValue}
 use Rattle.noise_names.specs.Plan.{is_one_way}
 use Rattle.noise_session.specs.Progress.{is_open}
-use Rattle.noise_session.specs.Progress.Progress.{Handshaking, Open, Closed}
-use Rattle.noise_session.specs.Ends.{EndView, progress_of, closed, end_of}
+use Rattle.noise_session.specs.Progress.Progress.{Handshaking, Open, HasEnded}
+use Rattle.noise_session.specs.Ends.{EndState, progress_of, ended_session, end_of}
 use Rattle.noise_session.specs.Taking.{Judges}
 use Rattle.noise_session.specs.Taking.Judges.{accepted, refused, opened, dropped, exhausted}
 use Rattle.noise_session.specs.Sending.{Sends, after_fault}
 use Rattle.noise_session.specs.Sending.Sends.{refuses, lacks_answer}
 use Rattle.noise_duel.specs.Messages.{HandshakeMessage, Exchanged, begun_as}
 use Rattle.noise_duel.specs.Messages.Exchanged.{none, wrote, took}
-use Rattle.noise_duel.specs.Sides.{TransportMessage, Side, Sides, new_side, with_view}
+use Rattle.noise_duel.specs.Sides.{TransportMessage, Side, Sides, new_side, with_state}
 use Rattle.noise_events.specs.Events.{Event}
 use Rattle.noise_duel.specs.Notes.{Note}
 use Rattle.noise_duel.specs.Runs.{SideWrites, SideReads, SideReceives, Happens, Run, GivesNoPayload}
@@ -32,12 +32,12 @@ use Rattle.noise_duel.specs.Runs.SideReads.{accepts_handshake, accepts_transport
 use Rattle.noise_duel.specs.Runs.SideReceives.{is_idle, waits, reads_frame}
 use Rattle.noise_duel.specs.Runs.Happens.{writes, says_nothing, says, delivers, misses, injects}
 use Rattle.noise_duel.specs.Runs.Run.{ends as run_ends, begins}
-use Rattle.noise_duel.specs.Conversation.{facing}
-use Rattle.noise_duel.specs.Invariant.{ArePackets, ComesOfMessages, EndsStand}
+use Rattle.noise_duel.specs.Conversation.{sides_at_start}
+use Rattle.noise_duel.specs.Invariant.{AreTransportMessages, ComesOfMessages, EndsComeOfMessages}
 
 -- ---- one message more
 
-passes-wrote : (v w : View) (ps : List HandshakeMessage) (p : HandshakeMessage) → Exchanged v ps w → Writes w p.payload p.carried p.message
+passes-wrote : (v w : Party) (ps : List HandshakeMessage) (p : HandshakeMessage) → Exchanged v ps w → Writes w p.payload p.carried p.message
     → Exchanged v (ps ++ p ∷ []) (after_own w p.carried p.payload)
 passes-wrote v w [] p (none _) h = wrote v (after_own v p.carried p.payload) p [] h (none (after_own v p.carried p.payload))
 passes-wrote v w (q ∷ qs) p (wrote _ _ _ _ here more) h =
@@ -45,7 +45,7 @@ passes-wrote v w (q ∷ qs) p (wrote _ _ _ _ here more) h =
 passes-wrote v w (q ∷ qs) p (took _ _ _ _ here more) h =
     took v (after_own w p.carried p.payload) q (qs ++ p ∷ []) here (passes-wrote (after_message v q.carried q.payload) w qs p more h)
 
-passes-took : (v w : View) (ps : List HandshakeMessage) (p : HandshakeMessage) → Exchanged v ps w → Accepts w p.message p.carried p.payload
+passes-took : (v w : Party) (ps : List HandshakeMessage) (p : HandshakeMessage) → Exchanged v ps w → Accepts w p.message p.carried p.payload
     → Exchanged v (ps ++ p ∷ []) (after_message w p.carried p.payload)
 passes-took v w [] p (none _) h = took v (after_message v p.carried p.payload) p [] h (none (after_message v p.carried p.payload))
 passes-took v w (q ∷ qs) p (wrote _ _ _ _ here more) h =
@@ -53,28 +53,28 @@ passes-took v w (q ∷ qs) p (wrote _ _ _ _ here more) h =
 passes-took v w (q ∷ qs) p (took _ _ _ _ here more) h =
     took v (after_message w p.carried p.payload) q (qs ++ p ∷ []) here (passes-took (after_message v q.carried q.payload) w qs p more h)
 
-packets-more : (r : History) (writer : Role) (interval n : ℕ) (ps : List TransportMessage) (m : TransportMessage) → ArePackets r writer interval n ps
-    → m.message ≡ packet r writer interval (n + length ps) m.payload
-    → ArePackets r writer interval n (ps ++ m ∷ [])
-packets-more r writer interval n [] m h e =
-    let here : m.message ≡ packet r writer interval n m.payload =
-    subst (λ (k : ℕ). m.message ≡ packet r writer interval k m.payload) (omega arith) e in (here, tt)
-packets-more r writer interval n (p ∷ ps) m h e =
-    let later : m.message ≡ packet r writer interval (n + 1 + length ps) m.payload =
-    subst (λ (k : ℕ). m.message ≡ packet r writer interval k m.payload) (omega arith) e in
-    (h.0, packets-more r writer interval (n + 1) ps m h.1 later)
+transport_messages-more : (r : History) (writer : Role) (interval n : ℕ) (ps : List TransportMessage) (m : TransportMessage) → AreTransportMessages r writer interval n ps
+    → m.message ≡ transport_message r writer interval (n + length ps) m.payload
+    → AreTransportMessages r writer interval n (ps ++ m ∷ [])
+transport_messages-more r writer interval n [] m h e =
+    let here : m.message ≡ transport_message r writer interval n m.payload =
+    subst (λ (k : ℕ). m.message ≡ transport_message r writer interval k m.payload) (omega arith) e in (here, tt)
+transport_messages-more r writer interval n (p ∷ ps) m h e =
+    let later : m.message ≡ transport_message r writer interval (n + 1 + length ps) m.payload =
+    subst (λ (k : ℕ). m.message ≡ transport_message r writer interval k m.payload) (omega arith) e in
+    (h.0, transport_messages-more r writer interval (n + 1) ps m h.1 later)
 
 -- ---- the parts of an end
 
-unended : (v w : View) → record v { ended = false } ≡ w → v.ended ≡ false → v ≡ w
+unended : (v w : Party) → record v { ended = false } ≡ w → v.ended ≡ false → v ≡ w
 unended v w e h = ap (λ (b : Bool). record v { ended = b }) h ∙ e
 
 -- an open session's messages have all passed
-pub all-passed : (v : EndView) → IsTrue (is_open (progress_of v)) → v.party.passed ≡ length v.party.pattern.messages
+pub all-passed : (v : EndState) → IsTrue (is_open (progress_of v)) → v.party.passed ≡ length v.party.pattern.messages
 all-passed v h = go v.party.ended (v.party.passed == length v.party.pattern.messages) refl h
   where
     go : (ended all : Bool) → (v.party.passed == length v.party.pattern.messages) ≡ all
-        → IsTrue (is_open (if ended then Closed v.party.role else if all then Open v.party.role (is_one_way v.party.pattern) v.sent v.received
+        → IsTrue (is_open (if ended then HasEnded v.party.role else if all then Open v.party.role (is_one_way v.party.pattern) v.sent v.received
         else Handshaking v.party.pattern v.party.role v.party.passed))
         → v.party.passed ≡ length v.party.pattern.messages
     go true all e h = cc
@@ -84,10 +84,10 @@ all-passed v h = go v.party.ended (v.party.passed == length v.party.pattern.mess
 length-more : {X : Type 0} (xs : List X) (x : X) (n : ℕ) → n ≡ length xs → n + 1 ≡ length (xs ++ x ∷ [])
 length-more xs x n e = omega (arith, length-append xs (x ∷ []))
 
-module _ (first : View) (interval : ℕ) where
+module _ (first : Party) (interval : ℕ) where
   -- the same party, ended or not, and the same counts
-  seen : (s : Side) (next : EndView) → ComesOfMessages first interval s → record (next.party) { ended = false } ≡ record (s.view.party) { ended = false }
-      → next.interval ≡ s.view.interval → next.sent ≡ s.view.sent → next.received ≡ s.view.received → ComesOfMessages first interval (with_view s next)
+  seen : (s : Side) (next : EndState) → ComesOfMessages first interval s → record (next.party) { ended = false } ≡ record (s.state.party) { ended = false }
+      → next.interval ≡ s.state.interval → next.sent ≡ s.state.sent → next.received ≡ s.state.received → ComesOfMessages first interval (with_state s next)
   seen s next h party i m n = record {
     last = h.last;
     passes = h.passes;
@@ -100,158 +100,158 @@ module _ (first : View) (interval : ℕ) where
     received = h.received;
   }
 
-  refusal-seen : (s : Side) (why : SendFault) → ComesOfMessages first interval s → ComesOfMessages first interval (with_view s (after_fault s.view why))
+  refusal-seen : (s : Side) (why : SendFault) → ComesOfMessages first interval s → ComesOfMessages first interval (with_state s (after_fault s.state why))
   refusal-seen s why h = by (ends why)
     where
-      by : (b : Bool) → ComesOfMessages first interval (with_view s (if b then closed s.view else s.view))
-      by true = seen s (closed s.view) h refl refl refl refl
-      by false = seen s s.view h refl refl refl refl
+      by : (b : Bool) → ComesOfMessages first interval (with_state s (if b then ended_session s.state else s.state))
+      by true = seen s (ended_session s.state) h refl refl refl refl
+      by false = seen s s.state h refl refl refl refl
 
-  unsent : (s : Side) (h : ComesOfMessages first interval s) → s.view.party.passed < length s.view.party.pattern.messages → (s.sent ≡ []) × (s.received ≡ [])
+  unsent : (s : Side) (h : ComesOfMessages first interval s) → s.state.party.passed < length s.state.party.pattern.messages → (s.sent ≡ []) × (s.received ≡ [])
   unsent s h less = go h.opened
     where
       go : ((s.sent ≡ []) × (s.received ≡ [])) ⊎ (h.last.passed ≡ length h.last.pattern.messages) → (s.sent ≡ []) × (s.received ≡ [])
       go (inl empty) = empty
       go (inr all) =
-          let passed : s.view.party.passed ≡ h.last.passed = ap (λ (v : View). v.passed) h.party in
-          let count : length s.view.party.pattern.messages ≡ length h.last.pattern.messages = ap (λ (v : View). length v.pattern.messages) h.party in
+          let passed : s.state.party.passed ≡ h.last.passed = ap (λ (v : Party). v.passed) h.party in
+          let count : length s.state.party.pattern.messages ≡ length h.last.pattern.messages = ap (λ (v : Party). length v.pattern.messages) h.party in
           let bad : ⊥ = omega (arith, less, all, passed, count) in
           absurd bad
 
-  none-packets : (r : History) (writer : Role) (ps : List TransportMessage) → ps ≡ [] → ArePackets r writer interval 0 ps
-  none-packets r writer ps e = subst (λ (qs : List TransportMessage). ArePackets r writer interval 0 qs) (sym e) tt
+  none-transport_messages : (r : History) (writer : Role) (ps : List TransportMessage) → ps ≡ [] → AreTransportMessages r writer interval 0 ps
+  none-transport_messages r writer ps e = subst (λ (qs : List TransportMessage). AreTransportMessages r writer interval 0 qs) (sym e) tt
 
-  -- a packet of the end's view is one of the view that it stands for
-  packet-of : (s : Side) (payload : List ℕ) (h : ComesOfMessages first interval s) (writer : Role) (n m : ℕ) (role : Role) → writer ≡ role → n ≡ m
-      → packet s.view.party.history writer s.view.interval n payload ≡ packet h.last.history role interval (0 + m) payload
-  packet-of s payload h writer n m role e f =
+  -- a transport message of the end's state is one of the state that it matches
+  transport_message-of : (s : Side) (payload : List ℕ) (h : ComesOfMessages first interval s) (writer : Role) (n m : ℕ) (role : Role) → writer ≡ role → n ≡ m
+      → transport_message s.state.party.history writer s.state.interval n payload ≡ transport_message h.last.history role interval (0 + m) payload
+  transport_message-of s payload h writer n m role e f =
       let zeros : n ≡ 0 + m = omega (arith, f) in
-      ap (λ (r : History). packet r writer s.view.interval n payload) (ap (λ (v : View). v.history) h.party)
-      ∙ ap (λ (k : ℕ). packet h.last.history writer k n payload) h.interval_is
-      ∙ ap (λ (k : ℕ). packet h.last.history writer interval k payload) zeros
-      ∙ ap (λ (w : Role). packet h.last.history w interval (0 + m) payload) e
+      ap (λ (r : History). transport_message r writer s.state.interval n payload) (ap (λ (v : Party). v.history) h.party)
+      ∙ ap (λ (k : ℕ). transport_message h.last.history writer k n payload) h.interval_is
+      ∙ ap (λ (k : ℕ). transport_message h.last.history writer interval k payload) zeros
+      ∙ ap (λ (w : Role). transport_message h.last.history w interval (0 + m) payload) e
 
-  pub writes-stands : (s t : Side) (payload : List ℕ) (note : Note) → ComesOfMessages first interval s → SideWrites s payload note t
+  pub writes-matches : (s t : Side) (payload : List ℕ) (note : Note) → ComesOfMessages first interval s → SideWrites s payload note t
       → ComesOfMessages first interval t
-  writes-stands s t payload note h (writes_nothing _ _ why next sends) = go why next sends
+  writes-matches s t payload note h (writes_nothing _ _ why next sends) = go why next sends
     where
-      go : (why : SendFault) (next : EndView) → Sends s.view payload (Err why) next → ComesOfMessages first interval (with_view s next)
+      go : (why : SendFault) (next : EndState) → Sends s.state payload (Err why) next → ComesOfMessages first interval (with_state s next)
       go why next (refuses _ _ _ e) = refusal-seen s why h
-      go why next (lacks_answer _ _ k e lacks) = seen s (closed s.view) h refl refl refl refl
-  writes-stands s t payload note h (writes_handshake _ message _ xs e w) =
+      go why next (lacks_answer _ _ k e lacks) = seen s (ended_session s.state) h refl refl refl refl
+  writes-matches s t payload note h (writes_handshake _ message _ xs e w) =
       let p : HandshakeMessage = record { message = message; carried = xs; payload = payload } in
-      let same : s.view.party ≡ h.last = unended s.view.party h.last h.party w.speaks.going in
+      let same : s.state.party ≡ h.last = unended s.state.party h.last h.party w.speaks.going in
       let empty = unsent s h w.speaks.more in
       record {
         last = after_own h.last xs payload;
-        passes = passes-wrote first h.last s.passed p h.passes (subst (λ (v : View). Writes v payload xs message) same w);
-        party = ap (λ (v : View). record (after_own v xs payload) { ended = false }) same
-            ∙ ap (λ (v : View). record (after_own h.last xs payload) { ended = v.ended }) h.party;
+        passes = passes-wrote first h.last s.passed p h.passes (subst (λ (v : Party). Writes v payload xs message) same w);
+        party = ap (λ (v : Party). record (after_own v xs payload) { ended = false }) same
+            ∙ ap (λ (v : Party). record (after_own h.last xs payload) { ended = v.ended }) h.party;
         interval_is = h.interval_is;
         sending = h.sending;
         receiving = h.receiving;
         opened = inl empty;
-        sent = none-packets (after_own h.last xs payload).history h.last.role s.sent empty.0;
-        received = none-packets (after_own h.last xs payload).history (other h.last.role) s.received empty.1;
+        sent = none-transport_messages (after_own h.last xs payload).history h.last.role s.sent empty.0;
+        received = none-transport_messages (after_own h.last xs payload).history (other h.last.role) s.received empty.1;
       }
-  writes-stands s t payload note h (writes_transport _ message _ e due is) =
+  writes-matches s t payload note h (writes_transport _ message _ e due is) =
       let m : TransportMessage = record { message = message; payload = payload } in
       let passed : h.last.passed ≡ length h.last.pattern.messages =
-      sym (ap (λ (v : View). v.passed) h.party) ∙ all-passed s.view due ∙ ap (λ (v : View). length v.pattern.messages) h.party in
+      sym (ap (λ (v : Party). v.passed) h.party) ∙ all-passed s.state due ∙ ap (λ (v : Party). length v.pattern.messages) h.party in
       record {
         last = h.last;
         passes = h.passes;
         party = h.party;
         interval_is = h.interval_is;
-        sending = length-more s.sent m s.view.sent h.sending;
+        sending = length-more s.sent m s.state.sent h.sending;
         receiving = h.receiving;
         opened = inr passed;
-        sent = packets-more h.last.history h.last.role interval 0 s.sent m h.sent
-            (is ∙ packet-of s payload h s.view.party.role s.view.sent (length s.sent) h.last.role (ap (λ (v : View). v.role) h.party) h.sending);
+        sent = transport_messages-more h.last.history h.last.role interval 0 s.sent m h.sent
+            (is ∙ transport_message-of s payload h s.state.party.role s.state.sent (length s.sent) h.last.role (ap (λ (v : Party). v.role) h.party) h.sending);
         received = h.received;
       }
 
-  pub reads-stands : (s t : Side) (message : List ℕ) (step : Told) → ComesOfMessages first interval s → SideReads s message step t
+  pub reads-matches : (s t : Side) (message : List ℕ) (step : StepValue) → ComesOfMessages first interval s → SideReads s message step t
       → ComesOfMessages first interval t
-  reads-stands s t message step h (accepts_handshake _ _ payload xs a) =
+  reads-matches s t message step h (accepts_handshake _ _ payload xs a) =
       let p : HandshakeMessage = record { message = message; carried = xs; payload = payload } in
-      let same : s.view.party ≡ h.last = unended s.view.party h.last h.party a.listens.going in
+      let same : s.state.party ≡ h.last = unended s.state.party h.last h.party a.listens.going in
       let empty = unsent s h a.listens.more in
       record {
         last = after_message h.last xs payload;
-        passes = passes-took first h.last s.passed p h.passes (subst (λ (v : View). Accepts v message xs payload) same a);
-        party = ap (λ (v : View). record (after_message v xs payload) { ended = false }) same
-            ∙ ap (λ (v : View). record (after_message h.last xs payload) { ended = v.ended }) h.party;
+        passes = passes-took first h.last s.passed p h.passes (subst (λ (v : Party). Accepts v message xs payload) same a);
+        party = ap (λ (v : Party). record (after_message v xs payload) { ended = false }) same
+            ∙ ap (λ (v : Party). record (after_message h.last xs payload) { ended = v.ended }) h.party;
         interval_is = h.interval_is;
         sending = h.sending;
         receiving = h.receiving;
         opened = inl empty;
-        sent = none-packets (after_message h.last xs payload).history h.last.role s.sent empty.0;
-        received = none-packets (after_message h.last xs payload).history (other h.last.role) s.received empty.1;
+        sent = none-transport_messages (after_message h.last xs payload).history h.last.role s.sent empty.0;
+        received = none-transport_messages (after_message h.last xs payload).history (other h.last.role) s.received empty.1;
       }
-  reads-stands s t message step h (accepts_transport _ _ payload due low is) =
+  reads-matches s t message step h (accepts_transport _ _ payload due low is) =
       let m : TransportMessage = record { message = message; payload = payload } in
       let passed : h.last.passed ≡ length h.last.pattern.messages =
-      sym (ap (λ (v : View). v.passed) h.party) ∙ all-passed s.view due ∙ ap (λ (v : View). length v.pattern.messages) h.party in
+      sym (ap (λ (v : Party). v.passed) h.party) ∙ all-passed s.state due ∙ ap (λ (v : Party). length v.pattern.messages) h.party in
       record {
         last = h.last;
         passes = h.passes;
         party = h.party;
         interval_is = h.interval_is;
         sending = h.sending;
-        receiving = length-more s.received m s.view.received h.receiving;
+        receiving = length-more s.received m s.state.received h.receiving;
         opened = inr passed;
         sent = h.sent;
-        received = packets-more h.last.history (other h.last.role) interval 0 s.received m h.received
-            (is ∙ packet-of s payload h (other s.view.party.role) s.view.received (length s.received) (other h.last.role)
-            (ap (λ (v : View). other v.role) h.party) h.receiving);
+        received = transport_messages-more h.last.history (other h.last.role) interval 0 s.received m h.received
+            (is ∙ transport_message-of s payload h (other s.state.party.role) s.state.received (length s.received) (other h.last.role)
+            (ap (λ (v : Party). other v.role) h.party) h.receiving);
       }
-  reads-stands s t message step h (refuses_message _ _ _ next bad judges) = go step next bad judges
+  reads-matches s t message step h (refuses_message _ _ _ next bad judges) = go step next bad judges
     where
-      go : (step : Told) (next : EndView) → GivesNoPayload step → Judges s.view message step next → ComesOfMessages first interval (with_view s next)
+      go : (step : StepValue) (next : EndState) → GivesNoPayload step → Judges s.state message step next → ComesOfMessages first interval (with_state s next)
       go step next bad (accepted _ _ payload xs a) = absurd bad
-      go step next bad (refused _ _ token cause r) = seen s (closed s.view) h refl refl refl refl
+      go step next bad (refused _ _ token cause r) = seen s (ended_session s.state) h refl refl refl refl
       go step next bad (opened _ _ payload due low is) = absurd bad
       go step next bad (dropped _ _ due low never) = seen s next h refl refl refl refl
-      go step next bad (exhausted _ _ due full) = seen s (closed s.view) h refl refl refl refl
+      go step next bad (exhausted _ _ due full) = seen s (ended_session s.state) h refl refl refl refl
 
-  pub receives-stands : (s t : Side) (bytes : List ℕ) (notes : List Note) → ComesOfMessages first interval s → SideReceives s bytes notes t
+  pub receives-matches : (s t : Side) (bytes : List ℕ) (notes : List Note) → ComesOfMessages first interval s → SideReceives s bytes notes t
       → ComesOfMessages first interval t
-  receives-stands s t bytes notes h (is_idle _ _ step e) = h
-  receives-stands s t bytes notes h (waits _ _ e partial) = seen s (record (s.view) { held = s.view.held ++ bytes }) h refl refl refl refl
-  receives-stands s t bytes notes h (reads_frame _ next _ _ message rest step more e is short reads on) =
-      receives-stands next t rest more (reads-stands s next message step h reads) on
+  receives-matches s t bytes notes h (is_idle _ _ step e) = h
+  receives-matches s t bytes notes h (waits _ _ e partial) = seen s (record (s.state) { partial = s.state.partial ++ bytes }) h refl refl refl refl
+  receives-matches s t bytes notes h (reads_frame _ next _ _ message rest step more e is short reads on) =
+      receives-matches next t rest more (reads-matches s next message step h reads) on
 
 -- ---- both ends
 
-module _ (first second : View) (i j : ℕ) where
-  abbrev pub BothStand : Sides → Type 0
-  BothStand d = ComesOfMessages first i d.initiator × ComesOfMessages second j d.responder
+module _ (first second : Party) (i j : ℕ) where
+  abbrev pub BothMatch : Sides → Type 0
+  BothMatch d = ComesOfMessages first i d.initiator × ComesOfMessages second j d.responder
 
-  event-stands : (d e : Sides) (event : Event) (notes : List (Role × Note)) → BothStand d → Happens d event notes e → BothStand e
-  event-stands d e event notes h (writes _ Initiator payload note next written) = (writes-stands first i d.initiator next payload note h.0 written, h.1)
-  event-stands d e event notes h (writes _ Responder payload note next written) = (h.0, writes-stands second j d.responder next payload note h.1 written)
-  event-stands d e event notes h (says_nothing _ Initiator payload why next written) = (writes-stands first i d.initiator next payload _ h.0 written, h.1)
-  event-stands d e event notes h (says_nothing _ Responder payload why next written) = (h.0, writes-stands second j d.responder next payload _ h.1 written)
-  event-stands d e event notes h (says _ Initiator payload bytes n more next heard written frame receives) =
-      (writes-stands first i d.initiator next payload _ h.0 written, receives-stands second j d.responder heard bytes more h.1 receives)
-  event-stands d e event notes h (says _ Responder payload bytes n more next heard written frame receives) =
-      (receives-stands first i d.initiator heard bytes more h.0 receives, writes-stands second j d.responder next payload _ h.1 written)
-  event-stands d e event notes h (delivers _ Initiator n bytes more heard frame receives) =
-      (receives-stands first i d.initiator heard bytes more h.0 receives, h.1)
-  event-stands d e event notes h (delivers _ Responder n bytes more heard frame receives) =
-      (h.0, receives-stands second j d.responder heard bytes more h.1 receives)
-  event-stands d e event notes h (misses _ role n missing) = h
-  event-stands d e event notes h (injects _ Initiator bytes more heard receives) = (receives-stands first i d.initiator heard bytes more h.0 receives, h.1)
-  event-stands d e event notes h (injects _ Responder bytes more heard receives) = (h.0, receives-stands second j d.responder heard bytes more h.1 receives)
+  event-matches : (d e : Sides) (event : Event) (notes : List (Role × Note)) → BothMatch d → Happens d event notes e → BothMatch e
+  event-matches d e event notes h (writes _ Initiator payload note next written) = (writes-matches first i d.initiator next payload note h.0 written, h.1)
+  event-matches d e event notes h (writes _ Responder payload note next written) = (h.0, writes-matches second j d.responder next payload note h.1 written)
+  event-matches d e event notes h (says_nothing _ Initiator payload why next written) = (writes-matches first i d.initiator next payload _ h.0 written, h.1)
+  event-matches d e event notes h (says_nothing _ Responder payload why next written) = (h.0, writes-matches second j d.responder next payload _ h.1 written)
+  event-matches d e event notes h (says _ Initiator payload bytes n more next heard written frame receives) =
+      (writes-matches first i d.initiator next payload _ h.0 written, receives-matches second j d.responder heard bytes more h.1 receives)
+  event-matches d e event notes h (says _ Responder payload bytes n more next heard written frame receives) =
+      (receives-matches first i d.initiator heard bytes more h.0 receives, writes-matches second j d.responder next payload _ h.1 written)
+  event-matches d e event notes h (delivers _ Initiator n bytes more heard frame receives) =
+      (receives-matches first i d.initiator heard bytes more h.0 receives, h.1)
+  event-matches d e event notes h (delivers _ Responder n bytes more heard frame receives) =
+      (h.0, receives-matches second j d.responder heard bytes more h.1 receives)
+  event-matches d e event notes h (misses _ role n missing) = h
+  event-matches d e event notes h (injects _ Initiator bytes more heard receives) = (receives-matches first i d.initiator heard bytes more h.0 receives, h.1)
+  event-matches d e event notes h (injects _ Responder bytes more heard receives) = (h.0, receives-matches second j d.responder heard bytes more h.1 receives)
 
-  pub run-stands : (d e : Sides) (events : List Event) (notes : List (Role × Note)) → BothStand d → Run d events notes e → BothStand e
-  run-stands d e events notes h (run_ends _) = h
-  run-stands d e events notes h (begins _ next _ event later now more does run) =
-      run-stands next e later more (event-stands d next event now h does) run
+  pub run-matches : (d e : Sides) (events : List Event) (notes : List (Role × Note)) → BothMatch d → Run d events notes e → BothMatch e
+  run-matches d e events notes h (run_ends _) = h
+  run-matches d e events notes h (begins _ next _ event later now more does run) =
+      run-matches next e later more (event-matches d next event now h does) run
 
-fresh-stands : (v : View) (interval : ℕ) → v.ended ≡ false → ComesOfMessages v interval (new_side (end_of v interval))
-fresh-stands v interval going = record {
+fresh-matches : (v : Party) (interval : ℕ) → v.ended ≡ false → ComesOfMessages v interval (new_side (end_of v interval))
+fresh-matches v interval going = record {
   last = v;
   passes = none v;
   party = ap (λ (b : Bool). record v { ended = b }) (sym going);
@@ -263,7 +263,7 @@ fresh-stands v interval going = record {
   received = tt;
 }
 
-pub ends-stand : EndsStand
+pub ends-stand : EndsComeOfMessages
 ends-stand p a b i j events notes d run =
-    run-stands (begun_as p Initiator a) (begun_as p Responder b) i j (facing p a b i j) d events notes
-    (fresh-stands (begun_as p Initiator a) i refl, fresh-stands (begun_as p Responder b) j refl) run
+    run-matches (begun_as p Initiator a) (begun_as p Responder b) i j (sides_at_start p a b i j) d events notes
+    (fresh-matches (begun_as p Initiator a) i refl, fresh-matches (begun_as p Responder b) j refl) run

@@ -7,22 +7,22 @@ use Rattle.noise_names.specs.declared.token.Token.{Token}
 use Rattle.noise_names.specs.Tokens.{same_role, turn_from}
 use Rattle.noise_names.specs.Plan.{Plan}
 use Rattle.noise_handshake.specs.declared.remote.Remote.{Remote}
-use Rattle.noise_handshake.specs.View.{View, tokens_at, tokens_now}
-use Rattle.noise_handshake.specs.Party.{after_own, after_message}
+use Rattle.noise_handshake.specs.Party.{Party, tokens_at, tokens_now}
+use Rattle.noise_handshake.specs.Matching.{after_own, after_message}
 use Rattle.noise_duel.specs.Below.{LawsBelow}
 use Rattle.noise_duel.specs.Messages.{HandshakeMessage, Exchanged, Start, begun_as}
 use Rattle.noise_duel.specs.Messages.Exchanged.{none, wrote, took}
 use Rattle.noise_duel.specs.Agreement.{Knows, KnowEachOther}
 use Rattle.noise_duel.proofs.Agreeing.{UsesAt, Uses, UsesAll, known_next, known_after_all, writes_now, is-own, learns, turns-apart}
 use Rattle.noise_duel.proofs.Agreeing.{passes-uses}
-use Rattle.noise_duel.proofs.KeysTell.{knows-first}
+use Rattle.noise_duel.proofs.KeysReport.{knows-first}
 use Rattle.noise_names.specs.Roles.{same_role-self, same_role-other}
 
 abbrev known_all : Plan → Role → ℕ → Remote → List HandshakeMessage → Remote
 known_all p role n known [] = known
 known_all p role n known (m ∷ ms) = known_all p role (n + 1) (known_after_all (writes_now role n) known (tokens_at p.messages n) m.carried) ms
 
-remote-is : (v w : View) (ps : List HandshakeMessage) → Exchanged v ps w → w.remote ≡ known_all v.pattern v.role v.passed v.remote ps
+remote-is : (v w : Party) (ps : List HandshakeMessage) → Exchanged v ps w → w.remote ≡ known_all v.pattern v.role v.passed v.remote ps
 remote-is v w [] (none _) = refl
 remote-is v w (p ∷ ps) (wrote _ _ _ _ here more) =
     let mine : writes_now v.role v.passed ≡ true = ap (λ (r : Role). same_role r v.role) here.speaks.turn ∙ same_role-self v.role in

@@ -2,14 +2,14 @@ pub mod Chain
 pub mod Histories
 pub mod HashedTexts
 pub mod HashedMessages
-pub mod HashTells
+pub mod HashReports
 pub mod Invariant
 pub mod Forward
 pub mod Prefixes
 pub mod Networks
 pub mod RunOnce
 pub mod Agreeing
-pub mod KeysTell
+pub mod KeysReport
 pub mod Converse
 pub mod Known
 pub mod Lines

@@ -3,22 +3,22 @@ use Rattle.std.proofs.Common.{◌≡◌, ◌≢◌, ℕ, ◌≤◌, List, [], �
 use Rattle.std.specs.Prelude.{false, Err, IsTrue, Option}
 use Rattle.noise_names.specs.declared.token.Role.{Role}
 use Rattle.noise_names.specs.Tokens.{other}
-use Rattle.noise_handshake.specs.View.{Accepts}
+use Rattle.noise_handshake.specs.Party.{Accepts}
 use Rattle.noise_handshake.specs.Writing.{Writes, LacksAnswer}
 use Rattle.noise_duel.specs.Below.{LawsBelow}
 use Rattle.noise_session.specs.declared.faults.SendFault.{SendFault}
 use Rattle.noise_session.specs.Frames.{frame, IsPartial}
-use Rattle.noise_session.specs.Transport.{packet, last_nonce}
-use Rattle.noise_session.specs.Steps.{Told}
-use Rattle.noise_session.specs.Steps.Told.{Payload}
+use Rattle.noise_session.specs.Transport.{transport_message, last_nonce}
+use Rattle.noise_session.specs.Steps.{StepValue}
+use Rattle.noise_session.specs.Steps.StepValue.{Payload}
 use Rattle.noise_session.specs.Progress.{is_open, idle_step, refusal}
-use Rattle.noise_session.specs.Ends.{EndView, progress_of}
+use Rattle.noise_session.specs.Ends.{EndState, progress_of}
 use Rattle.noise_session.specs.Taking.{Judges}
 use Rattle.noise_session.specs.Taking.Judges.{accepted, refused, opened, dropped, exhausted}
 use Rattle.noise_session.specs.Sending.{Sends}
 use Rattle.noise_session.specs.Sending.Sends.{refuses, lacks_answer}
 use Rattle.noise_session.specs.Framing.{frame-whole, frame-same}
-use Rattle.noise_duel.specs.Sides.{Side, Sides, side, with_side, with_view, wrote_handshake, accepted_handshake, wrote_transport, accepted_transport}
+use Rattle.noise_duel.specs.Sides.{Side, Sides, side, with_side, with_state, wrote_handshake, accepted_handshake, wrote_transport, accepted_transport}
 use Rattle.noise_events.specs.Events.{Say}
 use Rattle.noise_duel.specs.Notes.{Note, Wrote, WriteFault, Judged, left_note, held_note, noted_by}
 use Rattle.noise_duel.specs.Runs.{SideWrites, SideReads, SideReceives, Happens, GivesNoPayload}
@@ -27,45 +27,45 @@ use Rattle.noise_duel.specs.Runs.SideReads.{accepts_handshake, accepts_transport
 use Rattle.noise_duel.specs.Runs.SideReceives.{is_idle, waits, reads_frame}
 use Rattle.noise_duel.specs.Runs.Happens.{says_nothing, says}
 use Rattle.noise_duel.proofs.Invariant.{all-passed}
-use Rattle.noise_duel.proofs.Prefixes.{packet-same}
+use Rattle.noise_duel.proofs.Prefixes.{transport_message-same}
 use Rattle.noise_names.specs.Lists.{get-last}
 
 -- ---- writing
 
 -- nothing keeps the end from writing
-sends-no-fault : (v next : EndView) (payload : List ℕ) (why : SendFault) → refusal (progress_of v) (length payload) ≡ None → ((k : ℕ) → LacksAnswer v.party k → ⊥)
+sends-no-fault : (v next : EndState) (payload : List ℕ) (why : SendFault) → refusal (progress_of v) (length payload) ≡ None → ((k : ℕ) → LacksAnswer v.party k → ⊥)
     → Sends v payload (Err why) next → ⊥
 sends-no-fault v next payload why e lacks (refuses _ _ _ f) = cc
 sends-no-fault v next payload why e lacks (lacks_answer _ _ k f l) = lacks k l
 
-pub writes-no-fault : (s next : Side) (payload : List ℕ) (why : SendFault) → refusal (progress_of s.view) (length payload) ≡ None
-    → ((k : ℕ) → LacksAnswer s.view.party k → ⊥)
+pub writes-no-fault : (s next : Side) (payload : List ℕ) (why : SendFault) → refusal (progress_of s.state) (length payload) ≡ None
+    → ((k : ℕ) → LacksAnswer s.state.party k → ⊥)
     → SideWrites s payload (WriteFault why) next → ⊥
-writes-no-fault s next payload why e lacks (writes_nothing _ _ _ after sends) = sends-no-fault s.view after payload why e lacks sends
+writes-no-fault s next payload why e lacks (writes_nothing _ _ _ after sends) = sends-no-fault s.state after payload why e lacks sends
 
-pub writes-message : LawsBelow → (s next : Side) (payload message : List ℕ) (xs : List (List ℕ)) (k : ℕ) → is_open (progress_of s.view) ≡ false
-    → Writes s.view.party payload xs message
+pub writes-message : LawsBelow → (s next : Side) (payload message : List ℕ) (xs : List (List ℕ)) (k : ℕ) → is_open (progress_of s.state) ≡ false
+    → Writes s.state.party payload xs message
     → SideWrites s payload (Wrote k) next → (next ≡ wrote_handshake s (record { message = message; carried = xs; payload = payload })) × (k ≡ length s.frames)
 writes-message laws s next payload message xs k shut w (writes_handshake _ m _ ys e here) =
-    let same = laws.written_once s.view.party payload m message ys xs here w in (
+    let same = laws.written_once s.state.party payload m message ys xs here w in (
       ap (λ (zs : List (List ℕ)). wrote_handshake s (record { message = m; carried = zs; payload = payload })) same.0
           ∙ ap (λ (z : List ℕ). wrote_handshake s (record { message = z; carried = xs; payload = payload })) same.1,
       refl,
     )
 writes-message laws s next payload message xs k shut w (writes_transport _ m _ e due is) = cc
 
-pub writes-packet : (s next : Side) (payload : List ℕ) (k : ℕ) → IsTrue (is_open (progress_of s.view))
+pub writes-transport_message : (s next : Side) (payload : List ℕ) (k : ℕ) → IsTrue (is_open (progress_of s.state))
     → SideWrites s payload (Wrote k) next
-    → (next ≡ wrote_transport s (record { message = packet s.view.party.history s.view.party.role s.view.interval s.view.sent payload; payload = payload }))
+    → (next ≡ wrote_transport s (record { message = transport_message s.state.party.history s.state.party.role s.state.interval s.state.sent payload; payload = payload }))
     × (k ≡ length s.frames)
-writes-packet s next payload k open-now (writes_handshake _ m _ ys e here) =
-    let bad : ⊥ = omega (arith, here.speaks.more, all-passed s.view open-now) in absurd bad
-writes-packet s next payload k open-now (writes_transport _ m _ e due is) =
+writes-transport_message s next payload k open-now (writes_handshake _ m _ ys e here) =
+    let bad : ⊥ = omega (arith, here.speaks.more, all-passed s.state open-now) in absurd bad
+writes-transport_message s next payload k open-now (writes_transport _ m _ e due is) =
     (ap (λ (z : List ℕ). wrote_transport s (record { message = z; payload = payload })) is, refl)
 
 -- ---- hearing
 
-judges-no-fault : LawsBelow → (v next : EndView) (message : List ℕ) (step : Told) → GivesNoPayload step → (xs : List (List ℕ)) (payload : List ℕ)
+judges-no-fault : LawsBelow → (v next : EndState) (message : List ℕ) (step : StepValue) → GivesNoPayload step → (xs : List (List ℕ)) (payload : List ℕ)
     → is_open (progress_of v) ≡ false → Accepts v.party message xs payload → Judges v message step next → ⊥
 judges-no-fault laws v next message step bad xs payload shut a (accepted _ _ p ys b) = bad
 judges-no-fault laws v next message step bad xs payload shut a (refused _ _ token cause r) = laws.not_refused v.party message xs payload token cause a r
@@ -73,64 +73,64 @@ judges-no-fault laws v next message step bad xs payload shut a (opened _ _ p due
 judges-no-fault laws v next message step bad xs payload shut a (dropped _ _ due low never) = cc
 judges-no-fault laws v next message step bad xs payload shut a (exhausted _ _ due full) = cc
 
-pub reads-message : LawsBelow → (t : Side) (message payload : List ℕ) (xs : List (List ℕ)) → is_open (progress_of t.view) ≡ false
-    → Accepts t.view.party message xs payload
-    → (step : Told) (next : Side) → SideReads t message step next
+pub reads-message : LawsBelow → (t : Side) (message payload : List ℕ) (xs : List (List ℕ)) → is_open (progress_of t.state) ≡ false
+    → Accepts t.state.party message xs payload
+    → (step : StepValue) (next : Side) → SideReads t message step next
     → (step ≡ Payload payload) × (next ≡ accepted_handshake t (record { message = message; carried = xs; payload = payload }))
 reads-message laws t message payload xs shut a step next (accepts_handshake _ _ p ys b) =
-    let same = laws.accepted_once t.view.party message ys xs p payload b a in (
+    let same = laws.accepted_once t.state.party message ys xs p payload b a in (
       ap Payload same.1,
       ap (λ (zs : List (List ℕ)). accepted_handshake t (record { message = message; carried = zs; payload = p })) same.0
           ∙ ap (λ (z : List ℕ). accepted_handshake t (record { message = message; carried = xs; payload = z })) same.1,
     )
 reads-message laws t message payload xs shut a step next (accepts_transport _ _ p due low is) = cc
 reads-message laws t message payload xs shut a step next (refuses_message _ _ _ after bad j) =
-    absurd (judges-no-fault laws t.view after message step bad xs payload shut a j)
+    absurd (judges-no-fault laws t.state after message step bad xs payload shut a j)
 
-packets-no-fault : (v next : EndView) (message payload : List ℕ) (step : Told) → GivesNoPayload step → IsTrue (is_open (progress_of v))
+transport_messages-no-fault : (v next : EndState) (message payload : List ℕ) (step : StepValue) → GivesNoPayload step → IsTrue (is_open (progress_of v))
     → v.received ≢ last_nonce
-    → message ≡ packet v.party.history (other v.party.role) v.interval v.received payload → Judges v message step next → ⊥
-packets-no-fault v next message payload step bad due low is (accepted _ _ p ys b) = bad
-packets-no-fault v next message payload step bad due low is (refused _ _ token cause r) = omega (arith, r.listens.more, all-passed v due)
-packets-no-fault v next message payload step bad due low is (opened _ _ p d l i) = bad
-packets-no-fault v next message payload step bad due low is (dropped _ _ d l never) = never payload is
-packets-no-fault v next message payload step bad due low is (exhausted _ _ d full) = low full
+    → message ≡ transport_message v.party.history (other v.party.role) v.interval v.received payload → Judges v message step next → ⊥
+transport_messages-no-fault v next message payload step bad due low is (accepted _ _ p ys b) = bad
+transport_messages-no-fault v next message payload step bad due low is (refused _ _ token cause r) = omega (arith, r.listens.more, all-passed v due)
+transport_messages-no-fault v next message payload step bad due low is (opened _ _ p d l i) = bad
+transport_messages-no-fault v next message payload step bad due low is (dropped _ _ d l never) = never payload is
+transport_messages-no-fault v next message payload step bad due low is (exhausted _ _ d full) = low full
 
-pub reads-packet : (t : Side) (message payload : List ℕ) → IsTrue (is_open (progress_of t.view)) → t.view.received ≢ last_nonce
-    → message ≡ packet t.view.party.history (other t.view.party.role) t.view.interval t.view.received payload
-    → (step : Told) (next : Side) → SideReads t message step next
+pub reads-transport_message : (t : Side) (message payload : List ℕ) → IsTrue (is_open (progress_of t.state)) → t.state.received ≢ last_nonce
+    → message ≡ transport_message t.state.party.history (other t.state.party.role) t.state.interval t.state.received payload
+    → (step : StepValue) (next : Side) → SideReads t message step next
     → (step ≡ Payload payload) × (next ≡ accepted_transport t (record { message = message; payload = payload }))
-reads-packet t message payload due low is step next (accepts_handshake _ _ p ys b) =
-    let bad : ⊥ = omega (arith, b.listens.more, all-passed t.view due) in absurd bad
-reads-packet t message payload due low is step next (accepts_transport _ _ p d l i) =
-    let same : p ≡ payload = packet-same t.view.party.history (other t.view.party.role) t.view.interval t.view.received p payload (sym i ∙ is) in
+reads-transport_message t message payload due low is step next (accepts_handshake _ _ p ys b) =
+    let bad : ⊥ = omega (arith, b.listens.more, all-passed t.state due) in absurd bad
+reads-transport_message t message payload due low is step next (accepts_transport _ _ p d l i) =
+    let same : p ≡ payload = transport_message-same t.state.party.history (other t.state.party.role) t.state.interval t.state.received p payload (sym i ∙ is) in
     (ap Payload same, ap (λ (z : List ℕ). accepted_transport t (record { message = message; payload = z })) same)
-reads-packet t message payload due low is step next (refuses_message _ _ _ after bad j) =
-    absurd (packets-no-fault t.view after message payload step bad due low is j)
+reads-transport_message t message payload due low is step next (refuses_message _ _ _ after bad j) =
+    absurd (transport_messages-no-fault t.state after message payload step bad due low is j)
 
 -- nothing more comes
-receives-end : (s : Side) → idle_step (progress_of s.view) ≡ None → IsPartial s.view.held → SideReceives s [] [] s
+receives-end : (s : Side) → idle_step (progress_of s.state) ≡ None → IsPartial s.state.partial → SideReceives s [] [] s
 receives-end s due partial =
-    subst (λ (held : List ℕ). SideReceives s [] [] (with_view s (record (s.view) { held = held }))) (append-nil s.view.held)
-    (waits s [] due (subst (λ (held : List ℕ). IsPartial held) (sym (append-nil s.view.held)) partial))
+    subst (λ (partial : List ℕ). SideReceives s [] [] (with_state s (record (s.state) { partial = partial }))) (append-nil s.state.partial)
+    (waits s [] due (subst (λ (partial : List ℕ). IsPartial partial) (sym (append-nil s.state.partial)) partial))
 
 -- no bytes come to an end that holds none
-receives-nothing : (t last : Side) (bytes : List ℕ) (notes : List Note) → bytes ≡ [] → t.view.held ≡ [] → SideReceives t bytes notes last
+receives-nothing : (t last : Side) (bytes : List ℕ) (notes : List Note) → bytes ≡ [] → t.state.partial ≡ [] → SideReceives t bytes notes last
     → (notes ≡ []) × (last ≡ t)
 receives-nothing t last bytes notes none empty (is_idle _ _ step e) = (ap (λ (b : List ℕ). left_note step (length b)) none, refl)
 receives-nothing t last bytes notes none empty (waits _ _ e partial) = (
   refl,
-  ap (λ (b : List ℕ). with_view t (record (t.view) { held = t.view.held ++ b })) none
-      ∙ ap (λ (h : List ℕ). with_view t (record (t.view) { held = h })) (append-nil t.view.held),
+  ap (λ (b : List ℕ). with_state t (record (t.state) { partial = t.state.partial ++ b })) none
+      ∙ ap (λ (h : List ℕ). with_state t (record (t.state) { partial = h })) (append-nil t.state.partial),
 )
 receives-nothing t last bytes notes none empty (reads_frame _ next _ _ message rest step more e is small reads on) =
     let partial : IsPartial [] = omega arith in
     absurd (frame-whole message rest small (subst (λ (b : List ℕ). IsPartial b) (sym none ∙ ap (λ (h : List ℕ). h ++ bytes) (sym empty) ∙ is) partial))
 
 -- one frame comes to an end that holds none, and whose message can be read in one way
-pub receives-one : (t after last : Side) (message payload : List ℕ) (notes : List Note) → idle_step (progress_of t.view) ≡ None → t.view.held ≡ []
-    → after.view.held ≡ [] → length message ≤ 65535
-    → ((step : Told) (next : Side) → SideReads t message step next → (step ≡ Payload payload) × (next ≡ after))
+pub receives-one : (t after last : Side) (message payload : List ℕ) (notes : List Note) → idle_step (progress_of t.state) ≡ None → t.state.partial ≡ []
+    → after.state.partial ≡ [] → length message ≤ 65535
+    → ((step : StepValue) (next : Side) → SideReads t message step next → (step ≡ Payload payload) × (next ≡ after))
     → SideReceives t (frame message) notes last → (notes ≡ Judged (Payload payload) ∷ []) × (last ≡ after)
 receives-one t after last message payload notes idle empty bare short one (is_idle _ _ step e) = cc
 receives-one t after last message payload notes idle empty bare short one (waits _ _ e partial) =
@@ -139,8 +139,8 @@ receives-one t after last message payload notes idle empty bare short one (waits
 receives-one t after last message payload notes idle empty bare short one (reads_frame _ next _ _ m rest step more e is small reads on) =
     let same = frame-same message m [] rest short small (append-nil (frame message) ∙ ap (λ (h : List ℕ). h ++ frame message) (sym empty) ∙ is) in
     let found = one step next (subst (λ (z : List ℕ). SideReads t z step next) (sym same.0) reads) in
-    let quiet = receives-nothing next last rest more (sym same.1) (ap (λ (s : Side). s.view.held) found.1 ∙ bare) on in
-    (ap (λ (z : Told). Judged z ∷ more) found.0 ∙ ap (λ (ms : List Note). Judged (Payload payload) ∷ ms) quiet.0, quiet.1 ∙ found.1)
+    let quiet = receives-nothing next last rest more (sym same.1) (ap (λ (s : Side). s.state.partial) found.1 ∙ bare) on in
+    (ap (λ (z : StepValue). Judged z ∷ more) found.0 ∙ ap (λ (ms : List Note). Judged (Payload payload) ∷ ms) quiet.0, quiet.1 ∙ found.1)
 
 -- ---- the line
 
@@ -156,7 +156,7 @@ pub say-happens : (d e : Sides) (role : Role) (payload message : List ℕ) (note
     → ((k : ℕ) (next : Side) → SideWrites (side d role) payload (Wrote k) next → (next ≡ after) × (k ≡ length (side d role).frames))
     → after.frames ≡ (side d role).frames ++ frame message ∷ []
     → ((ns : List Note) (last : Side) → SideReceives (side d (other role)) (frame message) ns last → (ns ≡ Judged (Payload payload) ∷ []) × (last ≡ heard))
-    → heard.view.held ≡ []
+    → heard.state.partial ≡ []
     → Happens d (Say role payload) notes e
     → (notes ≡ (role, Wrote (length (side d role).frames)) ∷ (other role, Judged (Payload payload)) ∷ [])
     × (e ≡ with_side (with_side d role after) (other role) heard)
@@ -167,9 +167,9 @@ say-happens d e role payload message notes after heard lacks put frames hear bar
     last-is (side d role).frames (frame message) bytes n one.1
     (ap (λ (fs : List (List ℕ)). slice_get fs n) (sym frames ∙ ap (λ (s : Side). s.frames) (sym one.0)) ∙ got) in
     let two = hear ns last (subst (λ (b : List ℕ). SideReceives (side d (other role)) b ns last) is receives) in
-    let quiet : held_note (length last.view.held) ≡ [] =
-    ap (λ (s : Side). held_note (length s.view.held)) two.1 ∙ ap (λ (h : List ℕ). held_note (length h)) bare in (
-      ap (λ (k : ℕ). (role, Wrote k) ∷ noted_by (other role) (ns ++ held_note (length last.view.held))) one.1
+    let quiet : held_note (length last.state.partial) ≡ [] =
+    ap (λ (s : Side). held_note (length s.state.partial)) two.1 ∙ ap (λ (h : List ℕ). held_note (length h)) bare in (
+      ap (λ (k : ℕ). (role, Wrote k) ∷ noted_by (other role) (ns ++ held_note (length last.state.partial))) one.1
           ∙ ap (λ (ms : List Note). (role, Wrote (length (side d role).frames)) ∷ noted_by (other role) (ns ++ ms)) quiet
           ∙ ap (λ (ms : List Note). (role, Wrote (length (side d role).frames)) ∷ noted_by (other role) (ms ++ [])) two.0,
       ap (λ (s : Side). with_side (with_side d role s) (other role) last) one.0 ∙ ap (λ (s : Side). with_side (with_side d role after) (other role) s) two.1,
@@ -177,15 +177,15 @@ say-happens d e role payload message notes after heard lacks put frames hear bar
 
 -- ---- there is such a line
 
-rests : (s : Side) → s.view.held ≡ [] → SideReceives s [] [] s
-rests s bare = go (idle_step (progress_of s.view)) refl
+rests : (s : Side) → s.state.partial ≡ [] → SideReceives s [] [] s
+rests s bare = go (idle_step (progress_of s.state)) refl
   where
-    go : (o : Option Told) → idle_step (progress_of s.view) ≡ o → SideReceives s [] [] s
+    go : (o : Option StepValue) → idle_step (progress_of s.state) ≡ o → SideReceives s [] [] s
     go (Some step) e = is_idle s [] step e
     go None e =
         let partial : IsPartial [] = omega arith in receives-end s e (subst (λ (b : List ℕ). IsPartial b) (sym bare) partial)
 
-pub receives-can : (t after : Side) (message payload : List ℕ) → idle_step (progress_of t.view) ≡ None → t.view.held ≡ [] → after.view.held ≡ []
+pub receives-can : (t after : Side) (message payload : List ℕ) → idle_step (progress_of t.state) ≡ None → t.state.partial ≡ [] → after.state.partial ≡ []
     → length message ≤ 65535
     → SideReads t message (Payload payload) after → SideReceives t (frame message) (Judged (Payload payload) ∷ []) after
 receives-can t after message payload idle empty bare short reads =
@@ -196,7 +196,7 @@ pub say-can : (d : Sides) (role : Role) (payload message : List ℕ) (after hear
     → SideWrites (side d role) payload (Wrote (length (side d role).frames)) after
     → after.frames ≡ (side d role).frames ++ frame message ∷ [] → SideReceives (side d (other role)) (frame message) (Judged (Payload payload) ∷ []) heard
     → Happens d (Say role payload)
-    ((role, Wrote (length (side d role).frames)) ∷ noted_by (other role) ((Judged (Payload payload) ∷ []) ++ held_note (length heard.view.held)))
+    ((role, Wrote (length (side d role).frames)) ∷ noted_by (other role) ((Judged (Payload payload) ∷ []) ++ held_note (length heard.state.partial)))
     (with_side (with_side d role after) (other role) heard)
 say-can d role payload message after heard written frames receives =
     says d role payload (frame message) (length (side d role).frames) (Judged (Payload payload) ∷ []) after heard written

@@ -4,13 +4,13 @@ use Rattle.std.proofs.lemmas.List.{take-append-le}
 use Rattle.std.proofs.Math.Seq.{take-append_seam, drop-append_seam, drop-append-add, drop-length}
 use Rattle.noise_names.specs.declared.token.Role.TheVariants.{Initiator}
 use Rattle.noise_names.specs.Tokens.{same_role}
-use Rattle.noise_handshake.specs.Held.{is_turn}
+use Rattle.noise_handshake.specs.HandshakeValue.{is_turn}
 use Rattle.noise_session.specs.Frames.{frame, IsPartial}
-use Rattle.noise_session.specs.Steps.{Told}
-use Rattle.noise_session.specs.Steps.Told.{Ended, YourTurn, Silent}
+use Rattle.noise_session.specs.Steps.{StepValue}
+use Rattle.noise_session.specs.Steps.StepValue.{Ended, YourTurn, Silent}
 use Rattle.noise_session.specs.Progress.{Progress, idle_step}
-use Rattle.noise_session.specs.Progress.Progress.{Handshaking, Open, Closed}
-use Rattle.noise_session.specs.Ends.{EndView, progress_of}
+use Rattle.noise_session.specs.Progress.Progress.{Handshaking, Open, HasEnded}
+use Rattle.noise_session.specs.Ends.{EndState, progress_of}
 use Rattle.noise_session.specs.Taking.{Judges, Takes}
 use Rattle.noise_session.specs.Taking.Judges.{accepted, refused, opened, dropped, exhausted}
 use Rattle.noise_session.specs.Taking.Takes.{idles, waits as waits_for_more, judges}
@@ -20,7 +20,7 @@ use Rattle.noise_duel.specs.declared.entry.Idle.{Idle}
 use Rattle.noise_duel.specs.declared.entry.Idle.TheVariants as idle
 use Rattle.noise_duel.specs.Entries.{step_of, bytes_of}
 use Rattle.noise_duel.specs.Notes.{Note, Wrote, Judged}
-use Rattle.noise_duel.specs.Sides.{Side, with_view, wrote_handshake, wrote_transport, accepted_handshake, accepted_transport}
+use Rattle.noise_duel.specs.Sides.{Side, with_state, wrote_handshake, wrote_transport, accepted_handshake, accepted_transport}
 use Rattle.noise_duel.specs.Runs.{SideWrites, SideReads, SideReceives}
 use Rattle.noise_duel.specs.Runs.SideWrites.{writes_handshake, writes_transport}
 use Rattle.noise_duel.specs.Runs.SideReads.{accepts_handshake, accepts_transport, refuses_message}
@@ -42,187 +42,187 @@ length-bytes_of [] = refl
 length-bytes_of (f ∷ fs) = ap suc (length-bytes_of fs)
 
 -- a frame more
-pub frames-kept : (old new : List (Vec ℕ Global)) (f : Vec ℕ Global) (bytes : List ℕ) (frames after : List (List ℕ)) → new ≡ old ++ f ∷ [] → f.items ≡ bytes
+pub frames-unchanged : (old new : List (Vec ℕ Global)) (f : Vec ℕ Global) (bytes : List ℕ) (frames after : List (List ℕ)) → new ≡ old ++ f ∷ [] → f.items ≡ bytes
     → bytes_of old ≡ frames → after ≡ frames ++ bytes ∷ [] → bytes_of new ≡ after
-frames-kept old new f bytes frames after e is same more =
+frames-unchanged old new f bytes frames after e is same more =
     ap bytes_of e ∙ bytes_of-append old f ∙ ap (λ (b : List ℕ). bytes_of old ++ b ∷ []) is ∙ ap (λ (fs : List (List ℕ)). fs ++ bytes ∷ []) same ∙ sym more
 
 -- a write that succeeds
-pub record HasSent (s : Side) (payload bytes : List ℕ) (next : EndView) : Type 0 where
+pub record HasSent (s : Side) (payload bytes : List ℕ) (next : EndState) : Type 0 where
   pub after : Side
   pub writes : SideWrites s payload (Wrote (length s.frames)) after
-  pub view : after.view ≡ next
+  pub state : after.state ≡ next
   pub frames : after.frames ≡ s.frames ++ bytes ∷ []
 
-pub sends-writes : (s : Side) (payload bytes : List ℕ) (next : EndView) → Sends s.view payload (Ok bytes) next → HasSent s payload bytes next
+pub sends-writes : (s : Side) (payload bytes : List ℕ) (next : EndState) → Sends s.state payload (Ok bytes) next → HasSent s payload bytes next
 sends-writes s payload bytes next (sends_handshake _ _ message xs e w) = record {
   after = wrote_handshake s (record { message = message; carried = xs; payload = payload });
   writes = writes_handshake s message payload xs e w;
-  view = refl;
+  state = refl;
   frames = refl;
 }
 sends-writes s payload bytes next (sends_transport _ _ e due) = record {
   after = wrote_transport s (record { message = _; payload = payload });
   writes = writes_transport s _ payload e due refl;
-  view = refl;
+  state = refl;
   frames = refl;
 }
 
 -- a message that is judged
-pub record HasRead (s : Side) (message : List ℕ) (step : Told) (next : EndView) : Type 0 where
+pub record HasRead (s : Side) (message : List ℕ) (step : StepValue) (next : EndState) : Type 0 where
   pub after : Side
   pub reads : SideReads s message step after
-  pub view : after.view ≡ next
+  pub state : after.state ≡ next
   pub frames : after.frames ≡ s.frames
   pub note : step_note step ≡ Judged step ∷ []
 
-pub judges-reads : (s : Side) (message : List ℕ) (step : Told) (next : EndView) → Judges s.view message step next → HasRead s message step next
+pub judges-reads : (s : Side) (message : List ℕ) (step : StepValue) (next : EndState) → Judges s.state message step next → HasRead s message step next
 judges-reads s message step next (accepted _ _ payload xs a) = record {
   after = accepted_handshake s (record { message = message; carried = xs; payload = payload });
   reads = accepts_handshake s message payload xs a;
-  view = refl;
+  state = refl;
   frames = refl;
   note = refl;
 }
 judges-reads s message step next (refused _ _ token cause r) = record {
-  after = with_view s next;
-  reads = refuses_message s message step next tt (refused s.view message token cause r);
-  view = refl;
+  after = with_state s next;
+  reads = refuses_message s message step next tt (refused s.state message token cause r);
+  state = refl;
   frames = refl;
   note = refl;
 }
 judges-reads s message step next (opened _ _ payload due low is) = record {
   after = accepted_transport s (record { message = message; payload = payload });
   reads = accepts_transport s message payload due low is;
-  view = refl;
+  state = refl;
   frames = refl;
   note = refl;
 }
 judges-reads s message step next (dropped _ _ due low never) = record {
-  after = with_view s next;
-  reads = refuses_message s message step next tt (dropped s.view message due low never);
-  view = refl;
+  after = with_state s next;
+  reads = refuses_message s message step next tt (dropped s.state message due low never);
+  state = refl;
   frames = refl;
   note = refl;
 }
 judges-reads s message step next (exhausted _ _ due full) = record {
-  after = with_view s next;
-  reads = refuses_message s message step next tt (exhausted s.view message due full);
-  view = refl;
+  after = with_state s next;
+  reads = refuses_message s message step next tt (exhausted s.state message due full);
+  state = refl;
   frames = refl;
   note = refl;
 }
 
 -- how a message is judged doesn't depend on what was held
-judges-any : (v next : EndView) (held message : List ℕ) (step : Told) → Judges (record v { held = held }) message step next → Judges v message step next
-judges-any v next held message step (accepted _ _ payload xs a) = accepted v message payload xs a
-judges-any v next held message step (refused _ _ token cause r) = refused v message token cause r
-judges-any v next held message step (opened _ _ payload due low is) = opened v message payload due low is
-judges-any v next held message step (dropped _ _ due low never) = dropped v message due low never
-judges-any v next held message step (exhausted _ _ due full) = exhausted v message due full
+judges-any : (v next : EndState) (partial message : List ℕ) (step : StepValue) → Judges (record v { partial = partial }) message step next → Judges v message step next
+judges-any v next partial message step (accepted _ _ payload xs a) = accepted v message payload xs a
+judges-any v next partial message step (refused _ _ token cause r) = refused v message token cause r
+judges-any v next partial message step (opened _ _ payload due low is) = opened v message payload due low is
+judges-any v next partial message step (dropped _ _ due low never) = dropped v message due low never
+judges-any v next partial message step (exhausted _ _ due full) = exhausted v message due full
 
-reads-any : (s next : Side) (held message : List ℕ) (step : Told) → SideReads (with_view s (record (s.view) { held = held })) message step next
+reads-any : (s next : Side) (partial message : List ℕ) (step : StepValue) → SideReads (with_state s (record (s.state) { partial = partial })) message step next
     → SideReads s message step next
-reads-any s next held message step (accepts_handshake _ _ payload xs a) = accepts_handshake s message payload xs a
-reads-any s next held message step (accepts_transport _ _ payload due low is) = accepts_transport s message payload due low is
-reads-any s next held message step (refuses_message _ _ _ after none j) =
-    refuses_message s message step after none (judges-any s.view after held message step j)
+reads-any s next partial message step (accepts_handshake _ _ payload xs a) = accepts_handshake s message payload xs a
+reads-any s next partial message step (accepts_transport _ _ payload due low is) = accepts_transport s message payload due low is
+reads-any s next partial message step (refuses_message _ _ _ after none j) =
+    refuses_message s message step after none (judges-any s.state after partial message step j)
 
 -- bytes that come after others that made no whole frame
-receives-later : (s last : Side) (front bytes : List ℕ) (notes : List Note) → idle_step (progress_of s.view) ≡ None
-    → SideReceives (with_view s (record (s.view) { held = s.view.held ++ front })) bytes notes last → SideReceives s (front ++ bytes) notes last
+receives-later : (s last : Side) (front bytes : List ℕ) (notes : List Note) → idle_step (progress_of s.state) ≡ None
+    → SideReceives (with_state s (record (s.state) { partial = s.state.partial ++ front })) bytes notes last → SideReceives s (front ++ bytes) notes last
 receives-later s last front bytes notes due (is_idle _ _ step e) = cc
 receives-later s last front bytes notes due (waits _ _ e partial) =
-    let same : (s.view.held ++ front) ++ bytes ≡ s.view.held ++ (front ++ bytes) = append_assoc s.view.held front bytes in
-    subst (λ (held : List ℕ). SideReceives s (front ++ bytes) [] (with_view s (record (s.view) { held = held }))) (sym same)
-    (waits s (front ++ bytes) due (subst (λ (held : List ℕ). IsPartial held) same partial))
+    let same : (s.state.partial ++ front) ++ bytes ≡ s.state.partial ++ (front ++ bytes) = append_assoc s.state.partial front bytes in
+    subst (λ (partial : List ℕ). SideReceives s (front ++ bytes) [] (with_state s (record (s.state) { partial = partial }))) (sym same)
+    (waits s (front ++ bytes) due (subst (λ (partial : List ℕ). IsPartial partial) same partial))
 receives-later s last front bytes notes due (reads_frame _ next _ _ message rest step more e is short reads on) =
-    reads_frame s next last (front ++ bytes) message rest step more due (sym (append_assoc s.view.held front bytes) ∙ is) short
-    (reads-any s next (s.view.held ++ front) message step reads) on
+    reads_frame s next last (front ++ bytes) message rest step more due (sym (append_assoc s.state.partial front bytes) ∙ is) short
+    (reads-any s next (s.state.partial ++ front) message step reads) on
 
 -- nothing more comes
-nothing-at : (s : Side) (idle : Option Told) → idle_step (progress_of s.view) ≡ idle → IsPartial s.view.held → SideReceives s [] [] s
+nothing-at : (s : Side) (idle : Option StepValue) → idle_step (progress_of s.state) ≡ idle → IsPartial s.state.partial → SideReceives s [] [] s
 nothing-at s None e partial =
-    subst (λ (held : List ℕ). SideReceives s [] [] (with_view s (record (s.view) { held = held }))) (append-nil s.view.held)
-    (waits s [] e (subst (λ (held : List ℕ). IsPartial held) (sym (append-nil s.view.held)) partial))
+    subst (λ (partial : List ℕ). SideReceives s [] [] (with_state s (record (s.state) { partial = partial }))) (append-nil s.state.partial)
+    (waits s [] e (subst (λ (partial : List ℕ). IsPartial partial) (sym (append-nil s.state.partial)) partial))
 nothing-at s (Some step) e partial = is_idle s [] step e
 
-pub receives-nothing : (s : Side) → IsPartial s.view.held → SideReceives s [] [] s
-receives-nothing s partial = nothing-at s (idle_step (progress_of s.view)) refl partial
+pub receives-nothing : (s : Side) → IsPartial s.state.partial → SideReceives s [] [] s
+receives-nothing s partial = nothing-at s (idle_step (progress_of s.state)) refl partial
 
 -- one take, with what comes after the piece
-pub record HasTaken (s : Side) (piece : List ℕ) (n : ℕ) (step : Told) (next : EndView) : Type 0 where
+pub record HasTaken (s : Side) (piece : List ℕ) (n : ℕ) (step : StepValue) (next : EndState) : Type 0 where
   pub after : Side
-  pub view : after.view ≡ next
+  pub state : after.state ≡ next
   pub frames : after.frames ≡ s.frames
   pub goes_on : (rest : List ℕ) (notes : List Note) (last : Side) → SideReceives after (drop n piece ++ rest) notes last
       → SideReceives s (piece ++ rest) (step_note step ++ notes) last
 
 -- the steps of ends that take no bytes
-pub record IsIdleStep (step : Told) : Type 0 where
+pub record IsIdleStep (step : StepValue) : Type 0 where
   pub why : Idle
   pub left : (n : ℕ) → left_of step n ≡ Some (why, n)
   pub is : step_of why ≡ step
   pub quiet : step_note step ≡ []
 
-idle-turn : (turn : Bool) (step : Told) → (if turn then Some YourTurn else None) ≡ Some step → IsIdleStep step
+idle-turn : (turn : Bool) (step : StepValue) → (if turn then Some YourTurn else None) ≡ Some step → IsIdleStep step
 idle-turn true step e = subst IsIdleStep (same_Some YourTurn step e) (record { why = idle.YourTurn; left = λ n. refl; is = refl; quiet = refl })
 idle-turn false step e = cc
 
-idle-silent : (silent : Bool) (step : Told) → (if silent then Some Silent else None) ≡ Some step → IsIdleStep step
+idle-silent : (silent : Bool) (step : StepValue) → (if silent then Some Silent else None) ≡ Some step → IsIdleStep step
 idle-silent true step e = subst IsIdleStep (same_Some Silent step e) (record { why = idle.Silent; left = λ n. refl; is = refl; quiet = refl })
 idle-silent false step e = cc
 
-pub is-idle : (p : Progress) (step : Told) → idle_step p ≡ Some step → IsIdleStep step
+pub is-idle : (p : Progress) (step : StepValue) → idle_step p ≡ Some step → IsIdleStep step
 is-idle (Handshaking pattern role passed) step e = idle-turn (is_turn role passed) step e
 is-idle (Open role one_way sent received) step e = idle-silent (one_way && same_role role Initiator) step e
-is-idle (Closed role) step e = subst IsIdleStep (same_Some Ended step e) (record { why = idle.Ended; left = λ n. refl; is = refl; quiet = refl })
+is-idle (HasEnded role) step e = subst IsIdleStep (same_Some Ended step e) (record { why = idle.Ended; left = λ n. refl; is = refl; quiet = refl })
 
 -- what is after a frame stands after the bytes that were taken
-rest-taken : (held piece message rest : List ℕ) (n : ℕ) → held ++ piece ≡ frame message ++ rest → n + length rest ≡ length piece → drop n piece ≡ rest
-rest-taken held piece message rest n e count =
-    let long : length held + n ≡ length (frame message) = omega (arith, ap length e, length-append held piece, length-append (frame message) rest, count) in
-    sym (drop-append-add held piece n) ∙ ap (λ (k : ℕ). drop k (held ++ piece)) long ∙ ap (drop (length (frame message))) e
+rest-taken : (partial piece message rest : List ℕ) (n : ℕ) → partial ++ piece ≡ frame message ++ rest → n + length rest ≡ length piece → drop n piece ≡ rest
+rest-taken partial piece message rest n e count =
+    let long : length partial + n ≡ length (frame message) = omega (arith, ap length e, length-append partial piece, length-append (frame message) rest, count) in
+    sym (drop-append-add partial piece n) ∙ ap (λ (k : ℕ). drop k (partial ++ piece)) long ∙ ap (drop (length (frame message))) e
     ∙ drop-append_seam (frame message) rest
 
-pub takes-taken : (s : Side) (piece : List ℕ) (n : ℕ) (step : Told) (next : EndView) → Takes s.view piece n step next → HasTaken s piece n step next
+pub takes-taken : (s : Side) (piece : List ℕ) (n : ℕ) (step : StepValue) (next : EndState) → Takes s.state piece n step next → HasTaken s piece n step next
 takes-taken s piece n step next (idles _ _ _ e) = record {
   after = s;
-  view = refl;
+  state = refl;
   frames = refl;
   goes_on = λ rest notes last h.
-      subst (λ (ms : List Note). SideReceives s (piece ++ rest) (ms ++ notes) last) (sym (is-idle (progress_of s.view) step e).quiet) h;
+      subst (λ (ms : List Note). SideReceives s (piece ++ rest) (ms ++ notes) last) (sym (is-idle (progress_of s.state) step e).quiet) h;
 }
 takes-taken s piece n step next (waits_for_more _ _ e partial) = record {
-  after = with_view s (record (s.view) { held = s.view.held ++ piece });
-  view = refl;
+  after = with_state s (record (s.state) { partial = s.state.partial ++ piece });
+  state = refl;
   frames = refl;
   goes_on = λ rest notes last h.
-      let after = with_view s (record (s.view) { held = s.view.held ++ piece }) in
+      let after = with_state s (record (s.state) { partial = s.state.partial ++ piece }) in
       receives-later s last piece rest notes e (subst (λ (bytes : List ℕ). SideReceives after (bytes ++ rest) notes last) (drop-length piece) h);
 }
 takes-taken s piece n step next (judges _ _ _ message beyond _ _ e is short count j) =
     let r = judges-reads s message step next j in
     record {
       after = r.after;
-      view = r.view;
+      state = r.state;
       frames = r.frames;
       goes_on = λ rest notes last h.
           subst (λ (ms : List Note). SideReceives s (piece ++ rest) (ms ++ notes) last) (sym r.note)
           (reads_frame s r.after last (piece ++ rest) message (beyond ++ rest) step notes e
-          (sym (append_assoc s.view.held piece rest) ∙ ap (λ (z : List ℕ). z ++ rest) is ∙ append_assoc (frame message) beyond rest) short r.reads
-          (subst (λ (bytes : List ℕ). SideReceives r.after (bytes ++ rest) notes last) (rest-taken s.view.held piece message beyond n is count) h));
+          (sym (append_assoc s.state.partial piece rest) ∙ ap (λ (z : List ℕ). z ++ rest) is ∙ append_assoc (frame message) beyond rest) short r.reads
+          (subst (λ (bytes : List ℕ). SideReceives r.after (bytes ++ rest) notes last) (rest-taken s.state.partial piece message beyond n is count) h));
     }
 
 -- an end that takes none of some bytes is idle, and stays as it is
-pub takes-none : (v next : EndView) (piece : List ℕ) (n : ℕ) (step : Told) → Takes v piece n step next → n ≡ 0 → 0 < length piece → IsPartial v.held
+pub takes-none : (v next : EndState) (piece : List ℕ) (n : ℕ) (step : StepValue) → Takes v piece n step next → n ≡ 0 → 0 < length piece → IsPartial v.partial
     → (idle_step (progress_of v) ≡ Some step) × (next ≡ v)
 takes-none v next piece n step (idles _ _ _ e) none some partial = (e, refl)
 takes-none v next piece n step (waits_for_more _ _ e f) none some partial = absurd (omega (arith, none, some))
 takes-none v next piece n step (judges _ _ _ message rest _ _ e is short count j) none some partial =
-    let long : length v.held ≡ length (frame message) =
-    omega (arith, ap length is, length-append v.held piece, length-append (frame message) rest, count, none) in
-    let same : v.held ≡ frame message =
-    sym (take-append_seam v.held piece) ∙ ap (λ (k : ℕ). take k (v.held ++ piece)) long ∙ ap (take (length (frame message))) is
+    let long : length v.partial ≡ length (frame message) =
+    omega (arith, ap length is, length-append v.partial piece, length-append (frame message) rest, count, none) in
+    let same : v.partial ≡ frame message =
+    sym (take-append_seam v.partial piece) ∙ ap (λ (k : ℕ). take k (v.partial ++ piece)) long ∙ ap (take (length (frame message))) is
     ∙ take-append_seam (frame message) rest in
     absurd (frame-whole message [] short (subst (λ (bytes : List ℕ). IsPartial bytes) (same ∙ sym (append-nil (frame message))) partial))

@@ -1,4 +1,4 @@
--- Two parties with their parts of one key material: what their messages carry, and that their answers meet.
+-- Two parties with their parts of one key material: what their messages carry, and that their DH results meet.
 use Rattle.std.proofs.Common.{◌≡◌, ℕ, List, [], ◌∷◌, length, refl, ap, sym, ◌∙◌}
 use Rattle.std.specs.Prelude.{Bool, true, Option, Some}
 use Rattle.noise_names.specs.declared.token.Role.{Role}
@@ -10,7 +10,7 @@ use Rattle.noise_names.specs.Plan.{Plan, places_of}
 use Rattle.noise_names.specs.Validity.{is_among, occurs, IsValid}
 use Rattle.noise_keys.specs.declared.keys.Own.{Own}
 use Rattle.noise_keys.specs.declared.keys.Own.TheVariants.{Ephemeral, Static}
-use Rattle.noise_handshake.specs.View.{answered, own_at, remote_at, other_secrets}
+use Rattle.noise_handshake.specs.Party.{dh_result_of, own_at, remote_at, other_psks}
 use Rattle.noise_handshake.specs.Writing.{Writer, Given}
 use Rattle.noise_handshake.specs.Setup.{public_keys, has_token, token_of}
 use Rattle.noise_handshake.specs.Counterparts.{is_dh, keys_if, AnswersMeet, IsEquipped}
@@ -39,20 +39,20 @@ remote-own Responder theirs Se = refl
 remote-own Responder theirs Ss = refl
 remote-own Responder theirs Psk = refl
 
--- a role has the keys and answers of the key material
+-- a role has the keys and DH results of the key material
 pub record HasMaterial (w : KeyMaterial) (p : Plan) (role : Role) (own : Own → Option (List ℕ)) (agree : Own → List ℕ → Option (List ℕ)) : Type 0 where
   pub keys : (x : Own) → is_among role (token_of x) (places_of p) ≡ true → own x ≡ Some (w.public role x)
   pub answers : (t : Token) → is_dh t ≡ true → occurs t (places_of p) ≡ true
-      → answered agree (own_at role t) (remote_at role (public_keys_in w (other role)) t) ≡ Some (w.answer t)
+      → dh_result_of agree (own_at role t) (remote_at role (public_keys_in w (other role)) t) ≡ Some (w.answer t)
 
 module _ (laws : LawsBelow) (w : KeyMaterial) (p : Plan) (valid : IsValid p) where
   -- with the other party's true keys
   pub true-answer : (role : Role) (own theirs : Own → Option (List ℕ)) (agree their_agree : Own → List ℕ → Option (List ℕ)) → HasMaterial w p role own agree
       → HasMaterial w p (other role) theirs their_agree
       → (t : Token) → is_dh t ≡ true → occurs t (places_of p) ≡ true
-      → answered agree (own_at role t) (remote_at role (public_keys theirs) t) ≡ Some (w.answer t)
+      → dh_result_of agree (own_at role t) (remote_at role (public_keys theirs) t) ≡ Some (w.answer t)
   true-answer role own theirs agree their_agree i j t d h =
-      ap (answered agree (own_at role t))
+      ap (dh_result_of agree (own_at role t))
       (remote-own role theirs t ∙ j.keys (own_at (other role) t) (laws.dh_key_is_among p (other role) t valid d h)
       ∙ sym (remote-own role (λ x. Some (w.public (other role) x)) t))
       ∙ i.answers t d h
@@ -72,14 +72,14 @@ module _ (laws : LawsBelow) (w : KeyMaterial) (p : Plan) (valid : IsValid p) whe
       true-answer Initiator own theirs agree their_agree i j t d h ∙ sym (true-answer Responder theirs own their_agree agree j i t d h)
 
 -- what a writer's tokens carry is that of the key material
-module _ (laws : LawsBelow) (w : KeyMaterial) (psks : Bool) (role : Role) (own theirs : Own → Option (List ℕ)) (agree : Own → List ℕ → Option (List ℕ))
+module _ (laws : LawsBelow) (w : KeyMaterial) (has_psks : Bool) (role : Role) (own theirs : Own → Option (List ℕ)) (agree : Own → List ℕ → Option (List ℕ))
     (e s : Bool) where
   abbrev gives : Writer
-  gives = record { role = role; psks = psks; own = own; agree = agree }
+  gives = record { role = role; has_psks = has_psks; own = own; agree = agree }
 
   abbrev IsCarried : List Token → Type 0
   IsCarried ts = ((x : Own) → has_token (token_of x) ts ≡ true → own x ≡ Some (w.public role x))
-      × ((t : Token) → has_token t ts ≡ true → is_dh t ≡ true → answered agree (own_at role t) (remote_at role (public_keys theirs) t) ≡ Some (w.answer t))
+      × ((t : Token) → has_token t ts ≡ true → is_dh t ≡ true → dh_result_of agree (own_at role t) (remote_at role (public_keys theirs) t) ≡ Some (w.answer t))
 
   on : (t : Token) (ts : List Token) → IsCarried (t ∷ ts) → IsCarried ts
   on t ts h = (
@@ -87,29 +87,29 @@ module _ (laws : LawsBelow) (w : KeyMaterial) (psks : Bool) (role : Role) (own t
     λ u k d. h.1 u (or_right (same_token t u) (has_token u ts) k) d,
   )
 
-  dh-carried : (t : Token) (x : List ℕ) → answered agree (own_at role t) (remote_at role (keys_if e s theirs) t) ≡ Some x
-      → answered agree (own_at role t) (remote_at role (public_keys theirs) t) ≡ Some (w.answer t) → x ≡ w.answer t
-  dh-carried t x g h = some-same (answered agree (own_at role t) (remote_at role (public_keys theirs) t)) x (w.answer t)
+  dh-carried : (t : Token) (x : List ℕ) → dh_result_of agree (own_at role t) (remote_at role (keys_if e s theirs) t) ≡ Some x
+      → dh_result_of agree (own_at role t) (remote_at role (public_keys theirs) t) ≡ Some (w.answer t) → x ≡ w.answer t
+  dh-carried t x g h = some-same (dh_result_of agree (own_at role t) (remote_at role (public_keys theirs) t)) x (w.answer t)
       (laws.answer agree (own_at role t) role e s theirs t x g) h
 
-  pub given-carried : (secrets : List (List ℕ)) (ts : List Token) (xs : List (List ℕ)) → IsCarried ts → Given gives (keys_if e s theirs) secrets ts xs
-      → xs ≡ carried_by w role secrets ts
-  given-carried secrets [] [] h g = refl
-  given-carried secrets [] (x ∷ xs) h g = absurd g
-  given-carried secrets (t ∷ ts) [] h g = absurd g
-  given-carried secrets (E ∷ ts) (x ∷ xs) h g =
+  pub given-carried : (psks : List (List ℕ)) (ts : List Token) (xs : List (List ℕ)) → IsCarried ts → Given gives (keys_if e s theirs) psks ts xs
+      → xs ≡ carried_by w role psks ts
+  given-carried psks [] [] h g = refl
+  given-carried psks [] (x ∷ xs) h g = absurd g
+  given-carried psks (t ∷ ts) [] h g = absurd g
+  given-carried psks (E ∷ ts) (x ∷ xs) h g =
       cons-same
-      (some-same (own Ephemeral) x (w.public role Ephemeral) g.0.0 (h.0 Ephemeral refl)) (given-carried secrets ts xs (on E ts h) g.1)
-  given-carried secrets (S ∷ ts) (x ∷ xs) h g =
+      (some-same (own Ephemeral) x (w.public role Ephemeral) g.0.0 (h.0 Ephemeral refl)) (given-carried psks ts xs (on E ts h) g.1)
+  given-carried psks (S ∷ ts) (x ∷ xs) h g =
       cons-same (some-same (own Static) x (w.public role Static) g.0.0 (h.0 Static refl))
-      (given-carried secrets ts xs (on S ts h) g.1)
-  given-carried secrets (Psk ∷ ts) (x ∷ xs) h g =
-      cons-same g.0 (given-carried (other_secrets secrets) ts xs (on Psk ts h) g.1)
-  given-carried secrets (Ee ∷ ts) (x ∷ xs) h g =
-      cons-same (dh-carried Ee x g.0 (h.1 Ee refl refl)) (given-carried secrets ts xs (on Ee ts h) g.1)
-  given-carried secrets (Es ∷ ts) (x ∷ xs) h g =
-      cons-same (dh-carried Es x g.0 (h.1 Es refl refl)) (given-carried secrets ts xs (on Es ts h) g.1)
-  given-carried secrets (Se ∷ ts) (x ∷ xs) h g =
-      cons-same (dh-carried Se x g.0 (h.1 Se refl refl)) (given-carried secrets ts xs (on Se ts h) g.1)
-  given-carried secrets (Ss ∷ ts) (x ∷ xs) h g =
-      cons-same (dh-carried Ss x g.0 (h.1 Ss refl refl)) (given-carried secrets ts xs (on Ss ts h) g.1)
+      (given-carried psks ts xs (on S ts h) g.1)
+  given-carried psks (Psk ∷ ts) (x ∷ xs) h g =
+      cons-same g.0 (given-carried (other_psks psks) ts xs (on Psk ts h) g.1)
+  given-carried psks (Ee ∷ ts) (x ∷ xs) h g =
+      cons-same (dh-carried Ee x g.0 (h.1 Ee refl refl)) (given-carried psks ts xs (on Ee ts h) g.1)
+  given-carried psks (Es ∷ ts) (x ∷ xs) h g =
+      cons-same (dh-carried Es x g.0 (h.1 Es refl refl)) (given-carried psks ts xs (on Es ts h) g.1)
+  given-carried psks (Se ∷ ts) (x ∷ xs) h g =
+      cons-same (dh-carried Se x g.0 (h.1 Se refl refl)) (given-carried psks ts xs (on Se ts h) g.1)
+  given-carried psks (Ss ∷ ts) (x ∷ xs) h g =
+      cons-same (dh-carried Ss x g.0 (h.1 Ss refl refl)) (given-carried psks ts xs (on Ss ts h) g.1)

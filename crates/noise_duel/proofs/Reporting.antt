@@ -13,25 +13,25 @@ use Rattle.noise_state.specs.History.{History, hash}
 use Rattle.noise_keys.specs.declared.keys.Own.{Own}
 use Rattle.noise_keys.specs.declared.keys.Own.TheVariants.{Static}
 use Rattle.noise_handshake.specs.Counterparts.{Counterparts, counterpart}
-use Rattle.noise_handshake.specs.Party.{after_message, after_own}
+use Rattle.noise_handshake.specs.Matching.{after_message, after_own}
 use Rattle.noise_handshake.specs.Passed.{passed_places}
 use Rattle.noise_handshake.specs.Setup.{token_of}
-use Rattle.noise_handshake.specs.View.{View}
+use Rattle.noise_handshake.specs.Party.{Party}
 use Rattle.noise_session.specs.declared.phase.Phase.{Phase}
 use Rattle.noise_session.specs.declared.phase.Phase.TheVariants as phase
-use Rattle.noise_session.specs.Ends.{EndView, EndStands, HeldEnd, IsToldBy, PhaseStands}
+use Rattle.noise_session.specs.Ends.{EndState, EndMatches, EndValue, IsReportedBy, PhaseMatches}
 use Rattle.noise_session.specs.Transport.{transport_key}
 use Rattle.noise_duel.specs.declared.report.Report.{Report}
 use Rattle.noise_duel.specs.Conversation.{KeyMaterial, HaveParts, InTurn, LinesComeThrough, LinesLeave}
-use Rattle.noise_duel.specs.Conversation.{facing, payloads_in, say_events}
+use Rattle.noise_duel.specs.Conversation.{sides_at_start, payloads_in, say_events}
 use Rattle.noise_duel.specs.Entries.{notes_of}
 use Rattle.noise_events.specs.Events.{Event}
 use Rattle.noise_duel.specs.Notes.{Note}
-use Rattle.noise_duel.specs.HeldDuel.{HeldDuel}
-use Rattle.noise_duel.specs.Invariant.{EndsStand}
+use Rattle.noise_duel.specs.DuelValue.{DuelValue}
+use Rattle.noise_duel.specs.Invariant.{EndsComeOfMessages}
 use Rattle.noise_duel.specs.Messages.{HandshakeMessage, Exchanged, Start, begun_as}
 use Rattle.noise_duel.specs.Messages.Exchanged.{none, wrote, took}
-use Rattle.noise_duel.specs.Networks.{HashesTell, PayloadsCome, SecretsMakeOne, VisiblyEqualGivesOne}
+use Rattle.noise_duel.specs.Networks.{HashesReport, PayloadsCome, PsksMakeOne, VisiblyEqualGivesOne}
 use Rattle.noise_duel.specs.OwnFrames.{EndsFrame}
 use Rattle.noise_duel.specs.Reports.{EndsAgree, HaveComeThrough, Reports, receive_key_in, send_key_in, static_shown}
 use Rattle.noise_duel.specs.Runs.{Run}
@@ -40,8 +40,8 @@ use Rattle.noise_duel.proofs.Networks.{passes-pattern, passes-role}
 
 -- ---- agreement
 
-pub ends-agree : EndsStand → EndsFrame → HashesTell → VisiblyEqualGivesOne → SecretsMakeOne → PayloadsCome
-    → (p : Plan) (a b : Start) (i j : ℕ) (events : List Event) (notes : List (Role × Note)) (last : Sides) → Run (facing p a b i j) events notes last
+pub ends-agree : EndsComeOfMessages → EndsFrame → HashesReport → VisiblyEqualGivesOne → PsksMakeOne → PayloadsCome
+    → (p : Plan) (a b : Start) (i j : ℕ) (events : List Event) (notes : List (Role × Note)) (last : Sides) → Run (sides_at_start p a b i j) events notes last
     → EndsAgree p a b i j last
 ends-agree stand frame seen back one payloads p a b i j events notes last run = record {
   initiator = (stand p a b i j events notes last run).0;
@@ -51,12 +51,12 @@ ends-agree stand frame seen back one payloads p a b i j events notes last run = 
   seen = seen p a b i j events notes last run;
   back = back p a b i j events notes last run;
   one = one p a b i j events notes last run;
-  payloads = λ same. payloads p a b i events notes last (subst (λ (k : ℕ). Run (facing p a b i k) events notes last) (sym same) run);
+  payloads = λ same. payloads p a b i events notes last (subst (λ (k : ℕ). Run (sides_at_start p a b i k) events notes last) (sym same) run);
 }
 
 -- ---- static keys that were shown
 
-passes-own : (v w : View) (ps : List HandshakeMessage) → Exchanged v ps w → w.own ≡ v.own
+passes-own : (v w : Party) (ps : List HandshakeMessage) → Exchanged v ps w → w.own ≡ v.own
 passes-own v w [] (none _) = refl
 passes-own v w (p ∷ ps) (wrote _ _ _ _ here more) = passes-own (after_own v p.carried p.payload) w ps more
 passes-own v w (p ∷ ps) (took _ _ _ _ here more) = passes-own (after_message v p.carried p.payload) w ps more
@@ -97,12 +97,12 @@ if-same true o q f = f refl
 if-same false o q f = refl
 
 -- the static key that a party knows of its counterpart is that of the key material
-known-static : (w : KeyMaterial) (p : Plan) (party : Role) (n : ℕ) (v u : View) → v ≡ counterpart u v.own v.agree → u.pattern ≡ p → u.role ≡ party
+known-static : (w : KeyMaterial) (p : Plan) (party : Role) (n : ℕ) (v u : Party) → v ≡ counterpart u v.own v.agree → u.pattern ≡ p → u.role ≡ party
     → u.passed ≡ n
     → ((k : Own) → is_among party (token_of k) (places_of p) ≡ true → u.own k ≡ Some (w.public party k))
     → (if v.ended then None else v.remote.s) ≡ static_shown w p party n
 known-static w p party n v u c pattern role passed own =
-    ap (λ (z : View). if z.ended then None else z.remote.s) c
+    ap (λ (z : Party). if z.ended then None else z.remote.s) c
     ∙ ap (λ (q : Plan). if is_among u.role S (passed_places q u.passed) then u.own Static else None) pattern
     ∙ ap (λ (r : Role). if is_among r S (passed_places p u.passed) then u.own Static else None) role
     ∙ ap (λ (k : ℕ). if is_among party S (passed_places p k) then u.own Static else None) passed
@@ -113,7 +113,7 @@ known-static w p party n v u c pattern role passed own =
 module _ {K L : Type 0} (public_k : K → Own → Option (List ℕ)) (agreement_k : K → Own → List ℕ → Option (List ℕ))
     (public_l : L → Own → Option (List ℕ)) (agreement_l : L → Own → List ℕ → Option (List ℕ)) where
   -- the key of the next message that the one writes is that of the next that the other accepts
-  keys-meet : (x : Phase K) (y : Phase L) (v w : EndView) → PhaseStands public_k agreement_k x v → PhaseStands public_l agreement_l y w
+  keys-meet : (x : Phase K) (y : Phase L) (v w : EndState) → PhaseMatches public_k agreement_k x v → PhaseMatches public_l agreement_l y w
       → v.party.ended ≡ false → w.party.ended ≡ false
       → (v.party.passed ≡ length v.party.pattern.messages → w.party.passed ≡ length w.party.pattern.messages)
       → (w.party.passed ≡ length w.party.pattern.messages → v.party.passed ≡ length v.party.pattern.messages)
@@ -124,86 +124,86 @@ module _ {K L : Type 0} (public_k : K → Own → Option (List ℕ)) (agreement_
   keys-meet (phase.Handshaking h i) (phase.Ended r o) v w s t gv gw f g history role interval count = refl
   keys-meet (phase.Open u) (phase.Handshaking k j) v w s t gv gw f g history role interval count = absurd (t.more (f s.all))
   keys-meet (phase.Open a) (phase.Open b) v w s t gv gw f g history role interval count =
-      t.transport.receive_key
+      t.transport.receiver.key
       ∙ ap (λ (r : History). Some (transport_key r (other w.party.role) w.interval w.received)) history
       ∙ ap (λ (r : Role). Some (transport_key v.party.history r w.interval w.received)) role
       ∙ ap (λ (k : ℕ). Some (transport_key v.party.history v.party.role k w.received)) interval
       ∙ ap (λ (k : ℕ). Some (transport_key v.party.history v.party.role v.interval k)) count
-      ∙ sym s.transport.send_key
-  keys-meet (phase.Open u) (phase.Ended r o) v w s t gv gw f g history role interval count = let over = t.over in cc
+      ∙ sym s.transport.sender.key
+  keys-meet (phase.Open u) (phase.Ended r o) v w s t gv gw f g history role interval count = let ended = t.ended in cc
   keys-meet (phase.Ended r o) (phase.Handshaking k j) v w s t gv gw f g history role interval count = refl
-  keys-meet (phase.Ended r o) (phase.Open u) v w s t gv gw f g history role interval count = let over = s.over in cc
+  keys-meet (phase.Ended r o) (phase.Open u) v w s t gv gw f g history role interval count = let ended = s.ended in cc
   keys-meet (phase.Ended r o) (phase.Ended q n) v w s t gv gw f g history role interval count = refl
 
 -- ---- the whole conversation
 
 module _ {A B : Type 0} (public_a : A → Own → Option (List ℕ)) (agreement_a : A → Own → List ℕ → Option (List ℕ))
     (public_b : B → Own → Option (List ℕ)) (agreement_b : B → Own → List ℕ → Option (List ℕ)) where
-  pub all-through : LinesComeThrough → LinesLeave → EndsStand
-      → ((e : HeldEnd A) (v : EndView) → EndStands public_a agreement_a e v → IsToldBy v e)
-      → ((e : HeldEnd B) (v : EndView) → EndStands public_b agreement_b e v → IsToldBy v e)
+  pub all-through : LinesComeThrough → LinesLeave → EndsComeOfMessages
+      → ((e : EndValue A) (v : EndState) → EndMatches public_a agreement_a e v → IsReportedBy v e)
+      → ((e : EndValue B) (v : EndState) → EndMatches public_b agreement_b e v → IsReportedBy v e)
       → (w : KeyMaterial) (p : Plan) (prologue : List ℕ) (a b : Start) (interval : ℕ) (lines : List (Role × List ℕ))
-      → HaveParts w p prologue a b → InTurn p 0 lines → (duel : HeldDuel A B) (report : Report)
-      → Reports public_a agreement_a public_b agreement_b (facing p a b interval interval) (say_events lines) duel report
+      → HaveParts w p prologue a b → InTurn p 0 lines → (duel : DuelValue A B) (report : Report)
+      → Reports public_a agreement_a public_b agreement_b (sides_at_start p a b interval interval) (say_events lines) duel report
       → HaveComeThrough public_a agreement_a public_b agreement_b w p prologue a b interval lines duel report
-  all-through come leave stand told_a told_b w p prologue a b interval lines parts turns duel report left =
+  all-through come leave stand reported_a reported_b w p prologue a b interval lines parts turns duel report left =
       let notes : List (Role × Note) = notes_of report.entries.items in
       let last : Sides = left.last in
       let it = come w p prologue a b interval lines notes last parts turns left.run in
       let views = leave w p prologue a b interval lines notes last parts turns left.run in
-      let stands = stand p a b interval interval (say_events lines) notes last left.run in
-      let mine = stands.0 in
-      let theirs = stands.1 in
-      let v : View = last.initiator.view.party in
-      let u : View = last.responder.view.party in
+      let matches = stand p a b interval interval (say_events lines) notes last left.run in
+      let mine = matches.0 in
+      let theirs = matches.1 in
+      let v : Party = last.initiator.state.party in
+      let u : Party = last.responder.state.party in
       let n : ℕ = length (payloads_in (length p.messages) lines) in
       let parties : Counterparts v u = it.1.ends.parties in
       let pattern_a : v.pattern ≡ p =
-      ap (λ (z : View). z.pattern) mine.party ∙ passes-pattern (begun_as p Initiator a) mine.last last.initiator.passed mine.passes in
+      ap (λ (z : Party). z.pattern) mine.party ∙ passes-pattern (begun_as p Initiator a) mine.last last.initiator.passed mine.passes in
       let pattern_b : u.pattern ≡ p =
-      ap (λ (z : View). z.pattern) theirs.party ∙ passes-pattern (begun_as p Responder b) theirs.last last.responder.passed theirs.passes in
+      ap (λ (z : Party). z.pattern) theirs.party ∙ passes-pattern (begun_as p Responder b) theirs.last last.responder.passed theirs.passes in
       let role_a : v.role ≡ Initiator =
-      ap (λ (z : View). z.role) mine.party ∙ passes-role (begun_as p Initiator a) mine.last last.initiator.passed mine.passes in
+      ap (λ (z : Party). z.role) mine.party ∙ passes-role (begun_as p Initiator a) mine.last last.initiator.passed mine.passes in
       let role_b : u.role ≡ Responder =
-      ap (λ (z : View). z.role) theirs.party ∙ passes-role (begun_as p Responder b) theirs.last last.responder.passed theirs.passes in
+      ap (λ (z : Party). z.role) theirs.party ∙ passes-role (begun_as p Responder b) theirs.last last.responder.passed theirs.passes in
       let own_a : v.own ≡ a.own =
-      ap (λ (z : View). z.own) mine.party ∙ passes-own (begun_as p Initiator a) mine.last last.initiator.passed mine.passes in
+      ap (λ (z : Party). z.own) mine.party ∙ passes-own (begun_as p Initiator a) mine.last last.initiator.passed mine.passes in
       let own_b : u.own ≡ b.own =
-      ap (λ (z : View). z.own) theirs.party ∙ passes-own (begun_as p Responder b) theirs.last last.responder.passed theirs.passes in
-      let history : u.history ≡ v.history = ap (λ (z : View). z.history) parties.there in
-      let passed : u.passed ≡ v.passed = ap (λ (z : View). z.passed) parties.there in
-      let pattern : u.pattern ≡ v.pattern = ap (λ (z : View). z.pattern) parties.there in
-      let going_a : v.ended ≡ false = ap (λ (z : View). z.ended) parties.back in
-      let going_b : u.ended ≡ false = ap (λ (z : View). z.ended) parties.there in
+      ap (λ (z : Party). z.own) theirs.party ∙ passes-own (begun_as p Responder b) theirs.last last.responder.passed theirs.passes in
+      let history : u.history ≡ v.history = ap (λ (z : Party). z.history) parties.there in
+      let passed : u.passed ≡ v.passed = ap (λ (z : Party). z.passed) parties.there in
+      let pattern : u.pattern ≡ v.pattern = ap (λ (z : Party). z.pattern) parties.there in
+      let going_a : v.ended ≡ false = ap (λ (z : Party). z.ended) parties.back in
+      let going_b : u.ended ≡ false = ap (λ (z : Party). z.ended) parties.there in
       let open_there : v.passed ≡ length v.pattern.messages → u.passed ≡ length u.pattern.messages =
       λ h. passed ∙ h ∙ ap (λ (q : Plan). length q.messages) (sym pattern) in
       let open_back : u.passed ≡ length u.pattern.messages → v.passed ≡ length v.pattern.messages =
       λ h. sym passed ∙ h ∙ ap (λ (q : Plan). length q.messages) pattern in
-      let tells_a = told_a duel.initiator last.initiator.view left.stands.initiator in
-      let tells_b = told_b duel.responder last.responder.view left.stands.responder in
+      let reports_a = reported_a duel.initiator last.initiator.state left.matches.initiator in
+      let reports_b = reported_b duel.responder last.responder.state left.matches.responder in
       record {
         entries = it.0;
         initiator_frames = left.frames.initiator ∙ it.1.frames Initiator;
         responder_frames = left.frames.responder ∙ it.1.frames Responder;
-        initiator = subst (λ (z : EndView). EndStands public_a agreement_a duel.initiator z) views.0 left.stands.initiator;
-        responder = subst (λ (z : EndView). EndStands public_b agreement_b duel.responder z) views.1 left.stands.responder;
+        initiator = subst (λ (z : EndState). EndMatches public_a agreement_a duel.initiator z) views.0 left.matches.initiator;
+        responder = subst (λ (z : EndState). EndMatches public_b agreement_b duel.responder z) views.1 left.matches.responder;
         last = last;
-        stands = left.stands;
+        matches = left.matches;
         through = it.1;
         history = history;
-        hash = tells_b.hash
-            ∙ ap (λ (z : View). if z.passed == length z.pattern.messages then Some (hash z.history) else None) parties.there
-            ∙ sym tells_a.hash;
-        keys_there = keys-meet public_a agreement_a public_b agreement_b duel.initiator.phase duel.responder.phase last.initiator.view last.responder.view
-            left.stands.initiator.phase left.stands.responder.phase going_a going_b open_there open_back history
-            (sym (ap (λ (z : View). z.role) parties.back)) it.1.ends.interval it.1.ends.there;
-        keys_back = keys-meet public_b agreement_b public_a agreement_a duel.responder.phase duel.initiator.phase last.responder.view last.initiator.view
-            left.stands.responder.phase left.stands.initiator.phase going_b going_a open_back open_there (sym history)
-            (sym (ap (λ (z : View). z.role) parties.there)) (sym it.1.ends.interval) it.1.ends.back;
-        initiator_knows = tells_a.remote_static
+        hash = reports_b.hash
+            ∙ ap (λ (z : Party). if z.passed == length z.pattern.messages then Some (hash z.history) else None) parties.there
+            ∙ sym reports_a.hash;
+        keys_there = keys-meet public_a agreement_a public_b agreement_b duel.initiator.phase duel.responder.phase last.initiator.state last.responder.state
+            left.matches.initiator.phase left.matches.responder.phase going_a going_b open_there open_back history
+            (sym (ap (λ (z : Party). z.role) parties.back)) it.1.ends.interval it.1.ends.there;
+        keys_back = keys-meet public_b agreement_b public_a agreement_a duel.responder.phase duel.initiator.phase last.responder.state last.initiator.state
+            left.matches.responder.phase left.matches.initiator.phase going_b going_a open_back open_there (sym history)
+            (sym (ap (λ (z : Party). z.role) parties.there)) (sym it.1.ends.interval) it.1.ends.back;
+        initiator_knows = reports_a.remote_static
             ∙ known-static w p Responder n v u parties.back pattern_b role_b (passed ∙ it.1.count)
             (λ k h. ap (λ (f : Own → Option (List ℕ)). f k) own_b ∙ parts.responder.own k h);
-        responder_knows = tells_b.remote_static
+        responder_knows = reports_b.remote_static
             ∙ known-static w p Initiator n u v parties.there pattern_a role_a it.1.count
             (λ k h. ap (λ (f : Own → Option (List ℕ)). f k) own_a ∙ parts.initiator.own k h);
       }

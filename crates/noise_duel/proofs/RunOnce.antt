@@ -3,17 +3,17 @@ use Rattle.std.proofs.Common.{◌≡◌, ℕ, ◌<◌, List, [], ◌∷◌, ◌+
 use Rattle.std.specs.Prelude.{Option, Err, Result, IsTrue}
 use Rattle.noise_names.specs.declared.token.Role.{Role}
 use Rattle.noise_names.specs.Tokens.{other}
-use Rattle.noise_handshake.specs.Party.{after_message}
+use Rattle.noise_handshake.specs.Matching.{after_message}
 use Rattle.noise_session.specs.declared.faults.SendFault.{SendFault}
 use Rattle.noise_session.specs.Frames.{IsPartial}
-use Rattle.noise_session.specs.Steps.{Told}
-use Rattle.noise_session.specs.Steps.Told.{Payload, Refused}
+use Rattle.noise_session.specs.Steps.{StepValue}
+use Rattle.noise_session.specs.Steps.StepValue.{Payload, Refused}
 use Rattle.noise_session.specs.Progress.{is_open}
-use Rattle.noise_session.specs.Ends.{EndView, progress_of}
+use Rattle.noise_session.specs.Ends.{EndState, progress_of}
 use Rattle.noise_session.specs.Taking.{Judges}
 use Rattle.noise_session.specs.Taking.Judges.{accepted, refused, opened, dropped, exhausted}
 use Rattle.noise_duel.specs.Below.{LawsBelow}
-use Rattle.noise_duel.specs.Sides.{Side, Sides, side, with_side, with_view, wrote_handshake, accepted_handshake, wrote_transport, accepted_transport}
+use Rattle.noise_duel.specs.Sides.{Side, Sides, side, with_side, with_state, wrote_handshake, accepted_handshake, wrote_transport, accepted_transport}
 use Rattle.noise_events.specs.Events.{Event}
 use Rattle.noise_duel.specs.Notes.{Note, Wrote, WriteFault, Judged, left_note, held_note, noted_by}
 use Rattle.noise_duel.specs.Runs.{SideWrites, SideReads, SideReceives, Happens, Run, GivesNoPayload, RunOnce}
@@ -24,7 +24,7 @@ use Rattle.noise_duel.specs.Runs.Happens.{writes, says_nothing, says, delivers, 
 use Rattle.noise_duel.specs.Runs.Run.{ends, begins}
 use Rattle.noise_session.specs.Framing.{frame-whole, frame-same}
 use Rattle.noise_duel.proofs.Invariant.{all-passed}
-use Rattle.noise_duel.proofs.Prefixes.{packet-same}
+use Rattle.noise_duel.proofs.Prefixes.{transport_message-same}
 use Rattle.noise_duel.proofs.Lines.{writes-no-fault}
 use Rattle.std.proofs.lemmas.Option.{same_Some}
 
@@ -45,12 +45,12 @@ some-none o x e f = cc
 
 module _ (laws : LawsBelow) where
   -- a message is judged in one way
-  judged-once : (v x y : EndView) (m : List ℕ) (s t : Told) → Judges v m s x → Judges v m t y → (s ≡ t) × (x ≡ y)
+  judged-once : (v x y : EndState) (m : List ℕ) (s t : StepValue) → Judges v m s x → Judges v m t y → (s ≡ t) × (x ≡ y)
   judged-once v x y m s t (accepted _ _ p xs a) (accepted _ _ q ys b) =
       let one = laws.accepted_once v.party m xs ys p q a b in (
         ap Payload one.1,
-        ap (λ (zs : List (List ℕ)). record v { party = after_message v.party zs p; held = [] }) one.0
-            ∙ ap (λ (r : List ℕ). record v { party = after_message v.party ys r; held = [] }) one.1,
+        ap (λ (zs : List (List ℕ)). record v { party = after_message v.party zs p; partial = [] }) one.0
+            ∙ ap (λ (r : List ℕ). record v { party = after_message v.party ys r; partial = [] }) one.1,
       )
   judged-once v x y m s t (accepted _ _ p xs a) (refused _ _ k c b) = absurd (laws.not_refused v.party m xs p k c a b)
   judged-once v x y m s t (accepted _ _ p xs a) (opened _ _ q opens low is) = let more = a.listens.more in let all = all-passed v opens in absurd (omega arith)
@@ -67,7 +67,7 @@ module _ (laws : LawsBelow) where
   judged-once v x y m s t (opened _ _ p opens low is) (accepted _ _ q xs a) = let more = a.listens.more in let all = all-passed v opens in absurd (omega arith)
   judged-once v x y m s t (opened _ _ p opens low is) (refused _ _ k c a) = let more = a.listens.more in let all = all-passed v opens in absurd (omega arith)
   judged-once v x y m s t (opened _ _ p opens low is) (opened _ _ q other_opens other_low be) =
-      (ap Payload (packet-same v.party.history (other v.party.role) v.interval v.received p q (sym is ∙ be)), refl)
+      (ap Payload (transport_message-same v.party.history (other v.party.role) v.interval v.received p q (sym is ∙ be)), refl)
   judged-once v x y m s t (opened _ _ p opens low is) (dropped _ _ other_opens other_low never) = absurd (never p is)
   judged-once v x y m s t (opened _ _ p opens low is) (exhausted _ _ other_opens last) = absurd (low last)
   judged-once v x y m s t (dropped _ _ opens low never) (accepted _ _ q xs a) = let more = a.listens.more in let all =
@@ -83,48 +83,48 @@ module _ (laws : LawsBelow) where
   judged-once v x y m s t (exhausted _ _ opens last) (exhausted _ _ other_opens other_last) = (refl, refl)
 
   -- no handshake message is due at an end that is open
-  not-due : (s : Side) → IsTrue (is_open (progress_of s.view)) → s.view.party.passed < length s.view.party.pattern.messages → ⊥
-  not-due s due more = let all = all-passed s.view due in omega arith
+  not-due : (s : Side) → IsTrue (is_open (progress_of s.state)) → s.state.party.passed < length s.state.party.pattern.messages → ⊥
+  not-due s due more = let all = all-passed s.state due in omega arith
 
   -- a message is read in one way
-  reads-once : (s x y : Side) (m : List ℕ) (a b : Told) → SideReads s m a x → SideReads s m b y → (a ≡ b) × (x ≡ y)
+  reads-once : (s x y : Side) (m : List ℕ) (a b : StepValue) → SideReads s m a x → SideReads s m b y → (a ≡ b) × (x ≡ y)
   reads-once s x y m a b (accepts_handshake _ _ p xs h) (accepts_handshake _ _ q ys k) =
-      let one = laws.accepted_once s.view.party m xs ys p q h k in (
+      let one = laws.accepted_once s.state.party m xs ys p q h k in (
         ap Payload one.1,
         ap (λ (zs : List (List ℕ)). accepted_handshake s (record { message = m; carried = zs; payload = p })) one.0
             ∙ ap (λ (r : List ℕ). accepted_handshake s (record { message = m; carried = ys; payload = r })) one.1,
       )
   reads-once s x y m a b (accepts_handshake _ _ p xs h) (accepts_transport _ _ q due low is) =
-      let more = h.listens.more in let all = all-passed s.view due in absurd (omega arith)
+      let more = h.listens.more in let all = all-passed s.state due in absurd (omega arith)
   reads-once s x y m a b (accepts_handshake _ _ p xs h) (refuses_message _ _ _ next bad j) =
-      absurd (subst GivesNoPayload (sym (judged-once s.view _ next m (Payload p) b (accepted s.view m p xs h) j).0) bad)
+      absurd (subst GivesNoPayload (sym (judged-once s.state _ next m (Payload p) b (accepted s.state m p xs h) j).0) bad)
   reads-once s x y m a b (accepts_transport _ _ p due low is) (accepts_handshake _ _ q ys k) =
-      let more = k.listens.more in let all = all-passed s.view due in absurd (omega arith)
+      let more = k.listens.more in let all = all-passed s.state due in absurd (omega arith)
   reads-once s x y m a b (accepts_transport _ _ p due low is) (accepts_transport _ _ q d l be) =
-      let same : p ≡ q = packet-same s.view.party.history (other s.view.party.role) s.view.interval s.view.received p q (sym is ∙ be) in
+      let same : p ≡ q = transport_message-same s.state.party.history (other s.state.party.role) s.state.interval s.state.received p q (sym is ∙ be) in
       (ap Payload same, ap (λ (z : List ℕ). accepted_transport s (record { message = m; payload = z })) same)
   reads-once s x y m a b (accepts_transport _ _ p due low is) (refuses_message _ _ _ next bad j) =
-      absurd (subst GivesNoPayload (sym (judged-once s.view _ next m (Payload p) b (opened s.view m p due low is) j).0) bad)
+      absurd (subst GivesNoPayload (sym (judged-once s.state _ next m (Payload p) b (opened s.state m p due low is) j).0) bad)
   reads-once s x y m a b (refuses_message _ _ _ next bad j) (accepts_handshake _ _ q ys k) =
-      absurd (subst GivesNoPayload (judged-once s.view next _ m a (Payload q) j (accepted s.view m q ys k)).0 bad)
+      absurd (subst GivesNoPayload (judged-once s.state next _ m a (Payload q) j (accepted s.state m q ys k)).0 bad)
   reads-once s x y m a b (refuses_message _ _ _ next bad j) (accepts_transport _ _ q d l be) =
-      absurd (subst GivesNoPayload (judged-once s.view next _ m a (Payload q) j (opened s.view m q d l be)).0 bad)
+      absurd (subst GivesNoPayload (judged-once s.state next _ m a (Payload q) j (opened s.state m q d l be)).0 bad)
   reads-once s x y m a b (refuses_message _ _ _ next bad j) (refuses_message _ _ _ after worse k) =
-      let one = judged-once s.view next after m a b j k in (one.0, ap (with_view s) one.1)
+      let one = judged-once s.state next after m a b j k in (one.0, ap (with_state s) one.1)
 
   -- a payload is written in one way
   writes-once : (s x y : Side) (payload : List ℕ) (a b : Note) → SideWrites s payload a x → SideWrites s payload b y → (a ≡ b) × (x ≡ y)
   writes-once s x y payload a b (writes_nothing _ _ why next h) (writes_nothing _ _ other_why after k) =
-      let one = laws.sent_once s.view next after payload (Err why) (Err other_why) h k in
-      (ap WriteFault (err-same why other_why one.0), ap (with_view s) one.1)
+      let one = laws.sent_once s.state next after payload (Err why) (Err other_why) h k in
+      (ap WriteFault (err-same why other_why one.0), ap (with_state s) one.1)
   writes-once s x y payload a b (writes_nothing _ _ why next h) (writes_handshake _ m _ ys e w) =
-      absurd (writes-no-fault s x payload why e (λ k l. laws.not_lacking s.view.party payload m ys k w l) (writes_nothing s payload why next h))
+      absurd (writes-no-fault s x payload why e (λ k l. laws.not_lacking s.state.party payload m ys k w l) (writes_nothing s payload why next h))
   writes-once s x y payload a b (writes_nothing _ _ why next h) (writes_transport _ m _ e due is) =
       absurd (writes-no-fault s x payload why e (λ k l. not-due s due l.speaks.more) (writes_nothing s payload why next h))
   writes-once s x y payload a b (writes_handshake _ m _ xs e w) (writes_nothing _ _ why next h) =
-      absurd (writes-no-fault s y payload why e (λ k l. laws.not_lacking s.view.party payload m xs k w l) (writes_nothing s payload why next h))
+      absurd (writes-no-fault s y payload why e (λ k l. laws.not_lacking s.state.party payload m xs k w l) (writes_nothing s payload why next h))
   writes-once s x y payload a b (writes_handshake _ m _ xs e w) (writes_handshake _ n _ ys f z) =
-      let one = laws.written_once s.view.party payload m n xs ys w z in (
+      let one = laws.written_once s.state.party payload m n xs ys w z in (
         refl,
         ap (λ (zs : List (List ℕ)). wrote_handshake s (record { message = m; carried = zs; payload = payload })) one.0
             ∙ ap (λ (r : List ℕ). wrote_handshake s (record { message = r; carried = ys; payload = payload })) one.1,
@@ -139,7 +139,7 @@ module _ (laws : LawsBelow) where
   -- bytes are received in one way
   receives-once : (s x y : Side) (bytes : List ℕ) (ms ns : List Note) → SideReceives s bytes ms x → SideReceives s bytes ns y → (ms ≡ ns) × (x ≡ y)
   receives-once s x y bytes ms ns (is_idle _ _ step e) (is_idle _ _ other_step f) =
-      (ap (λ (z : Told). left_note z (length bytes)) (same_Some step other_step (sym e ∙ f)), refl)
+      (ap (λ (z : StepValue). left_note z (length bytes)) (same_Some step other_step (sym e ∙ f)), refl)
   receives-once s x y bytes ms ns (is_idle _ _ step e) (waits _ _ f partial) = absurd (some-none _ step e f)
   receives-once s x y bytes ms ns (is_idle _ _ step e) (reads_frame _ _ _ _ m rest _ more f is short reads on) = absurd (some-none _ step e f)
   receives-once s x y bytes ms ns (waits _ _ e partial) (is_idle _ _ step f) = absurd (some-none _ step f e)
@@ -150,17 +150,17 @@ module _ (laws : LawsBelow) where
   receives-once s x y bytes ms ns (reads_frame _ _ _ _ m rest _ more e is short reads on) (waits _ _ f partial) =
       absurd (frame-whole m rest short (subst (λ (z : List ℕ). IsPartial z) is partial))
   receives-once s x y bytes ms ns (reads_frame _ next _ _ m rest step more e is short reads on)
-      (reads_frame _ after _ _ n left told rest_notes f be small judges later) =
+      (reads_frame _ after _ _ n left reported rest_notes f be small judges later) =
       let same = frame-same m n rest left short small (sym is ∙ be) in
-      let one = reads-once s next after m step told reads (subst (λ (z : List ℕ). SideReads s z told after) (sym same.0) judges) in
+      let one = reads-once s next after m step reported reads (subst (λ (z : List ℕ). SideReads s z reported after) (sym same.0) judges) in
       let on_from : SideReceives next rest rest_notes y =
       subst (λ (z : List ℕ). SideReceives next z rest_notes y) (sym same.1) (subst (λ (z : Side). SideReceives z left rest_notes y) (sym one.1) later) in
       let two = receives-once next x y rest more rest_notes on on_from in
-      (ap (λ (z : Told). Judged z ∷ more) one.0 ∙ ap (λ (zs : List Note). Judged told ∷ zs) two.0, two.1)
+      (ap (λ (z : StepValue). Judged z ∷ more) one.0 ∙ ap (λ (zs : List Note). Judged reported ∷ zs) two.0, two.1)
 
   -- what is noted of bytes, with what is held after them
   abbrev all_noted : Role → List Note → Side → List (Role × Note)
-  all_noted role notes s = noted_by role (notes ++ held_note (length s.view.held))
+  all_noted role notes s = noted_by role (notes ++ held_note (length s.state.partial))
 
   all-noted-same : (role : Role) (ms ns : List Note) (s t : Side) → ms ≡ ns → s ≡ t → all_noted role ms s ≡ all_noted role ns t
   all-noted-same role ms ns s t e f = cc

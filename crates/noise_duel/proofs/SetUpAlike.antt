@@ -10,7 +10,7 @@ use Rattle.noise_names.specs.Validity.{is_among, occurs, IsValid}
 use Rattle.noise_keys.specs.declared.keys.Own.{Own}
 use Rattle.noise_keys.specs.declared.keys.Own.TheVariants.{Ephemeral, Static}
 use Rattle.noise_handshake.specs.declared.remote.Remote.{Remote}
-use Rattle.noise_handshake.specs.View.{answered, own_at, remote_at}
+use Rattle.noise_handshake.specs.Party.{dh_result_of, own_at, remote_at}
 use Rattle.noise_handshake.specs.Setup.{has_before, public_keys, token_of}
 use Rattle.noise_handshake.specs.Counterparts.{is_dh, AnswersMeet}
 use Rattle.noise_duel.specs.Below.{LawsBelow}
@@ -18,13 +18,13 @@ use Rattle.noise_duel.proofs.Parts.{remote-own}
 use Rattle.noise_duel.specs.Messages.{Start}
 use Rattle.noise_duel.specs.Agreement.{IsSetUp}
 use Rattle.noise_duel.specs.Conversation.{KeyMaterial, IsPart, public_keys_in}
-use Rattle.noise_duel.specs.SetUpAlike.{AreSetUpAlike, HasLongKeys, HasAnswers, AlikeAreParts, material_of, no_key, public_in}
+use Rattle.noise_duel.specs.SetUpAlike.{AreSetUpAlike, HasLongKeys, HasAnswers, AlikeAreParts, material_of, absent_key, public_key_or_zeros}
 
 there-is : (o : Option (List ℕ)) (d : List ℕ) → is_some o ≡ true → o ≡ Some (unwrap_or o d)
 there-is None d h = cc
 there-is (Some x) d h = refl
 
-long-or : (o : Option (List ℕ)) → ((k : List ℕ) → o ≡ Some k → length k ≡ 32) → length (unwrap_or o no_key) ≡ 32
+long-or : (o : Option (List ℕ)) → ((k : List ℕ) → o ≡ Some k → length k ≡ 32) → length (unwrap_or o absent_key) ≡ 32
 long-or None f = refl
 long-or (Some k) f = f k refl
 
@@ -34,12 +34,12 @@ if-same false o q f = refl
 
 set-own : LawsBelow → (p : Plan) (role : Role) (s : Start) → IsSetUp p role s → (x : Own) → is_among role (token_of x) (places_of p) ≡ true
     → is_some (s.own x) ≡ true
-set-own laws p role s h x k = laws.set_own p role s.own s.remote (length s.secrets) h x k
+set-own laws p role s h x k = laws.set_own p role s.own s.remote (length s.psks) h x k
 
--- two answers that are there are one
+-- two DH results that are there are one
 answers-same : (agree their_agree : Own → List ℕ → Option (List ℕ)) (x y : Own) (mine theirs : Option (List ℕ))
     → ((k l r s : List ℕ) → mine ≡ Some k → theirs ≡ Some l → agree x l ≡ Some r → their_agree y k ≡ Some s → r ≡ s)
-    → is_some (answered agree x theirs) ≡ true → is_some (answered their_agree y mine) ≡ true → answered agree x theirs ≡ answered their_agree y mine
+    → is_some (dh_result_of agree x theirs) ≡ true → is_some (dh_result_of their_agree y mine) ≡ true → dh_result_of agree x theirs ≡ dh_result_of their_agree y mine
 answers-same agree their_agree x y None None f g h = cc
 answers-same agree their_agree x y None (Some l) f g h = cc
 answers-same agree their_agree x y (Some k) None f g h = cc
@@ -49,21 +49,21 @@ answers-same agree their_agree x y (Some k) (Some l) f g h =
     r ∙ ap Some (f k l (unwrap_or (agree x l) []) (unwrap_or (their_agree y k) []) refl refl r s) ∙ sym s
 
 abbrev true-key : (s : Start) → Own → List ℕ
-true-key s x = unwrap_or (s.own x) no_key
+true-key s x = unwrap_or (s.own x) absent_key
 
 module _ (laws : LawsBelow) (p : Plan) (prologue : List ℕ) (a b : Start) (valid : IsValid p) (alike : AreSetUpAlike p prologue a b)
     (answers : HasAnswers p a b) where
   abbrev answer-at : Token → Option (List ℕ)
-  answer-at t = answered a.agree (own_at Initiator t) (remote_at Initiator (public_keys b.own) t)
+  answer-at t = dh_result_of a.agree (own_at Initiator t) (remote_at Initiator (public_keys b.own) t)
 
   abbrev material : KeyMaterial
   material = material_of a b
 
   own-a : (x : Own) → is_among Initiator (token_of x) (places_of p) ≡ true → a.own x ≡ Some (true-key a x)
-  own-a x h = there-is (a.own x) no_key (set-own laws p Initiator a alike.initiator x h)
+  own-a x h = there-is (a.own x) absent_key (set-own laws p Initiator a alike.initiator x h)
 
   own-b : (x : Own) → is_among Responder (token_of x) (places_of p) ≡ true → b.own x ≡ Some (true-key b x)
-  own-b x h = there-is (b.own x) no_key (set-own laws p Responder b alike.responder x h)
+  own-b x h = there-is (b.own x) absent_key (set-own laws p Responder b alike.responder x h)
 
   meets : AnswersMeet p Initiator a.own a.agree b.own b.agree
   meets t d h =
@@ -71,23 +71,23 @@ module _ (laws : LawsBelow) (p : Plan) (prologue : List ℕ) (a b : Start) (vali
       let y : Own = own_at Responder t in
       let e = remote-own Initiator b.own t in
       let f = remote-own Responder a.own t in
-      ap (answered a.agree x) e
+      ap (dh_result_of a.agree x) e
       ∙ answers-same a.agree b.agree x y (a.own x) (b.own y) (alike.keys x y)
-      (sym (ap (λ o. is_some (answered a.agree x o)) e) ∙ (answers t d h).0) (sym (ap (λ o. is_some (answered b.agree y o)) f) ∙ (answers t d h).1)
-      ∙ ap (answered b.agree y) (sym f)
+      (sym (ap (λ o. is_some (dh_result_of a.agree x o)) e) ∙ (answers t d h).0) (sym (ap (λ o. is_some (dh_result_of b.agree y o)) f) ∙ (answers t d h).1)
+      ∙ ap (dh_result_of b.agree y) (sym f)
 
   answers-a : (t : Token) → is_dh t ≡ true → occurs t (places_of p) ≡ true
-      → answered a.agree (own_at Initiator t) (remote_at Initiator (public_keys_in material Responder) t) ≡ Some (unwrap_or (answer-at t) [])
+      → dh_result_of a.agree (own_at Initiator t) (remote_at Initiator (public_keys_in material Responder) t) ≡ Some (unwrap_or (answer-at t) [])
   answers-a t d h =
-      ap (answered a.agree (own_at Initiator t))
+      ap (dh_result_of a.agree (own_at Initiator t))
       (remote-own Initiator (λ x. Some (true-key b x)) t ∙ sym (own-b (own_at Responder t) (laws.dh_key_is_among p Responder t valid d h))
       ∙ sym (remote-own Initiator b.own t))
       ∙ there-is (answer-at t) [] (answers t d h).0
 
   answers-b : (t : Token) → is_dh t ≡ true → occurs t (places_of p) ≡ true
-      → answered b.agree (own_at Responder t) (remote_at Responder (public_keys_in material Initiator) t) ≡ Some (unwrap_or (answer-at t) [])
+      → dh_result_of b.agree (own_at Responder t) (remote_at Responder (public_keys_in material Initiator) t) ≡ Some (unwrap_or (answer-at t) [])
   answers-b t d h =
-      ap (answered b.agree (own_at Responder t))
+      ap (dh_result_of b.agree (own_at Responder t))
       (remote-own Responder (λ x. Some (true-key a x)) t ∙ sym (own-a (own_at Initiator t) (laws.dh_key_is_among p Initiator t valid d h))
       ∙ sym (remote-own Responder a.own t))
       ∙ sym (meets t d h) ∙ there-is (answer-at t) [] (answers t d h).0
@@ -101,7 +101,7 @@ module _ (laws : LawsBelow) (p : Plan) (prologue : List ℕ) (a b : Start) (vali
     remote_s = ap (λ (r : Remote). r.s) alike.known
         ∙ if-same (has_before p Responder S) (b.own Static) (Some (true-key b Static)) (λ h. own-b Static (laws.before_is_among p Responder S h));
     answers = answers-a;
-    secrets = refl;
+    psks = refl;
   }
 
   part-b : IsPart material p Responder prologue b
@@ -113,10 +113,10 @@ module _ (laws : LawsBelow) (p : Plan) (prologue : List ℕ) (a b : Start) (vali
     remote_s = ap (λ (r : Remote). r.s) alike.known_too
         ∙ if-same (has_before p Initiator S) (a.own Static) (Some (true-key a Static)) (λ h. own-a Static (laws.before_is_among p Initiator S h));
     answers = answers-b;
-    secrets = alike.secrets;
+    psks = alike.psks;
   }
 
-  long-in : HasLongKeys a → HasLongKeys b → (role : Role) (k : Own) → length (public_in a b role k) ≡ 32
+  long-in : HasLongKeys a → HasLongKeys b → (role : Role) (k : Own) → length (public_key_or_zeros a b role k) ≡ 32
   long-in f g Initiator k = long-or (a.own k) (f k)
   long-in f g Responder k = long-or (b.own k) (g k)
 

@@ -10,28 +10,28 @@ use Rattle.noise_names.specs.Overhead.{has_key, overhead_of}
 use Rattle.noise_names.specs.Validity.{IsValid}
 use Rattle.noise_state.specs.History.{History, cipher_key}
 use Rattle.noise_handshake.specs.Passed.{passed_places}
-use Rattle.noise_handshake.specs.View.{View, Accepts, Listens, Speaks}
+use Rattle.noise_handshake.specs.Party.{Party, Accepts, Listens, Speaks}
 use Rattle.noise_handshake.specs.Writing.{Writes}
-use Rattle.noise_handshake.specs.Party.{after_own, after_message}
+use Rattle.noise_handshake.specs.Matching.{after_own, after_message}
 use Rattle.noise_handshake.specs.Counterparts.{Counterparts, IsEquipped}
 use Rattle.noise_aead.specs.Sealing.{nonce_of}
 use Rattle.noise_aead.specs.Sealed.{length-sealed}
 use Rattle.noise_state.specs.History.{rekeyed_times}
 use Rattle.noise_session.specs.declared.faults.SendFault.{SendFault}
 use Rattle.noise_session.specs.Frames.{frame}
-use Rattle.noise_session.specs.Transport.{packet, last_nonce, renewals, split_key}
-use Rattle.noise_session.specs.Steps.Told.{Payload}
+use Rattle.noise_session.specs.Transport.{transport_message, last_nonce, renewals, split_key}
+use Rattle.noise_session.specs.Steps.StepValue.{Payload}
 use Rattle.noise_session.specs.Progress.{Progress, is_open, idle_step, refusal}
 use Rattle.noise_session.specs.Progress.Progress.{Handshaking, Open}
 use Rattle.noise_duel.specs.Below.{LawsBelow}
-use Rattle.noise_session.specs.Ends.{EndView, progress_of}
+use Rattle.noise_session.specs.Ends.{EndState, progress_of}
 use Rattle.noise_duel.specs.Sides.{Side, wrote_handshake, accepted_handshake, wrote_transport, accepted_transport}
 use Rattle.noise_duel.specs.Notes.{Note, Wrote, WriteFault, Judged}
 use Rattle.noise_duel.specs.Runs.{SideWrites, SideReceives}
 use Rattle.noise_duel.specs.Runs.SideWrites.{writes_handshake, writes_transport}
 use Rattle.noise_duel.specs.Runs.SideReads.{accepts_handshake, accepts_transport}
 use Rattle.noise_duel.proofs.Invariant.{all-passed}
-use Rattle.noise_duel.proofs.Lines.{writes-no-fault, writes-message, writes-packet, reads-message, reads-packet, receives-one, receives-can}
+use Rattle.noise_duel.proofs.Lines.{writes-no-fault, writes-message, writes-transport_message, reads-message, reads-transport_message, receives-one, receives-can}
 use Rattle.std.proofs.lemmas.Bool.{eq-eqb}
 use Rattle.noise_names.specs.Roles.{same_role-self, same_role-other}
 
@@ -47,16 +47,16 @@ in-room : (n : ℕ) → n ≤ 65535 → nat_lt 65535 n ≡ false
 in-room n h = grind (arith, nat_tests)
 
 -- how far an end has come of whose handshake messages are to come, or all have passed
-pub handshaking : (v : EndView) → v.party.ended ≡ false → v.party.passed < length v.party.pattern.messages
+pub handshaking : (v : EndState) → v.party.ended ≡ false → v.party.passed < length v.party.pattern.messages
     → progress_of v ≡ Handshaking v.party.pattern v.party.role v.party.passed
 handshaking v going more = rw (going, below v.party.passed (length v.party.pattern.messages) more) refl
 
-pub opened-now : (v : EndView) → v.party.ended ≡ false → v.party.passed ≡ length v.party.pattern.messages
+pub opened-now : (v : EndState) → v.party.ended ≡ false → v.party.passed ≡ length v.party.pattern.messages
     → progress_of v ≡ Open v.party.role (is_one_way v.party.pattern) v.sent v.received
 opened-now v going all = rw (going, eq-eqb v.party.passed (length v.party.pattern.messages) all) refl
 
 -- a party whose turn it is in the handshake isn't refused
-speaks-unrefused : (s : EndView) (n : ℕ) → Speaks s.party → overhead_of s.party.pattern (s.party.passed + 1) + n ≤ 65535 → refusal (progress_of s) n ≡ None
+speaks-unrefused : (s : EndState) (n : ℕ) → Speaks s.party → overhead_of s.party.pattern (s.party.passed + 1) + n ≤ 65535 → refusal (progress_of s) n ≡ None
 speaks-unrefused s n h room =
     ap (λ (p : Progress). refusal p n) (handshaking s h.going h.more)
     ∙ ap (λ (r : Role). refusal (Handshaking s.party.pattern r s.party.passed) n) (sym h.turn)
@@ -66,7 +66,7 @@ speaks-unrefused s n h room =
     own-turn r e = rw (ap (λ (q : Role). same_role q r) e ∙ same_role-self r, in-room (overhead_of s.party.pattern (s.party.passed + 1) + n) room) refl
 
 -- one whose turn it isn't listens
-listens-now : (t : EndView) → Listens t.party → idle_step (progress_of t) ≡ None
+listens-now : (t : EndState) → Listens t.party → idle_step (progress_of t) ≡ None
 listens-now t h =
     ap idle_step (handshaking t h.going h.more) ∙ rw (ap (λ (r : Role). same_role r t.party.role) h.turn ∙ same_role-other t.party.role) refl
 
@@ -75,9 +75,9 @@ listens-now t h =
 pub record HandshakeStep (s t : Side) (payload : List ℕ) : Type 0 where
   pub carried : List (List ℕ)
   pub message : List ℕ
-  pub writes : Writes s.view.party payload carried message
-  pub accepts : Accepts t.view.party message carried payload
-  pub counterparts : Counterparts (after_own s.view.party carried payload) (after_message t.view.party carried payload)
+  pub writes : Writes s.state.party payload carried message
+  pub accepts : Accepts t.state.party message carried payload
+  pub counterparts : Counterparts (after_own s.state.party carried payload) (after_message t.state.party carried payload)
   pub lacks : (why : SendFault) (next : Side) → SideWrites s payload (WriteFault why) next → ⊥
   pub written : (k : ℕ) (next : Side) → SideWrites s payload (Wrote k) next
       → (next ≡ wrote_handshake s (record { message = message; carried = carried; payload = payload })) × (k ≡ length s.frames)
@@ -87,31 +87,31 @@ pub record HandshakeStep (s t : Side) (payload : List ℕ) : Type 0 where
   pub receives : (ns : List Note) (last : Side) → SideReceives t (frame message) ns last
       → (ns ≡ Judged (Payload payload) ∷ []) × (last ≡ accepted_handshake t (record { message = message; carried = carried; payload = payload }))
 
-pub step-handshake : LawsBelow → (s t : Side) (payload : List ℕ) → IsValid s.view.party.pattern → Counterparts s.view.party t.view.party
-    → IsEquipped s.view.party.pattern s.view.party.role s.view.party.own s.view.party.agree t.view.party.own → Speaks s.view.party
-    → is_some (cipher_key s.view.party.history) ≡ has_key s.view.party.pattern (passed_places s.view.party.pattern s.view.party.passed)
-    → overhead_of s.view.party.pattern (s.view.party.passed + 1) + length payload ≤ 65535 → t.view.held ≡ [] → HandshakeStep s t payload
+pub step-handshake : LawsBelow → (s t : Side) (payload : List ℕ) → IsValid s.state.party.pattern → Counterparts s.state.party t.state.party
+    → IsEquipped s.state.party.pattern s.state.party.role s.state.party.own s.state.party.agree t.state.party.own → Speaks s.state.party
+    → is_some (cipher_key s.state.party.history) ≡ has_key s.state.party.pattern (passed_places s.state.party.pattern s.state.party.passed)
+    → overhead_of s.state.party.pattern (s.state.party.passed + 1) + length payload ≤ 65535 → t.state.partial ≡ [] → HandshakeStep s t payload
 step-handshake laws s t payload valid m has speaks keyed room empty =
-    let v : View = s.view.party in
-    let u : View = t.view.party in
+    let v : Party = s.state.party in
+    let u : Party = t.state.party in
     let d = laws.due v u payload valid m has speaks keyed room in
     let a : Accepts u d.1 d.0 payload = laws.accepts v u payload d.1 d.0 valid m d.2 in
-    let closed_s : is_open (progress_of s.view) ≡ false = ap is_open (handshaking s.view speaks.going speaks.more) in
-    let closed_t : is_open (progress_of t.view) ≡ false = ap is_open (handshaking t.view a.listens.going a.listens.more) in
+    let closed_s : is_open (progress_of s.state) ≡ false = ap is_open (handshaking s.state speaks.going speaks.more) in
+    let closed_t : is_open (progress_of t.state) ≡ false = ap is_open (handshaking t.state a.listens.going a.listens.more) in
     record {
       carried = d.0;
       message = d.1;
       writes = d.2;
       accepts = a;
       counterparts = laws.next v u payload d.1 d.0 valid m d.2;
-      lacks = λ why next. writes-no-fault s next payload why (speaks-unrefused s.view (length payload) speaks room)
+      lacks = λ why next. writes-no-fault s next payload why (speaks-unrefused s.state (length payload) speaks room)
           (λ k l. laws.not_lacking v payload d.1 d.0 k d.2 l);
       written = λ k next. writes-message laws s next payload d.1 d.0 k closed_s d.2;
-      can_write = writes_handshake s d.1 payload d.0 (speaks-unrefused s.view (length payload) speaks room) d.2;
+      can_write = writes_handshake s d.1 payload d.0 (speaks-unrefused s.state (length payload) speaks room) d.2;
       can_receive = receives-can t (accepted_handshake t (record { message = d.1; carried = d.0; payload = payload })) d.1 payload
-          (listens-now t.view a.listens) empty refl a.fits (accepts_handshake t d.1 payload d.0 a);
+          (listens-now t.state a.listens) empty refl a.fits (accepts_handshake t d.1 payload d.0 a);
       receives = λ ns last. receives-one t (accepted_handshake t (record { message = d.1; carried = d.0; payload = payload })) last d.1 payload ns
-          (listens-now t.view a.listens) empty refl a.fits
+          (listens-now t.state a.listens) empty refl a.fits
           (reads-message laws t d.1 payload d.0 closed_t a);
     }
 
@@ -119,7 +119,7 @@ step-handshake laws s t payload valid m has speaks keyed room empty =
 
 pub record TransportStep (s t : Side) (payload : List ℕ) : Type 0 where
   pub message : List ℕ
-  pub is : message ≡ packet s.view.party.history s.view.party.role s.view.interval s.view.sent payload
+  pub is : message ≡ transport_message s.state.party.history s.state.party.role s.state.interval s.state.sent payload
   pub lacks : (why : SendFault) (next : Side) → SideWrites s payload (WriteFault why) next → ⊥
   pub written : (k : ℕ) (next : Side) → SideWrites s payload (Wrote k) next
       → (next ≡ wrote_transport s (record { message = message; payload = payload })) × (k ≡ length s.frames)
@@ -143,45 +143,45 @@ open-listens : (role : Role) (one_way : Bool) (sent received : ℕ) → (one_way
     → idle_step (Open role one_way sent received) ≡ None
 open-listens role one_way sent received free = rw free refl
 
-pub step-transport : (s t : Side) (payload : List ℕ) → s.view.party.passed ≡ length s.view.party.pattern.messages
-    → t.view.party.passed ≡ length t.view.party.pattern.messages
-    → (is_one_way s.view.party.pattern && same_role s.view.party.role Responder) ≡ false
-    → (is_one_way t.view.party.pattern && same_role t.view.party.role Initiator) ≡ false
-    → s.view.party.ended ≡ false → t.view.party.ended ≡ false
-    → length payload ≤ 65519 → s.view.sent < last_nonce → t.view.received ≡ s.view.sent → t.view.party.history ≡ s.view.party.history
-    → t.view.interval ≡ s.view.interval
-    → other t.view.party.role ≡ s.view.party.role → t.view.held ≡ [] → TransportStep s t payload
+pub step-transport : (s t : Side) (payload : List ℕ) → s.state.party.passed ≡ length s.state.party.pattern.messages
+    → t.state.party.passed ≡ length t.state.party.pattern.messages
+    → (is_one_way s.state.party.pattern && same_role s.state.party.role Responder) ≡ false
+    → (is_one_way t.state.party.pattern && same_role t.state.party.role Initiator) ≡ false
+    → s.state.party.ended ≡ false → t.state.party.ended ≡ false
+    → length payload ≤ 65519 → s.state.sent < last_nonce → t.state.received ≡ s.state.sent → t.state.party.history ≡ s.state.party.history
+    → t.state.interval ≡ s.state.interval
+    → other t.state.party.role ≡ s.state.party.role → t.state.partial ≡ [] → TransportStep s t payload
 step-transport s t payload all all_t ones onet going going_t short low count history interval role empty =
-    let p : progress_of s.view ≡ Open s.view.party.role (is_one_way s.view.party.pattern) s.view.sent s.view.received = opened-now s.view going all in
-    let q : progress_of t.view ≡ Open t.view.party.role (is_one_way t.view.party.pattern) t.view.sent t.view.received = opened-now t.view going_t all_t in
-    let es : is_open (progress_of s.view) ≡ true = ap is_open p in
-    let et : is_open (progress_of t.view) ≡ true = ap is_open q in
-    let key : List ℕ = rekeyed_times (renewals s.view.interval s.view.sent) (split_key s.view.party.history s.view.party.role) in
-    let m : List ℕ = packet s.view.party.history s.view.party.role s.view.interval s.view.sent payload in
-    let free : refusal (progress_of s.view) (length payload) ≡ None =
+    let p : progress_of s.state ≡ Open s.state.party.role (is_one_way s.state.party.pattern) s.state.sent s.state.received = opened-now s.state going all in
+    let q : progress_of t.state ≡ Open t.state.party.role (is_one_way t.state.party.pattern) t.state.sent t.state.received = opened-now t.state going_t all_t in
+    let es : is_open (progress_of s.state) ≡ true = ap is_open p in
+    let et : is_open (progress_of t.state) ≡ true = ap is_open q in
+    let key : List ℕ = rekeyed_times (renewals s.state.interval s.state.sent) (split_key s.state.party.history s.state.party.role) in
+    let m : List ℕ = transport_message s.state.party.history s.state.party.role s.state.interval s.state.sent payload in
+    let free : refusal (progress_of s.state) (length payload) ≡ None =
     ap (λ (x : Progress). refusal x (length payload)) p
-    ∙ open-unrefused s.view.party.role (is_one_way s.view.party.pattern) s.view.sent s.view.received (length payload) ones (omega (arith, short)) low in
-    let idle : idle_step (progress_of t.view) ≡ None =
-    ap idle_step q ∙ open-listens t.view.party.role (is_one_way t.view.party.pattern) t.view.sent t.view.received onet in
-    let is : m ≡ packet t.view.party.history (other t.view.party.role) t.view.interval t.view.received payload =
-    ap (λ (r : History). packet r s.view.party.role s.view.interval s.view.sent payload) (sym history)
-    ∙ ap (λ (r : Role). packet t.view.party.history r s.view.interval s.view.sent payload) (sym role)
-    ∙ ap (λ (k : ℕ). packet t.view.party.history (other t.view.party.role) k s.view.sent payload) (sym interval)
-    ∙ ap (λ (k : ℕ). packet t.view.party.history (other t.view.party.role) t.view.interval k payload) (sym count) in
-    let size : length m ≡ length payload + 16 = length-sealed key (nonce_of s.view.sent) [] payload in
-    let below_last : t.view.received ≢ last_nonce = apart t.view.received last_nonce (subst (λ (k : ℕ). k < last_nonce) (sym count) low) in
+    ∙ open-unrefused s.state.party.role (is_one_way s.state.party.pattern) s.state.sent s.state.received (length payload) ones (omega (arith, short)) low in
+    let idle : idle_step (progress_of t.state) ≡ None =
+    ap idle_step q ∙ open-listens t.state.party.role (is_one_way t.state.party.pattern) t.state.sent t.state.received onet in
+    let is : m ≡ transport_message t.state.party.history (other t.state.party.role) t.state.interval t.state.received payload =
+    ap (λ (r : History). transport_message r s.state.party.role s.state.interval s.state.sent payload) (sym history)
+    ∙ ap (λ (r : Role). transport_message t.state.party.history r s.state.interval s.state.sent payload) (sym role)
+    ∙ ap (λ (k : ℕ). transport_message t.state.party.history (other t.state.party.role) k s.state.sent payload) (sym interval)
+    ∙ ap (λ (k : ℕ). transport_message t.state.party.history (other t.state.party.role) t.state.interval k payload) (sym count) in
+    let size : length m ≡ length payload + 16 = length-sealed key (nonce_of s.state.sent) [] payload in
+    let below_last : t.state.received ≢ last_nonce = apart t.state.received last_nonce (subst (λ (k : ℕ). k < last_nonce) (sym count) low) in
     record {
       message = m;
       is = refl;
-      lacks = λ why next. writes-no-fault s next payload why free (λ k l. after-all s.view es l.speaks.more);
-      written = λ k next. writes-packet s next payload k es;
+      lacks = λ why next. writes-no-fault s next payload why free (λ k l. after-all s.state es l.speaks.more);
+      written = λ k next. writes-transport_message s next payload k es;
       can_write = writes_transport s m payload free es refl;
       can_receive = receives-can t (accepted_transport t (record { message = m; payload = payload })) m payload idle empty refl (omega (arith, size, short))
           (accepts_transport t m payload et below_last is);
       receives = λ ns last. receives-one t (accepted_transport t (record { message = m; payload = payload })) last m payload ns idle empty refl
           (omega (arith, size, short))
-          (reads-packet t m payload et below_last is);
+          (reads-transport_message t m payload et below_last is);
     }
   where
-    after-all : (v : EndView) → IsTrue (is_open (progress_of v)) → v.party.passed < length v.party.pattern.messages → ⊥
+    after-all : (v : EndState) → IsTrue (is_open (progress_of v)) → v.party.passed < length v.party.pattern.messages → ⊥
     after-all v h less = omega (arith, less, all-passed v h)

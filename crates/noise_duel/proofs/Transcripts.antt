@@ -17,12 +17,12 @@ use Rattle.noise_keys.specs.declared.keys.Own.{Own}
 use Rattle.noise_keys.specs.declared.keys.Own.TheVariants.{Ephemeral, Static}
 use Rattle.noise_handshake.specs.declared.remote.Remote.{Remote}
 use Rattle.noise_handshake.specs.Message.{with_ephemeral}
-use Rattle.noise_handshake.specs.View.{View, tokens_now, with_premessage}
-use Rattle.noise_handshake.specs.Setup.{has_before, has_token, token_of, begun, public_keys}
+use Rattle.noise_handshake.specs.Party.{Party, tokens_now, with_premessage}
+use Rattle.noise_handshake.specs.Setup.{has_before, has_token, token_of, party_at_start, public_keys}
 use Rattle.noise_handshake.specs.Counterparts.{Counterparts, shown_before}
 use Rattle.noise_duel.specs.Below.{LawsBelow}
 use Rattle.noise_session.specs.Transport.{last_nonce}
-use Rattle.noise_session.specs.Steps.Told.{Payload}
+use Rattle.noise_session.specs.Steps.StepValue.{Payload}
 use Rattle.noise_duel.specs.Messages.{HandshakeMessage, Start, begun_as, messages_of}
 use Rattle.noise_duel.specs.Sides.{TransportMessage, Side, Sides, side, with_side, wrote_handshake, accepted_handshake, wrote_transport, accepted_transport}
 use Rattle.noise_events.specs.Events.{Say}
@@ -30,10 +30,10 @@ use Rattle.noise_duel.specs.Notes.{Note, Wrote, Judged}
 use Rattle.noise_duel.specs.Runs.{Happens, Run}
 use Rattle.noise_duel.specs.Runs.Run.{ends, begins}
 use Rattle.noise_duel.specs.Conversation.{KeyMaterial, conversation, after_conversation, public_keys_in, start_in, IsPart, InTurn, notes_of_lines}
-use Rattle.noise_duel.specs.Conversation.{say_events, facing, in_turn, packets_of, frames_by, payloads_in, LinesComeThrough, LinesRun}
+use Rattle.noise_duel.specs.Conversation.{say_events, sides_at_start, in_turn, transport_messages_of, frames_by, payloads_in, LinesComeThrough, LinesRun}
 use Rattle.noise_duel.proofs.Parts.{HasMaterial, answers-meet}
 use Rattle.noise_duel.proofs.Lines.{say-can}
-use Rattle.noise_duel.proofs.EquallyFar.{EquallyFar, due_of, after_due, handshake_message, HandshakeLine, handshake-at, handshake-line, transport_message}
+use Rattle.noise_duel.proofs.EquallyFar.{EquallyFar, due_of, after_due, handshake_message, HandshakeLine, handshake-at, handshake-line, with_payload}
 use Rattle.noise_duel.proofs.EquallyFar.{TransportLine, transport-at, transport-line}
 use Rattle.std.proofs.lemmas.Bool.{ltb-true, ltb-false}
 
@@ -68,26 +68,26 @@ noted-on Responder payload d next now later lines e f g h =
     ∙ ap (λ (fs : List (List ℕ)). notes_of_lines (length fs) (length d.responder.frames + 1) lines) g)
 
 module _ (laws : LawsBelow) (w : KeyMaterial) where
-  -- the messages and the history from a party's view on
-  abbrev from : View → List (List ℕ) → List HandshakeMessage
-  from v ps = conversation w v.pattern v.passed v.secrets v.history ps
+  -- the messages and the history from a party's state on
+  abbrev from : Party → List (List ℕ) → List HandshakeMessage
+  from v ps = conversation w v.pattern v.passed v.psks v.history ps
 
-  abbrev beyond : View → List (List ℕ) → History
-  beyond v ps = after_conversation w v.pattern v.passed v.secrets v.history ps
+  abbrev beyond : Party → List (List ℕ) → History
+  beyond v ps = after_conversation w v.pattern v.passed v.psks v.history ps
 
-  abbrev left : View → ℕ
+  abbrev left : Party → ℕ
   left v = length v.pattern.messages - v.passed
 
-  -- with the packets after them
+  -- with the transport messages after them
   abbrev coming : Plan → ℕ → List (List ℕ) → History → ℕ → ℕ → ℕ → List (List ℕ) → List (Role × List ℕ) → List (Role × List ℕ)
-  coming p n secrets r interval i j ps lines =
-      in_turn n (messages_of (conversation w p n secrets r ps)) ++ packets_of (after_conversation w p n secrets r ps) interval i j lines
+  coming p n psks r interval i j ps lines =
+      in_turn n (messages_of (conversation w p n psks r ps)) ++ transport_messages_of (after_conversation w p n psks r ps) interval i j lines
 
   abbrev to_come : Sides → List (Role × List ℕ) → List (Role × List ℕ)
   to_come d lines =
-      coming d.initiator.view.party.pattern d.initiator.view.party.passed d.initiator.view.party.secrets d.initiator.view.party.history
-      d.initiator.view.interval d.initiator.view.sent d.responder.view.sent
-      (payloads_in (left d.initiator.view.party) lines) (drop (left d.initiator.view.party) lines)
+      coming d.initiator.state.party.pattern d.initiator.state.party.passed d.initiator.state.party.psks d.initiator.state.party.history
+      d.initiator.state.interval d.initiator.state.sent d.responder.state.sent
+      (payloads_in (left d.initiator.state.party) lines) (drop (left d.initiator.state.party) lines)
 
   coming-same : (p q : Plan) (n m : ℕ) (s t : List (List ℕ)) (r u : History) (k l i j x y : ℕ) (xs ys : List (List ℕ)) (vs ws : List (Role × List ℕ))
       → p ≡ q → n ≡ m → s ≡ t → r ≡ u → k ≡ l → i ≡ j → x ≡ y → xs ≡ ys → vs ≡ ws → coming p n s r k i x xs vs ≡ coming q m t u l j y ys ws
@@ -95,10 +95,10 @@ module _ (laws : LawsBelow) (w : KeyMaterial) where
 
   record AfterLines (n : ℕ) (lines : List (Role × List ℕ)) (d e : Sides) (notes : List (Role × Note)) : Type 0 where
     noted : notes ≡ notes_of_lines (length d.initiator.frames) (length d.responder.frames) lines
-    passed : e.initiator.passed ≡ d.initiator.passed ++ from d.initiator.view.party (payloads_in (left d.initiator.view.party) lines)
-    history : e.initiator.view.party.history ≡ beyond d.initiator.view.party (payloads_in (left d.initiator.view.party) lines)
+    passed : e.initiator.passed ≡ d.initiator.passed ++ from d.initiator.state.party (payloads_in (left d.initiator.state.party) lines)
+    history : e.initiator.state.party.history ≡ beyond d.initiator.state.party (payloads_in (left d.initiator.state.party) lines)
     frames : (r : Role) → (side e r).frames ≡ (side d r).frames ++ frames_by r (to_come d lines)
-    count : e.initiator.view.party.passed ≡ d.initiator.view.party.passed + length (payloads_in (left d.initiator.view.party) lines)
+    count : e.initiator.state.party.passed ≡ d.initiator.state.party.passed + length (payloads_in (left d.initiator.state.party) lines)
     last : ℕ
     equally_far : EquallyFar w last e
 
@@ -112,32 +112,32 @@ module _ (laws : LawsBelow) (w : KeyMaterial) where
 
   module _ (long : (role : Role) (k : Own) → length (w.public role k) ≡ 32) where
     come : (lines : List (Role × List ℕ)) (n : ℕ) (d e : Sides) (notes : List (Role × Note)) → EquallyFar w n d
-        → InTurn d.initiator.view.party.pattern n lines → Run d (say_events lines) notes e → AfterLines n lines d e notes
+        → InTurn d.initiator.state.party.pattern n lines → Run d (say_events lines) notes e → AfterLines n lines d e notes
     come [] n d e notes a h (ends _) =
-        let v : View = d.initiator.view.party in
+        let v : Party = d.initiator.state.party in
         let none : payloads_in (left v) [] ≡ [] = ap (λ (ls : List (Role × List ℕ)). map (λ l. l.1) ls) (take-none (left v)) in
         record {
           noted = refl;
           passed = sym (ap (λ (ps : List (List ℕ)). d.initiator.passed ++ from v ps) none ∙ append-nil d.initiator.passed);
           history = sym (ap (beyond v) none);
           frames = λ r. sym (ap (λ (ms : List (Role × List ℕ)). (side d r).frames ++ frames_by r ms)
-              (ap (λ (ls : List (Role × List ℕ)). coming v.pattern v.passed v.secrets v.history d.initiator.view.interval d.initiator.view.sent
-              d.responder.view.sent (payloads_in (left v) []) ls) (drop-none (left v))
-              ∙ ap (λ (ps : List (List ℕ)). coming v.pattern v.passed v.secrets v.history d.initiator.view.interval d.initiator.view.sent
-              d.responder.view.sent ps []) none)
+              (ap (λ (ls : List (Role × List ℕ)). coming v.pattern v.passed v.psks v.history d.initiator.state.interval d.initiator.state.sent
+              d.responder.state.sent (payloads_in (left v) []) ls) (drop-none (left v))
+              ∙ ap (λ (ps : List (List ℕ)). coming v.pattern v.passed v.psks v.history d.initiator.state.interval d.initiator.state.sent
+              d.responder.state.sent ps []) none)
               ∙ append-nil (side d r).frames);
           count = omega (arith, ap length none);
           last = n;
           equally_far = a;
         }
     come (l ∷ lines) n d e notes a h (begins _ next _ _ _ now later does run) =
-        go (nat_lt n (length d.initiator.view.party.pattern.messages)) refl h.0 (come lines (n + 1) next e later) run does
+        go (nat_lt n (length d.initiator.state.party.pattern.messages)) refl h.0 (come lines (n + 1) next e later) run does
       where
-        hand : n < length d.initiator.view.party.pattern.messages → HandshakeLine laws w long n l.0 l.1 d next now → AfterLines (n + 1) lines next e later
+        hand : n < length d.initiator.state.party.pattern.messages → HandshakeLine laws w long n l.0 l.1 d next now → AfterLines (n + 1) lines next e later
             → AfterLines n (l ∷ lines) d e (now ++ later)
         hand more step ih =
-            let u : View = next.initiator.view.party in
-            let o : View = d.initiator.view.party in
+            let u : Party = next.initiator.state.party in
+            let o : Party = d.initiator.state.party in
             let hs = step.handshake in
             let at : o.passed ≡ n = a.before more in
             let rest : left u ≡ length o.pattern.messages - (o.passed + 1) =
@@ -153,80 +153,80 @@ module _ (laws : LawsBelow) (w : KeyMaterial) where
                   ∙ ap (λ (ms : List HandshakeMessage). ms ++ from u (payloads_in (left u) lines)) hs.passed
                   ∙ append_assoc d.initiator.passed (due_of w o l.1 ∷ []) (from u (payloads_in (left u) lines))
                   ∙ ap (λ (ms : List HandshakeMessage). d.initiator.passed ++ due_of w o l.1 ∷ ms)
-                  (from-same u.pattern o.pattern u.passed (o.passed + 1) u.secrets (drop (count_by is_psk (tokens_now o)) o.secrets) u.history
-                  (after_due w o l.1) (payloads_in (left u) lines) ps hs.pattern hs.count hs.secrets hs.history same)
+                  (from-same u.pattern o.pattern u.passed (o.passed + 1) u.psks (drop (count_by is_psk (tokens_now o)) o.psks) u.history
+                  (after_due w o l.1) (payloads_in (left u) lines) ps hs.pattern hs.count hs.psks hs.history same)
                   ∙ ap (λ (qs : List (List ℕ)). d.initiator.passed ++ from o qs) (sym all);
               history =
                   ih.history
-                  ∙ after-same u.pattern o.pattern u.passed (o.passed + 1) u.secrets (drop (count_by is_psk (tokens_now o)) o.secrets) u.history
-                  (after_due w o l.1) (payloads_in (left u) lines) ps hs.pattern hs.count hs.secrets hs.history same
+                  ∙ after-same u.pattern o.pattern u.passed (o.passed + 1) u.psks (drop (count_by is_psk (tokens_now o)) o.psks) u.history
+                  (after_due w o l.1) (payloads_in (left u) lines) ps hs.pattern hs.count hs.psks hs.history same
                   ∙ ap (beyond o) (sym all);
               frames = λ r.
                   ih.frames r
                   ∙ ap (λ (ms : List (Role × List ℕ)). (side next r).frames ++ frames_by r ms)
-                  (coming-same u.pattern o.pattern u.passed (o.passed + 1) u.secrets (drop (count_by is_psk (tokens_now o)) o.secrets) u.history
-                  (after_due w o l.1) next.initiator.view.interval d.initiator.view.interval
-                  next.initiator.view.sent d.initiator.view.sent next.responder.view.sent d.responder.view.sent (payloads_in (left u) lines) ps
+                  (coming-same u.pattern o.pattern u.passed (o.passed + 1) u.psks (drop (count_by is_psk (tokens_now o)) o.psks) u.history
+                  (after_due w o l.1) next.initiator.state.interval d.initiator.state.interval
+                  next.initiator.state.sent d.initiator.state.sent next.responder.state.sent d.responder.state.sent (payloads_in (left u) lines) ps
                   (drop (left u) lines) (drop (length o.pattern.messages - (o.passed + 1)) lines)
-                  hs.pattern hs.count hs.secrets hs.history step.past_line.interval hs.sent hs.sent_there same (ap (λ (k : ℕ). drop k lines) rest))
-                  ∙ sym (hs.frames r (coming o.pattern (o.passed + 1) (drop (count_by is_psk (tokens_now o)) o.secrets) (after_due w o l.1)
-                  d.initiator.view.interval d.initiator.view.sent d.responder.view.sent ps (drop (length o.pattern.messages - (o.passed + 1)) lines)))
+                  hs.pattern hs.count hs.psks hs.history step.past_line.interval hs.sent hs.sent_there same (ap (λ (k : ℕ). drop k lines) rest))
+                  ∙ sym (hs.frames r (coming o.pattern (o.passed + 1) (drop (count_by is_psk (tokens_now o)) o.psks) (after_due w o l.1)
+                  d.initiator.state.interval d.initiator.state.sent d.responder.state.sent ps (drop (length o.pattern.messages - (o.passed + 1)) lines)))
                   ∙ sym (ap (λ (k : ℕ). (side d r).frames ++ frames_by r
-                  (coming o.pattern o.passed o.secrets o.history d.initiator.view.interval d.initiator.view.sent d.responder.view.sent
+                  (coming o.pattern o.passed o.psks o.history d.initiator.state.interval d.initiator.state.sent d.responder.state.sent
                   (payloads_in k (l ∷ lines)) (drop k (l ∷ lines)))) one);
               count = omega (arith, ih.count, hs.count, ap length same, ap length all);
               last = ih.last;
               equally_far = ih.equally_far;
             }
 
-        open-on : length d.initiator.view.party.pattern.messages ≤ n → TransportLine w n l.0 l.1 d next now → AfterLines (n + 1) lines next e later
+        open-on : length d.initiator.state.party.pattern.messages ≤ n → TransportLine w n l.0 l.1 d next now → AfterLines (n + 1) lines next e later
             → AfterLines n (l ∷ lines) d e (now ++ later)
-        open-on over step ih =
-            let o : View = d.initiator.view.party in
-            let u : View = next.initiator.view.party in
+        open-on ended_party step ih =
+            let o : Party = d.initiator.state.party in
+            let u : Party = next.initiator.state.party in
             let tr = step.transport in
-            let zero_left : left o ≡ 0 = omega (arith, a.beyond over) in
+            let zero_left : left o ≡ 0 = omega (arith, a.beyond ended_party) in
             let none : payloads_in (left o) lines ≡ payloads_in (left o) (l ∷ lines) =
             ap (λ (k : ℕ). payloads_in k lines) zero_left ∙ sym (ap (λ (k : ℕ). payloads_in k (l ∷ lines)) zero_left) in
             record {
               noted = noted-on l.0 l.1 d next now later lines step.noted step.past_line.frames step.past_line.others ih.noted;
               passed =
-                  ih.passed ∙ ap (λ (ms : List HandshakeMessage). ms ++ from next.initiator.view.party (payloads_in (left next.initiator.view.party) lines))
+                  ih.passed ∙ ap (λ (ms : List HandshakeMessage). ms ++ from next.initiator.state.party (payloads_in (left next.initiator.state.party) lines))
                   tr.passed
-                  ∙ ap (λ (z : View). d.initiator.passed ++ from z (payloads_in (left z) lines)) tr.party
+                  ∙ ap (λ (z : Party). d.initiator.passed ++ from z (payloads_in (left z) lines)) tr.party
                   ∙ ap (λ (qs : List (List ℕ)). d.initiator.passed ++ from o qs) none;
-              history = ih.history ∙ ap (λ (z : View). beyond z (payloads_in (left z) lines)) tr.party ∙ ap (beyond o) none;
+              history = ih.history ∙ ap (λ (z : Party). beyond z (payloads_in (left z) lines)) tr.party ∙ ap (beyond o) none;
               frames = λ r.
                   ih.frames r
                   ∙ ap (λ (k : ℕ). (side next r).frames ++ frames_by r
-                  (coming u.pattern u.passed u.secrets u.history next.initiator.view.interval next.initiator.view.sent next.responder.view.sent
+                  (coming u.pattern u.passed u.psks u.history next.initiator.state.interval next.initiator.state.sent next.responder.state.sent
                   (payloads_in k lines) (drop k lines)))
                   (ap left tr.party ∙ zero_left)
                   ∙ sym (tr.frames r lines)
                   ∙ sym (ap (λ (k : ℕ). (side d r).frames ++ frames_by r
-                  (coming o.pattern o.passed o.secrets o.history d.initiator.view.interval d.initiator.view.sent d.responder.view.sent
+                  (coming o.pattern o.passed o.psks o.history d.initiator.state.interval d.initiator.state.sent d.responder.state.sent
                   (payloads_in k (l ∷ lines)) (drop k (l ∷ lines)))) zero_left);
-              count = ih.count ∙ ap (λ (z : View). z.passed + length (payloads_in (left z) lines)) tr.party
+              count = ih.count ∙ ap (λ (z : Party). z.passed + length (payloads_in (left z) lines)) tr.party
                   ∙ ap (λ (qs : List (List ℕ)). o.passed + length qs) none;
               last = ih.last;
               equally_far = ih.equally_far;
             }
 
-        go : (b : Bool) → nat_lt n (length d.initiator.view.party.pattern.messages) ≡ b
-            → MatchBool b ((l.0 ≡ turn_from Initiator n) × (overhead_of d.initiator.view.party.pattern (n + 1) + length l.1 ≤ 65535))
-            ((IsTrue (is_one_way d.initiator.view.party.pattern) → l.0 ≡ Initiator) × (length l.1 ≤ 65519) × (n < last_nonce))
-            → (EquallyFar w (n + 1) next → InTurn next.initiator.view.party.pattern (n + 1) lines → Run next (say_events lines) later e
+        go : (b : Bool) → nat_lt n (length d.initiator.state.party.pattern.messages) ≡ b
+            → MatchBool b ((l.0 ≡ turn_from Initiator n) × (overhead_of d.initiator.state.party.pattern (n + 1) + length l.1 ≤ 65535))
+            ((IsTrue (is_one_way d.initiator.state.party.pattern) → l.0 ≡ Initiator) × (length l.1 ≤ 65519) × (n < last_nonce))
+            → (EquallyFar w (n + 1) next → InTurn next.initiator.state.party.pattern (n + 1) lines → Run next (say_events lines) later e
             → AfterLines (n + 1) lines next e later) → Run next (say_events lines) later e → Happens d (Say l.0 l.1) now next
             → AfterLines n (l ∷ lines) d e (now ++ later)
         go true is m rest run does =
-            let more : n < length d.initiator.view.party.pattern.messages = ltb-true n (length d.initiator.view.party.pattern.messages) is in
+            let more : n < length d.initiator.state.party.pattern.messages = ltb-true n (length d.initiator.state.party.pattern.messages) is in
             let step = handshake-line laws w long n l.0 l.1 d next now a more m.0 m.1 does in
             hand more step (rest step.past_line.equally_far (subst (λ (q : Plan). InTurn q (n + 1) lines) (sym step.handshake.pattern) h.1) run)
         go false is m rest run does =
-            let over : length d.initiator.view.party.pattern.messages ≤ n = ltb-false n (length d.initiator.view.party.pattern.messages) is in
-            let step = transport-line w n l.0 l.1 d next now a over m.0 m.1 m.2 does in
-            open-on over step (rest step.past_line.equally_far
-            (subst (λ (q : Plan). InTurn q (n + 1) lines) (sym (ap (λ (z : View). z.pattern) step.transport.party)) h.1) run)
+            let ended_party : length d.initiator.state.party.pattern.messages ≤ n = ltb-false n (length d.initiator.state.party.pattern.messages) is in
+            let step = transport-line w n l.0 l.1 d next now a ended_party m.0 m.1 m.2 does in
+            open-on ended_party step (rest step.past_line.equally_far
+            (subst (λ (q : Plan). InTurn q (n + 1) lines) (sym (ap (λ (z : Party). z.pattern) step.transport.party)) h.1) run)
 
 -- ---- there is a run of them
 
@@ -234,19 +234,19 @@ module _ (laws : LawsBelow) (w : KeyMaterial) (long : (role : Role) (k : Own) �
   abbrev HasRun : List (Role × List ℕ) → Sides → Type 0
   HasRun lines d = (notes : List (Role × Note)) × (e : Sides) × Run d (say_events lines) notes e
 
-  can : (lines : List (Role × List ℕ)) (n : ℕ) (d : Sides) → EquallyFar w n d → InTurn d.initiator.view.party.pattern n lines → HasRun lines d
+  can : (lines : List (Role × List ℕ)) (n : ℕ) (d : Sides) → EquallyFar w n d → InTurn d.initiator.state.party.pattern n lines → HasRun lines d
   can [] n d a h = ([], d, ends d)
-  can (l ∷ lines) n d a h = go (nat_lt n (length d.initiator.view.party.pattern.messages)) refl h.0 (λ next. can lines (n + 1) next)
+  can (l ∷ lines) n d a h = go (nat_lt n (length d.initiator.state.party.pattern.messages)) refl h.0 (λ next. can lines (n + 1) next)
     where
       first : (next : Sides) (now : List (Role × Note)) → Happens d (Say l.0 l.1) now next → HasRun lines next → HasRun (l ∷ lines) d
       first next now does more = (now ++ more.0, more.1, begins d next more.1 (Say l.0 l.1) (say_events lines) now more.0 does more.2)
 
-      go : (b : Bool) → nat_lt n (length d.initiator.view.party.pattern.messages) ≡ b
-          → MatchBool b ((l.0 ≡ turn_from Initiator n) × (overhead_of d.initiator.view.party.pattern (n + 1) + length l.1 ≤ 65535))
-          ((IsTrue (is_one_way d.initiator.view.party.pattern) → l.0 ≡ Initiator) × (length l.1 ≤ 65519) × (n < last_nonce))
-          → ((next : Sides) → EquallyFar w (n + 1) next → InTurn next.initiator.view.party.pattern (n + 1) lines → HasRun lines next) → HasRun (l ∷ lines) d
+      go : (b : Bool) → nat_lt n (length d.initiator.state.party.pattern.messages) ≡ b
+          → MatchBool b ((l.0 ≡ turn_from Initiator n) × (overhead_of d.initiator.state.party.pattern (n + 1) + length l.1 ≤ 65535))
+          ((IsTrue (is_one_way d.initiator.state.party.pattern) → l.0 ≡ Initiator) × (length l.1 ≤ 65519) × (n < last_nonce))
+          → ((next : Sides) → EquallyFar w (n + 1) next → InTurn next.initiator.state.party.pattern (n + 1) lines → HasRun lines next) → HasRun (l ∷ lines) d
       go true is m rest =
-          let more : n < length d.initiator.view.party.pattern.messages = ltb-true n (length d.initiator.view.party.pattern.messages) is in
+          let more : n < length d.initiator.state.party.pattern.messages = ltb-true n (length d.initiator.state.party.pattern.messages) is in
           let sp = handshake-at laws w long n l.0 l.1 d a more m.0 m.1 in
           let passed : HandshakeMessage = handshake_message l.1 sp.message sp.carried in
           let after : Side = wrote_handshake (side d l.0) passed in
@@ -256,16 +256,16 @@ module _ (laws : LawsBelow) (w : KeyMaterial) (long : (role : Role) (k : Own) �
           let step = handshake-line laws w long n l.0 l.1 d next _ a more m.0 m.1 does in
           first next _ does (rest next step.past_line.equally_far (subst (λ (q : Plan). InTurn q (n + 1) lines) (sym step.handshake.pattern) h.1))
       go false is m rest =
-          let over : length d.initiator.view.party.pattern.messages ≤ n = ltb-false n (length d.initiator.view.party.pattern.messages) is in
-          let sp = transport-at w n l.0 l.1 d a over m.0 m.1 m.2 in
-          let sent : TransportMessage = transport_message sp.message l.1 in
+          let ended_party : length d.initiator.state.party.pattern.messages ≤ n = ltb-false n (length d.initiator.state.party.pattern.messages) is in
+          let sp = transport-at w n l.0 l.1 d a ended_party m.0 m.1 m.2 in
+          let sent : TransportMessage = with_payload sp.message l.1 in
           let after : Side = wrote_transport (side d l.0) sent in
           let heard : Side = accepted_transport (side d (other l.0)) sent in
           let next : Sides = with_side (with_side d l.0 after) (other l.0) heard in
           let does = say-can d l.0 l.1 sp.message after heard sp.can_write refl sp.can_receive in
-          let step = transport-line w n l.0 l.1 d next _ a over m.0 m.1 m.2 does in
+          let step = transport-line w n l.0 l.1 d next _ a ended_party m.0 m.1 m.2 does in
           first next _ does (rest next step.past_line.equally_far
-          (subst (λ (q : Plan). InTurn q (n + 1) lines) (sym (ap (λ (z : View). z.pattern) step.transport.party)) h.1))
+          (subst (λ (q : Plan). InTurn q (n + 1) lines) (sym (ap (λ (z : Party). z.pattern) step.transport.party)) h.1))
 
 -- ---- the start
 
@@ -275,20 +275,20 @@ keyed_by x y = record { e = x; s = y }
 none-left : (n : ℕ) → n ≤ 0 → 0 ≡ n
 none-left n h = omega (arith, h)
 
-pre-agree : (psks : Bool) (x y : Remote) (ts : List Token) (r : History) → (has_token E ts ≡ true → x.e ≡ y.e) → (has_token S ts ≡ true → x.s ≡ y.s)
-    → with_premessage psks x ts r ≡ with_premessage psks y ts r
-pre-agree psks x y [] r f g = refl
-pre-agree psks x y (E ∷ ts) r f g =
-    ap (λ (o : Option (List ℕ)). with_premessage psks x ts (with_ephemeral psks r (unwrap_or o []))) (f refl)
-    ∙ pre-agree psks x y ts (with_ephemeral psks r (unwrap_or y.e [])) (λ h. f refl) g
-pre-agree psks x y (S ∷ ts) r f g =
-    ap (λ (o : Option (List ℕ)). with_premessage psks x ts (and_then r (MixHash (unwrap_or o [])))) (g refl)
-    ∙ pre-agree psks x y ts (and_then r (MixHash (unwrap_or y.s []))) f (λ h. g refl)
-pre-agree psks x y (Ee ∷ ts) r f g = pre-agree psks x y ts r f g
-pre-agree psks x y (Es ∷ ts) r f g = pre-agree psks x y ts r f g
-pre-agree psks x y (Se ∷ ts) r f g = pre-agree psks x y ts r f g
-pre-agree psks x y (Ss ∷ ts) r f g = pre-agree psks x y ts r f g
-pre-agree psks x y (Psk ∷ ts) r f g = pre-agree psks x y ts r f g
+pre-agree : (has_psks : Bool) (x y : Remote) (ts : List Token) (r : History) → (has_token E ts ≡ true → x.e ≡ y.e) → (has_token S ts ≡ true → x.s ≡ y.s)
+    → with_premessage has_psks x ts r ≡ with_premessage has_psks y ts r
+pre-agree has_psks x y [] r f g = refl
+pre-agree has_psks x y (E ∷ ts) r f g =
+    ap (λ (o : Option (List ℕ)). with_premessage has_psks x ts (with_ephemeral has_psks r (unwrap_or o []))) (f refl)
+    ∙ pre-agree has_psks x y ts (with_ephemeral has_psks r (unwrap_or y.e [])) (λ h. f refl) g
+pre-agree has_psks x y (S ∷ ts) r f g =
+    ap (λ (o : Option (List ℕ)). with_premessage has_psks x ts (and_then r (MixHash (unwrap_or o [])))) (g refl)
+    ∙ pre-agree has_psks x y ts (and_then r (MixHash (unwrap_or y.s []))) f (λ h. g refl)
+pre-agree has_psks x y (Ee ∷ ts) r f g = pre-agree has_psks x y ts r f g
+pre-agree has_psks x y (Es ∷ ts) r f g = pre-agree has_psks x y ts r f g
+pre-agree has_psks x y (Se ∷ ts) r f g = pre-agree has_psks x y ts r f g
+pre-agree has_psks x y (Ss ∷ ts) r f g = pre-agree has_psks x y ts r f g
+pre-agree has_psks x y (Psk ∷ ts) r f g = pre-agree has_psks x y ts r f g
 
 if-true : (b : Bool) (o : Option (List ℕ)) → b ≡ true → (if b then o else None) ≡ o
 if-true true o h = refl
@@ -330,11 +330,11 @@ module _ (laws : LawsBelow) (w : KeyMaterial) (p : Plan) (prologue : List ℕ) (
 
   starts : IsValid p → Counterparts (begun_as p Initiator a) (begun_as p Responder b)
   starts valid =
-      let first : Counterparts (begun_as p Initiator a) (begun p Responder a.prologue b.own b.agree b.remote a.secrets) =
-      laws.starts p a.prologue a.secrets a.own b.own a.agree b.agree a.remote b.remote remote_a remote_b
+      let first : Counterparts (begun_as p Initiator a) (party_at_start p Responder a.prologue b.own b.agree b.remote a.psks) =
+      laws.starts p a.prologue a.psks a.own b.own a.agree b.agree a.remote b.remote remote_a remote_b
       (answers-meet laws w p valid a.own b.own a.agree b.agree mine_in theirs_in) in
-      subst (λ (z : List (List ℕ)). Counterparts (begun_as p Initiator a) (begun p Responder b.prologue b.own b.agree b.remote z)) (i.secrets ∙ sym j.secrets)
-      (subst (λ (z : List ℕ). Counterparts (begun_as p Initiator a) (begun p Responder z b.own b.agree b.remote a.secrets))
+      subst (λ (z : List (List ℕ)). Counterparts (begun_as p Initiator a) (party_at_start p Responder b.prologue b.own b.agree b.remote z)) (i.psks ∙ sym j.psks)
+      (subst (λ (z : List ℕ). Counterparts (begun_as p Initiator a) (party_at_start p Responder z b.own b.agree b.remote a.psks))
       (i.prologue_is ∙ sym j.prologue_is) first)
 
   -- the history at the start is that of the key material
@@ -351,7 +351,7 @@ module _ (laws : LawsBelow) (w : KeyMaterial) (p : Plan) (prologue : List ℕ) (
       (λ h. i.remote_e ∙ if-true (has_before p Responder E) (Some (w.public Responder Ephemeral)) h)
       (λ h. i.remote_s ∙ if-true (has_before p Responder S) (Some (w.public Responder Static)) h)
 
-  equally-far-first : (interval : ℕ) → IsPattern p → IsValid p → EquallyFar w 0 (facing p a b interval interval)
+  equally-far-first : (interval : ℕ) → IsPattern p → IsValid p → EquallyFar w 0 (sides_at_start p a b interval interval)
   equally-far-first interval pattern valid = record {
     valid = valid;
     role = refl;
@@ -361,7 +361,7 @@ module _ (laws : LawsBelow) (w : KeyMaterial) (p : Plan) (prologue : List ℕ) (
     keyed = laws.keyed_first (name_bytes (record { base = p.base; places = p.places })) a.prologue p (public_keys a.own) a.remote pattern;
     before = λ h. refl;
     beyond = λ h. none-left (length p.messages) h;
-    held = refl;
+    partial = refl;
     held_there = refl;
     interval = refl;
     came_there = refl;
@@ -377,32 +377,32 @@ pub lines-come-through : LawsBelow → LinesComeThrough
 lines-come-through laws w p prologue a b interval lines notes d parts turns run =
     let i : IsPart w p Initiator prologue a = parts.initiator in
     let j : IsPart w p Responder prologue b = parts.responder in
-    let c = come laws w parts.long lines 0 (facing p a b interval interval) d notes
+    let c = come laws w parts.long lines 0 (sides_at_start p a b interval interval) d notes
     (equally-far-first laws w p prologue a b i j interval parts.pattern parts.valid) turns run in
-    let v : View = begun_as p Initiator a in
+    let v : Party = begun_as p Initiator a in
     let all : payloads_in (length p.messages - 0) lines ≡ payloads_in (length p.messages) lines = ap (λ (k : ℕ). payloads_in k lines) (omega arith) in
-    let whole : d.initiator.passed ≡ conversation w p 0 w.secrets (start_in w p prologue) (payloads_in (length p.messages) lines) =
-    c.passed ∙ from-same laws w p p 0 0 a.secrets w.secrets v.history (start_in w p prologue) (payloads_in (length p.messages - 0) lines)
-    (payloads_in (length p.messages) lines) refl refl i.secrets (start-is laws w p prologue a b i j) all in (
+    let whole : d.initiator.passed ≡ conversation w p 0 w.psks (start_in w p prologue) (payloads_in (length p.messages) lines) =
+    c.passed ∙ from-same laws w p p 0 0 a.psks w.psks v.history (start_in w p prologue) (payloads_in (length p.messages - 0) lines)
+    (payloads_in (length p.messages) lines) refl refl i.psks (start-is laws w p prologue a b i j) all in (
       c.noted,
       record {
         initiator = whole;
         responder = c.equally_far.passed;
         frames = λ role. c.frames role
-            ∙ ap (λ (fs : List (List ℕ)). fs ++ frames_by role (to_come laws w (facing p a b interval interval) lines)) (none-yet role) ∙ ap (frames_by role)
-            (coming-same laws w p p 0 0 a.secrets w.secrets v.history (start_in w p prologue) interval interval 0 0 0 0
+            ∙ ap (λ (fs : List (List ℕ)). fs ++ frames_by role (to_come laws w (sides_at_start p a b interval interval) lines)) (none-yet role) ∙ ap (frames_by role)
+            (coming-same laws w p p 0 0 a.psks w.psks v.history (start_in w p prologue) interval interval 0 0 0 0
             (payloads_in (length p.messages - 0) lines) (payloads_in (length p.messages) lines)
-            (drop (length p.messages - 0) lines) (drop (length p.messages) lines) refl refl i.secrets (start-is laws w p prologue a b i j) refl refl refl all
+            (drop (length p.messages - 0) lines) (drop (length p.messages) lines) refl refl i.psks (start-is laws w p prologue a b i j) refl refl refl all
             (ap (λ (k : ℕ). drop k lines) (omega arith)));
-        history = c.history ∙ after-same laws w p p 0 0 a.secrets w.secrets v.history (start_in w p prologue) (payloads_in (length p.messages - 0) lines)
-            (payloads_in (length p.messages) lines) refl refl i.secrets (start-is laws w p prologue a b i j) all;
+        history = c.history ∙ after-same laws w p p 0 0 a.psks w.psks v.history (start_in w p prologue) (payloads_in (length p.messages - 0) lines)
+            (payloads_in (length p.messages) lines) refl refl i.psks (start-is laws w p prologue a b i j) all;
         count = omega (arith, c.count, ap length all);
         ends = record {
           parties = c.equally_far.counterparts;
           interval = c.equally_far.interval;
           there = c.equally_far.came_there;
           back = c.equally_far.came_back;
-          held = c.equally_far.held;
+          partial = c.equally_far.partial;
           held_there = c.equally_far.held_there;
         };
         there = c.equally_far.there;
@@ -410,11 +410,11 @@ lines-come-through laws w p prologue a b interval lines notes d parts turns run 
       },
     )
   where
-    none-yet : (role : Role) → (side (facing p a b interval interval) role).frames ≡ []
+    none-yet : (role : Role) → (side (sides_at_start p a b interval interval) role).frames ≡ []
     none-yet Initiator = refl
     none-yet Responder = refl
 
 pub lines-run : LawsBelow → LinesRun
 lines-run laws w p prologue a b interval lines parts turns =
-    can laws w parts.long lines 0 (facing p a b interval interval)
+    can laws w parts.long lines 0 (sides_at_start p a b interval interval)
     (equally-far-first laws w p prologue a b parts.initiator parts.responder interval parts.pattern parts.valid) turns

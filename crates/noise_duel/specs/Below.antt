@@ -16,28 +16,28 @@ use Rattle.noise_handshake.specs.declared.faults.Cause.{Cause}
 use Rattle.noise_handshake.specs.Message.{after_payload}
 use Rattle.noise_handshake.specs.Length.{Carry}
 use Rattle.noise_handshake.specs.Passed.{passed_places}
-use Rattle.noise_handshake.specs.View.{View, Accepts, Refuses, Speaks, answered, own_at, remote_at, start, tokens_at, tokens_now}
+use Rattle.noise_handshake.specs.Party.{Party, Accepts, Refuses, Speaks, dh_result_of, own_at, remote_at, start, tokens_at, tokens_now}
 use Rattle.noise_handshake.specs.Writing.{Writes, LacksAnswer}
-use Rattle.noise_handshake.specs.Party.{IsKeyed, after_message, after_own}
-use Rattle.noise_handshake.specs.Setup.{begun, has_before, has_token, public_keys, setup_fault, token_of}
+use Rattle.noise_handshake.specs.Matching.{IsKeyed, after_message, after_own}
+use Rattle.noise_handshake.specs.Setup.{party_at_start, has_before, has_token, public_keys, setup_fault, token_of}
 use Rattle.noise_handshake.specs.Counterparts.{Counterparts, AnswersMeet, IsEquipped, is_dh, keys_if, shown_after, shown_before}
 use Rattle.noise_session.specs.declared.faults.SendFault.{SendFault}
-use Rattle.noise_session.specs.Ends.{EndView}
+use Rattle.noise_session.specs.Ends.{EndState}
 use Rattle.noise_session.specs.Sending.{Sends}
 
 pub record LawsBelow : Type 0 where
   -- a message is accepted, refused and written in one way
-  pub accepted_once : (v : View) (message : List ℕ) (xs ys : List (List ℕ)) (p q : List ℕ)
+  pub accepted_once : (v : Party) (message : List ℕ) (xs ys : List (List ℕ)) (p q : List ℕ)
       → Accepts v message xs p → Accepts v message ys q → (xs ≡ ys) × (p ≡ q)
-  pub not_refused : (v : View) (message : List ℕ) (xs : List (List ℕ)) (p : List ℕ) (k : ℕ) (c : Cause)
+  pub not_refused : (v : Party) (message : List ℕ) (xs : List (List ℕ)) (p : List ℕ) (k : ℕ) (c : Cause)
       → Accepts v message xs p → Refuses v message k c → ⊥
-  pub refused_once : (v : View) (message : List ℕ) (k j : ℕ) (c d : Cause)
+  pub refused_once : (v : Party) (message : List ℕ) (k j : ℕ) (c d : Cause)
       → Refuses v message k c → Refuses v message j d → (k ≡ j) × (c ≡ d)
-  pub written_once : (v : View) (payload m n : List ℕ) (xs ys : List (List ℕ))
+  pub written_once : (v : Party) (payload m n : List ℕ) (xs ys : List (List ℕ))
       → Writes v payload xs m → Writes v payload ys n → (xs ≡ ys) × (m ≡ n)
-  pub not_lacking : (v : View) (payload m : List ℕ) (xs : List (List ℕ)) (k : ℕ)
+  pub not_lacking : (v : Party) (payload m : List ℕ) (xs : List (List ℕ)) (k : ℕ)
       → Writes v payload xs m → LacksAnswer v k → ⊥
-  pub sent_once : (v x y : EndView) (payload : List ℕ) (r s : Result (List ℕ) SendFault)
+  pub sent_once : (v x y : EndState) (payload : List ℕ) (r s : Result (List ℕ) SendFault)
       → Sends v payload r x → Sends v payload s y → (r ≡ s) × (x ≡ y)
   -- where there is a key, and what a message carries
   pub keyed_first : (name prologue : List ℕ) (p : Plan) (initiator responder : Remote) → IsPattern p
@@ -47,9 +47,9 @@ pub record LawsBelow : Type 0 where
       → is_some (cipher_key r) ≡ has_key p (passed_places p n)
       → is_some (cipher_key (after_payload (has_psk p) r (tokens_at p.messages n) xs payload))
       ≡ has_key p (passed_places p (n + 1))
-  pub written_carries : (v : View) (payload message : List ℕ) (xs : List (List ℕ))
+  pub written_carries : (v : Party) (payload message : List ℕ) (xs : List (List ℕ))
       → Writes v payload xs message → Carry (tokens_now v) xs
-  pub accepted_carries : (v : View) (payload message : List ℕ) (xs : List (List ℕ))
+  pub accepted_carries : (v : Party) (payload message : List ℕ) (xs : List (List ℕ))
       → Accepts v message xs payload → Carry (tokens_now v) xs
   -- which tokens are among the places of a pattern
   pub before_is_among : (p : Plan) (party : Role) (t : Token)
@@ -69,24 +69,24 @@ pub record LawsBelow : Type 0 where
       → setup_fault p role own known n ≡ None
       → (is_some known.e ≡ has_before p (other role) E) × (is_some known.s ≡ has_before p (other role) S)
   -- counterparts
-  pub accepts : (v w : View) (payload message : List ℕ) (xs : List (List ℕ))
+  pub accepts : (v w : Party) (payload message : List ℕ) (xs : List (List ℕ))
       → IsValid v.pattern → Counterparts v w → Writes v payload xs message → Accepts w message xs payload
-  pub next : (v w : View) (payload message : List ℕ) (xs : List (List ℕ))
+  pub next : (v w : Party) (payload message : List ℕ) (xs : List (List ℕ))
       → IsValid v.pattern → Counterparts v w → Writes v payload xs message
       → Counterparts (after_own v xs payload) (after_message w xs payload)
-  pub turned : (v w : View) → Counterparts v w → Counterparts w v
-  pub known : (v w : View) → Counterparts v w → v.remote ≡ shown_after v.pattern (other v.role) v.passed w.own
+  pub turned : (v w : Party) → Counterparts v w → Counterparts w v
+  pub known : (v w : Party) → Counterparts v w → v.remote ≡ shown_after v.pattern (other v.role) v.passed w.own
   pub answer : (agree : Own → List ℕ → Option (List ℕ)) (x : Own) (role : Role) (e s : Bool)
       (theirs : Own → Option (List ℕ)) (t : Token) (answer : List ℕ)
-      → answered agree x (remote_at role (keys_if e s theirs) t) ≡ Some answer
-      → answered agree x (remote_at role (public_keys theirs) t) ≡ Some answer
-  pub starts : (p : Plan) (prologue : List ℕ) (secrets : List (List ℕ)) (own theirs : Own → Option (List ℕ))
+      → dh_result_of agree x (remote_at role (keys_if e s theirs) t) ≡ Some answer
+      → dh_result_of agree x (remote_at role (public_keys theirs) t) ≡ Some answer
+  pub starts : (p : Plan) (prologue : List ℕ) (psks : List (List ℕ)) (own theirs : Own → Option (List ℕ))
       (agree their_agree : Own → List ℕ → Option (List ℕ)) (known their_known : Remote)
       → known ≡ shown_before p Responder theirs → their_known ≡ shown_before p Initiator own
       → AnswersMeet p Initiator own agree theirs their_agree
-      → Counterparts (begun p Initiator prologue own agree known secrets)
-      (begun p Responder prologue theirs their_agree their_known secrets)
-  pub due : (v w : View) (payload : List ℕ)
+      → Counterparts (party_at_start p Initiator prologue own agree known psks)
+      (party_at_start p Responder prologue theirs their_agree their_known psks)
+  pub due : (v w : Party) (payload : List ℕ)
       → IsValid v.pattern → Counterparts v w → IsEquipped v.pattern v.role v.own v.agree w.own → Speaks v → IsKeyed v
       → overhead_of v.pattern (v.passed + 1) + length payload ≤ 65535
       → (xs : List (List ℕ)) × (message : List ℕ) × Writes v payload xs message

@@ -1,5 +1,5 @@
 -- A whole conversation, in which no party has a state: what all messages are, from both parties' public keys, the DH
--- answers and the secrets (Noise 5.3, 9.2 and 13).
+-- DH results and the psks (Noise 5.3, 9.2 and 13).
 use Rattle.std.specs.Prelude.{◌≡◌, ℕ, ◌+◌, ◌≤◌, ◌<◌, List, [], ◌∷◌, ◌++◌, length, drop, take, count_by, map, Some, true, if◌then◌else◌, IsTrue, ⊤, None}
 use Rattle.std.specs.Prelude.{nat_lt, MatchBool, false, min}
 use Rattle.noise_names.specs.declared.token.Role.{Role}
@@ -17,61 +17,61 @@ use Rattle.noise_keys.specs.declared.keys.Own.{Own}
 use Rattle.noise_keys.specs.declared.keys.Own.TheVariants.{Ephemeral, Static}
 use Rattle.noise_handshake.specs.declared.remote.Remote.{Remote}
 use Rattle.noise_handshake.specs.Message.{message_bytes, after_payload}
-use Rattle.noise_handshake.specs.View.{start, tokens_at, first_secret, other_secrets, own_at, remote_at, answered}
-use Rattle.noise_handshake.specs.Setup.{has_before, secrets_of, token_of}
+use Rattle.noise_handshake.specs.Party.{start, tokens_at, first_psk, other_psks, own_at, remote_at, dh_result_of}
+use Rattle.noise_handshake.specs.Setup.{has_before, psks_of, token_of}
 use Rattle.noise_handshake.specs.Counterparts.{is_dh, shown_after}
 use Rattle.noise_session.specs.Counterparts.{EndCounterparts}
-use Rattle.noise_session.specs.Ends.{EndView, end_of}
-use Rattle.noise_session.specs.Steps.Told.{Payload}
+use Rattle.noise_session.specs.Ends.{EndState, end_of}
+use Rattle.noise_session.specs.Steps.StepValue.{Payload}
 use Rattle.noise_session.specs.Frames.{frame}
-use Rattle.noise_session.specs.Transport.{packet, last_nonce}
+use Rattle.noise_session.specs.Transport.{transport_message, last_nonce}
 use Rattle.noise_duel.specs.Messages.{HandshakeMessage, Start, begun_as, messages_of}
 use Rattle.noise_duel.specs.Sides.{Sides, side, new_side}
 use Rattle.noise_events.specs.Events.{Event, Say}
 use Rattle.noise_duel.specs.Notes.{Note, Wrote, Judged}
 use Rattle.noise_duel.specs.Runs.{Run}
 
--- the public keys of both parties, one answer for each DH token, and the secrets of the psk tokens, in their order
+-- the public keys of both parties, one DH result for each DH token, and the psks of the psk tokens, in their order
 pub record KeyMaterial : Type 0 where
   pub public : Role → Own → List ℕ
   pub answer : Token → List ℕ
-  pub secrets : List (List ℕ)
+  pub psks : List (List ℕ)
 
 -- what the tokens of a party's message carry (Noise 5.3, 9.2)
 abbrev pub carried_by : KeyMaterial → Role → List (List ℕ) → List Token → List (List ℕ)
-carried_by w party secrets [] = []
-carried_by w party secrets (E ∷ ts) = w.public party Ephemeral ∷ carried_by w party secrets ts
-carried_by w party secrets (S ∷ ts) = w.public party Static ∷ carried_by w party secrets ts
-carried_by w party secrets (Psk ∷ ts) = first_secret secrets ∷ carried_by w party (other_secrets secrets) ts
-carried_by w party secrets (t ∷ ts) = w.answer t ∷ carried_by w party secrets ts
+carried_by w party psks [] = []
+carried_by w party psks (E ∷ ts) = w.public party Ephemeral ∷ carried_by w party psks ts
+carried_by w party psks (S ∷ ts) = w.public party Static ∷ carried_by w party psks ts
+carried_by w party psks (Psk ∷ ts) = first_psk psks ∷ carried_by w party (other_psks psks) ts
+carried_by w party psks (t ∷ ts) = w.answer t ∷ carried_by w party psks ts
 
--- what message n carries, the history after it, and the secrets for the messages after it
+-- what message n carries, the history after it, and the psks for the messages after it
 abbrev pub carried_at : KeyMaterial → Plan → ℕ → List (List ℕ) → List (List ℕ)
-carried_at w p n secrets = carried_by w (turn_from Initiator n) secrets (tokens_at p.messages n)
+carried_at w p n psks = carried_by w (turn_from Initiator n) psks (tokens_at p.messages n)
 
 abbrev pub history_next : KeyMaterial → Plan → ℕ → List (List ℕ) → History → List ℕ → History
-history_next w p n secrets r payload =
-    after_payload (has_psk p) r (tokens_at p.messages n) (carried_at w p n secrets) payload
+history_next w p n psks r payload =
+    after_payload (has_psk p) r (tokens_at p.messages n) (carried_at w p n psks) payload
 
-abbrev pub secrets_next : Plan → ℕ → List (List ℕ) → List (List ℕ)
-secrets_next p n secrets = drop (count_by is_psk (tokens_at p.messages n)) secrets
+abbrev pub psks_next : Plan → ℕ → List (List ℕ) → List (List ℕ)
+psks_next p n psks = drop (count_by is_psk (tokens_at p.messages n)) psks
 
 -- the handshake messages from number n on, counted from 0, with these payloads (Noise 5.3)
 abbrev pub conversation : KeyMaterial → Plan → ℕ → List (List ℕ) → History → List (List ℕ) → List HandshakeMessage
-conversation w p n secrets r [] = []
-conversation w p n secrets r (payload ∷ payloads) =
+conversation w p n psks r [] = []
+conversation w p n psks r (payload ∷ payloads) =
     record {
-      message = message_bytes (has_psk p) r (tokens_at p.messages n) (carried_at w p n secrets) payload;
-      carried = carried_at w p n secrets;
+      message = message_bytes (has_psk p) r (tokens_at p.messages n) (carried_at w p n psks) payload;
+      carried = carried_at w p n psks;
       payload = payload;
     }
-    ∷ conversation w p (n + 1) (secrets_next p n secrets) (history_next w p n secrets r payload) payloads
+    ∷ conversation w p (n + 1) (psks_next p n psks) (history_next w p n psks r payload) payloads
 
 -- the history after them (Noise 5.3)
 abbrev pub after_conversation : KeyMaterial → Plan → ℕ → List (List ℕ) → History → List (List ℕ) → History
-after_conversation w p n secrets r [] = r
-after_conversation w p n secrets r (payload ∷ payloads) =
-    after_conversation w p (n + 1) (secrets_next p n secrets) (history_next w p n secrets r payload) payloads
+after_conversation w p n psks r [] = r
+after_conversation w p n psks r (payload ∷ payloads) =
+    after_conversation w p (n + 1) (psks_next p n psks) (history_next w p n psks r payload) payloads
 
 -- a party's public keys
 abbrev pub public_keys_in : KeyMaterial → Role → Remote
@@ -84,15 +84,15 @@ start_in w p prologue =
     (public_keys_in w Initiator) (public_keys_in w Responder)
 
 -- A party starts from its part of the key material: it has its own keys that the pattern asks for, the other party's of
--- its pre-message, the answer at each DH token, and the secrets.
+-- its pre-message, the DH result at each DH token, and the psks.
 pub record IsPart (w : KeyMaterial) (p : Plan) (role : Role) (prologue : List ℕ) (s : Start) : Type 0 where
   pub prologue_is : s.prologue ≡ prologue
   pub own : (k : Own) → is_among role (token_of k) (places_of p) ≡ true → s.own k ≡ Some (w.public role k)
   pub remote_e : s.remote.e ≡ (if has_before p (other role) E then Some (w.public (other role) Ephemeral) else None)
   pub remote_s : s.remote.s ≡ (if has_before p (other role) S then Some (w.public (other role) Static) else None)
   pub answers : (t : Token) → is_dh t ≡ true → occurs t (places_of p) ≡ true
-      → answered s.agree (own_at role t) (remote_at role (public_keys_in w (other role)) t) ≡ Some (w.answer t)
-  pub secrets : s.secrets ≡ w.secrets
+      → dh_result_of s.agree (own_at role t) (remote_at role (public_keys_in w (other role)) t) ≡ Some (w.answer t)
+  pub psks : s.psks ≡ w.psks
 
 -- Lines, a role and a payload each, in turn and not too long, from message n on: the handshake messages, and then
 -- transport messages, which in a one-way pattern the initiator alone writes (Noise 3, 7.4).
@@ -123,13 +123,14 @@ abbrev pub in_turn : ℕ → List (List ℕ) → List (Role × List ℕ)
 in_turn n [] = []
 in_turn n (m ∷ ms) = (turn_from Initiator n, m) ∷ in_turn (n + 1) ms
 
--- the transport messages of lines with their writers, after a history and so many packets of each (Noise 5.2)
-abbrev pub packets_of : History → ℕ → ℕ → ℕ → List (Role × List ℕ) → List (Role × List ℕ)
-packets_of r interval i j [] = []
-packets_of r interval i j (l ∷ lines) =
+-- the transport messages of lines with their writers, after a history and so many transport messages of each (Noise
+-- 5.2)
+abbrev pub transport_messages_of : History → ℕ → ℕ → ℕ → List (Role × List ℕ) → List (Role × List ℕ)
+transport_messages_of r interval i j [] = []
+transport_messages_of r interval i j (l ∷ lines) =
     (if same_role l.0 Initiator
-    then (Initiator, packet r Initiator interval i l.1) ∷ packets_of r interval (i + 1) j lines
-    else (Responder, packet r Responder interval j l.1) ∷ packets_of r interval i (j + 1) lines)
+    then (Initiator, transport_message r Initiator interval i l.1) ∷ transport_messages_of r interval (i + 1) j lines
+    else (Responder, transport_message r Responder interval j l.1) ∷ transport_messages_of r interval i (j + 1) lines)
 
 -- the frames of a role among messages with their writers
 abbrev pub frames_by : Role → List (Role × List ℕ) → List (List ℕ)
@@ -145,20 +146,20 @@ abbrev pub handshake_payloads : Plan → List (Role × List ℕ) → List (List 
 handshake_payloads p lines = payloads_in (length p.messages) lines
 
 abbrev pub handshake_in : KeyMaterial → Plan → List ℕ → List (Role × List ℕ) → List HandshakeMessage
-handshake_in w p prologue lines = conversation w p 0 w.secrets (start_in w p prologue) (handshake_payloads p lines)
+handshake_in w p prologue lines = conversation w p 0 w.psks (start_in w p prologue) (handshake_payloads p lines)
 
 abbrev pub history_in : KeyMaterial → Plan → List ℕ → List (Role × List ℕ) → History
-history_in w p prologue lines = after_conversation w p 0 w.secrets (start_in w p prologue) (handshake_payloads p lines)
+history_in w p prologue lines = after_conversation w p 0 w.psks (start_in w p prologue) (handshake_payloads p lines)
 
--- all messages of lines with their writers, the handshake's and then the packets
+-- all messages of lines with their writers, the handshake's and then the transport messages
 abbrev pub transcript : KeyMaterial → Plan → List ℕ → ℕ → List (Role × List ℕ) → List (Role × List ℕ)
 transcript w p prologue interval lines =
     in_turn 0 (messages_of (handshake_in w p prologue lines))
-    ++ packets_of (history_in w p prologue lines) interval 0 0 (drop (length p.messages) lines)
+    ++ transport_messages_of (history_in w p prologue lines) interval 0 0 (drop (length p.messages) lines)
 
 -- two new ends of one pattern, with these intervals
-abbrev pub facing : Plan → Start → Start → ℕ → ℕ → Sides
-facing p a b i j = record {
+abbrev pub sides_at_start : Plan → Start → Start → ℕ → ℕ → Sides
+sides_at_start p a b i j = record {
   initiator = new_side (end_of (begun_as p Initiator a) i);
   responder = new_side (end_of (begun_as p Responder b) j);
 }
@@ -171,9 +172,9 @@ pub record ComeThrough (w : KeyMaterial) (p : Plan) (prologue : List ℕ) (inter
   pub frames : (role : Role) → (side d role).frames ≡ frames_by role (transcript w p prologue interval lines)
   pub initiator : d.initiator.passed ≡ handshake_in w p prologue lines
   pub responder : d.responder.passed ≡ d.initiator.passed
-  pub history : d.initiator.view.party.history ≡ history_in w p prologue lines
-  pub count : d.initiator.view.party.passed ≡ length (handshake_payloads p lines)
-  pub ends : EndCounterparts d.initiator.view d.responder.view
+  pub history : d.initiator.state.party.history ≡ history_in w p prologue lines
+  pub count : d.initiator.state.party.passed ≡ length (handshake_payloads p lines)
+  pub ends : EndCounterparts d.initiator.state d.responder.state
   pub there : d.responder.received ≡ d.initiator.sent
   pub back : d.initiator.received ≡ d.responder.sent
 
@@ -184,7 +185,7 @@ lines_by role lines = count_by (λ l. same_role l.0 role) lines
 -- The end of a role that starts from this, and faces a party that starts from that, once lines have come through and
 -- this is the history: so many messages of the handshake have passed, the psks after theirs are to come, and the other
 -- lines were transport messages.
-abbrev pub end_after : Plan → Role → Start → Start → ℕ → History → List (Role × List ℕ) → EndView
+abbrev pub end_after : Plan → Role → Start → Start → ℕ → History → List (Role × List ℕ) → EndState
 end_after p role s theirs interval r lines =
     let passed : ℕ = min (length p.messages) (length lines) in
     let rest : List (Role × List ℕ) = drop (length p.messages) lines in
@@ -192,7 +193,7 @@ end_after p role s theirs interval r lines =
       party = record {
         pattern = p;
         role = role;
-        secrets = drop (secrets_of (take passed p.messages)) s.secrets;
+        psks = drop (psks_of (take passed p.messages)) s.psks;
         own = s.own;
         agree = s.agree;
         remote = shown_after p (other role) passed theirs.own;
@@ -203,7 +204,7 @@ end_after p role s theirs interval r lines =
       interval = interval;
       sent = lines_by role rest;
       received = lines_by (other role) rest;
-      held = [];
+      partial = [];
     }
 
 -- key material with public keys of 32 bytes, and two parties with their parts of it, in a valid pattern
@@ -219,7 +220,7 @@ abbrev pub LinesComeThrough : Type 0
 LinesComeThrough = (w : KeyMaterial) (p : Plan) (prologue : List ℕ) (a b : Start) (interval : ℕ)
     (lines : List (Role × List ℕ)) (notes : List (Role × Note)) (d : Sides)
     → HaveParts w p prologue a b → InTurn p 0 lines
-    → Run (facing p a b interval interval) (say_events lines) notes d
+    → Run (sides_at_start p a b interval interval) (say_events lines) notes d
     → (notes ≡ notes_of_lines 0 0 lines) × ComeThrough w p prologue interval lines d
 
 -- The two ends left are those after the lines.
@@ -227,12 +228,13 @@ abbrev pub LinesLeave : Type 0
 LinesLeave = (w : KeyMaterial) (p : Plan) (prologue : List ℕ) (a b : Start) (interval : ℕ)
     (lines : List (Role × List ℕ)) (notes : List (Role × Note)) (d : Sides)
     → HaveParts w p prologue a b → InTurn p 0 lines
-    → Run (facing p a b interval interval) (say_events lines) notes d
-    → (d.initiator.view ≡ end_after p Initiator a b interval (history_in w p prologue lines) lines)
-    × (d.responder.view ≡ end_after p Responder b a interval (history_in w p prologue lines) lines)
+    → Run (sides_at_start p a b interval interval) (say_events lines) notes d
+    → (d.initiator.state ≡ end_after p Initiator a b interval (history_in w p prologue lines) lines)
+    × (d.responder.state ≡ end_after p Responder b a interval (history_in w p prologue lines) lines)
 
 -- There is such a run.
 abbrev pub LinesRun : Type 0
 LinesRun = (w : KeyMaterial) (p : Plan) (prologue : List ℕ) (a b : Start) (interval : ℕ) (lines : List (Role × List ℕ))
     → HaveParts w p prologue a b → InTurn p 0 lines
-    → (notes : List (Role × Note)) × (d : Sides) × Run (facing p a b interval interval) (say_events lines) notes d
+    → (notes : List (Role × Note)) × (d : Sides)
+    × Run (sides_at_start p a b interval interval) (say_events lines) notes d

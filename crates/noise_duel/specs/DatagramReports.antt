@@ -2,8 +2,8 @@
 use Rattle.std.specs.Prelude.{◌&&◌, List, Bool, map}
 use Rattle.noise_names.specs.declared.token.Role.{Role}
 use Rattle.noise_events.specs.declared.window.Window.{Window}
-use Rattle.noise_session.specs.Datagrams.{HeldDatagrams, DatagramsStand, datagrams_of}
-use Rattle.noise_session.specs.Ends.{EndView}
+use Rattle.noise_session.specs.Datagrams.{DatagramsValue, DatagramsMatch, datagrams_of}
+use Rattle.noise_session.specs.Ends.{EndState}
 use Rattle.noise_session.specs.EndDatagrams.{is_datagram_ready}
 use Rattle.noise_duel.specs.declared.datagram_report.DatagramEntry.{DatagramEntry}
 use Rattle.noise_duel.specs.declared.datagram_report.DatagramEntry.TheVariants as entry
@@ -11,8 +11,8 @@ use Rattle.noise_duel.specs.declared.datagram_report.DatagramReport.{DatagramRep
 use Rattle.noise_events.specs.DatagramEvents.{DatagramEvent}
 use Rattle.noise_duel.specs.DatagramNotes.{DatagramNote, Sealed, SealFault, Payload, Rejected, Missing}
 use Rattle.noise_duel.specs.DatagramRuns.{DatagramRun}
-use Rattle.noise_duel.specs.DatagramSides.{DatagramSides, meeting}
-use Rattle.noise_duel.specs.HeldDuel.{HeldDuel}
+use Rattle.noise_duel.specs.DatagramSides.{DatagramSides, datagram_sides}
+use Rattle.noise_duel.specs.DuelValue.{DuelValue}
 
 -- the entries of code
 abbrev pub datagram_note_of : DatagramEntry → DatagramNote
@@ -26,26 +26,26 @@ abbrev pub datagram_notes_of : List (Role × DatagramEntry) → List (Role × Da
 datagram_notes_of entries = map (λ e. (e.0, datagram_note_of e.1)) entries
 
 -- the datagrams of two parties as contracts see them
-pub record HeldDatagramDuel : Type 0 where
-  pub initiator : HeldDatagrams
-  pub responder : HeldDatagrams
+pub record DatagramDuelValue : Type 0 where
+  pub initiator : DatagramsValue
+  pub responder : DatagramsValue
 
 -- whether both ends may go over to datagrams
-abbrev pub are_datagram_ready : {A B : Type 0} → HeldDuel A B → Bool
+abbrev pub are_datagram_ready : {A B : Type 0} → DuelValue A B → Bool
 are_datagram_ready duel = is_datagram_ready duel.initiator && is_datagram_ready duel.responder
 
--- the datagrams of two parties whose ends have these views, before a run
-abbrev pub meeting_as : EndView → EndView → Window → DatagramSides
-meeting_as v w window = meeting (datagrams_of v.party window) (datagrams_of w.party window)
+-- the datagrams of two parties whose ends have these states, before a run
+abbrev pub datagram_sides_of : EndState → EndState → Window → DatagramSides
+datagram_sides_of v w window = datagram_sides (datagrams_of v.party window) (datagrams_of w.party window)
 
--- each holds what its view says
-pub record DatagramDuelStands (duel : HeldDatagramDuel) (d : DatagramSides) : Type 0 where
-  pub initiator : DatagramsStand duel.initiator d.initiator.view
-  pub responder : DatagramsStand duel.responder d.responder.view
+-- each matches its state
+pub record DatagramDuelMatches (duel : DatagramDuelValue) (d : DatagramSides) : Type 0 where
+  pub initiator : DatagramsMatch duel.initiator d.initiator.state
+  pub responder : DatagramsMatch duel.responder d.responder.state
 
--- The report tells what a run makes of the two, and those left picture the views after it.
-pub record DatagramReports (d : DatagramSides) (events : List DatagramEvent) (duel : HeldDatagramDuel)
+-- The report reports what a run makes of the two, and those left picture the states after it.
+pub record DatagramReports (d : DatagramSides) (events : List DatagramEvent) (duel : DatagramDuelValue)
     (report : DatagramReport) : Type 0 where
   pub last : DatagramSides
   pub run : DatagramRun d events (datagram_notes_of report.entries.items) last
-  pub pictures : DatagramDuelStands duel last
+  pub pictures : DatagramDuelMatches duel last

@@ -7,25 +7,25 @@ use Rattle.noise_session.specs.declared.datagram_fault.DatagramFault.{DatagramFa
 use Rattle.noise_session.specs.Datagrams.{Opens, accepting, datagram, nonce_named, unsealed}
 use Rattle.noise_events.specs.DatagramEvents.{DatagramEvent, Seal, Open, Raw}
 use Rattle.noise_duel.specs.DatagramNotes.{DatagramNote, Sealed, SealFault, Payload, Rejected, Missing}
-use Rattle.noise_duel.specs.DatagramSides.{DatagramSide, DatagramSides, datagrams_in, opening, party, sealing, with_party}
+use Rattle.noise_duel.specs.DatagramSides.{DatagramSide, DatagramSides, sealed_datagrams, opening, party, sealing, with_party}
 
 -- A party seals a payload at the count of its seals, or doesn't (Noise 5.1, 7.4 and 11.4).
 pub data PartySeals : DatagramSide → List ℕ → DatagramNote → DatagramSide → Type 0 where
   seals : (s : DatagramSide) (payload : List ℕ)
-      → unsealed s.view.role s.view.one_way s.view.sent (length payload) ≡ None
-      → PartySeals s payload (Sealed (length s.sealed) (datagram s.view.history s.view.role s.view.sent payload))
+      → unsealed s.state.role s.state.one_way s.state.sent (length payload) ≡ None
+      → PartySeals s payload (Sealed (length s.sealed) (datagram s.state.history s.state.role s.state.sent payload))
       (sealing s payload)
   seals_nothing : (s : DatagramSide) (payload : List ℕ) (why : SendFault)
-      → unsealed s.view.role s.view.one_way s.view.sent (length payload) ≡ Some why
+      → unsealed s.state.role s.state.one_way s.state.sent (length payload) ≡ Some why
       → PartySeals s payload (SealFault why) s
 
 -- A party opens bytes as one datagram, or doesn't (Noise 11.4).
 pub data PartyOpens : DatagramSide → List ℕ → DatagramNote → DatagramSide → Type 0 where
   opens : (s : DatagramSide) (bytes payload : List ℕ)
-      → Opens s.view bytes (Ok payload) (accepting s.view (nonce_named bytes))
+      → Opens s.state bytes (Ok payload) (accepting s.state (nonce_named bytes))
       → PartyOpens s bytes (Payload payload) (opening s bytes payload)
   rejects : (s : DatagramSide) (bytes : List ℕ) (why : DatagramFault)
-      → Opens s.view bytes (Err why) s.view → PartyOpens s bytes (Rejected why) s
+      → Opens s.state bytes (Err why) s.state → PartyOpens s bytes (Rejected why) s
 
 -- One event, what is noted of it, and the two parties after it.
 pub data DatagramHappens : DatagramSides → DatagramEvent → Role × DatagramNote → DatagramSides → Type 0 where
@@ -33,9 +33,9 @@ pub data DatagramHappens : DatagramSides → DatagramEvent → Role × DatagramN
       → PartySeals (party d role) payload note next
       → DatagramHappens d (Seal role payload) (role, note) (with_party d role next)
   is_delivered : (d : DatagramSides) (role : Role) (n : ℕ) (bytes : List ℕ) (note : DatagramNote) (next : DatagramSide)
-      → slice_get (datagrams_in (party d (other role))) n ≡ Some bytes → PartyOpens (party d role) bytes note next
+      → slice_get (sealed_datagrams (party d (other role))) n ≡ Some bytes → PartyOpens (party d role) bytes note next
       → DatagramHappens d (Open role n) (role, note) (with_party d role next)
-  is_missing : (d : DatagramSides) (role : Role) (n : ℕ) → slice_get (datagrams_in (party d (other role))) n ≡ None
+  is_missing : (d : DatagramSides) (role : Role) (n : ℕ) → slice_get (sealed_datagrams (party d (other role))) n ≡ None
       → DatagramHappens d (Open role n) (role, Missing n) d
   is_put_in : (d : DatagramSides) (role : Role) (bytes : List ℕ) (note : DatagramNote) (next : DatagramSide)
       → PartyOpens (party d role) bytes note next

@@ -3,15 +3,15 @@ use Rattle.std.specs.Prelude.{ℕ, List, Vec, Result, Ok, Err, map}
 use Rattle.std.specs.Global.{Global}
 use Rattle.noise_names.specs.declared.token.Role.{Role}
 use Rattle.noise_session.specs.declared.faults.SendFault.{SendFault}
-use Rattle.noise_session.specs.Steps.{Told}
-use Rattle.noise_session.specs.Steps.Told.{Ended, YourTurn, Silent, Payload, Dropped, Refused, Exhausted}
+use Rattle.noise_session.specs.Steps.{StepValue}
+use Rattle.noise_session.specs.Steps.StepValue.{Ended, YourTurn, Silent, Payload, Dropped, Refused, Exhausted}
 use Rattle.noise_duel.specs.declared.entry.Entry.{Entry}
 use Rattle.noise_duel.specs.declared.entry.Entry.TheVariants as entry
 use Rattle.noise_duel.specs.declared.entry.Idle.{Idle}
 use Rattle.noise_duel.specs.declared.entry.Idle.TheVariants as idle
 use Rattle.noise_duel.specs.Notes.{Note, Wrote, WriteFault, Judged, Left, Missing, Held}
 
-abbrev pub step_of : Idle → Told
+abbrev pub step_of : Idle → StepValue
 step_of idle.YourTurn = YourTurn
 step_of idle.Silent = Silent
 step_of idle.Ended = Ended

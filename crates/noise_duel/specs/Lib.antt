@@ -15,7 +15,7 @@ pub mod OwnFrames
 pub mod Entries
 pub mod Receiving
 pub mod OneEnd
-pub mod HeldDuel
+pub mod DuelValue
 pub mod OneEvent
 pub mod Reports
 pub mod DatagramNotes

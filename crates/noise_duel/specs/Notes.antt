@@ -2,18 +2,18 @@
 use Rattle.std.specs.Prelude.{ℕ, zero, suc, List, [], ◌∷◌, map}
 use Rattle.noise_names.specs.declared.token.Role.{Role}
 use Rattle.noise_session.specs.declared.faults.SendFault.{SendFault}
-use Rattle.noise_session.specs.Steps.{Told}
+use Rattle.noise_session.specs.Steps.{StepValue}
 
 pub data Note : Type 0 where
   Wrote : ℕ → Note  -- the frame's number
   WriteFault : SendFault → Note
-  Judged : Told → Note  -- a payload, or a refused frame
-  Left : Told → ℕ → Note  -- so many bytes come to an end that doesn't listen, and are lost
+  Judged : StepValue → Note  -- a payload, or a refused frame
+  Left : StepValue → ℕ → Note  -- so many bytes come to an end that doesn't listen, and are lost
   Missing : ℕ → Note  -- no frame of this number was written
   Held : ℕ → Note  -- so many bytes of an unfinished frame
 
 -- what is noted of bytes that are lost, and of bytes that are held; nothing where there are none
-abbrev pub left_note : Told → ℕ → List Note
+abbrev pub left_note : StepValue → ℕ → List Note
 left_note step zero = []
 left_note step (suc n) = Left step (suc n) ∷ []
 

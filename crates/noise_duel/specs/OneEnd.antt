@@ -4,7 +4,7 @@ use Rattle.std.specs.Global.{Global}
 use Rattle.noise_names.specs.declared.token.Role.{Role}
 use Rattle.noise_keys.specs.declared.keys.Own.{Own}
 use Rattle.noise_session.specs.declared.faults.SendFault.{SendFault}
-use Rattle.noise_session.specs.Ends.{HeldEnd, EndStands}
+use Rattle.noise_session.specs.Ends.{EndValue, EndMatches}
 use Rattle.noise_duel.specs.declared.entry.Entry.{Entry}
 use Rattle.noise_duel.specs.Entries.{bytes_of, notes_of, written_note}
 use Rattle.noise_duel.specs.Notes.{Note, held_note, noted_by}
@@ -13,19 +13,19 @@ use Rattle.noise_duel.specs.Runs.{SideWrites, SideReceives}
 
 module _ {K : Type 0} (public_of : K → Own → Option (List ℕ)) (agreement : K → Own → List ℕ → Option (List ℕ)) where
   -- After a write at this side the end and the frames are those of another one.
-  pub record HasWritten (s : Side) (payload : List ℕ) (told : Result ℕ SendFault) (end : HeldEnd K)
+  pub record HasWritten (s : Side) (payload : List ℕ) (reported : Result ℕ SendFault) (end : EndValue K)
       (frames : List (Vec ℕ Global)) : Type 0 where
     pub next : Side
-    pub writes : SideWrites s payload (written_note told) next
-    pub stands : EndStands public_of agreement end next.view
+    pub writes : SideWrites s payload (written_note reported) next
+    pub matches : EndMatches public_of agreement end next.state
     pub frames_are : bytes_of frames ≡ next.frames
 
   -- After bytes that came to this side the end is that of another one, and the entries report them.
-  pub record HasReceived (s : Side) (role : Role) (bytes : List ℕ) (end : HeldEnd K)
+  pub record HasReceived (s : Side) (role : Role) (bytes : List ℕ) (end : EndValue K)
       (before after : List (Role × Entry)) : Type 0 where
     pub next : Side
     pub notes : List Note
     pub receives : SideReceives s bytes notes next
-    pub stands : EndStands public_of agreement end next.view
+    pub matches : EndMatches public_of agreement end next.state
     pub frames : next.frames ≡ s.frames
-    pub told : notes_of after ≡ notes_of before ++ noted_by role (notes ++ held_note (length next.view.held))
+    pub reported : notes_of after ≡ notes_of before ++ noted_by role (notes ++ held_note (length next.state.partial))

@@ -10,21 +10,21 @@ use Rattle.noise_keys.specs.declared.keys.Own.TheVariants.{Static}
 use Rattle.noise_handshake.specs.Passed.{passed_places}
 use Rattle.noise_session.specs.declared.phase.Phase.{Phase}
 use Rattle.noise_session.specs.declared.phase.Phase.TheVariants as phase
-use Rattle.noise_session.specs.Ends.{EndView, EndStands, hash_in, remote_static_in}
+use Rattle.noise_session.specs.Ends.{EndState, EndMatches, hash_in, remote_static_in}
 use Rattle.noise_duel.specs.declared.report.Report.{Report}
 use Rattle.noise_duel.specs.Agreement.{VisiblyEqual}
-use Rattle.noise_duel.specs.Conversation.{KeyMaterial, ComeThrough, end_after, facing, frames_by, handshake_payloads, history_in, notes_of_lines, transcript}
+use Rattle.noise_duel.specs.Conversation.{KeyMaterial, ComeThrough, HaveParts, InTurn, end_after, sides_at_start, frames_by, handshake_payloads, history_in, notes_of_lines, transcript}
 use Rattle.noise_duel.specs.Entries.{bytes_of, notes_of}
 use Rattle.noise_events.specs.Events.{Event}
-use Rattle.noise_duel.specs.HeldDuel.{HeldDuel, DuelStands, HasFrames, facing_as}
+use Rattle.noise_duel.specs.DuelValue.{DuelValue, DuelMatches, HasFrames, both_sides}
 use Rattle.noise_duel.specs.Invariant.{ComesOfMessages}
 use Rattle.noise_duel.specs.Messages.{Start, begun_as, HaveSameKeysBefore, messages_of}
-use Rattle.noise_duel.specs.Networks.{HaveOneHash, HaveOneHistory, HistoriesCollide, PayloadsAgree, ShareSecrets, UsedSameSecrets}
+use Rattle.noise_duel.specs.Networks.{HaveOneHash, HaveOneHistory, HistoriesCollide, PayloadsAgree, SharePsks, UsedSamePsks}
 use Rattle.noise_duel.specs.OwnFrames.{FramesAreOwn}
 use Rattle.noise_duel.specs.Runs.{Run}
 use Rattle.noise_duel.specs.Sides.{Sides}
 
--- What holds at the end of a run of two new ends of one pattern, over any network; their prologues, keys, secrets and
+-- What holds at the end of a run of two new ends of one pattern, over any network; their prologues, keys, psks and
 -- intervals may differ.
 pub record EndsAgree (p : Plan) (a b : Start) (i j : ℕ) (last : Sides) : Type 0 where
   -- each end is what the messages made of it that it wrote and accepted, and its frames are those of its own messages
@@ -34,17 +34,17 @@ pub record EndsAgree (p : Plan) (a b : Start) (i j : ℕ) (last : Sides) : Type 
   pub responder_frames : FramesAreOwn last.responder
   -- with equal hashes: the conversation is the same as far as it can be seen, or two hashed texts collide
   pub seen : HaveOneHash last → VisiblyEqual p a b last.initiator.passed last.responder.passed ⊎ HistoriesCollide last
-  -- Conversely: where it is the same as far as it can be seen, with the same secrets and answers, there is one history,
+  -- Conversely: where it is the same as far as it can be seen, with the same psks and DH results, there is one history,
   -- and so one hash.
   pub back : a.prologue ≡ b.prologue → HaveSameKeysBefore p a b
       → messages_of last.initiator.passed ≡ messages_of last.responder.passed
-      → UsedSameSecrets p a b last → HaveOneHistory last
-  -- With equal hashes and the same secrets: all of the conversation is the same, what travelled encrypted too, or two
+      → UsedSamePsks p a b last → HaveOneHistory last
+  -- With equal hashes and the same psks: all of the conversation is the same, what travelled encrypted too, or two
   -- hashed texts collide.
-  pub one : HaveOneHash last → ShareSecrets p a b last → HaveOneHistory last ⊎ HistoriesCollide last
+  pub one : HaveOneHash last → SharePsks p a b last → HaveOneHistory last ⊎ HistoriesCollide last
   -- And with equal intervals: each end's accepted payloads are the first of those that the other wrote, in order, up to
   -- a forged message.
-  pub payloads : i ≡ j → HaveOneHash last → ShareSecrets p a b last → PayloadsAgree i last ⊎ HistoriesCollide last
+  pub payloads : i ≡ j → HaveOneHash last → SharePsks p a b last → PayloadsAgree i last ⊎ HistoriesCollide last
 
 -- a party's static key, where its pre-message or one of the first so many messages has it
 abbrev pub static_shown : KeyMaterial → Plan → Role → ℕ → Option (List ℕ)
@@ -61,43 +61,43 @@ receive_key_in _ = None
 
 module _ {A B : Type 0} (public_a : A → Own → Option (List ℕ)) (agreement_a : A → Own → List ℕ → Option (List ℕ))
     (public_b : B → Own → Option (List ℕ)) (agreement_b : B → Own → List ℕ → Option (List ℕ)) where
-  -- The report tells what a run makes of two ends, and the ends left stand for the views after it.
-  pub record Reports (d : Sides) (events : List Event) (duel : HeldDuel A B) (report : Report) : Type 0 where
+  -- The report reports what a run makes of two ends, and the ends left match the states after it.
+  pub record Reports (d : Sides) (events : List Event) (duel : DuelValue A B) (report : Report) : Type 0 where
     pub last : Sides
     pub run : Run d events (notes_of report.entries.items) last
     pub frames : HasFrames report last
-    pub stands : DuelStands public_a agreement_a public_b agreement_b duel last
+    pub matches : DuelMatches public_a agreement_a public_b agreement_b duel last
 
-  -- Whatever the views of two ends, the report and the ends left are those of the run of these events.
-  abbrev pub ReportsRun : {E : Type 0} → List Event → HeldDuel A B → Result (HeldDuel A B × Report) E → Type 0
-  ReportsRun events duel result = (v w : EndView)
-      → DuelStands public_a agreement_a public_b agreement_b duel (facing_as v w)
-      → IfOk result (λ r. Reports (facing_as v w) events r.0 r.1)
+  -- Whatever the states of two ends, the report and the ends left are those of the run of these events.
+  abbrev pub ReportsRun : {E : Type 0} → List Event → DuelValue A B → Result (DuelValue A B × Report) E → Type 0
+  ReportsRun events duel result = (v w : EndState)
+      → DuelMatches public_a agreement_a public_b agreement_b duel (both_sides v w)
+      → IfOk result (λ r. Reports (both_sides v w) events r.0 r.1)
 
   -- Where they are two new ends of one pattern, they agree at the end of that run.
-  abbrev pub AgreesInRun : {E : Type 0} → List Event → HeldDuel A B → Result (HeldDuel A B × Report) E → Type 0
+  abbrev pub AgreesInRun : {E : Type 0} → List Event → DuelValue A B → Result (DuelValue A B × Report) E → Type 0
   AgreesInRun events duel result = (p : Plan) (a b : Start) (i j : ℕ)
-      → DuelStands public_a agreement_a public_b agreement_b duel (facing p a b i j)
-      → IfOk result (λ r. (left : Reports (facing p a b i j) events r.0 r.1) × EndsAgree p a b i j left.last)
+      → DuelMatches public_a agreement_a public_b agreement_b duel (sides_at_start p a b i j)
+      → IfOk result (λ r. (left : Reports (sides_at_start p a b i j) events r.0 r.1) × EndsAgree p a b i j left.last)
 
   -- All lines have come through: the report has just each line as written and then as accepted, with its payload, and
   -- the frames of the transcript. The ends left are those after the lines, with one history, and so with equal hashes
   -- and keys, and each knows the other's static key once it was shown.
   pub record HaveComeThrough (w : KeyMaterial) (p : Plan) (prologue : List ℕ) (a b : Start) (interval : ℕ)
-      (lines : List (Role × List ℕ)) (duel : HeldDuel A B) (report : Report) : Type 0 where
+      (lines : List (Role × List ℕ)) (duel : DuelValue A B) (report : Report) : Type 0 where
     pub entries : notes_of report.entries.items ≡ notes_of_lines 0 0 lines
     pub initiator_frames : bytes_of report.initiator.items
         ≡ frames_by Initiator (transcript w p prologue interval lines)
     pub responder_frames : bytes_of report.responder.items
         ≡ frames_by Responder (transcript w p prologue interval lines)
-    pub initiator : EndStands public_a agreement_a duel.initiator
+    pub initiator : EndMatches public_a agreement_a duel.initiator
         (end_after p Initiator a b interval (history_in w p prologue lines) lines)
-    pub responder : EndStands public_b agreement_b duel.responder
+    pub responder : EndMatches public_b agreement_b duel.responder
         (end_after p Responder b a interval (history_in w p prologue lines) lines)
     pub last : Sides
-    pub stands : DuelStands public_a agreement_a public_b agreement_b duel last
+    pub matches : DuelMatches public_a agreement_a public_b agreement_b duel last
     pub through : ComeThrough w p prologue interval lines last
-    pub history : last.responder.view.party.history ≡ last.initiator.view.party.history
+    pub history : last.responder.state.party.history ≡ last.initiator.state.party.history
     pub hash : hash_in duel.responder.phase ≡ hash_in duel.initiator.phase
     pub keys_there : receive_key_in duel.responder.phase ≡ send_key_in duel.initiator.phase
     pub keys_back : receive_key_in duel.initiator.phase ≡ send_key_in duel.responder.phase
@@ -105,3 +105,11 @@ module _ {A B : Type 0} (public_a : A → Own → Option (List ℕ)) (agreement_
         ≡ static_shown w p Responder (length (handshake_payloads p lines))
     pub responder_knows : remote_static_in duel.responder.phase
         ≡ static_shown w p Initiator (length (handshake_payloads p lines))
+
+  -- Where they are two new ends with their parts of one key material, and the lines are in turn, all come through.
+  abbrev pub AllComeThrough : {E : Type 0} → List (Role × List ℕ) → DuelValue A B → Result (DuelValue A B × Report) E
+      → Type 0
+  AllComeThrough lines duel result = (w : KeyMaterial) (p : Plan) (prologue : List ℕ) (a b : Start) (interval : ℕ)
+      → HaveParts w p prologue a b → InTurn p 0 lines
+      → DuelMatches public_a agreement_a public_b agreement_b duel (sides_at_start p a b interval interval)
+      → IfOk result (λ r. HaveComeThrough w p prologue a b interval lines r.0 r.1)

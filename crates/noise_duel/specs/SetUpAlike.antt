@@ -6,7 +6,7 @@ use Rattle.noise_names.specs.declared.token.Token.{Token}
 use Rattle.noise_names.specs.Plan.{Plan, places_of}
 use Rattle.noise_names.specs.Validity.{occurs, IsValid}
 use Rattle.noise_keys.specs.declared.keys.Own.{Own}
-use Rattle.noise_handshake.specs.View.{answered, own_at, remote_at}
+use Rattle.noise_handshake.specs.Party.{dh_result_of, own_at, remote_at}
 use Rattle.noise_handshake.specs.Setup.{public_keys}
 use Rattle.noise_handshake.specs.Counterparts.{is_dh, shown_before}
 use Rattle.noise_duel.specs.Messages.{Start}
@@ -20,7 +20,7 @@ pub record AreSetUpAlike (p : Plan) (prologue : List ℕ) (a b : Start) : Type 0
   pub responder : IsSetUp p Responder b
   pub prologue_is : a.prologue ≡ prologue
   pub prologue_too : b.prologue ≡ prologue
-  pub secrets : b.secrets ≡ a.secrets
+  pub psks : b.psks ≡ a.psks
   pub known : a.remote ≡ shown_before p Responder b.own
   pub known_too : b.remote ≡ shown_before p Initiator a.own
   pub keys : KeysAgree a b
@@ -29,31 +29,31 @@ pub record AreSetUpAlike (p : Plan) (prologue : List ℕ) (a b : Start) : Type 0
 abbrev pub HasLongKeys : Start → Type 0
 HasLongKeys s = (x : Own) (k : List ℕ) → s.own x ≡ Some k → length k ≡ 32
 
--- both parties have an answer at each DH of the pattern
+-- both parties have a DH result at each DH of the pattern
 abbrev pub HasAnswers : Plan → Start → Start → Type 0
 HasAnswers p a b = (t : Token) → is_dh t ≡ true → occurs t (places_of p) ≡ true
-    → (is_some (answered a.agree (own_at Initiator t) (remote_at Initiator (public_keys b.own) t)) ≡ true)
-    × (is_some (answered b.agree (own_at Responder t) (remote_at Responder (public_keys a.own) t)) ≡ true)
+    → (is_some (dh_result_of a.agree (own_at Initiator t) (remote_at Initiator (public_keys b.own) t)) ≡ true)
+    × (is_some (dh_result_of b.agree (own_at Responder t) (remote_at Responder (public_keys a.own) t)) ≡ true)
 
--- The key material of two parties: both parties' public keys, the initiator's answer at each DH token, and the psks. 32
--- zeros stand for a key that there isn't, and no bytes for an answer: no message of a pattern that the parties are set
+-- The key material of two parties: both parties' public keys, the initiator's DH result at each DH token, and the psks.
+-- 32 zeros are a key that there isn't, and no bytes for a DH result: no message of a pattern that the parties are set
 -- up for has them.
-abbrev pub no_key : List ℕ
-no_key = replicate 32 0
+abbrev pub absent_key : List ℕ
+absent_key = replicate 32 0
 
-abbrev pub public_in : Start → Start → Role → Own → List ℕ
-public_in a b Initiator x = unwrap_or (a.own x) no_key
-public_in a b Responder x = unwrap_or (b.own x) no_key
+abbrev pub public_key_or_zeros : Start → Start → Role → Own → List ℕ
+public_key_or_zeros a b Initiator x = unwrap_or (a.own x) absent_key
+public_key_or_zeros a b Responder x = unwrap_or (b.own x) absent_key
 
 abbrev pub material_of : Start → Start → KeyMaterial
 material_of a b = record {
-  public = public_in a b;
-  answer = λ t. unwrap_or (answered a.agree (own_at Initiator t) (remote_at Initiator (public_keys b.own) t)) [];
-  secrets = a.secrets;
+  public = public_key_or_zeros a b;
+  answer = λ t. unwrap_or (dh_result_of a.agree (own_at Initiator t) (remote_at Initiator (public_keys b.own) t)) [];
+  psks = a.psks;
 }
 
 -- public keys of 32 bytes, and each party has its part of the key material
-pub record AreParts (p : Plan) (prologue : List ℕ) (a b : Start) : Type 0 where
+pub record HaveOneMaterial (p : Plan) (prologue : List ℕ) (a b : Start) : Type 0 where
   pub long : (role : Role) (k : Own) → length ((material_of a b).public role k) ≡ 32
   pub initiator : IsPart (material_of a b) p Initiator prologue a
   pub responder : IsPart (material_of a b) p Responder prologue b
@@ -61,4 +61,4 @@ pub record AreParts (p : Plan) (prologue : List ℕ) (a b : Start) : Type 0 wher
 -- Two parties of a valid pattern that are set up alike have their parts of one key material.
 abbrev pub AlikeAreParts : Type 0
 AlikeAreParts = (p : Plan) (prologue : List ℕ) (a b : Start) → IsValid p → AreSetUpAlike p prologue a b
-    → HasLongKeys a → HasLongKeys b → HasAnswers p a b → AreParts p prologue a b
+    → HasLongKeys a → HasLongKeys b → HasAnswers p a b → HaveOneMaterial p prologue a b

@@ -2,13 +2,13 @@
 #![tactic(auto)]
 
 ghost use Rattle.std.specs.Prelude.{◌≡◌, IfOk};
-ghost use Rattle.noise_session.specs.Datagrams.{DatagramView};
+ghost use Rattle.noise_session.specs.Datagrams.{DatagramState};
 ghost use Rattle.noise_duel.specs.DatagramAgreement.{DatagramsAgree, HaveOneBeginning};
 ghost use Rattle.noise_events.specs.DatagramEvents.{Open, Raw, Seal};
 ghost use Rattle.noise_events.specs.DatagramEvents.{datagram_event_of, datagram_events_of};
-ghost use Rattle.noise_duel.specs.DatagramReports.{DatagramReports, DatagramDuelStands};
-ghost use Rattle.noise_duel.specs.DatagramSides.{DatagramSides, meeting};
-ghost use Rattle.noise_duel.specs.OneDatagram.{AreKept, DatagramHappened};
+ghost use Rattle.noise_duel.specs.DatagramReports.{DatagramReports, DatagramDuelMatches};
+ghost use Rattle.noise_duel.specs.DatagramSides.{DatagramSides, datagram_sides};
+ghost use Rattle.noise_duel.specs.OneDatagram.{AreUnchanged, DatagramHappened};
 
 use crate::datagram_laws::datagrams_agree;
 use crate::datagram_party::{open, open_numbered, seal};
@@ -27,9 +27,9 @@ pub struct DatagramDuel {
 }
 
 impl Model for DatagramDuel {
-    ghost use Rattle.noise_duel.specs.DatagramReports.{HeldDatagramDuel};
+    ghost use Rattle.noise_duel.specs.DatagramReports.{DatagramDuelValue};
 
-    ghost Value = { HeldDatagramDuel };
+    ghost Value = { DatagramDuelValue };
 
     ghost view = { λ d. record { initiator = d.initiator; responder = d.responder } };
 }
@@ -77,10 +77,10 @@ impl DatagramDuel {
         alloc: Global,
         events: &[DatagramEvent],
     ) -> Result<(DatagramDuel, DatagramReport), AllocError>
-        ensures reports { (v w : DatagramView) → DatagramDuelStands self (meeting v w)
-            → IfOk result (λ r. DatagramReports (meeting v w) (datagram_events_of events.now) r.0 r.1) }
-        ensures agrees { (v w : DatagramView) → DatagramDuelStands self (meeting v w) → HaveOneBeginning v w
-            → IfOk result (λ r. (left : DatagramReports (meeting v w) (datagram_events_of events.now) r.0 r.1)
+        ensures reports { (v w : DatagramState) → DatagramDuelMatches self (datagram_sides v w)
+            → IfOk result (λ r. DatagramReports (datagram_sides v w) (datagram_events_of events.now) r.0 r.1) }
+        ensures agrees { (v w : DatagramState) → DatagramDuelMatches self (datagram_sides v w) → HaveOneBeginning v w
+            → IfOk result (λ r. (left : DatagramReports (datagram_sides v w) (datagram_events_of events.now) r.0 r.1)
             × DatagramsAgree v.history left.last) }
     {
         let mut report = DatagramReport::new(alloc);
@@ -89,8 +89,8 @@ impl DatagramDuel {
             responder: Vec::new(alloc),
         };
         for event in events {
-            let told = self.apply(alloc, event, &mut sealed)?;
-            report.entries.push(told)?;
+            let reported = self.apply(alloc, event, &mut sealed)?;
+            report.entries.push(reported)?;
         }
         datagrams_agree();
         Ok((self, report))
@@ -103,8 +103,8 @@ impl DatagramDuel {
         event: &DatagramEvent,
         sealed: &mut SealedDatagrams,
     ) -> Result<(Role, DatagramEntry), AllocError>
-        ensures { (d : DatagramSides) → DatagramDuelStands self.old d → AreKept sealed.old d
-            → IfOk result (λ told. DatagramHappened d (datagram_event_of event.now) told self.new sealed.new) }
+        ensures { (d : DatagramSides) → DatagramDuelMatches self.old d → AreUnchanged sealed.old d
+            → IfOk result (λ reported. DatagramHappened d (datagram_event_of event.now) reported self.new sealed.new) }
     {
         match event {
             DatagramEvent::Seal(role, payload) => {
@@ -130,7 +130,7 @@ impl DatagramDuel {
         payload: &[u8],
         sealed: &mut SealedDatagrams,
     ) -> Result<DatagramEntry, AllocError>
-        ensures { (d : DatagramSides) → DatagramDuelStands self.old d → AreKept sealed.old d
+        ensures { (d : DatagramSides) → DatagramDuelMatches self.old d → AreUnchanged sealed.old d
             → IfOk result (λ entry. DatagramHappened d (Seal role payload.now) (role, entry) self.new sealed.new) }
     {
         match role {
@@ -147,7 +147,7 @@ impl DatagramDuel {
         number: usize,
         sealed: &SealedDatagrams,
     ) -> Result<DatagramEntry, AllocError>
-        ensures { (d : DatagramSides) → DatagramDuelStands self.old d → AreKept sealed.now d
+        ensures { (d : DatagramSides) → DatagramDuelMatches self.old d → AreUnchanged sealed.now d
             → IfOk result (λ entry. DatagramHappened d (Open role number) (role, entry) self.new sealed.now) }
     {
         match role {
@@ -169,7 +169,8 @@ impl DatagramDuel {
         role: Role,
         bytes: &[u8],
     ) -> Result<DatagramEntry, AllocError>
-        ensures { (d : DatagramSides) (sealed : SealedDatagrams) → DatagramDuelStands self.old d → AreKept sealed d
+        ensures { (d : DatagramSides) (sealed : SealedDatagrams) → DatagramDuelMatches self.old d
+            → AreUnchanged sealed d
             → IfOk result (λ entry. DatagramHappened d (Raw role bytes.now) (role, entry) self.new sealed) }
     {
         match role {

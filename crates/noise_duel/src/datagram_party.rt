@@ -2,20 +2,15 @@
 #![tactic(auto)]
 
 ghost use Rattle.std.specs.Prelude.{◌≡◌, ℕ, List, length, IfOk, slice_get};
-ghost use Rattle.noise_session.specs.Datagrams.{DatagramsStand};
-ghost use Rattle.noise_duel.specs.DatagramSides.{DatagramSide, datagrams_in};
+ghost use Rattle.noise_session.specs.Datagrams.{DatagramsMatch};
+ghost use Rattle.noise_duel.specs.DatagramSides.{DatagramSide, sealed_datagrams};
 ghost use Rattle.noise_duel.specs.Entries.{bytes_of};
 ghost use Rattle.noise_duel.specs.OneDatagram.{HasFound, HasOpened, HasSealed};
 
 use crate::datagram_report::DatagramEntry;
 use noise_session::Datagrams;
+use noise_session::limits::{DATAGRAM_OVERHEAD, PAYLOAD_MAX};
 use std::alloc::{AllocError, Global};
-
-// The bytes of a nonce and a tag.
-const OVERHEAD: usize = 24;
-
-// The longest payload in bytes.
-const PAYLOAD_MAX: usize = 65519;
 
 /// Seals a payload, keeps the datagram after those that were sealed before, and reports it.
 pub(crate) fn seal(
@@ -24,22 +19,22 @@ pub(crate) fn seal(
     payload: &[u8],
     sealed: &mut Vec<Vec<u8>>,
 ) -> Result<DatagramEntry, AllocError>
-    ensures { (s : DatagramSide) → DatagramsStand datagrams.old s.view → bytes_of sealed.old.items ≡ datagrams_in s
+    ensures { (s : DatagramSide) → DatagramsMatch datagrams.old s.state → bytes_of sealed.old.items ≡ sealed_datagrams s
         → IfOk result (λ entry. HasSealed s payload.now entry datagrams.new sealed.new.items) }
 {
     let room = if payload.len() > PAYLOAD_MAX {
         0
     } else {
-        payload.len() + OVERHEAD
+        payload.len() + DATAGRAM_OVERHEAD
     };
     let mut datagram = vec![in alloc; 0u8; room]?;
     match datagrams.seal(payload, datagram.as_mut_slice()) {
         Ok(len) => {
             let number = sealed.len();
             datagram.truncate(len);
-            let told = Vec::from_slice(alloc, datagram.as_slice())?;
+            let reported = Vec::from_slice(alloc, datagram.as_slice())?;
             sealed.push(datagram)?;
-            Ok(DatagramEntry::Sealed(number, told))
+            Ok(DatagramEntry::Sealed(number, reported))
         }
         Err(fault) => Ok(DatagramEntry::SealFault(fault)),
     }
@@ -51,7 +46,7 @@ pub(crate) fn open(
     datagrams: &mut Datagrams,
     bytes: &[u8],
 ) -> Result<DatagramEntry, AllocError>
-    ensures { (s : DatagramSide) → DatagramsStand datagrams.old s.view
+    ensures { (s : DatagramSide) → DatagramsMatch datagrams.old s.state
         → IfOk result (λ entry. HasOpened s bytes.now entry datagrams.new) }
 {
     let mut datagram = Vec::from_slice(alloc, bytes)?;
@@ -68,7 +63,7 @@ pub(crate) fn open_numbered(
     sealed: &[Vec<u8>],
     number: usize,
 ) -> Result<DatagramEntry, AllocError>
-    ensures { (s : DatagramSide) → DatagramsStand datagrams.old s.view
+    ensures { (s : DatagramSide) → DatagramsMatch datagrams.old s.state
         → IfOk result (λ entry. HasFound s number (slice_get (bytes_of sealed.now) number) entry datagrams.new) }
 {
     match sealed.get(number) {

@@ -1,34 +1,32 @@
 //! Two ends of a session, and what events make of them.
 #![tactic(auto)]
 
-ghost use Rattle.std.specs.Prelude.{◌≡◌, ◌↔◌, ℕ, List, IsOk, IfOk, IfErr, OnOk, slice_get, true};
+ghost use Rattle.std.specs.Prelude.{◌≡◌, ◌↔◌, IsOk, IfOk, IfErr, OnOk, slice_get, true};
 ghost use Rattle.noise_names.specs.declared.token.Role.TheVariants.{Initiator, Responder};
-ghost use Rattle.noise_names.specs.Plan.{Plan};
-ghost use Rattle.noise_session.specs.Ends.{EndView, EndStands, progress};
+ghost use Rattle.noise_session.specs.Ends.{EndState, EndMatches, progress};
 ghost use Rattle.noise_session.specs.Progress.{role_of};
 ghost use Rattle.noise_session.specs.EndDatagrams.{is_datagram_ready};
 ghost use Rattle.noise_events.specs.Events.{event_of, events_of};
-ghost use Rattle.noise_duel.specs.Acts.{lines_of};
-ghost use Rattle.noise_duel.specs.Conversation.{KeyMaterial, HaveParts, InTurn, facing, say_events};
-ghost use Rattle.noise_duel.specs.DatagramReports.{DatagramDuelStands, meeting_as};
+ghost use Rattle.noise_duel.specs.Acts.{roles_and_payloads};
+ghost use Rattle.noise_duel.specs.Conversation.{say_events};
+ghost use Rattle.noise_duel.specs.DatagramReports.{DatagramDuelMatches, datagram_sides_of};
 ghost use Rattle.noise_duel.specs.Entries.{bytes_of};
 ghost use Rattle.noise_events.specs.Events.{Deliver, Raw, Say};
-ghost use Rattle.noise_duel.specs.HeldDuel.{DuelStands, HasFrames, facing_as};
-ghost use Rattle.noise_duel.specs.Messages.{Start};
-ghost use Rattle.noise_duel.specs.OneEvent.{Applies, HasTaken, RoleWrote};
-ghost use Rattle.noise_duel.specs.Reports.{AgreesInRun, HaveComeThrough, ReportsRun};
-ghost use Rattle.noise_duel.specs.Sides.{Side, Sides};
+ghost use Rattle.noise_duel.specs.DuelValue.{DuelMatches, both_sides};
+ghost use Rattle.noise_duel.specs.OneEvent.{Applies, HasTaken, RoleWrites};
+ghost use Rattle.noise_duel.specs.Reports.{AgreesInRun, AllComeThrough, ReportsRun};
+ghost use Rattle.noise_duel.specs.Sides.{Side};
 
 use crate::datagram_duel::DatagramDuel;
 use crate::entry::Entry;
-use crate::laws::{ends_agree, ends_stand, lines_come_through};
+use crate::laws::{ends_agree, ends_match, lines_come_through};
 use crate::receiving::receive;
 use crate::report::Report;
 use crate::writing::write;
 use noise_events::{Cuts, Event};
 use noise_handshake::Keys;
 use noise_names::Role;
-use noise_session::{End, Window, end_is_told};
+use noise_session::{End, Window, end_is_reported};
 use std::alloc::{AllocError, Global};
 use std::marker::Model;
 
@@ -40,9 +38,9 @@ pub struct Duel<A: Keys, B: Keys> {
 }
 
 impl<A: Keys, B: Keys> Model for Duel<A, B> {
-    ghost use Rattle.noise_duel.specs.HeldDuel.{HeldDuel};
+    ghost use Rattle.noise_duel.specs.DuelValue.{DuelValue};
 
-    ghost Value = { HeldDuel A B };
+    ghost Value = { DuelValue A B };
 
     ghost view = { λ d. record { initiator = d.initiator; responder = d.responder } };
 }
@@ -93,7 +91,7 @@ impl<A: Keys, B: Keys> Duel<A, B> {
         for event in events {
             self.apply(alloc, event, &mut report)?;
         }
-        ends_stand();
+        ends_match();
         ends_agree();
         Ok((self, report))
     }
@@ -108,21 +106,18 @@ impl<A: Keys, B: Keys> Duel<A, B> {
         lines: &[(Role, Vec<u8>, Cuts)],
     ) -> Result<(Duel<A, B>, Report), AllocError>
         ensures reports { ReportsRun A.public_of A.agreement B.public_of B.agreement
-            (say_events (lines_of lines.now)) self result }
-        ensures comes_through { (w : KeyMaterial) (p : Plan) (prologue : List ℕ) (a b : Start) (interval : ℕ)
-            → HaveParts w p prologue a b → InTurn p 0 (lines_of lines.now)
-            → DuelStands A.public_of A.agreement B.public_of B.agreement self (facing p a b interval interval)
-            → IfOk result (λ r. HaveComeThrough A.public_of A.agreement B.public_of B.agreement
-            w p prologue a b interval (lines_of lines.now) r.0 r.1) }
+            (say_events (roles_and_payloads lines.now)) self result }
+        ensures comes_through { AllComeThrough A.public_of A.agreement B.public_of B.agreement
+            (roles_and_payloads lines.now) self result }
     {
         let mut report = Report::new(alloc);
         for (role, payload, cuts) in lines {
             self.say(alloc, *role, payload.as_slice(), cuts, &mut report)?;
         }
-        ends_stand();
+        ends_match();
         lines_come_through();
-        end_is_told::<A>();
-        end_is_told::<B>();
+        end_is_reported::<A>();
+        end_is_reported::<B>();
         Ok((self, report))
     }
 
@@ -131,9 +126,9 @@ impl<A: Keys, B: Keys> Duel<A, B> {
     pub fn into_datagrams(self, window: Window) -> Result<DatagramDuel, Duel<A, B>>
         ensures when { IsOk result
             ↔ ((is_datagram_ready self.initiator ≡ true) × (is_datagram_ready self.responder ≡ true)) }
-        ensures begun { (v w : EndView)
-            → DuelStands A.public_of A.agreement B.public_of B.agreement self (facing_as v w)
-            → IfOk result (λ duel. DatagramDuelStands duel (meeting_as v w window)) }
+        ensures begun { (v w : EndState)
+            → DuelMatches A.public_of A.agreement B.public_of B.agreement self (both_sides v w)
+            → IfOk result (λ duel. DatagramDuelMatches duel (datagram_sides_of v w window)) }
         ensures back { IfErr result (λ duel. duel ≡ self) }
     {
         if !(self.initiator.datagram_ready() && self.responder.datagram_ready()) {
@@ -168,7 +163,7 @@ impl<A: Keys, B: Keys> Duel<A, B> {
         }
     }
 
-    // This role writes a payload; the answer is its frame's number.
+    // This role writes a payload; the result is its frame's number.
     fn write(
         &mut self,
         alloc: Global,
@@ -176,16 +171,14 @@ impl<A: Keys, B: Keys> Duel<A, B> {
         payload: &[u8],
         report: &mut Report,
     ) -> Result<Option<usize>, AllocError>
-        ensures { (d : Sides) → DuelStands A.public_of A.agreement B.public_of B.agreement self.old d
-            → HasFrames report.old d
-            → IfOk result (λ number. RoleWrote A.public_of A.agreement B.public_of B.agreement
-            d role payload.now number self.new report.old report.new) }
+        ensures { RoleWrites A.public_of A.agreement B.public_of B.agreement
+            role payload.now self.old self.new report.old report.new result }
     {
-        let told = match role {
+        let reported = match role {
             Role::Initiator => write(alloc, &mut self.initiator, payload, &mut report.initiator)?,
             Role::Responder => write(alloc, &mut self.responder, payload, &mut report.responder)?,
         };
-        match told {
+        match reported {
             Ok(number) => {
                 report.entries.push((role, Entry::Wrote(number)))?;
                 Ok(Some(number))
@@ -296,7 +289,7 @@ fn take_frame<K: Keys>(
     cuts: &Cuts,
     entries: &mut Vec<(Role, Entry)>,
 ) -> Result<(), AllocError>
-    ensures { (s : Side) → EndStands K.public_of K.agreement end.old s.view
+    ensures { (s : Side) → EndMatches K.public_of K.agreement end.old s.state
         → OnOk result (HasTaken K.public_of K.agreement s role number
         (slice_get (bytes_of frames.now) number) end.new entries.old.items entries.new.items) }
 {

@@ -1,19 +1,19 @@
 //! Laws of two ends over any network.
 #![tactic(auto)]
 
-ghost use Rattle.noise_duel.specs.Agreement.{HashTells, SecretsTell, KeysTell, KnowEachOther, VisiblyEqualIsOne};
+ghost use Rattle.noise_duel.specs.Agreement.{HashReports, PsksReport, KeysReport, KnowEachOther, VisiblyEqualIsOne};
 ghost use Rattle.noise_duel.specs.Below.{LawsBelow};
-ghost use Rattle.noise_duel.specs.Clash.{ClashStands, ClashFound, ClashTold};
-ghost use Rattle.noise_duel.specs.Invariant.{EndsStand};
+ghost use Rattle.noise_duel.specs.Clash.{ClashIsCollision, ClashFound, ClashReported};
+ghost use Rattle.noise_duel.specs.Invariant.{EndsComeOfMessages};
 ghost use Rattle.noise_duel.specs.Conversation.{LinesComeThrough, LinesLeave, LinesRun};
 ghost use Rattle.noise_duel.specs.OwnFrames.{EndsFrame};
 ghost use Rattle.noise_duel.specs.Runs.{RunOnce};
 ghost use Rattle.noise_duel.specs.SetUpAlike.{AlikeAreParts};
-ghost use Rattle.noise_duel.specs.Networks.{HashesTell, VisiblyEqualGivesOne, SecretsMakeOne, PayloadsCome};
+ghost use Rattle.noise_duel.specs.Networks.{HashesReport, VisiblyEqualGivesOne, PsksMakeOne, PayloadsCome};
 
-use noise_handshake::{
+use noise_handshake::laws::{
     accepted_once, due_is_written, keys_carried, overhead_added, refused_once, setup_is_whole,
-    shown_is_known, starts_are_counterparts, tokens_stand, written_is_accepted, written_once,
+    shown_is_known, starts_are_counterparts, tokens_match, written_is_accepted, written_once,
 };
 use noise_session::sent_once;
 
@@ -27,7 +27,7 @@ fn laws_below()
     sent_once();
     overhead_added();
     keys_carried();
-    tokens_stand();
+    tokens_match();
     setup_is_whole();
     written_is_accepted();
     shown_is_known();
@@ -35,13 +35,12 @@ fn laws_below()
     due_is_written();
 }
 
-/// Two parties of one pattern with one hash had the same conversation as far as it can be seen (prologue, public keys
-/// of pre-messages, messages, public keys sent in clear), or two texts that they hashed collide. With the same secrets
-/// and DH answers, or with keys that agree, all of it is the same (Noise 11.2).
-pub fn hash_tells()
-    ensures seen { HashTells }
-    ensures whole { SecretsTell }
-    ensures keys { KeysTell }
+/// Two parties of one pattern with one hash had the same conversation as far as it can be seen, and all of it in common
+/// with the same psks and DH results; or two texts that they hashed collide (Noise 11.2).
+pub fn hash_reports()
+    ensures seen { HashReports }
+    ensures whole { PsksReport }
+    ensures keys { KeysReport }
     ensures back { VisiblyEqualIsOne }
     ensures known { KnowEachOther }
 {
@@ -57,37 +56,35 @@ pub fn run_once()
 
 /// In every run of two new ends each is what the messages that it wrote and accepted made of it, and its frames are
 /// those of its own messages.
-pub fn ends_stand()
-    ensures stand { EndsStand }
+pub fn ends_match()
+    ensures stand { EndsComeOfMessages }
     ensures frame { EndsFrame }
 {}
 
-/// Where both ends of a run have opened with one hash, the conversation was the same as far as it can be seen, or there
-/// is a collision. With the same secrets they have all of it in common. With equal intervals too each end's accepted
-/// payloads are the first of those that the other wrote, in order, up to a forged message (Noise 11.2, 12.3).
+/// Two new ends that have opened with one hash had the same conversation as far as it can be seen, or two texts that
+/// they hashed collide; the fields `one` and `payloads` say what they have in common with the same psks and DH results
+/// (Noise 11.2, 12.3).
 pub fn ends_agree()
-    ensures seen { HashesTell }
+    ensures seen { HashesReport }
     ensures back { VisiblyEqualGivesOne }
-    ensures one { SecretsMakeOne }
+    ensures one { PsksMakeOne }
     ensures payloads { PayloadsCome }
 {
     laws_below();
 }
 
-/// Lines in turn that fit, between two new ends with their parts of one key material, all come through: each frame is
-/// that of the transcript, each payload is accepted at once at the other end, and both ends have one history and the
-/// same packets. The two ends left are those after the lines, with the interval, the counts, the keys and the psks that
-/// they then have. For all such lines there is a run.
+/// For lines in turn that fit, between two new ends with their parts of one key material, there is a run; and in it all
+/// of them come through, and leave the ends that `end_after` computes of them.
 pub fn lines_come_through()
     ensures come { LinesComeThrough }
     ensures leave { LinesLeave }
     ensures can { LinesRun }
 {
     laws_below();
-    ends_stand();
+    ends_match();
 }
 
-/// Two parties of a valid pattern that are set up alike, with keys that agree and an answer at each DH token, have
+/// Two parties of a valid pattern that are set up alike, with keys that agree and a DH result at each DH token, have
 /// their parts of one key material.
 pub fn alike_are_parts()
     ensures { AlikeAreParts }
@@ -95,13 +92,12 @@ pub fn alike_are_parts()
     laws_below();
 }
 
-/// The position of a collision, computed from the texts that two histories hashed (`clash_position`): at it two texts
-/// differ with one digest. It is there where any two collide, and so where two opened ends have one hash and different
-/// conversations.
-pub fn clash_told()
-    ensures stands { ClashStands }
+/// `clash_position` is a position at which two histories hashed different texts with one digest, and there is one where
+/// two of their texts collide, and so where two opened ends have one hash and different conversations.
+pub fn clash_reported()
+    ensures matches { ClashIsCollision }
     ensures found { ClashFound }
-    ensures told { ClashTold }
+    ensures reported { ClashReported }
 {
     ends_agree();
 }

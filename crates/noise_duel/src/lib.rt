@@ -18,7 +18,8 @@ pub use datagram_report::{DatagramEntry, DatagramReport};
 pub use duel::Duel;
 pub use entry::{Entry, Idle};
 pub use laws::{
-    alike_are_parts, clash_told, ends_agree, ends_stand, hash_tells, lines_come_through, run_once,
+    alike_are_parts, clash_reported, ends_agree, ends_match, hash_reports, lines_come_through,
+    run_once,
 };
 pub use noise_events::{Cuts, DatagramEvent, Event};
 pub use report::Report;

@@ -2,9 +2,9 @@
 #![tactic(auto)]
 
 ghost use Rattle.std.specs.Prelude.{◌≡◌, ◌≤◌, ℕ, List, ◌++◌, length, OnOk, IfOk, IfSome};
-ghost use Rattle.noise_session.specs.Ends.{EndStands};
+ghost use Rattle.noise_session.specs.Ends.{EndMatches};
 ghost use Rattle.noise_session.specs.Frames.{IsPartial};
-ghost use Rattle.noise_session.specs.Steps.{told};
+ghost use Rattle.noise_session.specs.Steps.{step_value};
 ghost use Rattle.noise_duel.specs.Entries.{notes_of};
 ghost use Rattle.noise_duel.specs.Notes.{noted_by, held_note};
 ghost use Rattle.noise_duel.specs.OneEnd.{HasReceived};
@@ -28,13 +28,13 @@ pub(crate) fn receive<K: Keys>(
     cuts: &Cuts,
     entries: &mut Vec<(Role, Entry)>,
 ) -> Result<(), AllocError>
-    ensures { (s : Side) → EndStands K.public_of K.agreement end.old s.view
+    ensures { (s : Side) → EndMatches K.public_of K.agreement end.old s.state
         → OnOk result
         (HasReceived K.public_of K.agreement s role bytes.now end.new entries.old.items entries.new.items) }
 {
     let left = receive_pieces(alloc, role, end, bytes, cuts, entries)?;
-    tell_left(role, left, entries)?;
-    tell_held(role, end.held(), entries)
+    report_left(role, left, entries)?;
+    report_partial(role, end.held(), entries)
 }
 
 // Hands bytes over in these pieces, and returns how many are left, and why, where the end takes none of them.
@@ -46,7 +46,7 @@ fn receive_pieces<K: Keys>(
     cuts: &Cuts,
     entries: &mut Vec<(Role, Entry)>,
 ) -> Result<Option<(Idle, usize)>, AllocError>
-    ensures { (s : Side) → EndStands K.public_of K.agreement end.old s.view → IfOk result (λ left.
+    ensures { (s : Side) → EndMatches K.public_of K.agreement end.old s.state → IfOk result (λ left.
         HasStopped K.public_of K.agreement s role bytes.now left end.new entries.old.items entries.new.items) }
 {
     let mut rest = bytes;
@@ -71,7 +71,7 @@ fn receive_piece<K: Keys>(
     entries: &mut Vec<(Role, Entry)>,
 ) -> Result<Option<(Idle, usize)>, AllocError>
     ensures most { IfOk result (λ left. IfSome left (λ l. l.1 ≤ length piece.now)) }
-    ensures stops { (s : Side) → EndStands K.public_of K.agreement end.old s.view → IfOk result (λ left.
+    ensures stops { (s : Side) → EndMatches K.public_of K.agreement end.old s.state → IfOk result (λ left.
         HasStopped K.public_of K.agreement s role piece.now left end.new entries.old.items entries.new.items) }
 {
     let mut rest = piece;
@@ -81,7 +81,7 @@ fn receive_piece<K: Keys>(
         if count == 0 {
             return Ok(left_at(step, rest.len()));
         }
-        tell(alloc, role, step, entries)?;
+        report_step(alloc, role, step, entries)?;
         let (_, after) = rest.split_at(count);
         rest = after;
     }
@@ -90,14 +90,14 @@ fn receive_piece<K: Keys>(
 
 // What an end holds is less than a frame.
 fn holds_part<K: Keys>(end: &End<K>)
-    ensures { IsPartial end.now.held }
+    ensures { IsPartial end.now.partial }
 {
     end.held();
 }
 
-// So many bytes, and why an end takes none of them, if that is its answer.
+// So many bytes, and why an end takes none of them, if that is its step.
 fn left_at(step: Step<'_>, count: usize) -> Option<(Idle, usize)>
-    ensures { result ≡ left_of (told step.entry) count }
+    ensures { result ≡ left_of (step_value step.entry) count }
 {
     match step {
         Step::YourTurn => Some((Idle::YourTurn, count)),
@@ -107,15 +107,15 @@ fn left_at(step: Step<'_>, count: usize) -> Option<(Idle, usize)>
     }
 }
 
-// Tells what a frame came to.
-fn tell(
+// Reports what a frame came to.
+fn report_step(
     alloc: Global,
     role: Role,
     step: Step<'_>,
     entries: &mut Vec<(Role, Entry)>,
 ) -> Result<(), AllocError>
     ensures { OnOk result (notes_of entries.new.items
-        ≡ notes_of entries.old.items ++ noted_by role (step_note (told step.entry))) }
+        ≡ notes_of entries.old.items ++ noted_by role (step_note (step_value step.entry))) }
 {
     let entry = match step {
         Step::Payload(payload) => Entry::Payload(Vec::from_slice(alloc, payload)?),
@@ -128,8 +128,8 @@ fn tell(
     Ok(())
 }
 
-// Tells of bytes that are left.
-fn tell_left(
+// Reports bytes that are left.
+fn report_left(
     role: Role,
     left: Option<(Idle, usize)>,
     entries: &mut Vec<(Role, Entry)>,
@@ -143,8 +143,12 @@ fn tell_left(
     Ok(())
 }
 
-// Tells of bytes that are held.
-fn tell_held(role: Role, count: usize, entries: &mut Vec<(Role, Entry)>) -> Result<(), AllocError>
+// Reports bytes that are held.
+fn report_partial(
+    role: Role,
+    count: usize,
+    entries: &mut Vec<(Role, Entry)>,
+) -> Result<(), AllocError>
     ensures { OnOk result (notes_of entries.new.items ≡ notes_of entries.old.items ++ noted_by role (held_note count)) }
 {
     if count != 0 {

@@ -2,7 +2,7 @@
 #![tactic(auto)]
 
 ghost use Rattle.std.specs.Prelude.{◌≡◌, ℕ, List, length, IfOk};
-ghost use Rattle.noise_session.specs.Ends.{EndStands};
+ghost use Rattle.noise_session.specs.Ends.{EndMatches};
 ghost use Rattle.noise_duel.specs.Entries.{bytes_of};
 ghost use Rattle.noise_duel.specs.OneEnd.{HasWritten};
 ghost use Rattle.noise_duel.specs.Sides.{Side};
@@ -18,8 +18,8 @@ pub(crate) fn write<K: Keys>(
     payload: &[u8],
     frames: &mut Vec<Vec<u8>>,
 ) -> Result<Result<usize, SendFault>, AllocError>
-    ensures { (s : Side) → EndStands K.public_of K.agreement end.old s.view → bytes_of frames.old.items ≡ s.frames
-        → IfOk result (λ told. HasWritten K.public_of K.agreement s payload.now told end.new frames.new.items) }
+    ensures { (s : Side) → EndMatches K.public_of K.agreement end.old s.state → bytes_of frames.old.items ≡ s.frames
+        → IfOk result (λ reported. HasWritten K.public_of K.agreement s payload.now reported end.new frames.new.items) }
 {
     let room = end.frame_len(payload.len()).unwrap_or(0);
     let mut frame = vec![in alloc; 0u8; room]?;

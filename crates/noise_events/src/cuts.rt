@@ -34,9 +34,9 @@ impl Cuts {
         if lengths.last() == Some(&0) {
             return None;
         }
-        let mut kept = ArrayVec::new();
-        kept.try_extend_from_slice(lengths).ok()?;
-        Some(Cuts { lengths: kept })
+        let mut copy = ArrayVec::new();
+        copy.try_extend_from_slice(lengths).ok()?;
+        Some(Cuts { lengths: copy })
     }
 
     /// One piece.

@@ -16,7 +16,7 @@ use Rattle.noise_explain.specs.Shown.{right_head, wrong_head}
 use Rattle.noise_explain.specs.declared.explaining.Explained.{Explained}
 use Rattle.noise_explain.specs.declared.place.Place.{Place}
 
--- a valid pattern is told
+-- a valid pattern is reported
 pub right-said : (name text : List ℕ) (p valid : Plan) (r : Result Explained AllocError) → Spells text p → valid ≡ p → IsValid p
     → IfOk r (λ e. e.status ≡ 0) → IfOk r (Begins (right_head name valid)) → IfOk r (IsExplained name text)
 right-said name text p valid (Ok e) spells same is_valid status begins = inl (record {

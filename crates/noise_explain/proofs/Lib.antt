@@ -1,3 +1,4 @@
 pub mod ExplainedLemmas
+pub mod FrameLemmas
 pub mod PlaceLemmas
 pub mod RuleLemmas

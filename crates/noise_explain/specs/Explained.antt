@@ -19,11 +19,12 @@ Begins front e = (rest : List ℕ) × (e.text.items ≡ front ++ rest)
 
 -- a fault of a pattern text stands at this place of it
 abbrev pub IsAt : List ℕ → Fault → Place → Type 0
-IsAt text (Text fault) place = (place.line ≡ fault.line) × IsColumn fault.kind fault.line (line_at text fault.line) place.column
+IsAt text (Text fault) place =
+    (place.line ≡ fault.line) × IsColumn fault.kind fault.line (line_at text fault.line) place.column
 IsAt text (Rule fault) place = (p : Plan) × Spells text p × IsRulePlace p fault place
 IsAt text fault place = ⊥
 
--- the text is that of a valid pattern, and is told as such
+-- the text is that of a valid pattern, and is reported as such
 pub record SaysRight (name text : List ℕ) (e : Explained) : Type 0 where
   pub p : Plan
   pub spells : Spells text p
@@ -31,7 +32,7 @@ pub record SaysRight (name text : List ℕ) (e : Explained) : Type 0 where
   pub status_is : e.status ≡ 0
   pub begins : Begins (right_head name p) e
 
--- the text has the fault that `check` tells, and it is told with its place
+-- the text has the fault that `check` reports, and it is reported with its place
 pub record SaysWrong (name text : List ℕ) (e : Explained) : Type 0 where
   pub fault : Fault
   pub wrong : IsCheckFault text fault
@@ -43,7 +44,7 @@ pub record SaysWrong (name text : List ℕ) (e : Explained) : Type 0 where
 abbrev pub IsExplained : List ℕ → List ℕ → Explained → Type 0
 IsExplained name text e = SaysRight name text e ⊎ SaysWrong name text e
 
--- a file of too many bytes is told as such
+-- a file of too many bytes is reported as such
 pub record SaysLong (name : List ℕ) (e : Explained) : Type 0 where
   pub status_is : e.status ≡ 2
   pub begins : Begins (unread_head name TooLong) e

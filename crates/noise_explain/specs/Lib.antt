@@ -1,4 +1,6 @@
 pub mod Explained
+pub mod FramePieces
 pub mod Places
 pub mod RulePlaces
 pub mod Shown
+pub mod Slips

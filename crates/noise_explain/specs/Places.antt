@@ -30,8 +30,8 @@ line_at text number = first_line (repeated after_line (number - 1) text)
 abbrev pub words_before : List Token → List ℕ
 words_before tokens = flat_map (λ t. word_of t ++ codes ", ") tokens
 
--- The list of a message's tokens goes wrong at this column: right tokens stand before it, each with a comma and a space after it, and no further one
--- follows. Two spaces, an arrow and a space, five bytes, stand before the list.
+-- The list of a message's tokens goes wrong at this column: right tokens stand before it, each with a comma and a space
+-- after it, and no further one follows. Two spaces, an arrow and a space, five bytes, stand before the list.
 pub record IsWrongPiece (list : List ℕ) (column : ℕ) : Type 0 where
   pub right : List Token
   pub rest : List ℕ
@@ -51,9 +51,9 @@ abbrev pub heading_column : List ℕ → ℕ
 heading_column [] = 1
 heading_column (b ∷ bs) = if is_upper b then min (length (base_front (b ∷ bs))) 8 + 1 else 1
 
--- The column of a fault in its line: of a piece that is no token where that begins; of a line with a wrong front, or a heading, where it goes wrong; of a
--- line that isn't to stand there, or is another party's, its arrow; of psk places the first of the heading, or the message's tokens; of an early end the
--- line's end.
+-- The column of a fault in its line: of a piece that is no token where that begins; of a line with a wrong front, or a
+-- heading, where it goes wrong; of a line that isn't to stand there, or is another party's, its arrow; of psk places
+-- the first of the heading, or the message's tokens; of an early end the line's end.
 abbrev pub IsColumn : TextFaultKind → ℕ → List ℕ → ℕ → Type 0
 IsColumn kinds.Heading number line column = column ≡ heading_column line
 IsColumn kinds.Arrow number line column = column ≡ arrow_column line

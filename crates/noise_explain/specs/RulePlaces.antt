@@ -12,7 +12,9 @@ use Rattle.noise_explain.specs.declared.place.Place.{Place}
 
 -- the lines before the message of this number, from 1
 abbrev pub lines_before : Plan → ℕ → List ℕ
-lines_before p n = line (section_bytes p.base p.places ++ codes ":") ++ pre_lines p.initiator p.responder ++ message_lines Initiator (take (n - 1) p.messages)
+lines_before p n =
+    line (section_bytes p.base p.places ++ codes ":") ++ pre_lines p.initiator p.responder
+    ++ message_lines Initiator (take (n - 1) p.messages)
 
 -- the tokens of this message
 abbrev pub message_at : Plan → ℕ → List Token
@@ -22,16 +24,16 @@ message_at p n = unwrap_or (slice_get p.messages (n - 1)) []
 abbrev pub list_before : List Token → ℕ → List ℕ
 list_before tokens i = if nat_lt i (length tokens) then words_before (take i tokens) else words tokens
 
--- The message of a fault and its token there. The transport counts as the place after the last token of the last message; a message has at most 10
--- tokens.
+-- The message of a fault and its token there. The transport counts as the place after the last token of the last
+-- message; a message has at most 10 tokens.
 abbrev pub message_of : Plan → RuleFault → ℕ
 message_of p fault = if nat_le fault.message (length p.messages) then fault.message else length p.messages
 
 abbrev pub token_of : Plan → RuleFault → ℕ
 token_of p fault = if nat_le fault.message (length p.messages) then fault.token else 10
 
--- The fault is at this place of the pattern's text: in the line of its message, where its token begins; an arrow and the spaces round it, five bytes, stand
--- before the tokens.
+-- The fault is at this place of the pattern's text: in the line of its message, where its token begins; an arrow and
+-- the spaces round it, five bytes, stand before the tokens.
 pub record IsRulePlace (p : Plan) (fault : RuleFault) (place : Place) : Type 0 where
   pub line_is : place.line ≡ line_feeds (lines_before p (message_of p fault)) + 1
   pub column_is : place.column ≡ length (list_before (message_at p (message_of p fault)) (token_of p fault)) + 6

@@ -1,6 +1,6 @@
 //! The sentences on wrong texts.
 
-/// What is wrong, as closely as an explanation tells it.
+/// What is wrong, as closely as an explanation reports it.
 #[derive(Clone, Copy, Debug, PartialEq, Eq)]
 pub enum Advice {
     /// The file has too many bytes.
@@ -80,7 +80,8 @@ impl Advice {
             Advice::SpaceAtEnd => "A space is at the end of the line.",
             Advice::Empty => "The line is empty.",
             Advice::Heading =>
-                "The first line has to be a name of 1 to 8 upper-case letters and digits, then psk places such as psk0 or psk0+psk2, then a colon.",
+                "The first line has to be a name of 1 to 8 upper-case letters and digits, then psk places such as \
+                 psk0 or psk0+psk2, then a colon.",
             Advice::HeadingMissing => {
                 "The first line has to be the heading, and this is a line of tokens."
             }
@@ -93,7 +94,8 @@ impl Advice {
             }
             Advice::ColonMissing => "The heading has to end with a colon, and it has none.",
             Advice::Modifiers =>
-                "After the name come psk0 to psk8, each once and in rising order, with + between two, and then a colon.",
+                "After the name come psk0 to psk8, each once and in rising order, with + between two, and then \
+                 a colon.",
             Advice::Arrow => {
                 "The line has to begin with two spaces, an arrow (-> or <-) and one space."
             }
@@ -111,7 +113,8 @@ impl Advice {
             }
             Advice::Turn => "It is the other party's turn.",
             Advice::DotsMissing =>
-                "A key that is known before the first message stands above a line of two spaces and \"...\", and that line is missing.",
+                "A key that is known before the first message stands above a line of two spaces and \"...\", and \
+                 that line is missing.",
             Advice::PskTokens => "The psk tokens aren't where the heading says.",
             Advice::PskBeyond => "The heading has a psk place beyond the last message.",
             Advice::NameTaken => {

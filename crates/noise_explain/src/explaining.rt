@@ -13,7 +13,7 @@ use crate::facts::fact_lines;
 use crate::place::{Place, line_at};
 use crate::rule_place::rule_place;
 use crate::rule_sentences::rule_sentences;
-use crate::showing::{push_caret, push_sentence, right_head, unread_head, wrong_head};
+use crate::showing::{caret_lines, push_sentence, right_head, unread_head, wrong_head};
 use crate::text_advice::fault_advice;
 use noise_lines::Fault;
 use noise_names::{Pattern, RuleFault, TextFault, ValidPattern};
@@ -28,8 +28,8 @@ pub struct Explained {
     pub status: u8,
 }
 
-/// Explains a pattern text, from the file of this name: a valid pattern by its messages and what follows from its tokens; else the fault that `check`
-/// reports, with its line and its column, and what would mend it.
+/// Explains a pattern text, from the file of this name: a valid pattern by its messages and what follows from its
+/// tokens; else the fault that `check` reports, with its line and its column, and what would mend it.
 pub fn explain(alloc: Global, name: &str, text: &[u8]) -> Result<Explained, AllocError>
     ensures explained { IfOk result (IsExplained name.now text.now) }
     ensures bound { IfOk result (λ e. e.status ≤ 2) }
@@ -102,11 +102,11 @@ fn explain_text(
         line: fault.line,
         column: column_of(fault.kind, fault.line, line),
     };
-    let mut told = wrong_head(alloc, name, place, Fault::Text(fault))?;
-    told.extend_from_slice(&caret_lines(alloc, line, place.column)?)?;
-    told.extend_from_slice(&advice_lines(alloc, fault_advice(text, fault, place.column))?)?;
+    let mut reported = wrong_head(alloc, name, place, Fault::Text(fault))?;
+    reported.extend_from_slice(&caret_lines(alloc, line, place.column)?)?;
+    reported.extend_from_slice(&advice_lines(alloc, fault_advice(text, fault, place.column))?)?;
     Ok(Explained {
-        text: told,
+        text: reported,
         status: 2,
     })
 }
@@ -125,20 +125,13 @@ fn explain_rule(
     ensures bound { IfOk result (λ e. e.status ≤ 2) }
 {
     let place = rule_place(pattern, fault);
-    let mut told = wrong_head(alloc, name, place, Fault::Rule(fault))?;
-    told.extend_from_slice(&caret_lines(alloc, line_at(text, place.line), place.column)?)?;
-    told.extend_from_slice(&rule_lines(alloc, pattern, fault)?)?;
+    let mut reported = wrong_head(alloc, name, place, Fault::Rule(fault))?;
+    reported.extend_from_slice(&caret_lines(alloc, line_at(text, place.line), place.column)?)?;
+    reported.extend_from_slice(&rule_lines(alloc, pattern, fault)?)?;
     Ok(Explained {
-        text: told,
+        text: reported,
         status: 1,
     })
-}
-
-/// A line, and a caret below this column.
-pub fn caret_lines(alloc: Global, line: &[u8], column: usize) -> Result<Vec<u8>, AllocError> {
-    let mut text = Vec::new(alloc);
-    push_caret(line, column, &mut text)?;
-    Ok(text)
 }
 
 // What is wrong with a text, and what mends it.

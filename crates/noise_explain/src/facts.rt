@@ -1,16 +1,17 @@
 //! What a valid pattern's messages have in them, and what their keys are made of.
 
-ghost use Rattle.std.specs.Prelude.{◌≤◌, length};
+ghost use Rattle.std.specs.Prelude.{◌≡◌, ◌≤◌, ◌++◌, OnOk, codes, length};
 
-use crate::known::{Spot, role_name, sender_of};
+use crate::known::{Spot, sender_of};
 use crate::party_facts::push_party_facts;
 use crate::progress::{Progress, progress_at};
 use crate::showing::push_sentence;
-use noise_lines::token_word;
+use noise_lines::{role_word, token_word};
 use noise_names::{Role, Token, ValidPattern};
 use std::alloc::{AllocError, Global};
 
-/// The messages, each with its pieces and what is mixed in by its payload; the transport; and what follows for the parties.
+/// The messages, each with its pieces and what is mixed in by its payload; the transport; and what follows for the
+/// parties.
 pub fn fact_lines(alloc: Global, pattern: &ValidPattern) -> Result<Vec<u8>, AllocError> {
     let mut text = Vec::new(alloc);
     for index in 0..pattern.pattern().messages().len() {
@@ -36,7 +37,7 @@ fn push_message(
 {
     let overhead = pattern.overhead(message);
     let number = usize::from(message);
-    let sender = role_name(sender_of(number));
+    let sender = role_word(sender_of(number));
     let line = format!(in alloc;
         "message {number}, of the {sender}, is {overhead} bytes longer than its payload"
     )?;
@@ -207,12 +208,14 @@ fn without_dh(psk: bool) -> &'static str {
 }
 
 fn one_static(alloc: Global, role: Role, psk: &str) -> Result<String, AllocError> {
-    let owner = role_name(role);
+    let owner = role_word(role);
     format!(in alloc; "Whoever has the {owner}'s static private key{psk} can compute these keys.")
 }
 
 /// Appends a line of four spaces and a fact of the message or the transport above.
-pub fn push_fact(fact: &str, text: &mut Vec<u8>) -> Result<(), AllocError> {
+pub fn push_fact(fact: &str, text: &mut Vec<u8>) -> Result<(), AllocError>
+    ensures { OnOk result (text.new.items ≡ text.old.items ++ (codes "    " ++ fact.now ++ codes "\n")) }
+{
     text.extend_from_slice(b"  ".as_slice())?;
     push_sentence(fact, text)
 }

@@ -1,5 +1,9 @@
 //! Which keys and DHs of a pattern stand where.
 
+ghost use Rattle.std.specs.Prelude.{◌≡◌, ◌-◌, [], slice_get, unwrap_or};
+ghost use Rattle.noise_explain.specs.FramePieces.{sender_of};
+
+use crate::rule_place::tokens_at;
 use noise_names::{Message, Pattern, Role, Token};
 
 /// A place among the tokens: a message, from 1, and how many of its tokens stand before.
@@ -16,19 +20,14 @@ impl Spot {
     }
 }
 
-// Who sends the message of this number.
-pub(crate) fn sender_of(message: usize) -> Role {
+// Who sends the message of this number, from 1 on.
+pub(crate) fn sender_of(message: usize) -> Role
+    ensures { result ≡ sender_of message }
+{
     if message % 2 == 0 {
         Role::Responder
     } else {
         Role::Initiator
-    }
-}
-
-pub fn role_name(role: Role) -> &'static str {
-    match role {
-        Role::Initiator => "initiator",
-        Role::Responder => "responder",
     }
 }
 
@@ -43,9 +42,11 @@ pub(crate) fn keys_of(dh: Token) -> (Token, Token) {
 }
 
 /// The token at a place, if one stands there.
-pub fn token_at(messages: &[Message], spot: Spot) -> Option<Token> {
-    let message = messages.get(spot.message.saturating_sub(1))?;
-    message.tokens().get(spot.token).copied()
+pub fn token_at(messages: &[Message], spot: Spot) -> Option<Token>
+    ensures { result ≡ slice_get (unwrap_or (slice_get messages.now (spot.message - 1)) []) spot.token }
+{
+    let tokens = tokens_at(messages, spot.message.saturating_sub(1));
+    tokens.get(spot.token).copied()
 }
 
 // Where a party's key is known from: the place after its token, or the first one where it is known before.

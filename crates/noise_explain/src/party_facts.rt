@@ -1,8 +1,9 @@
 //! What follows from the tokens of a valid pattern for each party.
 
-use crate::known::{Spot, key_spot, mixed_spot, role_name, sender_of};
+use crate::known::{Spot, key_spot, mixed_spot, sender_of};
 use crate::progress::progress_at;
 use crate::showing::push_sentence;
+use noise_lines::role_word;
 use noise_names::{Pattern, Role, Token};
 use std::alloc::{AllocError, Global};
 
@@ -50,8 +51,8 @@ fn unmixed(
     party: Role,
     is_named: bool,
 ) -> Result<String, AllocError> {
-    let role = role_name(party);
-    let other = role_name(party.other());
+    let role = role_word(party);
+    let other = role_word(party.other());
     if is_named {
         return format!(in alloc;
             "The {role}'s static key is named, and no DH mixes it: nothing shows that the {role} has its private key."
@@ -76,7 +77,7 @@ fn push_sent_static(
     after: Spot,
     text: &mut Vec<u8>,
 ) -> Result<(), AllocError> {
-    let role = role_name(party);
+    let role = role_word(party);
     let message = after.message;
     let before = progress_at(
         pattern,
@@ -125,7 +126,7 @@ fn push_all_replayed(
     if party == Role::Initiator && count < 2 {
         return Ok(());
     }
-    let role = role_name(party);
+    let role = role_word(party);
     let says = format!(in alloc;
         "The whole session can be replayed: the {role} puts in no fresh key, so it accepts a recorded one again."
     )?;
@@ -139,11 +140,12 @@ fn push_replayed(
     party: Role,
     text: &mut Vec<u8>,
 ) -> Result<(), AllocError> {
-    let role = role_name(party);
+    let role = role_word(party);
     for message in 1..first {
         if sender_of(message) != party {
             let says = format!(in alloc;
-                "Message {message} can be replayed: the {role} has put in no fresh key by then, so it accepts a recorded one again."
+                "Message {message} can be replayed: the {role} has put in no fresh key by then, so it accepts a \
+                 recorded one again."
             )?;
             push_sentence(says.as_str(), text)?;
         }

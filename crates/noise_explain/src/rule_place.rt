@@ -22,7 +22,8 @@ pub(crate) fn rule_place(pattern: &Pattern, fault: RuleFault) -> Place
     }
 }
 
-// The message and the token: of the transport the place after the last token of the last message. A message has at most 10 tokens.
+// The message and the token: of the transport the place after the last token of the last message. A message has at most
+// 10 tokens.
 fn spot(count: usize, fault: RuleFault) -> (usize, usize)
     ensures message { result.0 ≡ (if nat_le fault.message count then fault.message else count) }
     ensures token { result.1 ≡ (if nat_le fault.message count then fault.token else 10) }
@@ -35,8 +36,8 @@ fn spot(count: usize, fault: RuleFault) -> (usize, usize)
 }
 
 // The tokens of the message at this place, from 0.
-fn tokens_at(messages: &[Message], index: usize) -> &[Token]
-    ensures same { result.now ≡ unwrap_or (slice_get messages.now index) [] }
+pub(crate) fn tokens_at(messages: &[Message], index: usize) -> &[Token]
+    ensures value { result.now ≡ unwrap_or (slice_get messages.now index) [] }
     ensures few { length result.now ≤ 10 }
 {
     match messages.get(index) {
@@ -62,7 +63,7 @@ fn pre_line_count(pattern: &Pattern) -> usize
 // How many bytes of the list of these tokens stand before this one, or of the whole list where there are no more.
 fn list_len(tokens: &[Token], token: usize) -> usize
     requires { length tokens.now ≤ 10 }
-    ensures same { result ≡ length (list_before tokens.now token) }
+    ensures value { result ≡ length (list_before tokens.now token) }
     ensures few { result ≤ 50 }
 {
     let mut count: usize = 0;

@@ -1,7 +1,7 @@
 //! The sentences on broken rules.
 
-use crate::known::{Spot, is_by, key_spot, keys_of, mixed_spot, role_name, sender_of, token_at};
-use noise_lines::token_word;
+use crate::known::{Spot, is_by, key_spot, keys_of, mixed_spot, sender_of, token_at};
+use noise_lines::{role_word, token_word};
 use noise_names::{Pattern, Role, RuleFault, Token};
 use std::alloc::{AllocError, Global};
 
@@ -62,7 +62,7 @@ fn broken_at(pattern: &Pattern, fault: RuleFault) -> Broken {
 fn place_words(alloc: Global, broken: Broken, count: usize) -> Result<String, AllocError> {
     let rule = broken.rule;
     let message = broken.spot.message;
-    let sender = role_name(broken.sender);
+    let sender = role_word(broken.sender);
     if let Some(token) = broken.token {
         let word = token_word(token);
         return format!(in alloc; "Rule {rule} is broken at message {message}, token {word}.");
@@ -90,7 +90,7 @@ fn key_missing(
     };
     let token = token_word(dh);
     let key = token_word(missing);
-    let owner = role_name(role);
+    let owner = role_word(role);
     let says = format!(in alloc;
         "{token} needs the {owner}'s {key}, which is neither sent before this place nor named above \"...\"."
     )?;
@@ -105,7 +105,7 @@ fn key_again(
     broken: Broken,
     key: Token,
 ) -> Result<(String, String), AllocError> {
-    let sender = role_name(broken.sender);
+    let sender = role_word(broken.sender);
     let token = token_word(key);
     let says = if pattern.pre(broken.sender).contains(&key) {
         format!(in alloc; "The {sender}'s {token} is named above \"...\" already.")?
@@ -129,11 +129,12 @@ fn dh_missing(
     broken: Broken,
 ) -> Result<(String, String), AllocError> {
     let (mixed, wanted) = unfresh(pattern, broken);
-    let sender = role_name(broken.sender);
+    let sender = role_word(broken.sender);
     let after = token_word(mixed);
     let missing = token_word(wanted);
     let says = format!(in alloc;
-        "The {sender} encrypts here, {after} is mixed in, and {missing} isn't: what it encrypts could depend on no fresh key of its own."
+        "The {sender} encrypts here, {after} is mixed in, and {missing} isn't: what it encrypts could depend on no \
+         fresh key of its own."
     )?;
     Ok((says, mix_words(alloc, pattern, wanted)?))
 }
@@ -181,7 +182,7 @@ fn mix_words(alloc: Global, pattern: &Pattern, dh: Token) -> Result<String, Allo
 }
 
 fn send_words(alloc: Global, role: Role, key: Token, dh: Token) -> Result<String, AllocError> {
-    let owner = role_name(role);
+    let owner = role_word(role);
     let sent = token_word(key);
     let word = token_word(dh);
     format!(in alloc; "Let the {owner} send {sent}, and mix {word} after it.")
@@ -189,7 +190,7 @@ fn send_words(alloc: Global, role: Role, key: Token, dh: Token) -> Result<String
 
 // Rule 5: a psk comes without an ephemeral key.
 fn fresh_missing(alloc: Global, role: Role) -> Result<(String, String), AllocError> {
-    let sender = role_name(role);
+    let sender = role_word(role);
     let says = format!(in alloc;
         "The {sender} encrypts here after psk, and has sent no e: the same key and nonce could come again."
     )?;

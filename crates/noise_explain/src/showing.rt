@@ -1,8 +1,8 @@
 //! The first line of an explanation, and a line of the text with a caret below it.
 
-ghost use Rattle.std.specs.Prelude.{◌≡◌, ◌++◌, IfOk, OnOk, decimal};
+ghost use Rattle.std.specs.Prelude.{◌≡◌, ◌++◌, IfOk, OnOk, codes, decimal, replicate};
 ghost use Rattle.noise_names.specs.Names.{section_bytes};
-ghost use Rattle.noise_explain.specs.Shown.{right_head, unread_head, wrong_head};
+ghost use Rattle.noise_explain.specs.Shown.{caret_text, right_head, shown_end, shown_start, unread_head, wrong_head};
 
 use crate::place::Place;
 use noise_lines::{Fault, fault_line, push_shown};
@@ -66,7 +66,11 @@ fn push_section(pattern: &Pattern, text: &mut Vec<u8>) -> Result<(), AllocError>
     text.extend_from_slice(&name[6..name.len() - 24])
 }
 
-fn push_number(alloc: Global, number: usize, text: &mut Vec<u8>) -> Result<(), AllocError>
+pub(crate) fn push_number(
+    alloc: Global,
+    number: usize,
+    text: &mut Vec<u8>,
+) -> Result<(), AllocError>
     ensures { OnOk result (text.new.items ≡ text.old.items ++ decimal number) }
 {
     let digits = format!(in alloc; "{number}")?;
@@ -76,22 +80,36 @@ fn push_number(alloc: Global, number: usize, text: &mut Vec<u8>) -> Result<(), A
 // How much of a line is shown before and after a column.
 const SHOWN: usize = 64;
 
-// Appends a line, or the part of a long one round this column, and a caret below the column.
-pub(crate) fn push_caret(line: &[u8], column: usize, text: &mut Vec<u8>) -> Result<(), AllocError> {
+/// A line, or the part of a long one round this column, and a caret below the column.
+pub fn caret_lines(alloc: Global, line: &[u8], column: usize) -> Result<Vec<u8>, AllocError>
+    ensures { IfOk result (λ text. text.items ≡ caret_text line.now column) }
+{
     let (before, after) = line.split_at(column.saturating_sub(1).min(line.len()));
-    let start = text.len();
-    push_end(before, text)?;
-    let end = text.len();
-    push_start(after, text)?;
+    let mut text = Vec::new(alloc);
+    push_end(before, &mut text)?;
+    let width = text.len();
+    push_start(after, &mut text)?;
     text.push(b'\n')?;
-    for _ in start..end {
+    push_spaces(width, &mut text)?;
+    text.extend_from_slice(b"^\n".as_slice())?;
+    Ok(text)
+}
+
+fn push_spaces(count: usize, text: &mut Vec<u8>) -> Result<(), AllocError>
+    ensures { OnOk result (text.new.items ≡ text.old.items ++ replicate count 32) }
+{
+    let mut done: usize = 0;
+    while done < count {
         text.push(b' ')?;
+        done += 1;
     }
-    text.extend_from_slice(b"^\n".as_slice())
+    Ok(())
 }
 
 // Appends two spaces and the last bytes.
-fn push_end(bytes: &[u8], text: &mut Vec<u8>) -> Result<(), AllocError> {
+fn push_end(bytes: &[u8], text: &mut Vec<u8>) -> Result<(), AllocError>
+    ensures { OnOk result (text.new.items ≡ text.old.items ++ shown_end bytes.now) }
+{
     text.extend_from_slice(b"  ".as_slice())?;
     let (left_out, last) = bytes.split_at(bytes.len().saturating_sub(SHOWN));
     if !left_out.is_empty() {
@@ -101,7 +119,9 @@ fn push_end(bytes: &[u8], text: &mut Vec<u8>) -> Result<(), AllocError> {
 }
 
 // Appends the first bytes.
-fn push_start(bytes: &[u8], text: &mut Vec<u8>) -> Result<(), AllocError> {
+fn push_start(bytes: &[u8], text: &mut Vec<u8>) -> Result<(), AllocError>
+    ensures { OnOk result (text.new.items ≡ text.old.items ++ shown_start bytes.now) }
+{
     let (first, left_out) = bytes.split_at(bytes.len().min(SHOWN));
     push_shown(first, text)?;
     if left_out.is_empty() {
@@ -111,7 +131,9 @@ fn push_start(bytes: &[u8], text: &mut Vec<u8>) -> Result<(), AllocError> {
 }
 
 /// Appends a line of two spaces and a sentence.
-pub fn push_sentence(sentence: &str, text: &mut Vec<u8>) -> Result<(), AllocError> {
+pub fn push_sentence(sentence: &str, text: &mut Vec<u8>) -> Result<(), AllocError>
+    ensures { OnOk result (text.new.items ≡ text.old.items ++ (codes "  " ++ sentence.now ++ codes "\n")) }
+{
     text.extend_from_slice(b"  ".as_slice())?;
     text.extend_from_slice(sentence.as_bytes())?;
     text.push(b'\n')?;

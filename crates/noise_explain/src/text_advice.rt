@@ -1,5 +1,8 @@
 //! Which sentences are said of a fault of a pattern text.
 
+ghost use Rattle.std.specs.Prelude.{◌≡◌};
+ghost use Rattle.noise_explain.specs.Slips.{end_slip, slip_in};
+
 use crate::advice::Advice;
 use crate::column::after_arrow;
 use crate::place::line_at;
@@ -27,14 +30,23 @@ pub fn fault_advice(text: &[u8], fault: TextFault, column: usize) -> Advice {
 }
 
 /// What is wrong in characters that aren't seen.
-pub fn slip(line: &[u8]) -> Option<Advice> {
+pub fn slip(line: &[u8]) -> Option<Advice>
+    ensures { result ≡ slip_in line.now }
+{
     if line.starts_with(b"\xef\xbb\xbf".as_slice()) {
         return Some(Advice::ByteOrderMark);
     }
     if line.contains(&b'\t') {
         return Some(Advice::Tab);
     }
-    match line.last().copied() {
+    end_slip(line.last().copied())
+}
+
+// The same by the last byte of a line.
+fn end_slip(last: Option<u8>) -> Option<Advice>
+    ensures { result ≡ end_slip last }
+{
+    match last {
         None => Some(Advice::Empty),
         Some(b'\r') => Some(Advice::CarriageReturn),
         Some(b' ') => Some(Advice::SpaceAtEnd),

@@ -62,7 +62,9 @@ has_shape shapes.Cuts w = bytes_eq w (codes "-") || are_numbers w
 -- ---- lines
 
 abbrev pub hex_event : List ℕ → Bool
-hex_event first = (bytes_eq first (codes "write") || bytes_eq first (codes "raw")) || (bytes_eq first (codes "seal") || bytes_eq first (codes "foreign"))
+hex_event first =
+    (bytes_eq first (codes "write") || bytes_eq first (codes "raw"))
+    || (bytes_eq first (codes "seal") || bytes_eq first (codes "foreign"))
 
 -- the shapes of the words of an event that begins with this word, or of the line of the datagrams
 abbrev pub event_shapes : List ℕ → List Shape
@@ -78,8 +80,9 @@ event_shapes first =
 abbrev pub only_if : Bool → List Shape → List Shape
 only_if is_right ss = if is_right then ss else []
 
--- The shapes of the words of a line that has to be of this kind and begins with this word: none where no such line begins so, or where its words aren't
--- told. What follows the first word of the protocol's line is wrong as a whole.
+-- The shapes of the words of a line that has to be of this kind and begins with this word: none where no such line
+-- begins so, or where its words aren't reported. What follows the first word of the protocol's line is wrong as a
+-- whole.
 abbrev pub shapes_of : LineKind → List ℕ → List Shape
 shapes_of kinds.Header first = only_if (bytes_eq first (codes "vector")) (shapes.First ∷ shapes.Version ∷ [])
 shapes_of kinds.Protocol first = only_if (bytes_eq first (codes "protocol")) (shapes.First ∷ shapes.Rest ∷ [])
@@ -89,7 +92,8 @@ shapes_of kinds.Psk first = only_if (bytes_eq first (codes "psk")) (shapes.First
 shapes_of kinds.Keys first =
     only_if (bytes_eq first (codes "initiator") || bytes_eq first (codes "responder"))
     (shapes.First ∷ shapes.Kind ∷ shapes.MaybeKey ∷ shapes.MaybeKey ∷ [])
-shapes_of kinds.Answer first = only_if (bytes_eq first (codes "answer")) (shapes.First ∷ shapes.Own ∷ shapes.Key ∷ shapes.Key ∷ [])
+shapes_of kinds.Answer first =
+    only_if (bytes_eq first (codes "answer")) (shapes.First ∷ shapes.Own ∷ shapes.Key ∷ shapes.Key ∷ [])
 shapes_of kinds.Event first = event_shapes first
 shapes_of kinds.Expect first = []
 shapes_of kinds.Pattern first = []
@@ -108,11 +112,12 @@ word_at line at = first_word (drop at line)
 abbrev pub right_at : Shape → List ℕ → ℕ → Bool
 right_at s line at = nat_le at (length line) && has_shape s (word_at line at)
 
--- How many bytes stand before the first word that isn't of its shape. A word that is missing counts as one at the line's end. More bytes than the line
--- has: each word is of its shape, and no other follows.
+-- How many bytes stand before the first word that isn't of its shape. A word that is missing counts as one at the
+-- line's end. More bytes than the line has: each word is of its shape, and no other follows.
 abbrev pub wrong_at : List Shape → List ℕ → ℕ → ℕ
 wrong_at [] line at = at
-wrong_at (s ∷ ss) line at = if right_at s line at then wrong_at ss line (at + (length (word_at line at) + 1)) else min at (length line)
+wrong_at (s ∷ ss) line at =
+    if right_at s line at then wrong_at ss line (at + (length (word_at line at) + 1)) else min at (length line)
 
 -- the column of that word; of a line whose words are all of their shapes, but which may not stand there, the first
 abbrev pub column_after : ℕ → List ℕ → ℕ
@@ -128,13 +133,16 @@ pub record IsBlockFault (text : List ℕ) (fault : TextFault) : Type 0 where
   pub block_is : repeated after_line 2 text ≡ block ++ after
   pub wrong : IsTextFault block fault
 
--- of a line of the pattern that a file spells: the column of the fault that its lines have as a pattern text, if that is in this line, or else the first
+-- of a line of the pattern that a file spells: the column of the fault that its lines have as a pattern text, if that
+-- is in this line, or else the first
 abbrev pub IsBlockColumn : List ℕ → ℕ → ℕ → Type 0
 IsBlockColumn text number column =
     (column ≡ 1)
-    ⊎ ((fault : TextFault) × IsBlockFault text fault × (fault.line ≡ number - 2) × IsColumn fault.kind fault.line (line_at text number) column)
+    ⊎ ((fault : TextFault) × IsBlockFault text fault × (fault.line ≡ number - 2)
+    × IsColumn fault.kind fault.line (line_at text number) column)
 
--- The column of a fault of this kind in the line of this number. A line without its line feed, or a missing one, is told at its end.
+-- The column of a fault of this kind in the line of this number. A line without its line feed, or a missing one, is
+-- reported at its end.
 abbrev pub IsLineColumn : LineKind → List ℕ → ℕ → ℕ → Type 0
 IsLineColumn kinds.Pattern text number column = IsBlockColumn text number column
 IsLineColumn kinds.Ending text number column = column ≡ length (line_at text number) + 1

@@ -1,15 +1,17 @@
 -- What an explanation of a vector file says.
-use Rattle.std.specs.Prelude.{◌≡◌, ℕ, Bool, List, [], ◌∷◌, ◌++◌, codes, drop, if◌then◌else◌}
+use Rattle.std.specs.Prelude.{◌≡◌, ℕ, Bool, List, [], ◌∷◌, ◌++◌, Option, None, Some, codes, drop, if◌then◌else◌}
 use Rattle.std.specs.Bool.{nat_eq}
 use Rattle.std.specs.List.{starts_with}
 use Rattle.noise_lines.specs.Faults.{status_of}
 use Rattle.noise_lines.specs.declared.faults.Fault.{Fault}
 use Rattle.noise_lines.specs.declared.faults.Fault.TheVariants.{Line}
+use Rattle.noise_lines.specs.Named.{IsNamed, IsUnnamed}
 use Rattle.noise_names.specs.Names.{Section, name_bytes}
+use Rattle.noise_names.specs.Plan.{Plan}
 use Rattle.noise_vectors.specs.declared.faults.LineKind.{LineKind}
 use Rattle.noise_explain.specs.Explained.{Begins}
 use Rattle.noise_explain.specs.Shown.{unread_head, wrong_head}
-use Rattle.noise_lines.specs.Shown.{shown}
+use Rattle.noise_lines.specs.Shown.{shown_text}
 use Rattle.noise_explain_vectors.specs.VectorColumns.{IsLineColumn}
 use Rattle.noise_explain.specs.declared.explaining.Explained.{Explained}
 use Rattle.noise_explain.specs.declared.place.Place.{Place}
@@ -22,24 +24,34 @@ without_mark text = if starts_with nat_eq text (239 ∷ 187 ∷ 191 ∷ []) then
 abbrev pub is_vector_text : List ℕ → Bool
 is_vector_text text = starts_with nat_eq (without_mark text) (codes "vector ")
 
--- the line of this number, wrong as one of this kind, is told with its place
-pub record TellsLine (name text : List ℕ) (number : ℕ) (kind : LineKind) (e : Explained) : Type 0 where
+-- the pattern of a file: the one that it spells, or else that of its protocol's name
+abbrev pub IsPatternIn : Option Plan → Section → Plan → Type 0
+IsPatternIn (Some block) protocol plan = plan ≡ block
+IsPatternIn None protocol plan = IsNamed protocol plan
+
+-- it has none: it spells none, and its protocol's name is of none
+abbrev pub LacksPattern : Option Plan → Section → Type 0
+LacksPattern block protocol = (block ≡ None) × (fault : Fault) × IsUnnamed protocol fault
+
+-- the line of this number, wrong as one of this kind, is reported with its place
+pub record ReportsLine (name text : List ℕ) (number : ℕ) (kind : LineKind) (e : Explained) : Type 0 where
   pub place : Place
   pub line_is : place.line ≡ number
   pub at : IsLineColumn kind text number place.column
   pub status_is : e.status ≡ 2
   pub begins : Begins (wrong_head name place (Line number kind)) e
 
--- a fault of a file as a whole is told
-pub record TellsFault (name : List ℕ) (fault : Fault) (e : Explained) : Type 0 where
+-- a fault of a file as a whole is reported
+pub record ReportsFault (name : List ℕ) (fault : Fault) (e : Explained) : Type 0 where
   pub status_is : e.status ≡ status_of fault
   pub begins : Begins (unread_head name fault) e
 
 -- the first two lines of what is said of a right vector file: its name, and its protocol's
 abbrev pub vector_head : List ℕ → Section → List ℕ
-vector_head name protocol = shown name ++ codes ": valid vector file\n" ++ codes "  protocol " ++ name_bytes protocol ++ codes "\n"
+vector_head name protocol =
+    shown_text name ++ codes ": valid vector file\n" ++ codes "  protocol " ++ name_bytes protocol ++ codes "\n"
 
--- a right file of this protocol is told
-pub record TellsVector (name : List ℕ) (protocol : Section) (e : Explained) : Type 0 where
+-- a right file of this protocol is reported
+pub record ReportsVector (name : List ℕ) (protocol : Section) (e : Explained) : Type 0 where
   pub status_is : e.status ≡ 0
   pub begins : Begins (vector_head name protocol) e

@@ -2,27 +2,29 @@
 
 use crate::line_column::{block_fault, block_of, first_word};
 use crate::line_place::{has_end, is_own};
-use crate::told::Told;
+use crate::sentences::Sentences;
 use noise_explain::{Advice, fault_advice, line_at};
 
 // What is wrong with a line of that pattern.
-pub(crate) fn block_told(text: &[u8], number: usize, column: usize) -> Told {
+pub(crate) fn block_reported(text: &[u8], number: usize, column: usize) -> Sentences {
     if lacks_block(text) {
         return NO_BLOCK;
     }
     match block_fault(text) {
         Some(fault) if fault.line == number.saturating_sub(2) => {
-            Told::of(fault_advice(block_of(text), fault, column))
+            Sentences::of(fault_advice(block_of(text), fault, column))
         }
-        _ => Told::new(
-            "The pattern's first line has the base and the psk places of the protocol's name, and a colon, and this one doesn't.",
+        _ => Sentences::new(
+            "The pattern's first line has the base and the psk places of the protocol's name, and a colon, and this \
+             one doesn't.",
             "Write it so, or change the name in the line above.",
         ),
     }
 }
 
-const NO_BLOCK: Told = Told {
-    says: "The pattern of this protocol isn't a fundamental one, so its text has to stand below line 2, and it doesn't.",
+const NO_BLOCK: Sentences = Sentences {
+    says: "The pattern of this protocol isn't a fundamental one, so its text has to stand below line 2, and it \
+           doesn't.",
     mends: "Put it there, and after it the line end.",
 };
 
@@ -32,45 +34,45 @@ fn lacks_block(text: &[u8]) -> bool {
 }
 
 // What is missing after the last line.
-pub(crate) fn ending_told(text: &[u8], number: usize, line: &[u8]) -> Told {
+pub(crate) fn ending_reported(text: &[u8], number: usize, line: &[u8]) -> Sentences {
     if !line.is_empty() {
-        return Told::of(Advice::LineFeedMissing);
+        return Sentences::of(Advice::LineFeedMissing);
     }
     if is_own(text) && !has_end(text) {
         return if lacks_block(text) { NO_BLOCK } else { NO_END };
     }
-    next_told(first_word(line_at(text, number.saturating_sub(1))), text)
+    next_reported(first_word(line_at(text, number.saturating_sub(1))), text)
 }
 
-const NO_END: Told = Told {
+const NO_END: Sentences = Sentences {
     says: "The line end has to stand after the pattern that the file spells, and the file ends before it.",
     mends: "Put it after the pattern's last line.",
 };
 
 // Which line has to follow the one that begins with this word.
-fn next_told(last: &[u8], text: &[u8]) -> Told {
+fn next_reported(last: &[u8], text: &[u8]) -> Sentences {
     if last == b"vector".as_slice() {
-        Told::new(
+        Sentences::new(
             "The file ends before the protocol's line.",
             "Add it, for example: protocol Noise_XX_25519_ChaChaPoly_SHA256",
         )
     } else if last == b"protocol".as_slice() || last == b"end".as_slice() {
-        Told::new(
+        Sentences::new(
             "The file ends before the prologue's line.",
             "Add it. Without a prologue it is: prologue -",
         )
     } else if last == b"prologue".as_slice() {
-        Told::new(
+        Sentences::new(
             "The file ends before the interval's line.",
             "Add it. Where no key is renewed it is: interval 0",
         )
     } else if has_initiator(text) {
-        Told::new(
+        Sentences::new(
             "The file ends before the responder's line.",
             "Add it, for example: responder xor - -",
         )
     } else {
-        Told::new(
+        Sentences::new(
             "The file ends before the initiator's line.",
             "Add it, for example: initiator xor - -",
         )

@@ -3,7 +3,7 @@
 use crate::line_place::{NeededRole, needed_role};
 use noise_vectors::LineKind;
 
-// The form of a line of this kind that begins with this word, or nothing where it isn't told.
+// The form of a line of this kind that begins with this word, or nothing where it isn't reported.
 pub(crate) fn expected_form(
     kind: LineKind,
     text: &[u8],

@@ -9,9 +9,9 @@ mod line_sentences;
 mod line_shapes;
 mod run_counts;
 mod run_sentences;
+mod sentences;
 mod setup_sentences;
 mod shapes;
-mod told;
 mod vector_explaining;
 mod word_sentences;
 

@@ -54,7 +54,7 @@ pub(crate) fn wrong_at(shapes: &[Shape], line: &[u8]) -> usize
 
 // Whether a word of this shape begins there.
 fn is_right_at(shape: Shape, line: &[u8], at: usize) -> bool
-    ensures same { result ≡ right_at shape line.now at }
+    ensures value { result ≡ right_at shape line.now at }
     ensures within { IsTrue result → at ≤ length line.now }
 {
     at <= line.len() && has_shape(shape, word_at(line, at))
@@ -62,7 +62,7 @@ fn is_right_at(shape: Shape, line: &[u8], at: usize) -> bool
 
 // The word that begins so many bytes after the line's begin.
 pub(crate) fn word_at(line: &[u8], at: usize) -> &[u8]
-    ensures same { result.now ≡ word_at line.now at }
+    ensures value { result.now ≡ word_at line.now at }
     ensures few { length result.now ≤ length line.now - at }
 {
     let (_, rest) = line.split_at(at.min(line.len()));
@@ -71,7 +71,7 @@ pub(crate) fn word_at(line: &[u8], at: usize) -> &[u8]
 
 // What stands before the first space.
 pub(crate) fn first_word(text: &[u8]) -> &[u8]
-    ensures same { result.now ≡ first_word text.now }
+    ensures value { result.now ≡ first_word text.now }
     ensures few { length result.now ≤ length text.now }
 {
     let (word, _) = text.split_at(word_len(text));

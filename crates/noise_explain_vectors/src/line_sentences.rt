@@ -3,171 +3,172 @@
 use crate::line_column::{first_word, word_at, wrong_at};
 use crate::line_place::{NeededRole, is_after_datagrams, is_first_version, needed_role};
 use crate::line_shapes::shapes_of;
+use crate::sentences::Sentences;
 use crate::shapes::Shape;
-use crate::told::Told;
-use crate::word_sentences::{CUTS, word_told};
+use crate::word_sentences::{CUTS, word_reported};
 use noise_explain::{Advice, slip};
 use noise_vectors::LineKind;
 
 // What is wrong with a line of a text, which has to be of this kind.
-pub(crate) fn line_told(kind: LineKind, text: &[u8], number: usize, line: &[u8]) -> Told {
+pub(crate) fn line_reported(kind: LineKind, text: &[u8], number: usize, line: &[u8]) -> Sentences {
     if line.starts_with(b"#".as_slice()) {
-        return Told::new(
+        return Sentences::new(
             "A vector file has no comments, and this line begins as one.",
             "Leave it out.",
         );
     }
     if let Some(advice) = slip(line) {
-        return slip_told(advice, line);
+        return slip_reported(advice, line);
     }
     let first = first_word(line);
     let shapes = shapes_of(kind, first);
     let at = wrong_at(shapes, line);
     if shapes.is_empty() {
-        first_told(kind, text, number, line)
+        first_reported(kind, text, number, line)
     } else if at > line.len() {
-        whole_told(kind, text, number, line)
+        whole_reported(kind, text, number, line)
     } else {
-        place_told(shapes, line, at)
+        place_reported(shapes, line, at)
     }
 }
 
 // What is wrong in characters that aren't seen. After `expect` a space may be all that is there.
-fn slip_told(advice: Advice, line: &[u8]) -> Told {
+fn slip_reported(advice: Advice, line: &[u8]) -> Sentences {
     if line == b"expect ".as_slice() {
         return EXPECT_EMPTY;
     }
-    Told::of(advice)
+    Sentences::of(advice)
 }
 
-const EXPECT_EMPTY: Told = Told {
+const EXPECT_EMPTY: Sentences = Sentences {
     says: "LINE has at least one byte, and none stands here.",
     mends: "Write the line that is expected, or leave this one out.",
 };
 
 // What is wrong with the word that so many bytes of a line stand before.
-fn place_told(shapes: &[Shape], line: &[u8], at: usize) -> Told {
+fn place_reported(shapes: &[Shape], line: &[u8], at: usize) -> Sentences {
     let (before, _) = line.split_at(at.min(line.len()));
     let index = before.iter().filter(|b| **b == b' ').count();
     let word = word_at(line, at);
     match shapes.get(index).copied() {
         Some(Shape::Rest) => {
             let (_, name) = line.split_at(at.min(line.len()));
-            word_told(Shape::Rest, name)
+            word_reported(Shape::Rest, name)
         }
-        Some(shape) if !word.is_empty() => word_told(shape, word),
-        _ if at >= line.len() => Told::new(
+        Some(shape) if !word.is_empty() => word_reported(shape, word),
+        _ if at >= line.len() => Sentences::new(
             "A word is missing at the end of the line.",
             "Write it after a space.",
         ),
-        _ if word.is_empty() => Told::new(
+        _ if word.is_empty() => Sentences::new(
             "One space stands between two words, and here is another one.",
             "Take it out.",
         ),
-        _ => Told::new("The line has a word too many.", "Leave it out."),
+        _ => Sentences::new("The line has a word too many.", "Leave it out."),
     }
 }
 
 // What is wrong with a line that begins as no line of its kind does.
-fn first_told(kind: LineKind, text: &[u8], number: usize, line: &[u8]) -> Told {
+fn first_reported(kind: LineKind, text: &[u8], number: usize, line: &[u8]) -> Sentences {
     if line.starts_with(b" ".as_slice()) {
-        return Told::new(
+        return Sentences::new(
             "A line begins with its first word, and a space stands before it.",
             "Take it out.",
         );
     }
     match kind {
-        LineKind::Header => Told::new(
+        LineKind::Header => Sentences::new(
             "The first line says that it is a vector file, and its version.",
             "Write vector 1 or vector 2.",
         ),
-        LineKind::Protocol => Told::new(
+        LineKind::Protocol => Sentences::new(
             "The protocol's line has to stand here, and another one does.",
             "Put it above this one, for example: protocol Noise_XX_25519_ChaChaPoly_SHA256",
         ),
-        LineKind::Prologue => prologue_told(line),
-        LineKind::Interval => Told::new(
+        LineKind::Prologue => prologue_reported(line),
+        LineKind::Interval => Sentences::new(
             "The interval's line has to stand here, and another one does.",
             "Put it above this one. Where no key is renewed it is: interval 0",
         ),
-        LineKind::Keys => keys_told(needed_role(text, number), first_word(line)),
-        LineKind::Event => event_told(text, number, line),
-        LineKind::Expect => expect_told(line),
-        LineKind::Pattern | LineKind::Psk | LineKind::Answer | LineKind::Ending => other_told(),
+        LineKind::Keys => keys_reported(needed_role(text, number), first_word(line)),
+        LineKind::Event => event_reported(text, number, line),
+        LineKind::Expect => expect_reported(line),
+        LineKind::Pattern | LineKind::Psk | LineKind::Answer | LineKind::Ending => other_reported(),
     }
 }
 
-fn other_told() -> Told {
-    Told::new(
+fn other_reported() -> Sentences {
+    Sentences::new(
         "Another line has to stand here.",
         "The lines and their order are those of the format.",
     )
 }
 
-fn prologue_told(line: &[u8]) -> Told {
+fn prologue_reported(line: &[u8]) -> Sentences {
     if line.ends_with(b":".as_slice()) {
-        return Told::new(
-            "The prologue's line has to stand here: the pattern of this name is a fundamental one, which no file spells.",
+        return Sentences::new(
+            "The prologue's line has to stand here: the pattern of this name is a fundamental one, which no file \
+             spells.",
             "Leave the lines of the pattern and the line end out.",
         );
     }
-    Told::new(
+    Sentences::new(
         "The prologue's line has to stand here, and another one does.",
         "Put it above this one. Without a prologue it is: prologue -",
     )
 }
 
-fn keys_told(role: NeededRole, first: &[u8]) -> Told {
+fn keys_reported(role: NeededRole, first: &[u8]) -> Sentences {
     if first == b"answer".as_slice() {
-        return Told::new(
+        return Sentences::new(
             "Answers stand below a line of keys of the kind table alone, and above this one no such line stands.",
             "Write table in place of xor, or leave the answers out.",
         );
     }
     match role {
-        NeededRole::Initiator if first == b"psk".as_slice() => Told::new(
+        NeededRole::Initiator if first == b"psk".as_slice() => Sentences::new(
             "A psk's line has a key, and none stands here.",
             "Write it after a space.",
         ),
-        NeededRole::Initiator => Told::new(
+        NeededRole::Initiator => Sentences::new(
             "The initiator's line has to stand here, and another one does.",
             "Put it above this one, for example: initiator xor - -",
         ),
-        NeededRole::Responder => Told::new(
+        NeededRole::Responder => Sentences::new(
             "The responder's line has to stand here, and another one does.",
             "Put it above this one, for example: responder xor - -",
         ),
     }
 }
 
-fn event_told(text: &[u8], number: usize, line: &[u8]) -> Told {
+fn event_reported(text: &[u8], number: usize, line: &[u8]) -> Sentences {
     let first = first_word(line);
     if first == b"expect".as_slice() {
         return if is_first_version(text) {
             FIRST_VERSION
         } else {
-            expect_told(line)
+            expect_reported(line)
         };
     }
     if is_upper_line(first) {
-        return Told::new(
+        return Sentences::new(
             "An event has to stand here, and a line of this name stands above the events.",
             "Move it up, or leave it out.",
         );
     }
     if is_after_datagrams(text, number) {
-        return Told::new(
+        return Sentences::new(
             "An event of datagrams has to stand here, and none has this name.",
             "The names are seal, open and foreign.",
         );
     }
-    Told::new(
+    Sentences::new(
         "An event has to stand here, and none has this name.",
         "The names are say, write, deliver and raw, and after the line of datagrams seal, open and foreign.",
     )
 }
 
-const FIRST_VERSION: Told = Told {
+const FIRST_VERSION: Sentences = Sentences {
     says: "Version 1 has no datagrams and no expected output.",
     mends: "Write vector 2 in the first line.",
 };
@@ -184,58 +185,58 @@ fn is_upper_line(first: &[u8]) -> bool {
         || first == b"answer".as_slice()
 }
 
-fn expect_told(line: &[u8]) -> Told {
+fn expect_reported(line: &[u8]) -> Sentences {
     if line == b"expect".as_slice() {
         return EXPECT_EMPTY;
     }
     if line.starts_with(b"expect ".as_slice()) {
-        return Told::new(
+        return Sentences::new(
             "LINE has bytes from 32 (a space) to 126 (~) alone, and another one stands in this.",
             "Take it out: no line of output has it.",
         );
     }
-    Told::new(
+    Sentences::new(
         "After the first line of expected output only such lines stand, and this is none.",
         "Move it above them, or leave it out.",
     )
 }
 
 // What is wrong with a line whose words are each of their shape.
-fn whole_told(kind: LineKind, text: &[u8], number: usize, line: &[u8]) -> Told {
+fn whole_reported(kind: LineKind, text: &[u8], number: usize, line: &[u8]) -> Sentences {
     match kind {
-        LineKind::Prologue => Told::new(
+        LineKind::Prologue => Sentences::new(
             "A prologue has at most 65535 bytes, and this one has more.",
             "Shorten it.",
         ),
-        LineKind::Interval => Told::new(
+        LineKind::Interval => Sentences::new(
             "NUM is below 18446744073709551616 here, and this isn't.",
             "Write a smaller number.",
         ),
-        LineKind::Psk => Told::new(
+        LineKind::Psk => Sentences::new(
             "A file has at most 9 psk lines, and this is one more.",
             "Leave it out.",
         ),
-        LineKind::Keys => other_party_told(needed_role(text, number)),
-        LineKind::Answer => Told::new(
+        LineKind::Keys => other_party_reported(needed_role(text, number)),
+        LineKind::Answer => Sentences::new(
             "A table has at most 8 answers, and this is one more.",
             "Leave it out.",
         ),
-        LineKind::Event => whole_event_told(text, number, line),
+        LineKind::Event => whole_event_reported(text, number, line),
         LineKind::Header
         | LineKind::Protocol
         | LineKind::Pattern
         | LineKind::Expect
-        | LineKind::Ending => other_told(),
+        | LineKind::Ending => other_reported(),
     }
 }
 
-fn other_party_told(role: NeededRole) -> Told {
+fn other_party_reported(role: NeededRole) -> Sentences {
     match role {
-        NeededRole::Initiator => Told::new(
+        NeededRole::Initiator => Sentences::new(
             "The initiator's line has to stand here, and this is the responder's.",
             "Put the initiator's above this one, for example: initiator xor - -",
         ),
-        NeededRole::Responder => Told::new(
+        NeededRole::Responder => Sentences::new(
             "The responder's line has to stand here, and this is the initiator's.",
             "Put the responder's here, for example: responder xor - -",
         ),
@@ -243,7 +244,7 @@ fn other_party_told(role: NeededRole) -> Told {
 }
 
 // An event that may not stand there, or is beyond a limit.
-fn whole_event_told(text: &[u8], number: usize, line: &[u8]) -> Told {
+fn whole_event_reported(text: &[u8], number: usize, line: &[u8]) -> Sentences {
     let first = first_word(line);
     let is_datagrams = first == b"datagrams".as_slice();
     let is_of_datagrams = is_datagram_event(first);
@@ -251,22 +252,22 @@ fn whole_event_told(text: &[u8], number: usize, line: &[u8]) -> Told {
     if (is_datagrams || is_of_datagrams) && is_first_version(text) {
         FIRST_VERSION
     } else if is_datagrams {
-        Told::new(
+        Sentences::new(
             "The line of datagrams stands once, and this is another one.",
             "Leave it out.",
         )
     } else if is_of_datagrams && !is_after {
-        Told::new(
+        Sentences::new(
             "An event of datagrams stands below the line of datagrams, and above this one no such line stands.",
             "Put it above this one, for example: datagrams 64",
         )
     } else if is_after && !is_of_datagrams {
-        Told::new(
+        Sentences::new(
             "Below the line of datagrams only seal, open and foreign stand, and this is another event.",
             "Move it above that line, or leave it out.",
         )
     } else {
-        limit_told(first, line)
+        limit_reported(first, line)
     }
 }
 
@@ -275,21 +276,21 @@ fn is_datagram_event(first: &[u8]) -> bool {
 }
 
 // Which limit an event is beyond.
-fn limit_told(first: &[u8], line: &[u8]) -> Told {
+fn limit_reported(first: &[u8], line: &[u8]) -> Sentences {
     if first == b"raw".as_slice() || first == b"foreign".as_slice() {
-        return Told::new(
+        return Sentences::new(
             "At most 131072 bytes come at once, and these are more.",
             "Leave some out.",
         );
     }
     if line.len() > 131072 {
-        return Told::new(
+        return Sentences::new(
             "A payload has at most 65535 bytes, and this one has more.",
             "Shorten it.",
         );
     }
     if first == b"open".as_slice() || !has_small_number(first, line) {
-        return Told::new(
+        return Sentences::new(
             "NUM is below 4294967296 here, and this isn't.",
             "Write a smaller number.",
         );

@@ -6,8 +6,8 @@ ghost use Rattle.noise_explain_vectors.specs.VectorColumns.{event_shapes, hex_ev
 use crate::shapes::{Shape, is_role};
 use noise_vectors::LineKind;
 
-// The shapes of the words of a line that has to be of this kind and begins with this word: none where no such line begins
-// so, or where its words aren't told.
+// The shapes of the words of a line that has to be of this kind and begins with this word: none where no such line
+// begins so, or where its words aren't reported.
 pub(crate) fn shapes_of(kind: LineKind, first: &[u8]) -> &'static [Shape]
     ensures { result.now ≡ shapes_of kind first.now }
 {

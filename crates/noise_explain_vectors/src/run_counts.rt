@@ -33,7 +33,7 @@ impl Counts {
     }
 
     // After one more line about this party, of this first word; of a handshake of so many messages.
-    pub fn after(self, word: &[u8], count: usize, is_over: bool) -> Counts {
+    pub fn after(self, word: &[u8], count: usize, is_ended: bool) -> Counts {
         let mut counts = self;
         let is_handshake = self.passed < count;
         if word == b"wrote".as_slice() {
@@ -44,7 +44,7 @@ impl Counts {
                 counts.sent = more(self.sent);
             }
         } else if word == b"payload".as_slice() {
-            if is_over {
+            if is_ended {
                 counts.opened = more(self.opened);
             } else if is_handshake {
                 counts.accepted = more(self.accepted);

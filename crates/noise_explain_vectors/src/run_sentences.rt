@@ -2,8 +2,8 @@
 
 use crate::line_column::{first_word, word_at};
 use crate::run_counts::Counts;
-use noise_explain::{Spot, push_fact, push_sentence, role_name, token_at};
-use noise_lines::token_word;
+use noise_explain::{Spot, push_fact, push_sentence, token_at};
+use noise_lines::{role_word, token_word};
 use noise_names::{Pattern, Role};
 use std::alloc::{AllocError, Global};
 use std::str;
@@ -17,10 +17,10 @@ pub(crate) fn run_lines(
     let mut refusals = Vec::new(alloc);
     let mut initiator = Counts::new();
     let mut responder = Counts::new();
-    let mut is_over = false;
+    let mut is_ended = false;
     for line in lines {
         if line.starts_with(b"datagrams ".as_slice()) {
-            is_over = true;
+            is_ended = true;
         }
         let Some(role) = role_of(line) else {
             continue;
@@ -30,13 +30,13 @@ pub(crate) fn run_lines(
             Role::Responder => responder,
         };
         push_refusal(alloc, pattern, role, counts.passed, line, &mut refusals)?;
-        let after = counted(counts, line, pattern, is_over);
+        let after = counted(counts, line, pattern, is_ended);
         match role {
             Role::Initiator => initiator = after,
             Role::Responder => responder = after,
         }
     }
-    let mut text = count_lines(alloc, initiator, responder, is_over)?;
+    let mut text = count_lines(alloc, initiator, responder, is_ended)?;
     text.extend_from_slice(&refusals)?;
     push_fact(
         session_says(initiator.is_open, responder.is_open),
@@ -45,8 +45,8 @@ pub(crate) fn run_lines(
     Ok(text)
 }
 
-fn counted(counts: Counts, line: &[u8], pattern: &Pattern, is_over: bool) -> Counts {
-    let mut after = counts.after(first_word(line), pattern.messages().len(), is_over);
+fn counted(counts: Counts, line: &[u8], pattern: &Pattern, is_ended: bool) -> Counts {
+    let mut after = counts.after(first_word(line), pattern.messages().len(), is_ended);
     after.is_open = is_open(line);
     after
 }
@@ -75,7 +75,7 @@ fn count_lines(
     alloc: Global,
     initiator: Counts,
     responder: Counts,
-    is_over: bool,
+    is_ended: bool,
 ) -> Result<Vec<u8>, AllocError> {
     let mut text = Vec::new(alloc);
     push_sentence("what its events come to", &mut text)?;
@@ -87,7 +87,7 @@ fn count_lines(
     push_counts(alloc, TRANSPORT, first, second, &mut text)?;
     let refused = (initiator.dropped, responder.dropped);
     push_refused(alloc, TRANSPORT, refused, &mut text)?;
-    if is_over {
+    if is_ended {
         let first = (initiator.sealed, initiator.opened);
         let second = (responder.sealed, responder.opened);
         push_counts(alloc, DATAGRAMS, first, second, &mut text)?;
@@ -169,7 +169,7 @@ fn push_refusal(
     let (Ok(number), Ok(cause)) = (str::from_utf8(number), str::from_utf8(cause)) else {
         return Ok(());
     };
-    let who = role_name(role);
+    let who = role_word(role);
     let message = passed.saturating_add(1);
     let piece = piece_name(pattern, message, number);
     let refusal = format!(in alloc;

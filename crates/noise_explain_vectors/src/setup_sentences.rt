@@ -1,7 +1,8 @@
 //! The sentences on an end that can't be made.
 
-use noise_explain::{push_sentence, role_name};
+use noise_explain::push_sentence;
 use noise_keys::SetupFault;
+use noise_lines::role_word;
 use noise_names::Role;
 use std::alloc::{AllocError, Global};
 
@@ -27,8 +28,8 @@ fn other(role: Role) -> Role {
 }
 
 fn setup_says(alloc: Global, role: Role, why: SetupFault) -> Result<String, AllocError> {
-    let own = role_name(role);
-    let remote = role_name(other(role));
+    let own = role_word(role);
+    let remote = role_word(other(role));
     match why {
         SetupFault::EphemeralMissing => format!(in alloc;
             "The pattern needs an ephemeral key of the {own}, and its line has none."
@@ -50,8 +51,8 @@ fn setup_says(alloc: Global, role: Role, why: SetupFault) -> Result<String, Allo
 }
 
 fn setup_mends(alloc: Global, role: Role, why: SetupFault) -> Result<String, AllocError> {
-    let own = role_name(role);
-    let remote = role_name(other(role));
+    let own = role_word(role);
+    let remote = role_word(other(role));
     match why {
         SetupFault::EphemeralMissing => format!(in alloc;
             "Put one in place of the first - in the line of the {own}."
@@ -60,7 +61,8 @@ fn setup_mends(alloc: Global, role: Role, why: SetupFault) -> Result<String, All
             "Put one in place of the second - in the line of the {own}."
         ),
         SetupFault::RemoteMissing => format!(in alloc;
-            "Put it in place of - in the line of the {remote}: the first is the ephemeral key, the second the static one."
+            "Put it in place of - in the line of the {remote}: the first is the ephemeral key, the second the static \
+             one."
         ),
         SetupFault::RemoteUnexpected => format!(in alloc;
             "Put - in its place in the line of the {remote}."

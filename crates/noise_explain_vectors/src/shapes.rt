@@ -2,15 +2,16 @@
 
 ghost use Rattle.std.specs.Prelude.{◌≡◌, ◌||◌, ◌==◌, bytes_eq, codes};
 ghost use Rattle.std.specs.List.{list_all};
-ghost use Rattle.noise_vectors.specs.HexWord.{is_lower_digit};
 ghost use Rattle.noise_explain_vectors.specs.VectorColumns.{are_digits, are_hex, are_numbers, has_leading_zero, has_shape, is_digit, is_hex, is_key, is_number};
+
+use noise_vectors::is_lower_digit;
 
 /// What a word has to be.
 #[derive(Clone, Copy, Debug, PartialEq, Eq)]
 pub(crate) enum Shape {
-    /// The first word of the line, by which the others are told.
+    /// The first word of the line, by which the others are reported.
     First,
-    /// All that is left of the line, of which no word is told.
+    /// All that is left of the line, of which no word is reported.
     Rest,
     /// `1` or `2`.
     Version,
@@ -83,12 +84,6 @@ pub(crate) fn are_hex(word: &[u8]) -> bool
     ensures { result ≡ are_hex word.now }
 {
     word.iter().all(|digit| is_lower_digit(*digit))
-}
-
-fn is_lower_digit(byte: u8) -> bool
-    ensures { result ≡ is_lower_digit byte }
-{
-    matches!(byte, b'0'..=b'9' | b'a'..=b'f')
 }
 
 fn is_number(word: &[u8]) -> bool

@@ -1,16 +1,17 @@
 //! What is said of a vector file.
 
-ghost use Rattle.std.specs.Prelude.{◌≡◌, ◌++◌, IfOk, OnOk};
+ghost use Rattle.std.specs.Prelude.{◌≡◌, ◌++◌, IfOk, MatchOption, OnOk};
 ghost use Rattle.noise_names.specs.Names.{name_bytes};
-ghost use Rattle.noise_explain_vectors.specs.VectorExplained.{TellsFault, TellsLine, TellsVector, is_vector_text, vector_head, without_mark};
+ghost use Rattle.noise_explain_vectors.specs.VectorExplained.{IsPatternIn, LacksPattern, ReportsFault, ReportsLine, ReportsVector};
+ghost use Rattle.noise_explain_vectors.specs.VectorExplained.{is_vector_text, vector_head, without_mark};
 
-use crate::block_sentences::{block_told, ending_told};
+use crate::block_sentences::{block_reported, ending_reported};
 use crate::expected_forms::expected_form;
 use crate::line_column::{first_word, line_column};
-use crate::line_sentences::line_told;
+use crate::line_sentences::line_reported;
 use crate::run_sentences::run_lines;
+use crate::sentences::Sentences;
 use crate::setup_sentences::setup_lines;
-use crate::told::Told;
 use noise_explain::{
     Explained, Place, caret_lines, fact_lines, line_at, push_sentence, rule_lines, unread_head,
     wrong_head,
@@ -39,8 +40,8 @@ fn without_mark(text: &[u8]) -> &[u8]
     }
 }
 
-/// Explains the fault that a line of a vector file isn't as it has to be: its place, the line with a caret below the place,
-/// what has to stand there, and what mends it.
+/// Explains the fault that a line of a vector file isn't as it has to be: its place, the line with a caret below the
+/// place, what has to stand there, and what mends it.
 pub fn explain_line(
     alloc: Global,
     name: &str,
@@ -48,16 +49,16 @@ pub fn explain_line(
     number: usize,
     kind: LineKind,
 ) -> Result<Explained, AllocError>
-    ensures { IfOk result (TellsLine name.now text.now number kind) }
+    ensures { IfOk result (ReportsLine name.now text.now number kind) }
 {
     let place = Place {
         line: number,
         column: line_column(kind, text, number),
     };
-    let mut told = wrong_head(alloc, name, place, Fault::Line(number, kind))?;
-    told.extend_from_slice(&line_lines(alloc, text, place, kind)?)?;
+    let mut sentences = wrong_head(alloc, name, place, Fault::Line(number, kind))?;
+    sentences.extend_from_slice(&line_lines(alloc, text, place, kind)?)?;
     Ok(Explained {
-        text: told,
+        text: sentences,
         status: 2,
     })
 }
@@ -72,21 +73,21 @@ fn line_lines(
     let line = line_at(text, place.line);
     let mut lines = caret_lines(alloc, line, place.column)?;
     let form = expected_form(kind, text, place.line, first_word(line));
-    let may_stand = kind != LineKind::Event || place.column > 1;
-    if may_stand && !form.is_empty() {
+    let may_match = kind != LineKind::Event || place.column > 1;
+    if may_match && !form.is_empty() {
         let expected = format!(in alloc; "expected: {form}")?;
         push_sentence(expected.as_str(), &mut lines)?;
     }
     let said = match kind {
-        LineKind::Pattern => block_told(text, place.line, place.column),
-        LineKind::Ending => ending_told(text, place.line, line),
-        _ => line_told(kind, text, place.line, line),
+        LineKind::Pattern => block_reported(text, place.line, place.column),
+        LineKind::Ending => ending_reported(text, place.line, line),
+        _ => line_reported(kind, text, place.line, line),
     };
-    push_told(said, &mut lines)?;
+    push_reported(said, &mut lines)?;
     Ok(lines)
 }
 
-fn push_told(said: Told, lines: &mut Vec<u8>) -> Result<(), AllocError> {
+fn push_reported(said: Sentences, lines: &mut Vec<u8>) -> Result<(), AllocError> {
     push_sentence(said.says, lines)?;
     push_sentence(said.mends, lines)
 }
@@ -98,7 +99,7 @@ pub fn explain_start(
     fault: Fault,
     pattern: Option<&Pattern>,
 ) -> Result<Explained, AllocError>
-    ensures { IfOk result (TellsFault name.now fault) }
+    ensures { IfOk result (ReportsFault name.now fault) }
 {
     let mut text = unread_head(alloc, name, fault)?;
     text.extend_from_slice(&start_lines(alloc, fault, pattern)?)?;
@@ -138,16 +139,25 @@ fn place_lines(alloc: Global) -> Result<Vec<u8>, AllocError> {
 /// The pattern of a vector file: the one that it spells, or else that of its protocol's name, if there is one.
 pub fn pattern_in(
     protocol: &ProtocolName,
-    block: Option<&Pattern>,
-) -> Result<Option<Pattern>, AllocError> {
+    block: &Option<Pattern>,
+) -> Result<Option<Pattern>, AllocError>
+    ensures { IfOk result (λ found. MatchOption found (LacksPattern block.now protocol.now)
+        (IsPatternIn block.now protocol.now)) }
+{
     match block {
-        Some(pattern) => Ok(Some(pattern.clone()?)),
-        None => Ok(named_pattern(protocol).ok()),
+        Some(pattern) => {
+            let same = pattern.clone()?;
+            Ok(Some(same))
+        }
+        None => match named_pattern(protocol) {
+            Ok(pattern) => Ok(Some(pattern)),
+            Err(_) => Ok(None),
+        },
     }
 }
 
-/// Explains a right vector file: its protocol, what follows from the tokens of its pattern, and what its run came to, whose
-/// lines these are.
+/// Explains a right vector file: its protocol, what follows from the tokens of its pattern, and what its run came to,
+/// whose lines these are.
 pub fn explain_vector(
     alloc: Global,
     name: &str,
@@ -155,7 +165,7 @@ pub fn explain_vector(
     pattern: Option<Pattern>,
     lines: &[Vec<u8>],
 ) -> Result<Explained, AllocError>
-    ensures { IfOk result (TellsVector name.now protocol.now) }
+    ensures { IfOk result (ReportsVector name.now protocol.now) }
 {
     let mut text = vector_head(alloc, name, protocol)?;
     text.extend_from_slice(&vector_lines(alloc, pattern, lines)?)?;

@@ -1,82 +1,82 @@
 //! The sentences on wrong words of vector files.
 
+use crate::sentences::Sentences;
 use crate::shapes::Shape;
-use crate::told::Told;
 use noise_names::{NameFault, ProtocolName};
 
 // What is wrong with a word that isn't of this shape.
-pub(crate) fn word_told(shape: Shape, word: &[u8]) -> Told {
+pub(crate) fn word_reported(shape: Shape, word: &[u8]) -> Sentences {
     match shape {
-        Shape::First | Shape::Rest => name_told(word),
-        Shape::Version => Told::new(
+        Shape::First | Shape::Rest => name_reported(word),
+        Shape::Version => Sentences::new(
             "The version is 1 or 2, and another word stands here.",
             "Write 1, or 2 for datagrams or expected output.",
         ),
-        Shape::Kind => Told::new(
+        Shape::Kind => Sentences::new(
             "The keys are of the kind xor or table, and another word stands here.",
             "Write one of the two.",
         ),
-        Shape::Role => Told::new(
+        Shape::Role => Sentences::new(
             "ROLE is initiator or responder, and another word stands here.",
             "Write one of the two.",
         ),
-        Shape::Own => Told::new(
+        Shape::Own => Sentences::new(
             "OWN is e or s, and another word stands here.",
             "Write e for the ephemeral key, or s for the static one.",
         ),
-        Shape::Window => Told::new(
+        Shape::Window => Sentences::new(
             "W is 64, 256 or 1024, and another word stands here.",
             "Write one of the three.",
         ),
-        Shape::Hex => hex_told(word),
-        Shape::Key => key_told(word),
-        Shape::MaybeKey => maybe_key_told(word),
-        Shape::Number => number_told(word),
+        Shape::Hex => hex_reported(word),
+        Shape::Key => key_reported(word),
+        Shape::MaybeKey => maybe_key_reported(word),
+        Shape::Number => number_reported(word),
         Shape::Cuts => CUTS,
     }
 }
 
-pub(crate) const CUTS: Told = Told {
+pub(crate) const CUTS: Sentences = Sentences {
     says: "CUTS is -, or 1 to 8 numbers from 0 to 65535 joined by commas, the last not 0, and this is neither.",
     mends: "Write - for one piece, or for example 1,2,16",
 };
 
-fn hex_told(word: &[u8]) -> Told {
+fn hex_reported(word: &[u8]) -> Sentences {
     if word.starts_with(b"0x".as_slice()) {
-        return Told::new(
+        return Sentences::new(
             "HEX has hex digits alone, and 0x stands before them.",
             "Leave 0x out.",
         );
     }
     match slip_of(word) {
-        Slip::UpperCase => Told::new(
+        Slip::UpperCase => Sentences::new(
             "HEX has lower-case digits, and an upper-case letter stands here.",
             "Write it in lower case.",
         ),
-        Slip::Other => Told::new(
+        Slip::Other => Sentences::new(
             "HEX has the digits 0 to 9 and a to f alone, and another character stands here.",
             "Write two digits for each byte, or - for no bytes.",
         ),
-        Slip::Count => Told::new(
+        Slip::Count => Sentences::new(
             "HEX has two digits for each byte, and the number of these is odd.",
             "Write the digit that is missing: a byte below 16 begins with 0.",
         ),
     }
 }
 
-fn key_told(word: &[u8]) -> Told {
+fn key_reported(word: &[u8]) -> Sentences {
     if word == b"-".as_slice() {
-        return Told::new(
+        return Sentences::new(
             "KEY has 64 hex digits, and - stands here.",
             "Write the key.",
         );
     }
     match slip_of(word) {
-        Slip::UpperCase => Told::new(
+        Slip::UpperCase => Sentences::new(
             "KEY has lower-case digits, and an upper-case letter stands here.",
             "Write it in lower case.",
         ),
-        Slip::Other => Told::new(
+        Slip::Other => Sentences::new(
             "KEY has the digits 0 to 9 and a to f alone, and another character stands here.",
             "Write the 32 bytes of the key in hex.",
         ),
@@ -84,13 +84,13 @@ fn key_told(word: &[u8]) -> Told {
     }
 }
 
-fn maybe_key_told(word: &[u8]) -> Told {
+fn maybe_key_reported(word: &[u8]) -> Sentences {
     match slip_of(word) {
-        Slip::UpperCase => Told::new(
+        Slip::UpperCase => Sentences::new(
             "KEY? has lower-case digits, and an upper-case letter stands here.",
             "Write it in lower case.",
         ),
-        Slip::Other => Told::new(
+        Slip::Other => Sentences::new(
             "KEY? is - or 64 hex digits, and another character stands here.",
             "Write the 32 bytes of the key in hex, or - for no key.",
         ),
@@ -98,7 +98,7 @@ fn maybe_key_told(word: &[u8]) -> Told {
     }
 }
 
-const KEY_COUNT: Told = Told {
+const KEY_COUNT: Sentences = Sentences {
     says: "A key has 64 hex digits, two for each of its 32 bytes, and this has another number of them.",
     mends: "Write all 64.",
 };
@@ -120,17 +120,17 @@ fn slip_of(word: &[u8]) -> Slip {
     Slip::Count
 }
 
-fn number_told(word: &[u8]) -> Told {
+fn number_reported(word: &[u8]) -> Sentences {
     match word.first().copied() {
-        Some(b'+') | Some(b'-') => Told::new(
+        Some(b'+') | Some(b'-') => Sentences::new(
             "NUM has digits alone, and a sign or a hyphen stands here.",
             "Leave it out, and write a number.",
         ),
-        Some(b'0') => Told::new(
+        Some(b'0') => Sentences::new(
             "NUM has no leading zero, and one stands here.",
             "Leave it out.",
         ),
-        _ => Told::new(
+        _ => Sentences::new(
             "NUM is a decimal number, and this isn't one.",
             "Write digits alone.",
         ),
@@ -138,39 +138,40 @@ fn number_told(word: &[u8]) -> Told {
 }
 
 // What is wrong with a protocol's name.
-fn name_told(name: &[u8]) -> Told {
+fn name_reported(name: &[u8]) -> Sentences {
     match ProtocolName::parse(name) {
-        Ok(_) => Told::new(
+        Ok(_) => Sentences::new(
             "NAME is a protocol's name.",
             "For example: protocol Noise_XX_25519_ChaChaPoly_SHA256",
         ),
-        Err(fault) => name_fault_told(fault),
+        Err(fault) => name_fault_reported(fault),
     }
 }
 
-fn name_fault_told(fault: NameFault) -> Told {
+fn name_fault_reported(fault: NameFault) -> Sentences {
     match fault {
-        NameFault::Length => Told::new(
+        NameFault::Length => Sentences::new(
             "NAME has at most 255 bytes, and this one has more.",
             "For example: protocol Noise_XX_25519_ChaChaPoly_SHA256",
         ),
-        NameFault::Prefix => Told::new(
+        NameFault::Prefix => Sentences::new(
             "NAME begins with Noise_, and this doesn't.",
             "For example: protocol Noise_XX_25519_ChaChaPoly_SHA256",
         ),
-        NameFault::Base => Told::new(
-            "After Noise_ comes the base: 1 to 8 upper-case letters and digits, the first a letter. This has another one.",
+        NameFault::Base => Sentences::new(
+            "After Noise_ comes the base: 1 to 8 upper-case letters and digits, the first a letter. This has another \
+             one.",
             "For example: protocol Noise_XX_25519_ChaChaPoly_SHA256",
         ),
-        NameFault::Modifier => Told::new(
+        NameFault::Modifier => Sentences::new(
             "After the base come psk0 to psk8, with + between two, and something else stands here.",
             "For example: protocol Noise_NNpsk0+psk2_25519_ChaChaPoly_SHA256",
         ),
-        NameFault::ModifierOrder => Told::new(
+        NameFault::ModifierOrder => Sentences::new(
             "The psk places of NAME rise, each once, and these don't.",
             "For example: protocol Noise_NNpsk0+psk2_25519_ChaChaPoly_SHA256",
         ),
-        NameFault::Algorithm => Told::new(
+        NameFault::Algorithm => Sentences::new(
             "NAME ends with _25519_ChaChaPoly_SHA256, the only algorithms here, and this one doesn't.",
             "For example: protocol Noise_XX_25519_ChaChaPoly_SHA256",
         ),

@@ -9,8 +9,8 @@ use Rattle.noise_state.specs.Ciphertexts.{length-ciphertext, ciphertext-same}
 use Rattle.noise_handshake.specs.declared.remote.Remote.{Remote}
 use Rattle.noise_handshake.specs.declared.faults.Cause.{Cause}
 use Rattle.noise_handshake.specs.Message.{token_bytes, after_token, before_payload, after_tokens}
-use Rattle.noise_handshake.specs.View.{View, Reader, reader, Fits, Fit, known_after, secrets_after, BeginsAs, CanBegin, Reads, Stops, Accepts, cause_of}
-use Rattle.noise_handshake.specs.View.{cause_at, learned, tokens_now}
+use Rattle.noise_handshake.specs.Party.{Party, Reader, reader, Fits, Fit, known_after, psks_after, BeginsAs, CanBegin, Reads, Stops, Accepts, cause_of}
+use Rattle.noise_handshake.specs.Party.{cause_at, remote_after, tokens_now}
 use Rattle.noise_handshake.specs.inner.Listening.{Fails, StopsKnowing}
 use Rattle.noise_handshake.specs.declared.faults.Cause.TheVariants.{Short, Tag}
 use Rattle.noise_names.specs.Lists.{split-apart, cons-same}
@@ -19,80 +19,80 @@ some-same : (o : Option (List ℕ)) (x y : List ℕ) → o ≡ Some x → o ≡ 
 some-same o x y f g = cc
 
 -- a token's text and what is after it are determined
-pub token-apart : (v : Reader) (known : Remote) (secrets : List (List ℕ)) (r : History) (t : Token) (x y p q : List ℕ)
-    → Fits v known secrets t x → Fits v known secrets t y → token_bytes r t x ++ p ≡ token_bytes r t y ++ q → (x ≡ y) × (p ≡ q)
-token-apart v known secrets r E x y p q f g e = split-apart x y p q (f ∙ sym g) e
-token-apart v known secrets r S x y p q f g e =
+pub token-apart : (v : Reader) (known : Remote) (psks : List (List ℕ)) (r : History) (t : Token) (x y p q : List ℕ)
+    → Fits v known psks t x → Fits v known psks t y → token_bytes r t x ++ p ≡ token_bytes r t y ++ q → (x ≡ y) × (p ≡ q)
+token-apart v known psks r E x y p q f g e = split-apart x y p q (f ∙ sym g) e
+token-apart v known psks r S x y p q f g e =
     let n : length (ciphertext r x) ≡ length (ciphertext r y) = length-ciphertext r x ∙ ap (λ (k : ℕ). if is_some (cipher_key r) then k + 16 else k) (f ∙ sym g)
     ∙ sym (length-ciphertext r y) in
     let h = split-apart (ciphertext r x) (ciphertext r y) p q n e in
     (ciphertext-same r x y h.0, h.1)
-token-apart v known secrets r Psk x y p q f g e = (f ∙ sym g, e)
-token-apart v known secrets r Ee x y p q f g e = (some-same _ x y f g, e)
-token-apart v known secrets r Es x y p q f g e = (some-same _ x y f g, e)
-token-apart v known secrets r Se x y p q f g e = (some-same _ x y f g, e)
-token-apart v known secrets r Ss x y p q f g e = (some-same _ x y f g, e)
+token-apart v known psks r Psk x y p q f g e = (f ∙ sym g, e)
+token-apart v known psks r Ee x y p q f g e = (some-same _ x y f g, e)
+token-apart v known psks r Es x y p q f g e = (some-same _ x y f g, e)
+token-apart v known psks r Se x y p q f g e = (some-same _ x y f g, e)
+token-apart v known psks r Ss x y p q f g e = (some-same _ x y f g, e)
 
 -- all the texts are determined, and what is left
-pub front-apart : (v : Reader) (known : Remote) (secrets : List (List ℕ)) (r : History) (ts : List Token) (xs ys : List (List ℕ)) (p q : List ℕ)
-    → Fit v known secrets ts xs → Fit v known secrets ts ys → before_payload v.psks r ts xs ++ p ≡ before_payload v.psks r ts ys ++ q → (xs ≡ ys) × (p ≡ q)
-front-apart v known secrets r [] [] [] p q f g e = (refl, e)
-front-apart v known secrets r [] [] (y ∷ ys) p q f g e = absurd g
-front-apart v known secrets r [] (x ∷ xs) ys p q f g e = absurd f
-front-apart v known secrets r (t ∷ ts) [] ys p q f g e = absurd f
-front-apart v known secrets r (t ∷ ts) (x ∷ xs) [] p q f g e = absurd g
-front-apart v known secrets r (t ∷ ts) (x ∷ xs) (y ∷ ys) p q f g e =
-    let a : List ℕ = before_payload v.psks (after_token v.psks r t x) ts xs in
-    let b : List ℕ = before_payload v.psks (after_token v.psks r t y) ts ys in
-    let h = token-apart v known secrets r t x y (a ++ p) (b ++ q) f.0 g.0
+pub front-apart : (v : Reader) (known : Remote) (psks : List (List ℕ)) (r : History) (ts : List Token) (xs ys : List (List ℕ)) (p q : List ℕ)
+    → Fit v known psks ts xs → Fit v known psks ts ys → before_payload v.has_psks r ts xs ++ p ≡ before_payload v.has_psks r ts ys ++ q → (xs ≡ ys) × (p ≡ q)
+front-apart v known psks r [] [] [] p q f g e = (refl, e)
+front-apart v known psks r [] [] (y ∷ ys) p q f g e = absurd g
+front-apart v known psks r [] (x ∷ xs) ys p q f g e = absurd f
+front-apart v known psks r (t ∷ ts) [] ys p q f g e = absurd f
+front-apart v known psks r (t ∷ ts) (x ∷ xs) [] p q f g e = absurd g
+front-apart v known psks r (t ∷ ts) (x ∷ xs) (y ∷ ys) p q f g e =
+    let a : List ℕ = before_payload v.has_psks (after_token v.has_psks r t x) ts xs in
+    let b : List ℕ = before_payload v.has_psks (after_token v.has_psks r t y) ts ys in
+    let h = token-apart v known psks r t x y (a ++ p) (b ++ q) f.0 g.0
     (sym (append_assoc (token_bytes r t x) a p) ∙ e ∙ append_assoc (token_bytes r t y) b q) in
-    let g1 = subst (λ (z : List ℕ). Fit v (known_after known t z) (secrets_after secrets t) ts ys) (sym h.0) g.1 in
-    let e1 : a ++ p ≡ before_payload v.psks (after_token v.psks r t x) ts ys ++ q =
-    h.1 ∙ ap (λ (z : List ℕ). before_payload v.psks (after_token v.psks r t z) ts ys ++ q) (sym h.0) in
-    let i = front-apart v (known_after known t x) (secrets_after secrets t) (after_token v.psks r t x) ts xs ys p q f.1 g1 e1 in
+    let g1 = subst (λ (z : List ℕ). Fit v (known_after known t z) (psks_after psks t) ts ys) (sym h.0) g.1 in
+    let e1 : a ++ p ≡ before_payload v.has_psks (after_token v.has_psks r t x) ts ys ++ q =
+    h.1 ∙ ap (λ (z : List ℕ). before_payload v.has_psks (after_token v.has_psks r t z) ts ys ++ q) (sym h.0) in
+    let i = front-apart v (known_after known t x) (psks_after psks t) (after_token v.has_psks r t x) ts xs ys p q f.1 g1 e1 in
     (cons-same h.0 i.0, i.1)
 
 -- no other texts and payload fit a message
-pub reads-one : (v : Reader) (known : Remote) (secrets : List (List ℕ)) (r : History) (ts : List Token) (m : List ℕ) (xs ys : List (List ℕ)) (p q : List ℕ)
-    → Reads v known secrets r ts m xs p → Reads v known secrets r ts m ys q → (xs ≡ ys) × (p ≡ q)
-reads-one v known secrets r ts m xs ys p q a b =
-    let h = front-apart v known secrets r ts xs ys (ciphertext (after_tokens v.psks r ts xs) p) (ciphertext (after_tokens v.psks r ts ys) q) a.fit b.fit
+pub reads-one : (v : Reader) (known : Remote) (psks : List (List ℕ)) (r : History) (ts : List Token) (m : List ℕ) (xs ys : List (List ℕ)) (p q : List ℕ)
+    → Reads v known psks r ts m xs p → Reads v known psks r ts m ys q → (xs ≡ ys) × (p ≡ q)
+reads-one v known psks r ts m xs ys p q a b =
+    let h = front-apart v known psks r ts xs ys (ciphertext (after_tokens v.has_psks r ts xs) p) (ciphertext (after_tokens v.has_psks r ts ys) q) a.fit b.fit
     (sym a.spelled ∙ b.spelled) in
-    (h.0, ciphertext-same (after_tokens v.psks r ts xs) p q (h.1 ∙ ap (λ (zs : List (List ℕ)). ciphertext (after_tokens v.psks r ts zs) q) (sym h.0)))
+    (h.0, ciphertext-same (after_tokens v.has_psks r ts xs) p q (h.1 ∙ ap (λ (zs : List (List ℕ)). ciphertext (after_tokens v.has_psks r ts zs) q) (sym h.0)))
 
-pub accepts-one : (v : View) (m : List ℕ) (xs ys : List (List ℕ)) (p q : List ℕ) → Accepts v m xs p → Accepts v m ys q → (xs ≡ ys) × (p ≡ q)
-accepts-one v m xs ys p q a b = reads-one (reader v) v.remote v.secrets v.history (tokens_now v) m xs ys p q a.reads b.reads
+pub accepts-one : (v : Party) (m : List ℕ) (xs ys : List (List ℕ)) (p q : List ℕ) → Accepts v m xs p → Accepts v m ys q → (xs ≡ ys) × (p ≡ q)
+accepts-one v m xs ys p q a b = reads-one (reader v) v.remote v.psks v.history (tokens_now v) m xs ys p q a.reads b.reads
 
 -- ---- how reading goes on
 
-pub leads-none : (v : Reader) (known : Remote) (secrets : List (List ℕ)) (r : History) (m : List ℕ) → BeginsAs v known secrets r [] [] m m
-leads-none v known secrets r m = record { fit = tt; spelled = refl }
+pub leads-none : (v : Reader) (known : Remote) (psks : List (List ℕ)) (r : History) (m : List ℕ) → BeginsAs v known psks r [] [] m m
+leads-none v known psks r m = record { fit = tt; spelled = refl }
 
-pub leads-more : (v : Reader) (known : Remote) (secrets : List (List ℕ)) (r : History) (t : Token) (x : List ℕ) (ts : List Token) (xs : List (List ℕ))
+pub leads-more : (v : Reader) (known : Remote) (psks : List (List ℕ)) (r : History) (t : Token) (x : List ℕ) (ts : List Token) (xs : List (List ℕ))
     (m more rest : List ℕ)
-    → Fits v known secrets t x → m ≡ token_bytes r t x ++ more
-    → BeginsAs v (known_after known t x) (secrets_after secrets t) (after_token v.psks r t x) ts xs more rest
-    → BeginsAs v known secrets r (t ∷ ts) (x ∷ xs) m rest
-leads-more v known secrets r t x ts xs m more rest f e l = record {
+    → Fits v known psks t x → m ≡ token_bytes r t x ++ more
+    → BeginsAs v (known_after known t x) (psks_after psks t) (after_token v.has_psks r t x) ts xs more rest
+    → BeginsAs v known psks r (t ∷ ts) (x ∷ xs) m rest
+leads-more v known psks r t x ts xs m more rest f e l = record {
   fit = (f, l.fit);
   spelled = e ∙ ap (λ (k : List ℕ). token_bytes r t x ++ k) l.spelled ∙ sym (append_assoc (token_bytes r t x) _ rest);
 }
 
-leads-fails : (v : Reader) (known : Remote) (secrets : List (List ℕ)) (r : History) (t : Token) (xs : List (List ℕ)) (m rest : List ℕ)
-    → Fails v known secrets r t m → BeginsAs v known secrets r (t ∷ []) xs m rest → ⊥
-leads-fails v known secrets r t [] m rest bad l = l.fit
-leads-fails v known secrets r t (x ∷ []) m rest bad l = bad x rest l.fit.0 (l.spelled ∙ append_assoc (token_bytes r t x) [] rest)
-leads-fails v known secrets r t (x ∷ y ∷ ys) m rest bad l = l.fit.1
+leads-fails : (v : Reader) (known : Remote) (psks : List (List ℕ)) (r : History) (t : Token) (xs : List (List ℕ)) (m rest : List ℕ)
+    → Fails v known psks r t m → BeginsAs v known psks r (t ∷ []) xs m rest → ⊥
+leads-fails v known psks r t [] m rest bad l = l.fit
+leads-fails v known psks r t (x ∷ []) m rest bad l = bad x rest l.fit.0 (l.spelled ∙ append_assoc (token_bytes r t x) [] rest)
+leads-fails v known psks r t (x ∷ y ∷ ys) m rest bad l = l.fit.1
 
-pub stops-here : (v : Reader) (known : Remote) (secrets : List (List ℕ)) (r : History) (t : Token) (ts : List Token) (m : List ℕ) (cause : Cause)
-    → Fails v known secrets r t m → cause ≡ cause_of (is_some (cipher_key r)) t m → StopsKnowing v known secrets r (t ∷ ts) m 0 cause known
-stops-here v known secrets r t ts m cause bad why = (
+pub stops-here : (v : Reader) (known : Remote) (psks : List (List ℕ)) (r : History) (t : Token) (ts : List Token) (m : List ℕ) (cause : Cause)
+    → Fails v known psks r t m → cause ≡ cause_of (is_some (cipher_key r)) t m → StopsKnowing v known psks r (t ∷ ts) m 0 cause known
+stops-here v known psks r t ts m cause bad why = (
   record {
     within = omega arith;
     carried = [];
     rest = m;
-    leads = leads-none v known secrets r m;
-    further = λ _ reaches. leads-fails v known secrets r t reaches.carried m reaches.rest bad reaches.leads;
+    leads = leads-none v known psks r m;
+    further = λ _ reaches. leads-fails v known psks r t reaches.carried m reaches.rest bad reaches.leads;
     unread = λ e. absurd (omega arith);
     why = why;
   },
@@ -100,35 +100,35 @@ stops-here v known secrets r t ts m cause bad why = (
 )
 
 -- what leads beyond a token leads from after it
-leads-less : (v : Reader) (known : Remote) (secrets : List (List ℕ)) (r : History) (t : Token) (x : List ℕ) (ts : List Token) (xs : List (List ℕ))
+leads-less : (v : Reader) (known : Remote) (psks : List (List ℕ)) (r : History) (t : Token) (x : List ℕ) (ts : List Token) (xs : List (List ℕ))
     (m more rest : List ℕ)
-    → Fits v known secrets t x → m ≡ token_bytes r t x ++ more → BeginsAs v known secrets r (t ∷ ts) xs m rest
-    → CanBegin v (known_after known t x) (secrets_after secrets t) (after_token v.psks r t x) ts more
-leads-less v known secrets r t x ts [] m more rest f e l = absurd l.fit
-leads-less v known secrets r t x ts (y ∷ ys) m more rest f e l =
-    let b : List ℕ = before_payload v.psks (after_token v.psks r t y) ts ys in
-    let h = token-apart v known secrets r t x y more (b ++ rest) f l.fit.0 (sym e ∙ l.spelled ∙ append_assoc (token_bytes r t y) b rest) in
+    → Fits v known psks t x → m ≡ token_bytes r t x ++ more → BeginsAs v known psks r (t ∷ ts) xs m rest
+    → CanBegin v (known_after known t x) (psks_after psks t) (after_token v.has_psks r t x) ts more
+leads-less v known psks r t x ts [] m more rest f e l = absurd l.fit
+leads-less v known psks r t x ts (y ∷ ys) m more rest f e l =
+    let b : List ℕ = before_payload v.has_psks (after_token v.has_psks r t y) ts ys in
+    let h = token-apart v known psks r t x y more (b ++ rest) f l.fit.0 (sym e ∙ l.spelled ∙ append_assoc (token_bytes r t y) b rest) in
     record {
       carried = ys;
       rest = rest;
       leads = record {
-        fit = subst (λ (z : List ℕ). Fit v (known_after known t z) (secrets_after secrets t) ts ys) (sym h.0) l.fit.1;
-        spelled = h.1 ∙ ap (λ (z : List ℕ). before_payload v.psks (after_token v.psks r t z) ts ys ++ rest) (sym h.0);
+        fit = subst (λ (z : List ℕ). Fit v (known_after known t z) (psks_after psks t) ts ys) (sym h.0) l.fit.1;
+        spelled = h.1 ∙ ap (λ (z : List ℕ). before_payload v.has_psks (after_token v.has_psks r t z) ts ys ++ rest) (sym h.0);
       };
     }
 
-pub stops-later : (v : Reader) (known : Remote) (secrets : List (List ℕ)) (r : History) (t : Token) (x : List ℕ) (ts : List Token) (m more : List ℕ)
+pub stops-later : (v : Reader) (known : Remote) (psks : List (List ℕ)) (r : History) (t : Token) (x : List ℕ) (ts : List Token) (m more : List ℕ)
     (k : ℕ) (cause : Cause) (here : Remote)
-    → k < length ts → Fits v known secrets t x → m ≡ token_bytes r t x ++ more
-    → StopsKnowing v (known_after known t x) (secrets_after secrets t) (after_token v.psks r t x) ts more k cause here
-    → StopsKnowing v known secrets r (t ∷ ts) m (suc k) cause here
-stops-later v known secrets r t x ts m more k cause here h f e (s, knows) = (
+    → k < length ts → Fits v known psks t x → m ≡ token_bytes r t x ++ more
+    → StopsKnowing v (known_after known t x) (psks_after psks t) (after_token v.has_psks r t x) ts more k cause here
+    → StopsKnowing v known psks r (t ∷ ts) m (suc k) cause here
+stops-later v known psks r t x ts m more k cause here h f e (s, knows) = (
   record {
     within = omega (arith, h);
     carried = x ∷ s.carried;
     rest = s.rest;
-    leads = leads-more v known secrets r t x (take k ts) s.carried m more s.rest f e s.leads;
-    further = λ _ reaches. s.further h (leads-less v known secrets r t x (take (suc k) ts) reaches.carried m more reaches.rest f e reaches.leads);
+    leads = leads-more v known psks r t x (take k ts) s.carried m more s.rest f e s.leads;
+    further = λ _ reaches. s.further h (leads-less v known psks r t x (take (suc k) ts) reaches.carried m more reaches.rest f e reaches.leads);
     unread = λ e. absurd (omega (arith, h));
     why = s.why;
   },
@@ -140,56 +140,56 @@ cause_at-end keyed [] rest = refl
 cause_at-end keyed (t ∷ ts) rest = cause_at-end keyed ts rest
 
 -- a stop at the payload
-stops-last : (v : Reader) (known : Remote) (secrets : List (List ℕ)) (r : History) (ts : List Token) (m : List ℕ) (xs : List (List ℕ))
+stops-last : (v : Reader) (known : Remote) (psks : List (List ℕ)) (r : History) (ts : List Token) (m : List ℕ) (xs : List (List ℕ))
     (rest : List ℕ) (cause : Cause)
-    → BeginsAs v known secrets r ts xs m rest → ((payload : List ℕ) → rest ≡ ciphertext (after_tokens v.psks r ts xs) payload → ⊥)
-    → cause ≡ (if nat_lt (length rest) 16 then Short else Tag) → Stops v known secrets r ts m (length ts) cause
-stops-last v known secrets r ts m xs rest cause l bad why =
+    → BeginsAs v known psks r ts xs m rest → ((payload : List ℕ) → rest ≡ ciphertext (after_tokens v.has_psks r ts xs) payload → ⊥)
+    → cause ≡ (if nat_lt (length rest) 16 then Short else Tag) → Stops v known psks r ts m (length ts) cause
+stops-last v known psks r ts m xs rest cause l bad why =
     let whole : take (length ts) ts ≡ ts = take_all (length ts) ts (omega arith) in
     record {
       within = omega arith;
       carried = xs;
       rest = rest;
-      leads = subst (λ (us : List Token). BeginsAs v known secrets r us xs m rest) (sym whole) l;
+      leads = subst (λ (us : List Token). BeginsAs v known psks r us xs m rest) (sym whole) l;
       further = λ h. absurd (omega arith);
       unread = λ e ys payload reads.
-          let h = front-apart v known secrets r ts xs ys rest (ciphertext (after_tokens v.psks r ts ys) payload) l.fit reads.fit (sym l.spelled ∙ reads.spelled) in
-          bad payload (h.1 ∙ ap (λ (zs : List (List ℕ)). ciphertext (after_tokens v.psks r ts zs) payload) (sym h.0));
-      why = why ∙ sym (cause_at-end (is_some (cipher_key (after_tokens v.psks r (take (length ts) ts) xs))) ts rest);
+          let h = front-apart v known psks r ts xs ys rest (ciphertext (after_tokens v.has_psks r ts ys) payload) l.fit reads.fit (sym l.spelled ∙ reads.spelled) in
+          bad payload (h.1 ∙ ap (λ (zs : List (List ℕ)). ciphertext (after_tokens v.has_psks r ts zs) payload) (sym h.0));
+      why = why ∙ sym (cause_at-end (is_some (cipher_key (after_tokens v.has_psks r (take (length ts) ts) xs))) ts rest);
     }
 
 -- with what is known there
-pub knows-last : (v : Reader) (known here : Remote) (secrets : List (List ℕ)) (r : History) (ts : List Token) (m : List ℕ) (xs : List (List ℕ))
+pub knows-last : (v : Reader) (known here : Remote) (psks : List (List ℕ)) (r : History) (ts : List Token) (m : List ℕ) (xs : List (List ℕ))
     (rest : List ℕ) (cause : Cause)
-    → BeginsAs v known secrets r ts xs m rest → ((payload : List ℕ) → rest ≡ ciphertext (after_tokens v.psks r ts xs) payload → ⊥)
-    → cause ≡ (if nat_lt (length rest) 16 then Short else Tag) → here ≡ learned known ts xs → StopsKnowing v known secrets r ts m (length ts) cause here
+    → BeginsAs v known psks r ts xs m rest → ((payload : List ℕ) → rest ≡ ciphertext (after_tokens v.has_psks r ts xs) payload → ⊥)
+    → cause ≡ (if nat_lt (length rest) 16 then Short else Tag) → here ≡ remote_after known ts xs → StopsKnowing v known psks r ts m (length ts) cause here
 unfolding stops-last
-knows-last v known here secrets r ts m xs rest cause l bad why e =
-    (stops-last v known secrets r ts m xs rest cause l bad why, e ∙ ap (λ (us : List Token). learned known us xs) (sym (take_all (length ts) ts (omega arith))))
+knows-last v known here psks r ts m xs rest cause l bad why e =
+    (stops-last v known psks r ts m xs rest cause l bad why, e ∙ ap (λ (us : List Token). remote_after known us xs) (sym (take_all (length ts) ts (omega arith))))
 
-pub reads-whole : (v : Reader) (known : Remote) (secrets : List (List ℕ)) (r : History) (ts : List Token) (m : List ℕ) (xs : List (List ℕ))
+pub reads-whole : (v : Reader) (known : Remote) (psks : List (List ℕ)) (r : History) (ts : List Token) (m : List ℕ) (xs : List (List ℕ))
     (rest payload : List ℕ)
-    → BeginsAs v known secrets r ts xs m rest → rest ≡ ciphertext (after_tokens v.psks r ts xs) payload → Reads v known secrets r ts m xs payload
-reads-whole v known secrets r ts m xs rest payload l e = record {
+    → BeginsAs v known psks r ts xs m rest → rest ≡ ciphertext (after_tokens v.has_psks r ts xs) payload → Reads v known psks r ts m xs payload
+reads-whole v known psks r ts m xs rest payload l e = record {
   fit = l.fit;
-  spelled = l.spelled ∙ ap (λ (k : List ℕ). before_payload v.psks r ts xs ++ k) e;
+  spelled = l.spelled ∙ ap (λ (k : List ℕ). before_payload v.has_psks r ts xs ++ k) e;
 }
 
 -- what is read whole leads as far as one likes
-pub reads-leads : (v : Reader) (known : Remote) (secrets : List (List ℕ)) (r : History) (ts : List Token) (xs : List (List ℕ)) (m rest : List ℕ) (k : ℕ)
-    → BeginsAs v known secrets r ts xs m rest → CanBegin v known secrets r (take k ts) m
-reads-leads v known secrets r ts xs m rest zero l = record { carried = []; rest = m; leads = leads-none v known secrets r m }
-reads-leads v known secrets r [] xs m rest (suc k) l = record { carried = []; rest = m; leads = leads-none v known secrets r m }
-reads-leads v known secrets r (t ∷ ts) [] m rest (suc k) l = absurd l.fit
-reads-leads v known secrets r (t ∷ ts) (x ∷ xs) m rest (suc k) l =
-    let next : History = after_token v.psks r t x in
-    let more : List ℕ = before_payload v.psks next ts xs ++ rest in
-    let e : m ≡ token_bytes r t x ++ more = l.spelled ∙ append_assoc (token_bytes r t x) (before_payload v.psks next ts xs) rest in
-    let i = reads-leads v (known_after known t x) (secrets_after secrets t) next ts xs more rest k (record { fit = l.fit.1; spelled = refl }) in
+pub reads-leads : (v : Reader) (known : Remote) (psks : List (List ℕ)) (r : History) (ts : List Token) (xs : List (List ℕ)) (m rest : List ℕ) (k : ℕ)
+    → BeginsAs v known psks r ts xs m rest → CanBegin v known psks r (take k ts) m
+reads-leads v known psks r ts xs m rest zero l = record { carried = []; rest = m; leads = leads-none v known psks r m }
+reads-leads v known psks r [] xs m rest (suc k) l = record { carried = []; rest = m; leads = leads-none v known psks r m }
+reads-leads v known psks r (t ∷ ts) [] m rest (suc k) l = absurd l.fit
+reads-leads v known psks r (t ∷ ts) (x ∷ xs) m rest (suc k) l =
+    let next : History = after_token v.has_psks r t x in
+    let more : List ℕ = before_payload v.has_psks next ts xs ++ rest in
+    let e : m ≡ token_bytes r t x ++ more = l.spelled ∙ append_assoc (token_bytes r t x) (before_payload v.has_psks next ts xs) rest in
+    let i = reads-leads v (known_after known t x) (psks_after psks t) next ts xs more rest k (record { fit = l.fit.1; spelled = refl }) in
     record {
       carried = x ∷ i.carried;
       rest = i.rest;
-      leads = leads-more v known secrets r t x (take k ts) i.carried m more i.rest l.fit.0 e i.leads;
+      leads = leads-more v known psks r t x (take k ts) i.carried m more i.rest l.fit.0 e i.leads;
     }
 
 at-most : (k n : ℕ) → k ≤ n → (k < n) ⊎ (k ≡ n)
@@ -199,12 +199,12 @@ at-most (suc k) zero h = absurd (omega arith)
 at-most (suc k) (suc n) h = elim (at-most k n (omega arith)) [ inl l ↦ inl (omega arith) | inr e ↦ inr (ap suc e) ]
 
 -- what is refused is no message
-pub stops-not : (v : Reader) (known : Remote) (secrets : List (List ℕ)) (r : History) (ts : List Token) (m : List ℕ) (k : ℕ) (cause : Cause)
+pub stops-not : (v : Reader) (known : Remote) (psks : List (List ℕ)) (r : History) (ts : List Token) (m : List ℕ) (k : ℕ) (cause : Cause)
     (xs : List (List ℕ)) (p : List ℕ)
-    → Stops v known secrets r ts m k cause → Reads v known secrets r ts m xs p → ⊥
-stops-not v known secrets r ts m k cause xs p s a =
-    let l : BeginsAs v known secrets r ts xs m (ciphertext (after_tokens v.psks r ts xs) p) = record { fit = a.fit; spelled = a.spelled } in
+    → Stops v known psks r ts m k cause → Reads v known psks r ts m xs p → ⊥
+stops-not v known psks r ts m k cause xs p s a =
+    let l : BeginsAs v known psks r ts xs m (ciphertext (after_tokens v.has_psks r ts xs) p) = record { fit = a.fit; spelled = a.spelled } in
     elim (at-most k (length ts) s.within) [
-      | inl h ↦ s.further h (reads-leads v known secrets r ts xs m (ciphertext (after_tokens v.psks r ts xs) p) (suc k) l)
+      | inl h ↦ s.further h (reads-leads v known psks r ts xs m (ciphertext (after_tokens v.has_psks r ts xs) p) (suc k) l)
       | inr e ↦ s.unread e xs p a
     ]

@@ -1,27 +1,27 @@
--- What a party finds before a psk token without a secret.
+-- What a party finds before a psk token without a psk.
 use Rattle.std.proofs.Common.{◌≡◌, ℕ, ◌<◌, List}
 use Rattle.std.specs.Prelude.{Option, Some, None, Result, Ok, Err, MatchOption, MatchResult}
 use Rattle.noise_keys.specs.declared.keys.Own.{Own}
 use Rattle.noise_handshake.specs.declared.stop.Stop.{Stop}
 use Rattle.noise_handshake.specs.declared.faults.Cause.TheVariants.{Agreement}
-use Rattle.noise_handshake.specs.View.{View, Listens, Refuses, Stops, reader, tokens_now}
+use Rattle.noise_handshake.specs.Party.{Party, Listens, Refuses, Stops, reader, tokens_now}
 use Rattle.noise_handshake.specs.Wanting.{StopsFor, WantsToRead}
 use Rattle.noise_handshake.specs.inner.Listening.{BeginsBefore}
 
-wanted : (v : View) (m : List ℕ) (o : Option (Own × List ℕ)) → Listens v
-    → MatchOption o ((j : ℕ) → Stops (reader v) v.remote v.secrets v.history (tokens_now v) m j Agreement → ⊥)
-    (λ want. StopsFor (reader v) v.remote v.secrets v.history (tokens_now v) m want.0 want.1)
+wanted : (v : Party) (m : List ℕ) (o : Option (Own × List ℕ)) → Listens v
+    → MatchOption o ((j : ℕ) → Stops (reader v) v.remote v.psks v.history (tokens_now v) m j Agreement → ⊥)
+    (λ want. StopsFor (reader v) v.remote v.psks v.history (tokens_now v) m want.0 want.1)
     → MatchOption o ((j : ℕ) → Refuses v m j Agreement → ⊥) (λ want. WantsToRead v m want.0 want.1)
 wanted v m None l h = λ j refuses. h j refuses.stops
 wanted v m (Some want) l h = record { listens = l; stops = h }
 
 -- for a party that listens
-pub before-of : (v : View) (m : List ℕ) (k : ℕ) (o : Result (Option (List ℕ)) Stop) → Listens v
-    → MatchResult o (λ remote. BeginsBefore (reader v) v.remote v.secrets v.history (tokens_now v) m k remote)
-    (λ stop. (stop.token < k) × Stops (reader v) v.remote v.secrets v.history (tokens_now v) m stop.token stop.cause × MatchOption stop.want
-    ((j : ℕ) → Stops (reader v) v.remote v.secrets v.history (tokens_now v) m j Agreement → ⊥)
-    (λ want. StopsFor (reader v) v.remote v.secrets v.history (tokens_now v) m want.0 want.1))
-    → MatchResult o (λ remote. BeginsBefore (reader v) v.remote v.secrets v.history (tokens_now v) m k remote)
+pub before-of : (v : Party) (m : List ℕ) (k : ℕ) (o : Result (Option (List ℕ)) Stop) → Listens v
+    → MatchResult o (λ remote. BeginsBefore (reader v) v.remote v.psks v.history (tokens_now v) m k remote)
+    (λ stop. (stop.token < k) × Stops (reader v) v.remote v.psks v.history (tokens_now v) m stop.token stop.cause × MatchOption stop.want
+    ((j : ℕ) → Stops (reader v) v.remote v.psks v.history (tokens_now v) m j Agreement → ⊥)
+    (λ want. StopsFor (reader v) v.remote v.psks v.history (tokens_now v) m want.0 want.1))
+    → MatchResult o (λ remote. BeginsBefore (reader v) v.remote v.psks v.history (tokens_now v) m k remote)
     (λ stop. (stop.token < k) × Refuses v m stop.token stop.cause × MatchOption stop.want
     ((j : ℕ) → Refuses v m j Agreement → ⊥) (λ want. WantsToRead v m want.0 want.1))
 before-of v m k (Ok remote) l h = h

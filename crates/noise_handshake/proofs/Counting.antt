@@ -8,22 +8,22 @@ use Rattle.noise_handshake.specs.Length.{keyed_after_tokens}
 use Rattle.noise_handshake.specs.Nonces.{nonce_after_message, nonce_after_messages, nonce_due}
 use Rattle.noise_handshake.specs.Passed.{passed_places}
 use Rattle.noise_handshake.specs.inner.Keyed.{keyed_after_messages}
-use Rattle.noise_handshake.specs.View.{tokens_at}
+use Rattle.noise_handshake.specs.Party.{tokens_at}
 use Rattle.noise_handshake.proofs.Places.{has_key-passed}
 
-keyed-more : (psks k : Bool) (ms : List (List Token)) (i : ℕ) → i < length ms
-    → keyed_after_messages psks k (take (suc i) ms) ≡ keyed_after_tokens psks (keyed_after_messages psks k (take i ms)) (tokens_at ms i)
-keyed-more psks k [] i h = absurd (omega arith)
-keyed-more psks k (ts ∷ ms) zero h = refl
-keyed-more psks k (ts ∷ ms) (suc i) h = keyed-more psks (keyed_after_tokens psks k ts) ms i (omega arith)
+keyed-more : (has_psks k : Bool) (ms : List (List Token)) (i : ℕ) → i < length ms
+    → keyed_after_messages has_psks k (take (suc i) ms) ≡ keyed_after_tokens has_psks (keyed_after_messages has_psks k (take i ms)) (tokens_at ms i)
+keyed-more has_psks k [] i h = absurd (omega arith)
+keyed-more has_psks k (ts ∷ ms) zero h = refl
+keyed-more has_psks k (ts ∷ ms) (suc i) h = keyed-more has_psks (keyed_after_tokens has_psks k ts) ms i (omega arith)
 
-nonce-more : (psks k : Bool) (n : ℕ) (ms : List (List Token)) (i : ℕ) → i < length ms
-    → nonce_after_messages psks k n (take (suc i) ms)
-    ≡ nonce_after_message psks (keyed_after_messages psks k (take i ms)) (nonce_after_messages psks k n (take i ms)) (tokens_at ms i)
-nonce-more psks k n [] i h = absurd (omega arith)
-nonce-more psks k n (ts ∷ ms) zero h = refl
-nonce-more psks k n (ts ∷ ms) (suc i) h =
-    nonce-more psks (keyed_after_tokens psks k ts) (nonce_after_message psks k n ts) ms i (omega arith)
+nonce-more : (has_psks k : Bool) (n : ℕ) (ms : List (List Token)) (i : ℕ) → i < length ms
+    → nonce_after_messages has_psks k n (take (suc i) ms)
+    ≡ nonce_after_message has_psks (keyed_after_messages has_psks k (take i ms)) (nonce_after_messages has_psks k n (take i ms)) (tokens_at ms i)
+nonce-more has_psks k n [] i h = absurd (omega arith)
+nonce-more has_psks k n (ts ∷ ms) zero h = refl
+nonce-more has_psks k n (ts ∷ ms) (suc i) h =
+    nonce-more has_psks (keyed_after_tokens has_psks k ts) (nonce_after_message has_psks k n ts) ms i (omega arith)
 
 next : (i : ℕ) → i + 1 ≡ suc i
 next i = omega arith

@@ -9,11 +9,11 @@ use Rattle.noise_handshake.specs.declared.remote.Remote.{Remote}
 use Rattle.noise_handshake.specs.Length.{keyed_after, token_width}
 use Rattle.noise_handshake.specs.Message.{token_bytes, after_token}
 use Rattle.noise_handshake.specs.Nonces.{nonce_after}
-use Rattle.noise_handshake.specs.View.{Reader, Fits, known_after, answered, own_at, remote_at, cause_of}
+use Rattle.noise_handshake.specs.Party.{Reader, Fits, known_after, dh_result_of, own_at, remote_at, cause_of}
 use Rattle.noise_handshake.specs.inner.Known.{e_after, s_after}
 use Rattle.noise_handshake.specs.inner.Listening.{Fails}
 
--- what holds of the four DH tokens holds of a token that is neither a key nor a secret
+-- what holds of the four DH tokens holds of a token that is neither a key nor a psk
 at-dh : (P : Token → Type 0) → P Ee → P Es → P Se → P Ss → (t : Token) → (t ≡ E → ⊥) → (t ≡ S → ⊥) → (t ≡ Psk → ⊥) → P t
 at-dh P a b c d E x y z = absurd (x refl)
 at-dh P a b c d S x y z = absurd (y refl)
@@ -33,11 +33,11 @@ module _ (t : Token) (no_e : t ≡ E → ⊥) (no_s : t ≡ S → ⊥) (no_psk :
   pub dh-width : (key : Bool) → 0 ≡ token_width key t
   dh-width key = at-dh (λ u. 0 ≡ token_width key u) refl refl refl refl t no_e no_s no_psk
 
-  pub dh-keyed : (psks key : Bool) → true ≡ keyed_after psks key t
-  dh-keyed psks key = at-dh (λ u. true ≡ keyed_after psks key u) refl refl refl refl t no_e no_s no_psk
+  pub dh-keyed : (has_psks key : Bool) → true ≡ keyed_after has_psks key t
+  dh-keyed has_psks key = at-dh (λ u. true ≡ keyed_after has_psks key u) refl refl refl refl t no_e no_s no_psk
 
-  pub dh-nonce : (psks key : Bool) (n : ℕ) → 0 ≡ nonce_after psks key n t
-  dh-nonce psks key n = at-dh (λ u. 0 ≡ nonce_after psks key n u) refl refl refl refl t no_e no_s no_psk
+  pub dh-nonce : (has_psks key : Bool) (n : ℕ) → 0 ≡ nonce_after has_psks key n t
+  dh-nonce has_psks key n = at-dh (λ u. 0 ≡ nonce_after has_psks key n u) refl refl refl refl t no_e no_s no_psk
 
   pub dh-e : (e : Bool) → e ≡ e_after e t
   dh-e e = at-dh (λ u. e ≡ e_after e u) refl refl refl refl t no_e no_s no_psk
@@ -45,23 +45,23 @@ module _ (t : Token) (no_e : t ≡ E → ⊥) (no_s : t ≡ S → ⊥) (no_psk :
   pub dh-s : (s : Bool) → s ≡ s_after s t
   dh-s s = at-dh (λ u. s ≡ s_after s u) refl refl refl refl t no_e no_s no_psk
 
-  -- what it is read as, with its answer
-  pub dh-read : {St : Type 0} (stands : St → History → Type 0) (state : St) (v : Reader) (known : Remote) (secrets : List (List ℕ)) (r : History)
+  -- what it is read as, with its DH result
+  pub dh-read : {St : Type 0} (matches : St → History → Type 0) (state : St) (v : Reader) (known : Remote) (psks : List (List ℕ)) (r : History)
       (m x : List ℕ) (o : Option (List ℕ))
-      → o ≡ answered v.agree (own_at v.role t) (remote_at v.role known t) → o ≡ Some x → stands state (and_then r (MixKey x))
-      → (x : List ℕ) × Fits v known secrets t x × (m ≡ token_bytes r t x ++ m) × stands state (after_token v.psks r t x) × (known ≡ known_after known t x)
-  dh-read stands state v known secrets r m x o e is h =
-      at-dh (λ u. o ≡ answered v.agree (own_at v.role u) (remote_at v.role known u)
-      → (x : List ℕ) × Fits v known secrets u x × (m ≡ token_bytes r u x ++ m) × stands state (after_token v.psks r u x) × (known ≡ known_after known u x))
+      → o ≡ dh_result_of v.agree (own_at v.role t) (remote_at v.role known t) → o ≡ Some x → matches state (and_then r (MixKey x))
+      → (x : List ℕ) × Fits v known psks t x × (m ≡ token_bytes r t x ++ m) × matches state (after_token v.has_psks r t x) × (known ≡ known_after known t x)
+  dh-read matches state v known psks r m x o e is h =
+      at-dh (λ u. o ≡ dh_result_of v.agree (own_at v.role u) (remote_at v.role known u)
+      → (x : List ℕ) × Fits v known psks u x × (m ≡ token_bytes r u x ++ m) × matches state (after_token v.has_psks r u x) × (known ≡ known_after known u x))
       (λ f. (x, some-of o _ x is f, refl, h, refl)) (λ f. (x, some-of o _ x is f, refl, h, refl)) (λ f. (x, some-of o _ x is f, refl, h, refl)) (λ f. (x, some-of o _ x is f, refl, h, refl))
       t no_e no_s no_psk e
 
   -- without one nothing fits
-  pub dh-fails : (v : Reader) (known : Remote) (secrets : List (List ℕ)) (r : History) (m : List ℕ) (key : Bool)
-      (o : Option (List ℕ)) → o ≡ answered v.agree (own_at v.role t) (remote_at v.role known t) → o ≡ None
-      → Fails v known secrets r t m × (Agreement ≡ cause_of key t m)
-  dh-fails v known secrets r m key o e is =
-      at-dh (λ u. o ≡ answered v.agree (own_at v.role u) (remote_at v.role known u) → Fails v known secrets r u m × (Agreement ≡ cause_of key u m))
+  pub dh-fails : (v : Reader) (known : Remote) (psks : List (List ℕ)) (r : History) (m : List ℕ) (key : Bool)
+      (o : Option (List ℕ)) → o ≡ dh_result_of v.agree (own_at v.role t) (remote_at v.role known t) → o ≡ None
+      → Fails v known psks r t m × (Agreement ≡ cause_of key t m)
+  dh-fails v known psks r m key o e is =
+      at-dh (λ u. o ≡ dh_result_of v.agree (own_at v.role u) (remote_at v.role known u) → Fails v known psks r u m × (Agreement ≡ cause_of key u m))
       (λ f. (λ x rest g _. none-some o _ x is f g, refl)) (λ f. (λ x rest g _. none-some o _ x is f g, refl))
       (λ f. (λ x rest g _. none-some o _ x is f g, refl)) (λ f. (λ x rest g _. none-some o _ x is f g, refl))
       t no_e no_s no_psk e

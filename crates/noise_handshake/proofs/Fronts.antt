@@ -13,7 +13,7 @@ use Rattle.noise_handshake.specs.declared.faults.Cause.{Cause}
 use Rattle.noise_handshake.specs.declared.layout.PlacedToken.{PlacedToken}
 use Rattle.noise_handshake.specs.Length.{keyed_after}
 use Rattle.noise_handshake.specs.Message.{after_tokens}
-use Rattle.noise_handshake.specs.View.{Reader, BeginsAs, CanBegin, cause_at, learned}
+use Rattle.noise_handshake.specs.Party.{Reader, BeginsAs, CanBegin, cause_at, remote_after}
 use Rattle.noise_handshake.specs.Wanting.{LacksAnswerFor}
 use Rattle.noise_handshake.specs.Writing.{Writer, Given, LacksAnswerAt}
 use Rattle.noise_handshake.specs.inner.Known.{are_known, is_known, e_after, s_after}
@@ -26,10 +26,10 @@ tokens-take ps zero = refl
 tokens-take [] (suc k) = refl
 tokens-take (p ∷ ps) (suc k) = ap (λ (us : List Token). p.token ∷ us) (tokens-take ps k)
 
-pub placed-take : (psks keyed : Bool) (place : ℕ) (ps : List PlacedToken) (k : ℕ) → ArePlaced psks keyed place ps → ArePlaced psks keyed place (take k ps)
-placed-take psks keyed place ps zero a = tt
-placed-take psks keyed place [] (suc k) a = tt
-placed-take psks keyed place (p ∷ ps) (suc k) a = (a.0, a.1, placed-take psks (keyed_after psks keyed p.token) (place + p.width) ps k a.2)
+pub placed-take : (has_psks keyed : Bool) (place : ℕ) (ps : List PlacedToken) (k : ℕ) → ArePlaced has_psks keyed place ps → ArePlaced has_psks keyed place (take k ps)
+placed-take has_psks keyed place ps zero a = tt
+placed-take has_psks keyed place [] (suc k) a = tt
+placed-take has_psks keyed place (p ∷ ps) (suc k) a = (a.0, a.1, placed-take has_psks (keyed_after has_psks keyed p.token) (place + p.width) ps k a.2)
 
 pub known-take : (role : Role) (e s : Bool) (ts : List Token) (k : ℕ) → are_known role e s ts ≡ true → are_known role e s (take k ts) ≡ true
 known-take role e s ts zero h = refl
@@ -66,10 +66,10 @@ stops-all v known s r ts m k j cause here h (stop, knows) =
         leads = subst (λ (us : List Token). BeginsAs v known s r us stop.carried m stop.rest) first stop.leads;
         further = λ _ reaches. stop.further h (subst (λ (us : List Token). CanBegin v known s r us m) (sym next) reaches);
         unread = λ e. absurd (omega (arith, e, within));
-        why = stop.why ∙ cause-take (is_some (cipher_key (after_tokens v.psks r (take j (take k ts)) stop.carried))) ts k j stop.rest less within
-            ∙ ap (λ (us : List Token). cause_at (is_some (cipher_key (after_tokens v.psks r us stop.carried))) ts j stop.rest) first;
+        why = stop.why ∙ cause-take (is_some (cipher_key (after_tokens v.has_psks r (take j (take k ts)) stop.carried))) ts k j stop.rest less within
+            ∙ ap (λ (us : List Token). cause_at (is_some (cipher_key (after_tokens v.has_psks r us stop.carried))) ts j stop.rest) first;
       },
-      knows ∙ ap (λ (us : List Token). learned known us stop.carried) first,
+      knows ∙ ap (λ (us : List Token). remote_after known us stop.carried) first,
     )
 
 -- what the first tokens lack

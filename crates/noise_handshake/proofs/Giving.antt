@@ -8,111 +8,111 @@ use Rattle.noise_state.specs.History.{History}
 use Rattle.noise_handshake.specs.declared.remote.Remote.{Remote}
 use Rattle.noise_handshake.specs.Message.{token_bytes, after_token, before_payload, after_tokens, message_bytes}
 use Rattle.noise_handshake.specs.Length.{keyed_after, keyed_after_tokens, tag_width, token_width, tokens_width, added_width}
-use Rattle.noise_handshake.specs.View.{View, secrets_after, tokens_now}
+use Rattle.noise_handshake.specs.Party.{Party, psks_after, tokens_now}
 use Rattle.noise_handshake.specs.Writing.{Writer, writer, Gives, Given, LacksAnswerAt, Writes, LacksAnswer}
 
 -- one token more in front
-pub lacks-later : (w : Writer) (known : Remote) (secrets : List (List ℕ)) (t : Token) (ts : List Token) (x : List ℕ) (k : ℕ)
-    → Gives w known secrets t x → LacksAnswerAt w known (secrets_after secrets t) ts k → LacksAnswerAt w known secrets (t ∷ ts) (suc k)
-lacks-later w known secrets t ts x k g l = record {
+pub lacks-later : (w : Writer) (known : Remote) (psks : List (List ℕ)) (t : Token) (ts : List Token) (x : List ℕ) (k : ℕ)
+    → Gives w known psks t x → LacksAnswerAt w known (psks_after psks t) ts k → LacksAnswerAt w known psks (t ∷ ts) (suc k)
+lacks-later w known psks t ts x k g l = record {
   within = omega (arith, l.within);
   before = x ∷ l.before;
   given = (g, l.given);
   none = further;
 }
   where
-    further : (xs : List (List ℕ)) → Given w known secrets (take (suc (suc k)) (t ∷ ts)) xs → ⊥
+    further : (xs : List (List ℕ)) → Given w known psks (take (suc (suc k)) (t ∷ ts)) xs → ⊥
     further [] h = h
     further (y ∷ ys) h = l.none ys h.1
 
 -- a token and those after it take no more than there is for all of them
-pub widths : (psks keyed keyed2 : Bool) (tokens ts : List Token) (t : Token) (n k room : ℕ) → tokens ≡ t ∷ ts → tokens_width psks keyed tokens ≤ room
-    → n ≡ token_width keyed t → keyed2 ≡ keyed_after psks keyed t → k ≡ tokens_width psks keyed2 ts → n + k ≤ room
-widths psks keyed keyed2 tokens ts t n k room split fits e f h =
-    let all : tokens_width psks keyed (t ∷ ts) ≤ room = subst (λ (us : List Token). tokens_width psks keyed us ≤ room) split fits in
-    let more : k ≡ tokens_width psks (keyed_after psks keyed t) ts = h ∙ ap (λ (b : Bool). tokens_width psks b ts) f in
+pub widths : (has_psks keyed keyed2 : Bool) (tokens ts : List Token) (t : Token) (n k room : ℕ) → tokens ≡ t ∷ ts → tokens_width has_psks keyed tokens ≤ room
+    → n ≡ token_width keyed t → keyed2 ≡ keyed_after has_psks keyed t → k ≡ tokens_width has_psks keyed2 ts → n + k ≤ room
+widths has_psks keyed keyed2 tokens ts t n k room split fits e f h =
+    let all : tokens_width has_psks keyed (t ∷ ts) ≤ room = subst (λ (us : List Token). tokens_width has_psks keyed us ≤ room) split fits in
+    let more : k ≡ tokens_width has_psks (keyed_after has_psks keyed t) ts = h ∙ ap (λ (b : Bool). tokens_width has_psks b ts) f in
     omega (arith, all, e, more)
 
 -- the same of the tokens and a payload
-pub widths-last : (psks keyed keyed2 : Bool) (ts : List Token) (n k p room : ℕ) → added_width psks keyed ts + p ≤ room
-    → n ≡ tokens_width psks keyed ts → keyed2 ≡ keyed_after_tokens psks keyed ts → k ≡ p + tag_width keyed2 → n + k ≤ room
-widths-last psks keyed keyed2 ts n k p room fits e f h = omega (arith, ap tag_width f)
+pub widths-last : (has_psks keyed keyed2 : Bool) (ts : List Token) (n k p room : ℕ) → added_width has_psks keyed ts + p ≤ room
+    → n ≡ tokens_width has_psks keyed ts → keyed2 ≡ keyed_after_tokens has_psks keyed ts → k ≡ p + tag_width keyed2 → n + k ≤ room
+widths-last has_psks keyed keyed2 ts n k p room fits e f h = omega (arith, ap tag_width f)
 
-module _ (w : Writer) (known : Remote) (secrets others : List (List ℕ)) (r : History) (tokens ts : List Token) (t : Token) (x : List ℕ)
-    (split : tokens ≡ t ∷ ts) (gives : Gives w known secrets t x) (holds : others ≡ secrets_after secrets t) where
-  pub given-on : (xs : List (List ℕ)) → Given w known others ts xs → Given w known secrets tokens (x ∷ xs)
+module _ (w : Writer) (known : Remote) (psks others : List (List ℕ)) (r : History) (tokens ts : List Token) (t : Token) (x : List ℕ)
+    (split : tokens ≡ t ∷ ts) (gives : Gives w known psks t x) (holds : others ≡ psks_after psks t) where
+  pub given-on : (xs : List (List ℕ)) → Given w known others ts xs → Given w known psks tokens (x ∷ xs)
   given-on xs h =
-      let later : Given w known (secrets_after secrets t) ts xs = subst (λ (z : List (List ℕ)). Given w known z ts xs) holds h in
-      subst (λ (us : List Token). Given w known secrets us (x ∷ xs)) (sym split) (gives, later)
+      let later : Given w known (psks_after psks t) ts xs = subst (λ (z : List (List ℕ)). Given w known z ts xs) holds h in
+      subst (λ (us : List Token). Given w known psks us (x ∷ xs)) (sym split) (gives, later)
 
-  pub front-on : (xs : List (List ℕ)) (start more : List ℕ) → start ≡ token_bytes r t x → more ≡ before_payload w.psks (after_token w.psks r t x) ts xs
-      → start ++ more ≡ before_payload w.psks r tokens (x ∷ xs)
+  pub front-on : (xs : List (List ℕ)) (start more : List ℕ) → start ≡ token_bytes r t x → more ≡ before_payload w.has_psks (after_token w.has_psks r t x) ts xs
+      → start ++ more ≡ before_payload w.has_psks r tokens (x ∷ xs)
   front-on xs start more e f =
-      ap (λ (z : List ℕ). z ++ more) e ∙ ap (λ (z : List ℕ). token_bytes r t x ++ z) f ∙ ap (λ (us : List Token). before_payload w.psks r us (x ∷ xs)) (sym split)
+      ap (λ (z : List ℕ). z ++ more) e ∙ ap (λ (z : List ℕ). token_bytes r t x ++ z) f ∙ ap (λ (us : List Token). before_payload w.has_psks r us (x ∷ xs)) (sym split)
 
-  pub after-on : {St : Type 0} (stands : St → History → Type 0) (state : St) (xs : List (List ℕ))
-      → stands state (after_tokens w.psks (after_token w.psks r t x) ts xs) → stands state (after_tokens w.psks r tokens (x ∷ xs))
-  after-on stands state xs h = subst (λ (us : List Token). stands state (after_tokens w.psks r us (x ∷ xs))) (sym split) h
+  pub after-on : {St : Type 0} (matches : St → History → Type 0) (state : St) (xs : List (List ℕ))
+      → matches state (after_tokens w.has_psks (after_token w.has_psks r t x) ts xs) → matches state (after_tokens w.has_psks r tokens (x ∷ xs))
+  after-on matches state xs h = subst (λ (us : List Token). matches state (after_tokens w.has_psks r us (x ∷ xs))) (sym split) h
 
-  pub lacks-on : (k : ℕ) → LacksAnswerAt w known others ts k → LacksAnswerAt w known secrets tokens (k + 1)
+  pub lacks-on : (k : ℕ) → LacksAnswerAt w known others ts k → LacksAnswerAt w known psks tokens (k + 1)
   lacks-on k l =
-      let later : LacksAnswerAt w known (secrets_after secrets t) ts k = subst (λ (z : List (List ℕ)). LacksAnswerAt w known z ts k) holds l in
-      rw add-one (subst (λ (us : List Token). LacksAnswerAt w known secrets us (suc k)) (sym split) (lacks-later w known secrets t ts x k gives later))
+      let later : LacksAnswerAt w known (psks_after psks t) ts k = subst (λ (z : List (List ℕ)). LacksAnswerAt w known z ts k) holds l in
+      rw add-one (subst (λ (us : List Token). LacksAnswerAt w known psks us (suc k)) (sym split) (lacks-later w known psks t ts x k gives later))
 
 -- ---- what a party gives is determined
 
-gives-one : (w : Writer) (known : Remote) (secrets : List (List ℕ)) (t : Token) (x y : List ℕ) → Gives w known secrets t x → Gives w known secrets t y → x ≡ y
-gives-one w known secrets E x y g h = cc
-gives-one w known secrets S x y g h = cc
-gives-one w known secrets Psk x y g h = cc
-gives-one w known secrets Ee x y g h = cc
-gives-one w known secrets Es x y g h = cc
-gives-one w known secrets Se x y g h = cc
-gives-one w known secrets Ss x y g h = cc
+gives-one : (w : Writer) (known : Remote) (psks : List (List ℕ)) (t : Token) (x y : List ℕ) → Gives w known psks t x → Gives w known psks t y → x ≡ y
+gives-one w known psks E x y g h = cc
+gives-one w known psks S x y g h = cc
+gives-one w known psks Psk x y g h = cc
+gives-one w known psks Ee x y g h = cc
+gives-one w known psks Es x y g h = cc
+gives-one w known psks Se x y g h = cc
+gives-one w known psks Ss x y g h = cc
 
-given-one : (w : Writer) (known : Remote) (secrets : List (List ℕ)) (ts : List Token) (xs ys : List (List ℕ)) → Given w known secrets ts xs
-    → Given w known secrets ts ys → xs ≡ ys
-given-one w known secrets [] [] [] g h = refl
-given-one w known secrets [] [] (y ∷ ys) g h = absurd h
-given-one w known secrets [] (x ∷ xs) ys g h = absurd g
-given-one w known secrets (t ∷ ts) [] ys g h = absurd g
-given-one w known secrets (t ∷ ts) (x ∷ xs) [] g h = absurd h
-given-one w known secrets (t ∷ ts) (x ∷ xs) (y ∷ ys) g h =
-    ap (λ (z : List ℕ). z ∷ xs) (gives-one w known secrets t x y g.0 h.0)
-    ∙ ap (λ (zs : List (List ℕ)). y ∷ zs) (given-one w known (secrets_after secrets t) ts xs ys g.1 h.1)
+given-one : (w : Writer) (known : Remote) (psks : List (List ℕ)) (ts : List Token) (xs ys : List (List ℕ)) → Given w known psks ts xs
+    → Given w known psks ts ys → xs ≡ ys
+given-one w known psks [] [] [] g h = refl
+given-one w known psks [] [] (y ∷ ys) g h = absurd h
+given-one w known psks [] (x ∷ xs) ys g h = absurd g
+given-one w known psks (t ∷ ts) [] ys g h = absurd g
+given-one w known psks (t ∷ ts) (x ∷ xs) [] g h = absurd h
+given-one w known psks (t ∷ ts) (x ∷ xs) (y ∷ ys) g h =
+    ap (λ (z : List ℕ). z ∷ xs) (gives-one w known psks t x y g.0 h.0)
+    ∙ ap (λ (zs : List (List ℕ)). y ∷ zs) (given-one w known (psks_after psks t) ts xs ys g.1 h.1)
 
 -- one text for each of the first tokens
-given-front : (w : Writer) (known : Remote) (secrets : List (List ℕ)) (ts : List Token) (xs : List (List ℕ)) (n : ℕ) → Given w known secrets ts xs
-    → Given w known secrets (take n ts) (take n xs)
-given-front w known secrets ts xs zero g = tt
-given-front w known secrets [] [] (suc n) g = tt
-given-front w known secrets [] (x ∷ xs) (suc n) g = absurd g
-given-front w known secrets (t ∷ ts) [] (suc n) g = absurd g
-given-front w known secrets (t ∷ ts) (x ∷ xs) (suc n) g = (g.0, given-front w known (secrets_after secrets t) ts xs n g.1)
+given-front : (w : Writer) (known : Remote) (psks : List (List ℕ)) (ts : List Token) (xs : List (List ℕ)) (n : ℕ) → Given w known psks ts xs
+    → Given w known psks (take n ts) (take n xs)
+given-front w known psks ts xs zero g = tt
+given-front w known psks [] [] (suc n) g = tt
+given-front w known psks [] (x ∷ xs) (suc n) g = absurd g
+given-front w known psks (t ∷ ts) [] (suc n) g = absurd g
+given-front w known psks (t ∷ ts) (x ∷ xs) (suc n) g = (g.0, given-front w known (psks_after psks t) ts xs n g.1)
 
-not-before : (w : Writer) (known : Remote) (secrets : List (List ℕ)) (ts : List Token) (k j : ℕ) → LacksAnswerAt w known secrets ts k
-    → LacksAnswerAt w known secrets ts j → k < j → ⊥
-not-before w known secrets ts k j a b h =
+not-before : (w : Writer) (known : Remote) (psks : List (List ℕ)) (ts : List Token) (k j : ℕ) → LacksAnswerAt w known psks ts k
+    → LacksAnswerAt w known psks ts j → k < j → ⊥
+not-before w known psks ts k j a b h =
     a.none (take (suc k) b.before)
-    (subst (λ (us : List Token). Given w known secrets us (take (suc k) b.before)) (take-take (suc k) j ts (omega arith))
-    (given-front w known secrets (take j ts) b.before (suc k) b.given))
+    (subst (λ (us : List Token). Given w known psks us (take (suc k) b.before)) (take-take (suc k) j ts (omega arith))
+    (given-front w known psks (take j ts) b.before (suc k) b.given))
 
 same-place : (k j : ℕ) → (k < j → ⊥) → (j < k → ⊥) → k ≡ j
 same-place k j f g = grind arith
 
 -- a party writes a payload as one message
-pub writes-one : (v : View) (payload m n : List ℕ) (xs ys : List (List ℕ)) → Writes v payload xs m → Writes v payload ys n → (xs ≡ ys) × (m ≡ n)
+pub writes-one : (v : Party) (payload m n : List ℕ) (xs ys : List (List ℕ)) → Writes v payload xs m → Writes v payload ys n → (xs ≡ ys) × (m ≡ n)
 writes-one v payload m n xs ys a b =
-    let e : xs ≡ ys = given-one (writer v) v.remote v.secrets (tokens_now v) xs ys a.given b.given in
+    let e : xs ≡ ys = given-one (writer v) v.remote v.psks (tokens_now v) xs ys a.given b.given in
     (e, a.spelled ∙ ap (λ (zs : List (List ℕ)). message_bytes (has_psk v.pattern) v.history (tokens_now v) zs payload) e ∙ sym b.spelled)
 
--- it lacks an answer at one token
-pub lacks-one : (v : View) (k j : ℕ) → LacksAnswer v k → LacksAnswer v j → k ≡ j
+-- it lacks a DH result at one token
+pub lacks-one : (v : Party) (k j : ℕ) → LacksAnswer v k → LacksAnswer v j → k ≡ j
 lacks-one v k j a b =
-    same-place k j (not-before (writer v) v.remote v.secrets (tokens_now v) k j a.lacks b.lacks)
-    (not-before (writer v) v.remote v.secrets (tokens_now v) j k b.lacks a.lacks)
+    same-place k j (not-before (writer v) v.remote v.psks (tokens_now v) k j a.lacks b.lacks)
+    (not-before (writer v) v.remote v.psks (tokens_now v) j k b.lacks a.lacks)
 
--- what lacks an answer writes nothing
-pub writes-or : (v : View) (payload m : List ℕ) (xs : List (List ℕ)) (k : ℕ) → Writes v payload xs m → LacksAnswer v k → ⊥
+-- what lacks a DH result writes nothing
+pub writes-or : (v : Party) (payload m : List ℕ) (xs : List (List ℕ)) (k : ℕ) → Writes v payload xs m → LacksAnswer v k → ⊥
 writes-or v payload m xs k a b =
-    b.lacks.none (take (suc k) xs) (given-front (writer v) v.remote v.secrets (tokens_now v) xs (suc k) a.given)
+    b.lacks.none (take (suc k) xs) (given-front (writer v) v.remote v.psks (tokens_now v) xs (suc k) a.given)

@@ -10,30 +10,30 @@ use Rattle.noise_state.specs.declared.symmetric.SymmetricState.{SymmetricState}
 use Rattle.noise_keys.specs.declared.keys.Own.{Own}
 use Rattle.noise_handshake.specs.declared.remote.Remote.{Remote}
 use Rattle.noise_handshake.specs.Length.{keyed_after_tokens}
-use Rattle.noise_handshake.specs.View.{tokens_at}
-use Rattle.noise_handshake.specs.Held.{Held}
+use Rattle.noise_handshake.specs.Party.{tokens_at}
+use Rattle.noise_handshake.specs.HandshakeValue.{HandshakeValue}
 use Rattle.noise_handshake.specs.Nonces.{nonce_after_message, nonce_due}
-use Rattle.noise_handshake.specs.Setup.{secrets_of}
+use Rattle.noise_handshake.specs.Setup.{psks_of}
 use Rattle.noise_handshake.specs.inner.Sound.{IsSound}
 use Rattle.noise_handshake.specs.Passed.{passed_places}
 use Rattle.noise_handshake.proofs.Counting.{bound-after, due-next}
 use Rattle.noise_handshake.proofs.Places.{has_key-passed}
 
--- the secrets of the messages from one on
-pub secrets_of-drop : (ms : List (List Token)) (n : ℕ) → n < length ms
-    → secrets_of (drop n ms) ≡ count_by is_psk (tokens_at ms n) + secrets_of (drop (suc n) ms)
-secrets_of-drop [] n h = absurd (omega arith)
-secrets_of-drop (ts ∷ ms) zero h = refl
-secrets_of-drop (ts ∷ ms) (suc n) h = secrets_of-drop ms n (omega arith)
+-- the psks of the messages from one on
+pub psks_of-drop : (ms : List (List Token)) (n : ℕ) → n < length ms
+    → psks_of (drop n ms) ≡ count_by is_psk (tokens_at ms n) + psks_of (drop (suc n) ms)
+psks_of-drop [] n h = absurd (omega arith)
+psks_of-drop (ts ∷ ms) zero h = refl
+psks_of-drop (ts ∷ ms) (suc n) h = psks_of-drop ms n (omega arith)
 
-module _ {K : Type 0} (public_of : K → Own → Option (List ℕ)) (h : Held K) (s : IsSound public_of h) (tokens : List Token)
+module _ {K : Type 0} (public_of : K → Own → Option (List ℕ)) (h : HandshakeValue K) (s : IsSound public_of h) (tokens : List Token)
     (e : tokens ≡ tokens_at h.pattern.messages h.passed) (due : h.passed < length h.pattern.messages) where
-  counted : length h.secrets ≡ count_by is_psk tokens + secrets_of (drop (suc h.passed) h.pattern.messages)
-  counted = s.secrets ∙ secrets_of-drop h.pattern.messages h.passed due
-      ∙ ap (λ (ts : List Token). count_by is_psk ts + secrets_of (drop (suc h.passed) h.pattern.messages)) (sym e)
+  counted : length h.psks ≡ count_by is_psk tokens + psks_of (drop (suc h.passed) h.pattern.messages)
+  counted = s.psks ∙ psks_of-drop h.pattern.messages h.passed due
+      ∙ ap (λ (ts : List Token). count_by is_psk ts + psks_of (drop (suc h.passed) h.pattern.messages)) (sym e)
 
-  -- there is a secret for each psk token
-  pub enough : count_by is_psk tokens ≤ length h.secrets
+  -- there is a psk for each psk token
+  pub enough : count_by is_psk tokens ≤ length h.psks
   enough = omega (arith, counted)
 
   -- there is a key after it exactly where the pattern says so
@@ -54,16 +54,16 @@ module _ {K : Type 0} (public_of : K → Own → Option (List ℕ)) (h : Held K)
       (nonce_due h.pattern h.passed) ts) e
       ∙ sym (due-next h.pattern h.passed due) ∙ ap (nonce_due h.pattern) (sym p)
 
-  pub sound-after : (remote : Remote) (state : SymmetricState) (secrets : List (List ℕ)) (passed : ℕ) → passed ≡ h.passed + 1
-      → secrets ≡ drop (count_by is_psk tokens) h.secrets
+  pub sound-after : (remote : Remote) (state : SymmetricState) (psks : List (List ℕ)) (passed : ℕ) → passed ≡ h.passed + 1
+      → psks ≡ drop (count_by is_psk tokens) h.psks
       → keyed state ≡ keyed_after_tokens (has_psk h.pattern) (keyed h.state) tokens → nonce_now state ≤ nonce_now h.state + length tokens + 1
       → length tokens ≤ 10 → nonce_now state ≡ nonce_after_message (has_psk h.pattern) (keyed h.state) (nonce_now h.state) tokens
-      → IsSound public_of (record h { remote = remote; state = state; secrets = secrets; passed = passed })
-  sound-after remote state secrets passed p d k n short u = record {
+      → IsSound public_of (record h { remote = remote; state = state; psks = psks; passed = passed })
+  sound-after remote state psks passed p d k n short u = record {
     within = omega (arith, due, p);
     few = s.few;
-    secrets = ap length d ∙ length-drop (count_by is_psk tokens) h.secrets ∙ left _ _ _ counted
-        ∙ ap (λ (i : ℕ). secrets_of (drop i h.pattern.messages)) (next ∙ sym p);
+    psks = ap length d ∙ length-drop (count_by is_psk tokens) h.psks ∙ left _ _ _ counted
+        ∙ ap (λ (i : ℕ). psks_of (drop i h.pattern.messages)) (next ∙ sym p);
     has_e = s.has_e;
     has_s = s.has_s;
     keyed = key-after state passed p k;

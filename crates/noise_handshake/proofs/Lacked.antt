@@ -1,4 +1,4 @@
--- Which DH answer the next message lacks: writing.
+-- Which DH result the next message lacks: writing.
 use Rattle.std.proofs.Common.{◌≡◌, ℕ, zero, suc, ◌<◌, ◌≤◌, List, [], ◌∷◌, length, take, refl, ap, sym, subst, ◌∙◌, arith}
 use Rattle.std.specs.Prelude.{Bool, true, false, not, ◌&&◌, ◌==◌, Option, Some, None, is_some, IsTrue, MatchOption}
 use Rattle.std.proofs.lemmas.Bool.Decides.{nat_tests}
@@ -9,9 +9,9 @@ use Rattle.noise_names.specs.Tokens.{turn_from}
 use Rattle.noise_names.specs.Plan.{Plan, has_psk}
 use Rattle.noise_keys.specs.declared.keys.Own.{Own}
 use Rattle.noise_handshake.specs.declared.remote.Remote.{Remote}
-use Rattle.noise_handshake.specs.Held.{Held, is_turn}
-use Rattle.noise_handshake.specs.Party.{Stands}
-use Rattle.noise_handshake.specs.View.{View, Speaks, own_at, remote_at, secrets_after, tokens_now}
+use Rattle.noise_handshake.specs.HandshakeValue.{HandshakeValue, is_turn}
+use Rattle.noise_handshake.specs.Matching.{Matches}
+use Rattle.noise_handshake.specs.Party.{Party, Speaks, own_at, remote_at, psks_after, tokens_now}
 use Rattle.noise_handshake.specs.Wanting.{LacksAnswerFor, WantsToWrite}
 use Rattle.noise_handshake.specs.Writing.{Writer, writer, Gives, Given, LacksAnswerAt, LacksAnswer}
 use Rattle.noise_handshake.specs.inner.Known.{remote_known}
@@ -21,11 +21,11 @@ use Rattle.noise_handshake.proofs.Knowing.{is_some-remote}
 use Rattle.noise_handshake.proofs.Wrote.{for-view}
 use Rattle.noise_names.specs.Roles.{same-same_role, same_role-true}
 
-lacks-tail : (w : Writer) (known : Remote) (secrets : List (List ℕ)) (t : Token) (ts : List Token) (x : List ℕ) (k : ℕ) (xs : List (List ℕ))
-    → k < length ts → Gives w known secrets t x → Given w known secrets (take (suc k) (t ∷ ts)) xs
-    → ((ys : List (List ℕ)) → Given w known secrets (take (suc (suc k)) (t ∷ ts)) ys → ⊥) → LacksAnswerAt w known (secrets_after secrets t) ts k
-lacks-tail w known secrets t ts x k [] h g given none = absurd given
-lacks-tail w known secrets t ts x k (y ∷ ys) h g given none = record {
+lacks-tail : (w : Writer) (known : Remote) (psks : List (List ℕ)) (t : Token) (ts : List Token) (x : List ℕ) (k : ℕ) (xs : List (List ℕ))
+    → k < length ts → Gives w known psks t x → Given w known psks (take (suc k) (t ∷ ts)) xs
+    → ((ys : List (List ℕ)) → Given w known psks (take (suc (suc k)) (t ∷ ts)) ys → ⊥) → LacksAnswerAt w known (psks_after psks t) ts k
+lacks-tail w known psks t ts x k [] h g given none = absurd given
+lacks-tail w known psks t ts x k (y ∷ ys) h g given none = record {
   within = h;
   before = ys;
   given = given.1;
@@ -33,42 +33,42 @@ lacks-tail w known secrets t ts x k (y ∷ ys) h g given none = record {
 }
 
 -- where the first token has its text the others lack what all lack
-lacks-after : (w : Writer) (known : Remote) (secrets : List (List ℕ)) (t : Token) (ts : List Token) (x : List ℕ) → Gives w known secrets t x
-    → ((k : ℕ) → LacksAnswerAt w known (secrets_after secrets t) ts k → ⊥) → (k : ℕ) → LacksAnswerAt w known secrets (t ∷ ts) k → ⊥
-lacks-after w known secrets t ts x g f zero l = l.none (x ∷ []) (g, tt)
-lacks-after w known secrets t ts x g f (suc k) l =
-    f k (lacks-tail w known secrets t ts x k l.before (omega (arith, l.within)) g l.given l.none)
+lacks-after : (w : Writer) (known : Remote) (psks : List (List ℕ)) (t : Token) (ts : List Token) (x : List ℕ) → Gives w known psks t x
+    → ((k : ℕ) → LacksAnswerAt w known (psks_after psks t) ts k → ⊥) → (k : ℕ) → LacksAnswerAt w known psks (t ∷ ts) k → ⊥
+lacks-after w known psks t ts x g f zero l = l.none (x ∷ []) (g, tt)
+lacks-after w known psks t ts x g f (suc k) l =
+    f k (lacks-tail w known psks t ts x k l.before (omega (arith, l.within)) g l.given l.none)
 
-later-one : (w : Writer) (known : Remote) (secrets : List (List ℕ)) (t : Token) (ts : List Token) (x : List ℕ) → Gives w known secrets t x
+later-one : (w : Writer) (known : Remote) (psks : List (List ℕ)) (t : Token) (ts : List Token) (x : List ℕ) → Gives w known psks t x
     → (o : Option (Own × List ℕ))
-    → MatchOption o ((k : ℕ) → LacksAnswerAt w known (secrets_after secrets t) ts k → ⊥) (λ want. LacksAnswerFor w known (secrets_after secrets t) ts want.0 want.1)
-    → MatchOption o ((k : ℕ) → LacksAnswerAt w known secrets (t ∷ ts) k → ⊥) (λ want. LacksAnswerFor w known secrets (t ∷ ts) want.0 want.1)
-later-one w known secrets t ts x g None h = lacks-after w known secrets t ts x g h
-later-one w known secrets t ts x g (Some want) h = record {
+    → MatchOption o ((k : ℕ) → LacksAnswerAt w known (psks_after psks t) ts k → ⊥) (λ want. LacksAnswerFor w known (psks_after psks t) ts want.0 want.1)
+    → MatchOption o ((k : ℕ) → LacksAnswerAt w known psks (t ∷ ts) k → ⊥) (λ want. LacksAnswerFor w known psks (t ∷ ts) want.0 want.1)
+later-one w known psks t ts x g None h = lacks-after w known psks t ts x g h
+later-one w known psks t ts x g (Some want) h = record {
   before = t ∷ h.before;
   token = h.token;
   later = h.later;
   tokens = ap (λ (us : List Token). t ∷ us) h.tokens;
-  lacks = lacks-later w known secrets t ts x (length h.before) g h.lacks;
+  lacks = lacks-later w known psks t ts x (length h.before) g h.lacks;
   own_is = h.own_is;
   key_is = h.key_is;
 }
 
 -- what the later tokens lack
-pub asked-later : (w : Writer) (known : Remote) (secrets others : List (List ℕ)) (tokens ts : List Token) (t : Token) (x : List ℕ) → tokens ≡ t ∷ ts
-    → others ≡ secrets_after secrets t → Gives w known secrets t x → (o : Option (Own × List ℕ))
+pub asked-later : (w : Writer) (known : Remote) (psks others : List (List ℕ)) (tokens ts : List Token) (t : Token) (x : List ℕ) → tokens ≡ t ∷ ts
+    → others ≡ psks_after psks t → Gives w known psks t x → (o : Option (Own × List ℕ))
     → MatchOption o ((k : ℕ) → LacksAnswerAt w known others ts k → ⊥) (λ want. LacksAnswerFor w known others ts want.0 want.1)
-    → MatchOption o ((k : ℕ) → LacksAnswerAt w known secrets tokens k → ⊥) (λ want. LacksAnswerFor w known secrets tokens want.0 want.1)
-asked-later w known secrets others tokens ts t x e f g o h =
+    → MatchOption o ((k : ℕ) → LacksAnswerAt w known psks tokens k → ⊥) (λ want. LacksAnswerFor w known psks tokens want.0 want.1)
+asked-later w known psks others tokens ts t x e f g o h =
     let h1 = subst (λ (z : List (List ℕ)). MatchOption o ((k : ℕ) → LacksAnswerAt w known z ts k → ⊥) (λ want. LacksAnswerFor w known z ts want.0 want.1)) f h in
-    subst (λ (us : List Token). MatchOption o ((k : ℕ) → LacksAnswerAt w known secrets us k → ⊥) (λ want. LacksAnswerFor w known secrets us want.0 want.1)) (sym e)
-    (later-one w known secrets t ts x g o h1)
+    subst (λ (us : List Token). MatchOption o ((k : ℕ) → LacksAnswerAt w known psks us k → ⊥) (λ want. LacksAnswerFor w known psks us want.0 want.1)) (sym e)
+    (later-one w known psks t ts x g o h1)
 
-first-lacks : (w : Writer) (known : Remote) (secrets : List (List ℕ)) (t : Token) (ts : List Token)
-    → ((x : List ℕ) → Gives w known secrets t x → ⊥) → LacksAnswerAt w known secrets (t ∷ ts) 0
-first-lacks w known secrets t ts bad = record { within = omega arith; before = []; given = tt; none = no-text }
+first-lacks : (w : Writer) (known : Remote) (psks : List (List ℕ)) (t : Token) (ts : List Token)
+    → ((x : List ℕ) → Gives w known psks t x → ⊥) → LacksAnswerAt w known psks (t ∷ ts) 0
+first-lacks w known psks t ts bad = record { within = omega arith; before = []; given = tt; none = no-text }
   where
-    no-text : (xs : List (List ℕ)) → Given w known secrets (take 1 (t ∷ ts)) xs → ⊥
+    no-text : (xs : List (List ℕ)) → Given w known psks (take 1 (t ∷ ts)) xs → ⊥
     no-text [] h = h
     no-text (x ∷ xs) h = bad x h.0
 
@@ -76,30 +76,30 @@ none-some : (o : Option (List ℕ)) → is_some o ≡ true → o ≡ None → �
 none-some (Some x) h e = cc
 none-some None h e = cc
 
-first-one : (w : Writer) (known : Remote) (secrets : List (List ℕ)) (t : Token) (ts : List Token) → ((x : List ℕ) → Gives w known secrets t x → ⊥)
+first-one : (w : Writer) (known : Remote) (psks : List (List ℕ)) (t : Token) (ts : List Token) → ((x : List ℕ) → Gives w known psks t x → ⊥)
     → IsTrue (remote_known w.role (is_some known.e) (is_some known.s) t) → (o : Option (Own × List ℕ))
     → MatchOption o (remote_at w.role known t ≡ None) (λ want. (want.0 ≡ own_at w.role t) × (remote_at w.role known t ≡ Some want.1))
-    → MatchOption o ((k : ℕ) → LacksAnswerAt w known secrets (t ∷ ts) k → ⊥) (λ want. LacksAnswerFor w known secrets (t ∷ ts) want.0 want.1)
-first-one w known secrets t ts bad dh None h = absurd (none-some (remote_at w.role known t) (is_some-remote w.role known t ∙ dh) h)
-first-one w known secrets t ts bad dh (Some want) h = record {
+    → MatchOption o ((k : ℕ) → LacksAnswerAt w known psks (t ∷ ts) k → ⊥) (λ want. LacksAnswerFor w known psks (t ∷ ts) want.0 want.1)
+first-one w known psks t ts bad dh None h = absurd (none-some (remote_at w.role known t) (is_some-remote w.role known t ∙ dh) h)
+first-one w known psks t ts bad dh (Some want) h = record {
   before = [];
   token = t;
   later = ts;
   tokens = refl;
-  lacks = first-lacks w known secrets t ts bad;
+  lacks = first-lacks w known psks t ts bad;
   own_is = h.0;
   key_is = h.1;
 }
 
 -- what the first token lacks
-pub asked-first : (w : Writer) (known : Remote) (secrets : List (List ℕ)) (tokens ts : List Token) (t : Token) → tokens ≡ t ∷ ts
-    → ((x : List ℕ) → Gives w known secrets t x → ⊥)
+pub asked-first : (w : Writer) (known : Remote) (psks : List (List ℕ)) (tokens ts : List Token) (t : Token) → tokens ≡ t ∷ ts
+    → ((x : List ℕ) → Gives w known psks t x → ⊥)
     → IsTrue (remote_known w.role (is_some known.e) (is_some known.s) t) → (o : Option (Own × List ℕ))
     → MatchOption o (remote_at w.role known t ≡ None) (λ want. (want.0 ≡ own_at w.role t) × (remote_at w.role known t ≡ Some want.1))
-    → MatchOption o ((k : ℕ) → LacksAnswerAt w known secrets tokens k → ⊥) (λ want. LacksAnswerFor w known secrets tokens want.0 want.1)
-asked-first w known secrets tokens ts t e bad dh o h =
-    subst (λ (us : List Token). MatchOption o ((k : ℕ) → LacksAnswerAt w known secrets us k → ⊥) (λ want. LacksAnswerFor w known secrets us want.0 want.1)) (sym e)
-    (first-one w known secrets t ts bad dh o h)
+    → MatchOption o ((k : ℕ) → LacksAnswerAt w known psks tokens k → ⊥) (λ want. LacksAnswerFor w known psks tokens want.0 want.1)
+asked-first w known psks tokens ts t e bad dh o h =
+    subst (λ (us : List Token). MatchOption o ((k : ℕ) → LacksAnswerAt w known psks us k → ⊥) (λ want. LacksAnswerFor w known psks us want.0 want.1)) (sym e)
+    (first-one w known psks t ts bad dh o h)
 
 -- ---- whether a message of this party is due
 
@@ -115,7 +115,7 @@ tests-all false true ours e a o = absurd (cc)
 tests-all false false true e a o = refl
 tests-all false false false e a o = absurd (cc)
 
-module _ {K : Type 0} (h : Held K) where
+module _ {K : Type 0} (h : HandshakeValue K) where
   abbrev is-due : Bool
   is-due = not h.ended && not (h.passed == length h.pattern.messages) && is_turn h.role h.passed
 
@@ -128,7 +128,7 @@ module _ {K : Type 0} (h : Held K) where
   pub due-turn : is-due ≡ true → turn_from Initiator h.passed ≡ h.role
   due-turn e = same_role-true (turn_from Initiator h.passed) h.role (tests-of h.ended (h.passed == length h.pattern.messages) (is_turn h.role h.passed) e).2
 
-  module _ (public_of : K → Own → Option (List ℕ)) (agreement : K → Own → List ℕ → Option (List ℕ)) (v : View) (s : Stands public_of agreement h v) where
+  module _ (public_of : K → Own → Option (List ℕ)) (agreement : K → Own → List ℕ → Option (List ℕ)) (v : Party) (s : Matches public_of agreement h v) where
     pub due-here : Speaks v → is-due ≡ true
     due-here l =
         let less : h.passed < length h.pattern.messages =
@@ -137,10 +137,10 @@ module _ {K : Type 0} (h : Held K) where
         tests-all h.ended (h.passed == length h.pattern.messages) (is_turn h.role h.passed) (s.ended ∙ l.going) all
         (same-same_role (turn_from Initiator h.passed) h.role (ap (turn_from Initiator) s.passed ∙ l.turn ∙ sym s.role))
 
-    pub due-speaking : h.passed ≤ length h.pattern.messages → is-due ≡ true → (psks : Bool) (secrets : List (List ℕ)) (tokens : List Token)
-        → psks ≡ has_psk h.pattern → secrets ≡ h.secrets → tokens ≡ tokens_now v
-        → Speaking v h.role psks (public_of h.keys) (agreement h.keys) secrets h.remote tokens
-    due-speaking w e psks secrets tokens b d f = record {
+    pub due-speaking : h.passed ≤ length h.pattern.messages → is-due ≡ true → (has_psks : Bool) (psks : List (List ℕ)) (tokens : List Token)
+        → has_psks ≡ has_psk h.pattern → psks ≡ h.psks → tokens ≡ tokens_now v
+        → Speaking v h.role has_psks (public_of h.keys) (agreement h.keys) psks h.remote tokens
+    due-speaking w e has_psks psks tokens b d f = record {
       speaks = record {
         going = sym s.ended ∙ (tests-of h.ended (h.passed == length h.pattern.messages) (is_turn h.role h.passed) e).0;
         more = subst (λ (k : ℕ). k < length v.pattern.messages) s.passed
@@ -151,26 +151,26 @@ module _ {K : Type 0} (h : Held K) where
       psks_is = b ∙ ap has_psk s.pattern;
       own_is = s.own;
       agree_is = s.agree;
-      secrets_are = d ∙ s.secrets;
+      psks_are = d ∙ s.psks;
       known_is = s.remote;
       tokens_are = f;
     }
 
 -- ---- for a party that speaks
 
-wants-of : (v : View) (o : Option (Own × List ℕ)) → Speaks v
-    → MatchOption o ((k : ℕ) → LacksAnswerAt (writer v) v.remote v.secrets (tokens_now v) k → ⊥)
-    (λ want. LacksAnswerFor (writer v) v.remote v.secrets (tokens_now v) want.0 want.1)
+wants-of : (v : Party) (o : Option (Own × List ℕ)) → Speaks v
+    → MatchOption o ((k : ℕ) → LacksAnswerAt (writer v) v.remote v.psks (tokens_now v) k → ⊥)
+    (λ want. LacksAnswerFor (writer v) v.remote v.psks (tokens_now v) want.0 want.1)
     → MatchOption o ((k : ℕ) → LacksAnswer v k → ⊥) (λ want. WantsToWrite v want.0 want.1)
 wants-of v None l h = λ k lacks. h k lacks.lacks
 wants-of v (Some want) l h = record { speaks = l; lacks = h }
 
-pub wants : (v : View) (o : Option (Own × List ℕ)) (role : Role) (psks : Bool) (own : Own → Option (List ℕ))
-    (agree : Own → List ℕ → Option (List ℕ)) (secrets : List (List ℕ)) (known : Remote) (ts : List Token)
-    → Speaking v role psks own agree secrets known ts
-    → MatchOption o ((k : ℕ) → LacksAnswerAt (record { role = role; psks = psks; own = own; agree = agree }) known secrets ts k → ⊥)
-    (λ want. LacksAnswerFor (record { role = role; psks = psks; own = own; agree = agree }) known secrets ts want.0 want.1)
+pub wants : (v : Party) (o : Option (Own × List ℕ)) (role : Role) (has_psks : Bool) (own : Own → Option (List ℕ))
+    (agree : Own → List ℕ → Option (List ℕ)) (psks : List (List ℕ)) (known : Remote) (ts : List Token)
+    → Speaking v role has_psks own agree psks known ts
+    → MatchOption o ((k : ℕ) → LacksAnswerAt (record { role = role; has_psks = has_psks; own = own; agree = agree }) known psks ts k → ⊥)
+    (λ want. LacksAnswerFor (record { role = role; has_psks = has_psks; own = own; agree = agree }) known psks ts want.0 want.1)
     → MatchOption o ((k : ℕ) → LacksAnswer v k → ⊥) (λ want. WantsToWrite v want.0 want.1)
-wants v o role psks own agree secrets known ts l h =
-    wants-of v o l.speaks (for-view v role psks own agree secrets known ts l
+wants v o role has_psks own agree psks known ts l h =
+    wants-of v o l.speaks (for-view v role has_psks own agree psks known ts l
     (λ w z s us. MatchOption o ((k : ℕ) → LacksAnswerAt w z s us k → ⊥) (λ want. LacksAnswerFor w z s us want.0 want.1)) h)

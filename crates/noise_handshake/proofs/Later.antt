@@ -1,4 +1,4 @@
--- What a message's tokens carry doesn't depend on the secrets that are handed in for later psk tokens.
+-- What a message's tokens carry doesn't depend on the psks that are handed in for later psk tokens.
 use Rattle.std.proofs.Common.{◌≡◌, ℕ, zero, suc, ◌+◌, ◌-◌, ◌<◌, ◌≤◌, List, [], ◌∷◌, ◌++◌, length, take, drop, refl, ap, sym, subst, ◌∙◌, arith, take-take, take_all}
 use Rattle.std.proofs.lemmas.List.Sums.{sum_by-cons}
 use Rattle.std.specs.Prelude.{Bool, cond, count_by}
@@ -9,7 +9,7 @@ use Rattle.noise_state.specs.History.{History}
 use Rattle.noise_keys.specs.declared.keys.Own.{Own}
 use Rattle.noise_handshake.specs.declared.remote.Remote.{Remote}
 use Rattle.noise_handshake.specs.declared.faults.Cause.{Cause}
-use Rattle.noise_handshake.specs.View.{Reader, Fit, BeginsAs, CanBegin, Reads, Stops, first_secret, other_secrets, known_after}
+use Rattle.noise_handshake.specs.Party.{Reader, Fit, BeginsAs, CanBegin, Reads, Stops, first_psk, other_psks, known_after}
 use Rattle.noise_handshake.specs.Wanting.{StopsFor, LacksAnswerFor}
 use Rattle.noise_handshake.specs.Writing.{Writer, Given, LacksAnswerAt}
 
@@ -37,19 +37,19 @@ pub count-less : (ts : List Token) (j k : ℕ) → j ≤ k → count_by is_psk (
 count-less ts j k h =
     subst (λ (us : List Token). count_by is_psk us ≤ count_by is_psk (take k ts)) (take-take j k ts h) (count-take (take k ts) j)
 
--- ---- secrets of which the first are the same
+-- ---- psks of which the first are the same
 
-first-same : (m : ℕ) (s u : List (List ℕ)) → take (suc m) s ≡ take (suc m) u → first_secret s ≡ first_secret u
+first-same : (m : ℕ) (s u : List (List ℕ)) → take (suc m) s ≡ take (suc m) u → first_psk s ≡ first_psk u
 first-same m [] [] e = refl
 first-same m [] (y ∷ u) e = absurd (cc)
 first-same m (x ∷ s) [] e = absurd (cc)
-first-same m (x ∷ s) (y ∷ u) e = ap first_secret e
+first-same m (x ∷ s) (y ∷ u) e = ap first_psk e
 
-others-same : (m : ℕ) (s u : List (List ℕ)) → take (suc m) s ≡ take (suc m) u → take m (other_secrets s) ≡ take m (other_secrets u)
+others-same : (m : ℕ) (s u : List (List ℕ)) → take (suc m) s ≡ take (suc m) u → take m (other_psks s) ≡ take m (other_psks u)
 others-same m [] [] e = refl
 others-same m [] (y ∷ u) e = absurd (cc)
 others-same m (x ∷ s) [] e = absurd (cc)
-others-same m (x ∷ s) (y ∷ u) e = ap other_secrets e
+others-same m (x ∷ s) (y ∷ u) e = ap other_psks e
 
 pub fit-same : (v : Reader) (known : Remote) (s u : List (List ℕ)) (n : ℕ) (ts : List Token) (xs : List (List ℕ)) → count_by is_psk ts ≤ n
     → take n s ≡ take n u → Fit v known s ts xs → Fit v known u ts xs
@@ -65,7 +65,7 @@ fit-same v known s u n (Ss ∷ ts) (x ∷ xs) c e f = (f.0, fit-same v (known_af
 fit-same v known s u zero (Psk ∷ ts) (x ∷ xs) c e f = absurd (omega (arith, c, one-more ts))
 fit-same v known s u (suc n) (Psk ∷ ts) (x ∷ xs) c e f =
     let h : count_by is_psk ts ≤ n = omega (arith, c, one-more ts) in
-    (f.0 ∙ first-same n s u e, fit-same v known (other_secrets s) (other_secrets u) n ts xs h (others-same n s u e) f.1)
+    (f.0 ∙ first-same n s u e, fit-same v known (other_psks s) (other_psks u) n ts xs h (others-same n s u e) f.1)
 
 pub given-same : (w : Writer) (known : Remote) (s u : List (List ℕ)) (n : ℕ) (ts : List Token) (xs : List (List ℕ)) → count_by is_psk ts ≤ n
     → take n s ≡ take n u → Given w known s ts xs → Given w known u ts xs
@@ -81,7 +81,7 @@ given-same w known s u n (Ss ∷ ts) (x ∷ xs) c e f = (f.0, given-same w known
 given-same w known s u zero (Psk ∷ ts) (x ∷ xs) c e f = absurd (omega (arith, c, one-more ts))
 given-same w known s u (suc n) (Psk ∷ ts) (x ∷ xs) c e f =
     let h : count_by is_psk ts ≤ n = omega (arith, c, one-more ts) in
-    (f.0 ∙ first-same n s u e, given-same w known (other_secrets s) (other_secrets u) n ts xs h (others-same n s u e) f.1)
+    (f.0 ∙ first-same n s u e, given-same w known (other_psks s) (other_psks u) n ts xs h (others-same n s u e) f.1)
 
 -- ---- reading
 

@@ -6,38 +6,38 @@ use Rattle.noise_state.specs.History.{History, cipher_key}
 use Rattle.noise_handshake.specs.declared.remote.Remote.{Remote}
 use Rattle.noise_handshake.specs.declared.faults.Cause.{Cause}
 use Rattle.noise_handshake.specs.Message.{after_tokens}
-use Rattle.noise_handshake.specs.View.{View, Reader, reader, CanBegin, Stops, Accepts, Refuses, cause_at, tokens_now}
+use Rattle.noise_handshake.specs.Party.{Party, Reader, reader, CanBegin, Stops, Accepts, Refuses, cause_at, tokens_now}
 use Rattle.noise_handshake.proofs.Apart.{front-apart, reads-leads, stops-not}
 
-not-earlier : (v : Reader) (known : Remote) (secrets : List (List ℕ)) (r : History) (ts : List Token) (m : List ℕ) (k j : ℕ) (c d : Cause)
-    → Stops v known secrets r ts m k c → Stops v known secrets r ts m j d → k < j → ⊥
-not-earlier v known secrets r ts m k j c d a b h =
+not-earlier : (v : Reader) (known : Remote) (psks : List (List ℕ)) (r : History) (ts : List Token) (m : List ℕ) (k j : ℕ) (c d : Cause)
+    → Stops v known psks r ts m k c → Stops v known psks r ts m j d → k < j → ⊥
+not-earlier v known psks r ts m k j c d a b h =
     a.further (omega (arith, h, b.within))
-    (subst (λ (us : List Token). CanBegin v known secrets r us m) (take-take (suc k) j ts (omega (arith, h)))
-    (reads-leads v known secrets r (take j ts) b.carried m b.rest (suc k) b.leads))
+    (subst (λ (us : List Token). CanBegin v known psks r us m) (take-take (suc k) j ts (omega (arith, h)))
+    (reads-leads v known psks r (take j ts) b.carried m b.rest (suc k) b.leads))
 
 same-place : (k j : ℕ) → (k < j → ⊥) → (j < k → ⊥) → k ≡ j
 same-place k j f g = grind arith
 
-same-cause : (v : Reader) (known : Remote) (secrets : List (List ℕ)) (r : History) (ts : List Token) (m : List ℕ) (k : ℕ) (c d : Cause)
-    → Stops v known secrets r ts m k c → Stops v known secrets r ts m k d → c ≡ d
-same-cause v known secrets r ts m k c d a b =
-    let h = front-apart v known secrets r (take k ts) a.carried b.carried a.rest b.rest a.leads.fit b.leads.fit (sym a.leads.spelled ∙ b.leads.spelled) in
+same-cause : (v : Reader) (known : Remote) (psks : List (List ℕ)) (r : History) (ts : List Token) (m : List ℕ) (k : ℕ) (c d : Cause)
+    → Stops v known psks r ts m k c → Stops v known psks r ts m k d → c ≡ d
+same-cause v known psks r ts m k c d a b =
+    let h = front-apart v known psks r (take k ts) a.carried b.carried a.rest b.rest a.leads.fit b.leads.fit (sym a.leads.spelled ∙ b.leads.spelled) in
     a.why
-    ∙ ap (λ (xs : List (List ℕ)). cause_at (is_some (cipher_key (after_tokens v.psks r (take k ts) xs))) ts k a.rest) h.0
-    ∙ ap (λ (rest : List ℕ). cause_at (is_some (cipher_key (after_tokens v.psks r (take k ts) b.carried))) ts k rest) h.1
+    ∙ ap (λ (xs : List (List ℕ)). cause_at (is_some (cipher_key (after_tokens v.has_psks r (take k ts) xs))) ts k a.rest) h.0
+    ∙ ap (λ (rest : List ℕ). cause_at (is_some (cipher_key (after_tokens v.has_psks r (take k ts) b.carried))) ts k rest) h.1
     ∙ sym b.why
 
-pub stops-one : (v : Reader) (known : Remote) (secrets : List (List ℕ)) (r : History) (ts : List Token) (m : List ℕ) (k j : ℕ) (c d : Cause)
-    → Stops v known secrets r ts m k c → Stops v known secrets r ts m j d → (k ≡ j) × (c ≡ d)
-stops-one v known secrets r ts m k j c d a b =
-    let e : k ≡ j = same-place k j (not-earlier v known secrets r ts m k j c d a b) (not-earlier v known secrets r ts m j k d c b a) in
-    (e, same-cause v known secrets r ts m k c d a (subst (λ (i : ℕ). Stops v known secrets r ts m i d) (sym e) b))
+pub stops-one : (v : Reader) (known : Remote) (psks : List (List ℕ)) (r : History) (ts : List Token) (m : List ℕ) (k j : ℕ) (c d : Cause)
+    → Stops v known psks r ts m k c → Stops v known psks r ts m j d → (k ≡ j) × (c ≡ d)
+stops-one v known psks r ts m k j c d a b =
+    let e : k ≡ j = same-place k j (not-earlier v known psks r ts m k j c d a b) (not-earlier v known psks r ts m j k d c b a) in
+    (e, same-cause v known psks r ts m k c d a (subst (λ (i : ℕ). Stops v known psks r ts m i d) (sym e) b))
 
 -- one token and one cause
-pub refuses-one : (v : View) (m : List ℕ) (k j : ℕ) (c d : Cause) → Refuses v m k c → Refuses v m j d → (k ≡ j) × (c ≡ d)
-refuses-one v m k j c d a b = stops-one (reader v) v.remote v.secrets v.history (tokens_now v) m k j c d a.stops b.stops
+pub refuses-one : (v : Party) (m : List ℕ) (k j : ℕ) (c d : Cause) → Refuses v m k c → Refuses v m j d → (k ≡ j) × (c ≡ d)
+refuses-one v m k j c d a b = stops-one (reader v) v.remote v.psks v.history (tokens_now v) m k j c d a.stops b.stops
 
 -- what is accepted isn't refused
-pub accepts-or : (v : View) (m : List ℕ) (xs : List (List ℕ)) (p : List ℕ) (k : ℕ) (c : Cause) → Accepts v m xs p → Refuses v m k c → ⊥
-accepts-or v m xs p k c a b = stops-not (reader v) v.remote v.secrets v.history (tokens_now v) m k c xs p b.stops a.reads
+pub accepts-or : (v : Party) (m : List ℕ) (xs : List (List ℕ)) (p : List ℕ) (k : ℕ) (c : Cause) → Accepts v m xs p → Refuses v m k c → ⊥
+accepts-or v m xs p k c a b = stops-not (reader v) v.remote v.psks v.history (tokens_now v) m k c xs p b.stops a.reads

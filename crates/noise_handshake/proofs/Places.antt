@@ -14,15 +14,15 @@ use Rattle.noise_names.specs.Overhead.{has_key, added_len, overhead_from, overhe
 use Rattle.noise_names.specs.Facts.{message_places-append}
 use Rattle.noise_handshake.specs.Length.{keyed_after, keyed_after_tokens, token_width, added_width}
 use Rattle.noise_handshake.specs.Passed.{passed_places}
-use Rattle.noise_handshake.specs.View.{tokens_at}
-use Rattle.noise_handshake.proofs.Views.{tokens_at-read}
+use Rattle.noise_handshake.specs.Party.{tokens_at}
+use Rattle.noise_handshake.proofs.Parties.{tokens_at-read}
 use Rattle.noise_names.specs.Tests.{or-false, or-true, and-false}
 
 -- one place more
 occurs-more : (t : Token) (earlier : List Place) (p : Place) → occurs t (earlier ++ p ∷ []) ≡ (occurs t earlier || is_at t p.step)
 occurs-more t earlier p = list_any-append (λ q. is_at t q.step) earlier (p ∷ []) ∙ ap (λ (b : Bool). occurs t earlier || b) (or-false (is_at t p.step))
 
-by_ephemeral : (psks d : Bool) (e : Bool) → (d || (psks && (e || true))) ≡ (psks || (d || (psks && e)))
+by_ephemeral : (has_psks d : Bool) (e : Bool) → (d || (has_psks && (e || true))) ≡ (has_psks || (d || (has_psks && e)))
 by_ephemeral true d e = ap (λ (b : Bool). d || b) (or-true e) ∙ or-true d
 by_ephemeral false d e = refl
 

@@ -14,9 +14,9 @@ use Rattle.noise_keys.specs.declared.keys.Own.TheVariants.{Ephemeral, Static}
 use Rattle.noise_handshake.specs.declared.remote.Remote.{Remote}
 use Rattle.noise_keys.specs.declared.faults.SetupFault.{SetupFault}
 use Rattle.noise_keys.specs.declared.faults.SetupFault.TheVariants.{EphemeralMissing, StaticMissing, RemoteMissing, RemoteUnexpected, PskCount}
-use Rattle.noise_handshake.specs.Setup.{keys_of, public_keys, secrets_of, setup_fault, lacks_own, lacks_remote, has_unexpected, has_before, token_of}
+use Rattle.noise_handshake.specs.Setup.{keys_of, public_keys, psks_of, setup_fault, lacks_own, lacks_remote, has_unexpected, has_before, token_of}
 use Rattle.noise_handshake.specs.inner.PreMessage.{HasPre}
-use Rattle.noise_handshake.proofs.Uses.{stands-places_of}
+use Rattle.noise_handshake.proofs.Uses.{matches-places_of}
 use Rattle.std.proofs.lemmas.Bool.{or_parts}
 
 pub flips : (b x : Bool) → (IsTrue b ↔ IsFalse x) → not b ≡ x
@@ -72,9 +72,9 @@ no-fault false false false false false h = record { first = refl; second = refl;
 
 module _ (p : Plan) (role : Role) (own : Own → Option (List ℕ)) (remote : Remote) (n : ℕ) (none : setup_fault p role own remote n ≡ None) where
   tests : NoFault (lacks_own p role E (own Ephemeral)) (lacks_own p role S (own Static)) (lacks_remote p role remote) (has_unexpected p role remote)
-      (not (n == secrets_of p.messages))
+      (not (n == psks_of p.messages))
   tests = no-fault (lacks_own p role E (own Ephemeral)) (lacks_own p role S (own Static)) (lacks_remote p role remote) (has_unexpected p role remote)
-      (not (n == secrets_of p.messages)) none
+      (not (n == psks_of p.messages)) none
 
   pub own-e : is_among role E (places_of p) ≡ true → is_some (own Ephemeral) ≡ true
   own-e = implied (is_among role E (places_of p)) (own Ephemeral) tests.first
@@ -82,8 +82,8 @@ module _ (p : Plan) (role : Role) (own : Own → Option (List ℕ)) (remote : Re
   pub own-s : is_among role S (places_of p) ≡ true → is_some (own Static) ≡ true
   own-s = implied (is_among role S (places_of p)) (own Static) tests.second
 
-  pub counted : n ≡ secrets_of p.messages
-  counted = same-count n (secrets_of p.messages) tests.fifth
+  pub counted : n ≡ psks_of p.messages
+  counted = same-count n (psks_of p.messages) tests.fifth
 
   pub own-there : (x : Own) → is_among role (token_of x) (places_of p) ≡ true → is_some (own x) ≡ true
   own-there Ephemeral = own-e
@@ -102,8 +102,8 @@ module _ (p : Plan) (role : Role) (own : Own → Option (List ℕ)) (remote : Re
 
   own-pre : HasPre p role (public_keys own)
   own-pre = record {
-    e = λ h. own-e (stands-places_of p role E ∙ ap (λ (b : Bool). b || is_among role E (message_places Initiator 1 p.messages)) h);
-    s = λ h. own-s (stands-places_of p role S ∙ ap (λ (b : Bool). b || is_among role S (message_places Initiator 1 p.messages)) h);
+    e = λ h. own-e (matches-places_of p role E ∙ ap (λ (b : Bool). b || is_among role E (message_places Initiator 1 p.messages)) h);
+    s = λ h. own-s (matches-places_of p role S ∙ ap (λ (b : Bool). b || is_among role S (message_places Initiator 1 p.messages)) h);
   }
 
   other-pre : HasPre p (other role) remote

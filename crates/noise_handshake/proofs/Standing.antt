@@ -1,4 +1,4 @@
--- What a handshake stands for, and what follows for a message.
+-- What a handshake matches, and what follows for a message.
 use Rattle.std.proofs.Common.{◌≡◌, ℕ, ◌+◌, ◌<◌, ◌≤◌, List, Bool, true, false, length, drop, sym, ap, subst, refl, ◌∙◌, arith}
 use Rattle.std.proofs.lemmas.Bool.Decides.{nat_tests}
 use Rattle.std.specs.Prelude.{Option, None, Some, count_by, ◌==◌, if◌then◌else◌}
@@ -7,7 +7,7 @@ use Rattle.noise_names.specs.declared.token.Role.{Role}
 use Rattle.noise_names.specs.declared.token.Role.TheVariants.{Initiator, Responder}
 use Rattle.noise_names.specs.Tokens.{is_psk, other, same_role, turn_from}
 use Rattle.noise_names.specs.Plan.{Plan, has_psk}
-use Rattle.noise_state.specs.Standing.{StateStands}
+use Rattle.noise_state.specs.Standing.{StateMatches}
 use Rattle.noise_state.specs.declared.symmetric.SymmetricState.{SymmetricState}
 use Rattle.noise_keys.specs.declared.keys.Own.{Own}
 use Rattle.noise_handshake.specs.declared.remote.Remote.{Remote}
@@ -15,26 +15,26 @@ use Rattle.noise_handshake.specs.declared.faults.Cause.{Cause}
 use Rattle.noise_handshake.specs.declared.faults.ReadFault.{ReadFault}
 use Rattle.noise_handshake.specs.declared.faults.ReadFault.TheVariants as read
 use Rattle.noise_handshake.specs.Message.{after_payload}
-use Rattle.noise_handshake.specs.View.{View, Reader, reader, Listens, Reads, Stops, Accepts, Refuses, learned, tokens_at, tokens_now}
+use Rattle.noise_handshake.specs.Party.{Party, Reader, reader, Listens, Reads, Stops, Accepts, Refuses, remote_after, tokens_at, tokens_now}
 use Rattle.noise_handshake.specs.inner.Listening.{Listening}
-use Rattle.noise_handshake.specs.Held.{Held, read_fault, is_turn}
-use Rattle.noise_handshake.specs.Party.{Stands, DoesNotRead, after_not_read, after_message, over}
+use Rattle.noise_handshake.specs.HandshakeValue.{HandshakeValue, read_fault, is_turn}
+use Rattle.noise_handshake.specs.Matching.{Matches, DoesNotRead, after_not_read, after_message, ended_party}
 use Rattle.noise_names.specs.Roles.{same_role-true, same_role-false}
 
 -- whose turn it is
-abbrev pub Told : (ended all ours : Bool) → Option ReadFault → Type 0
-Told ended all ours (Some read.Ended) = ended ≡ true
-Told ended all ours (Some read.Done) = (ended ≡ false) × (all ≡ true)
-Told ended all ours (Some read.NotYourTurn) = (ended ≡ false) × (all ≡ false) × (ours ≡ true)
-Told ended all ours (Some (read.Refused token cause)) = ⊥
-Told ended all ours None = (ended ≡ false) × (all ≡ false) × (ours ≡ false)
+abbrev pub Reported : (ended all ours : Bool) → Option ReadFault → Type 0
+Reported ended all ours (Some read.Ended) = ended ≡ true
+Reported ended all ours (Some read.Done) = (ended ≡ false) × (all ≡ true)
+Reported ended all ours (Some read.NotYourTurn) = (ended ≡ false) × (all ≡ false) × (ours ≡ true)
+Reported ended all ours (Some (read.Refused token cause)) = ⊥
+Reported ended all ours None = (ended ≡ false) × (all ≡ false) × (ours ≡ false)
 
-told : (ended all ours : Bool)
-    → Told ended all ours (if ended then Some read.Ended else if all then Some read.Done else if ours then Some read.NotYourTurn else None)
-told true all ours = refl
-told false true ours = (refl, refl)
-told false false true = (refl, refl, refl)
-told false false false = (refl, refl, refl)
+reported : (ended all ours : Bool)
+    → Reported ended all ours (if ended then Some read.Ended else if all then Some read.Done else if ours then Some read.NotYourTurn else None)
+reported true all ours = refl
+reported false true ours = (refl, refl)
+reported false false true = (refl, refl, refl)
+reported false false false = (refl, refl, refl)
 
 no-fault : (ended all ours : Bool) → ended ≡ false → all ≡ false → ours ≡ false
     → (if ended then Some read.Ended else if all then Some read.Done else if ours then Some read.NotYourTurn else None) ≡ None
@@ -50,24 +50,24 @@ not-self Responder Initiator e = refl
 not-self Responder Responder e = absurd (cc)
 
 -- where a message is due there is one
-pub due : {K : Type 0} (h : Held K) → h.passed ≤ length h.pattern.messages → read_fault h ≡ None → h.passed < length h.pattern.messages
+pub due : {K : Type 0} (h : HandshakeValue K) → h.passed ≤ length h.pattern.messages → read_fault h ≡ None → h.passed < length h.pattern.messages
 due h w e =
-    let t : Told h.ended (h.passed == length h.pattern.messages) (is_turn h.role h.passed) None =
-    subst (Told h.ended (h.passed == length h.pattern.messages) (is_turn h.role h.passed)) e
-    (told h.ended (h.passed == length h.pattern.messages) (is_turn h.role h.passed)) in
+    let t : Reported h.ended (h.passed == length h.pattern.messages) (is_turn h.role h.passed) None =
+    subst (Reported h.ended (h.passed == length h.pattern.messages) (is_turn h.role h.passed)) e
+    (reported h.ended (h.passed == length h.pattern.messages) (is_turn h.role h.passed)) in
     let unequal : (h.passed == length h.pattern.messages) ≡ false = t.1 in
     grind (arith, nat_tests)
 
 -- and it is the other party's turn
-pub reads-turn : {K : Type 0} (h : Held K) → read_fault h ≡ None → turn_from Initiator h.passed ≡ other h.role
+pub reads-turn : {K : Type 0} (h : HandshakeValue K) → read_fault h ≡ None → turn_from Initiator h.passed ≡ other h.role
 reads-turn h e =
-    let t : Told h.ended (h.passed == length h.pattern.messages) (is_turn h.role h.passed) None =
-    subst (Told h.ended (h.passed == length h.pattern.messages) (is_turn h.role h.passed)) e
-    (told h.ended (h.passed == length h.pattern.messages) (is_turn h.role h.passed)) in
+    let t : Reported h.ended (h.passed == length h.pattern.messages) (is_turn h.role h.passed) None =
+    subst (Reported h.ended (h.passed == length h.pattern.messages) (is_turn h.role h.passed)) e
+    (reported h.ended (h.passed == length h.pattern.messages) (is_turn h.role h.passed)) in
     same_role-false (turn_from Initiator h.passed) h.role t.2
 
-module _ {K : Type 0} (public_of : K → Own → Option (List ℕ)) (agreement : K → Own → List ℕ → Option (List ℕ)) (h : Held K) (v : View)
-    (s : Stands public_of agreement h v) where
+module _ {K : Type 0} (public_of : K → Own → Option (List ℕ)) (agreement : K → Own → List ℕ → Option (List ℕ)) (h : HandshakeValue K) (v : Party)
+    (s : Matches public_of agreement h v) where
   going : h.ended ≡ false → v.ended ≡ false
   going e = sym s.ended ∙ e
 
@@ -83,9 +83,9 @@ module _ {K : Type 0} (public_of : K → Own → Option (List ℕ)) (agreement :
   -- a message of the other party is due
   pub listens : h.passed ≤ length h.pattern.messages → read_fault h ≡ None → Listens v
   listens w e =
-      let t : Told h.ended (h.passed == length h.pattern.messages) (is_turn h.role h.passed) None =
-      subst (Told h.ended (h.passed == length h.pattern.messages) (is_turn h.role h.passed)) e
-      (told h.ended (h.passed == length h.pattern.messages) (is_turn h.role h.passed)) in
+      let t : Reported h.ended (h.passed == length h.pattern.messages) (is_turn h.role h.passed) None =
+      subst (Reported h.ended (h.passed == length h.pattern.messages) (is_turn h.role h.passed)) e
+      (reported h.ended (h.passed == length h.pattern.messages) (is_turn h.role h.passed)) in
       record { going = going t.0; more = few w t.1; turn = same_role-false (turn_from Initiator v.passed) v.role (turn false t.2) }
 
   -- where one is due there is no fault
@@ -100,15 +100,15 @@ module _ {K : Type 0} (public_of : K → Own → Option (List ℕ)) (agreement :
 
   -- where there is a fault the message is declined for it
   pub faulted : (fault : ReadFault) (m : List ℕ) → h.passed ≤ length h.pattern.messages → read_fault h ≡ Some fault
-      → DoesNotRead v m fault × Stands public_of agreement h (after_not_read v fault)
+      → DoesNotRead v m fault × Matches public_of agreement h (after_not_read v fault)
   faulted fault m w e =
       declined fault m w
-      (subst (Told h.ended (h.passed == length h.pattern.messages) (is_turn h.role h.passed)) e
-      (told h.ended (h.passed == length h.pattern.messages) (is_turn h.role h.passed)))
+      (subst (Reported h.ended (h.passed == length h.pattern.messages) (is_turn h.role h.passed)) e
+      (reported h.ended (h.passed == length h.pattern.messages) (is_turn h.role h.passed)))
     where
       declined : (fault : ReadFault) (m : List ℕ) → h.passed ≤ length h.pattern.messages
-          → Told h.ended (h.passed == length h.pattern.messages) (is_turn h.role h.passed) (Some fault)
-          → DoesNotRead v m fault × Stands public_of agreement h (after_not_read v fault)
+          → Reported h.ended (h.passed == length h.pattern.messages) (is_turn h.role h.passed) (Some fault)
+          → DoesNotRead v m fault × Matches public_of agreement h (after_not_read v fault)
       declined read.Ended m w t = (going-to t, s) where
         going-to : h.ended ≡ true → v.ended ≡ true
         going-to e = sym s.ended ∙ e
@@ -129,43 +129,43 @@ module _ {K : Type 0} (public_of : K → Own → Option (List ℕ)) (agreement :
   pub tokens-are : tokens_at h.pattern.messages h.passed ≡ tokens_now v
   tokens-are = ap (λ (p : Plan). tokens_at p.messages h.passed) s.pattern ∙ ap (λ (k : ℕ). tokens_at v.pattern.messages k) s.passed
 
-  pub listening : (psks : Bool) (secrets : List (List ℕ)) (tokens : List Token) → Listens v → psks ≡ has_psk h.pattern → secrets ≡ h.secrets
+  pub listening : (has_psks : Bool) (psks : List (List ℕ)) (tokens : List Token) → Listens v → has_psks ≡ has_psk h.pattern → psks ≡ h.psks
       → tokens ≡ tokens_now v
-      → Listening v h.role psks (agreement h.keys) secrets h.remote tokens
-  listening psks secrets tokens l b d e = record {
+      → Listening v h.role has_psks (agreement h.keys) psks h.remote tokens
+  listening has_psks psks tokens l b d e = record {
     listens = l;
     role_is = s.role;
     psks_is = b ∙ ap has_psk s.pattern;
     agree_is = s.agree;
-    secrets_are = d ∙ s.secrets;
+    psks_are = d ∙ s.psks;
     known_is = s.remote;
     tokens_are = e;
   }
 
-  pub after : (psks : Bool) (tokens : List Token) (xs : List (List ℕ)) (payload : List ℕ) (state : SymmetricState) (remote : Remote)
-      (secrets : List (List ℕ)) (passed : ℕ) → psks ≡ has_psk h.pattern → tokens ≡ tokens_now v
-      → secrets ≡ drop (count_by is_psk tokens) h.secrets → passed ≡ h.passed + 1 → StateStands state (after_payload psks v.history tokens xs payload)
-      → remote ≡ learned v.remote tokens xs
-      → Stands public_of agreement (record h { state = state; remote = remote; secrets = secrets; passed = passed }) (after_message v xs payload)
-  after psks tokens xs payload state remote secrets passed b e u n k m = record {
+  pub after : (has_psks : Bool) (tokens : List Token) (xs : List (List ℕ)) (payload : List ℕ) (state : SymmetricState) (remote : Remote)
+      (psks : List (List ℕ)) (passed : ℕ) → has_psks ≡ has_psk h.pattern → tokens ≡ tokens_now v
+      → psks ≡ drop (count_by is_psk tokens) h.psks → passed ≡ h.passed + 1 → StateMatches state (after_payload has_psks v.history tokens xs payload)
+      → remote ≡ remote_after v.remote tokens xs
+      → Matches public_of agreement (record h { state = state; remote = remote; psks = psks; passed = passed }) (after_message v xs payload)
+  after has_psks tokens xs payload state remote psks passed b e u n k m = record {
     pattern = s.pattern;
     role = s.role;
-    secrets = u ∙ ap (λ (ts : List Token). drop (count_by is_psk ts) h.secrets) e ∙ ap (drop (count_by is_psk (tokens_now v))) s.secrets;
+    psks = u ∙ ap (λ (ts : List Token). drop (count_by is_psk ts) h.psks) e ∙ ap (drop (count_by is_psk (tokens_now v))) s.psks;
     own = s.own;
     agree = s.agree;
-    remote = m ∙ ap (λ (ts : List Token). learned v.remote ts xs) e;
+    remote = m ∙ ap (λ (ts : List Token). remote_after v.remote ts xs) e;
     passed = n ∙ ap (λ (i : ℕ). i + 1) s.passed;
     ended = s.ended;
-    history = subst (λ (ts : List Token). StateStands state (after_payload (has_psk v.pattern) v.history ts xs payload)) e
-        (subst (λ (z : Bool). StateStands state (after_payload z v.history tokens xs payload)) (b ∙ ap has_psk s.pattern) k);
+    history = subst (λ (ts : List Token). StateMatches state (after_payload (has_psk v.pattern) v.history ts xs payload)) e
+        (subst (λ (z : Bool). StateMatches state (after_payload z v.history tokens xs payload)) (b ∙ ap has_psk s.pattern) k);
   }
 
-  -- with other secrets
-  pub with-secrets : (u us : List (List ℕ)) → u ≡ us → Stands public_of agreement (record h { secrets = u }) (record v { secrets = us })
-  with-secrets u us e = record {
+  -- with other psks
+  pub with-psks : (u us : List (List ℕ)) → u ≡ us → Matches public_of agreement (record h { psks = u }) (record v { psks = us })
+  with-psks u us e = record {
     pattern = s.pattern;
     role = s.role;
-    secrets = e;
+    psks = e;
     own = s.own;
     agree = s.agree;
     remote = s.remote;
@@ -175,11 +175,11 @@ module _ {K : Type 0} (public_of : K → Own → Option (List ℕ)) (agreement :
   }
 
   -- it has ended
-  pub ends : (b : Bool) → b ≡ true → Stands public_of agreement (record h { ended = b }) (over v)
+  pub ends : (b : Bool) → b ≡ true → Matches public_of agreement (record h { ended = b }) (ended_party v)
   ends b e = record {
     pattern = s.pattern;
     role = s.role;
-    secrets = s.secrets;
+    psks = s.psks;
     own = s.own;
     agree = s.agree;
     remote = s.remote;
@@ -188,22 +188,22 @@ module _ {K : Type 0} (public_of : K → Own → Option (List ℕ)) (agreement :
     history = s.history;
   }
 
--- what holds of a party's parts holds of the view that it listens for
-module _ (v : View) (role : Role) (psks : Bool) (agree : Own → List ℕ → Option (List ℕ)) (secrets : List (List ℕ)) (known : Remote) (tokens : List Token)
-    (l : Listening v role psks agree secrets known tokens) where
-  pub for-view : (P : Reader → Remote → List (List ℕ) → List Token → Type 0) → P (record { role = role; psks = psks; agree = agree }) known secrets tokens
-      → P (reader v) v.remote v.secrets (tokens_now v)
+-- what holds of a party's parts holds of the party that it listens for
+module _ (v : Party) (role : Role) (has_psks : Bool) (agree : Own → List ℕ → Option (List ℕ)) (psks : List (List ℕ)) (known : Remote) (tokens : List Token)
+    (l : Listening v role has_psks agree psks known tokens) where
+  pub for-view : (P : Reader → Remote → List (List ℕ) → List Token → Type 0) → P (record { role = role; has_psks = has_psks; agree = agree }) known psks tokens
+      → P (reader v) v.remote v.psks (tokens_now v)
   for-view P h =
-      let h1 = subst (λ (z : Role). P (record { role = z; psks = psks; agree = agree }) known secrets tokens) l.role_is h in
-      let h2 = subst (λ (z : Bool). P (record { role = v.role; psks = z; agree = agree }) known secrets tokens) l.psks_is h1 in
-      let h3 = subst (λ (z : Own → List ℕ → Option (List ℕ)). P (record { role = v.role; psks = has_psk v.pattern; agree = z }) known secrets tokens)
+      let h1 = subst (λ (z : Role). P (record { role = z; has_psks = has_psks; agree = agree }) known psks tokens) l.role_is h in
+      let h2 = subst (λ (z : Bool). P (record { role = v.role; has_psks = z; agree = agree }) known psks tokens) l.psks_is h1 in
+      let h3 = subst (λ (z : Own → List ℕ → Option (List ℕ)). P (record { role = v.role; has_psks = has_psk v.pattern; agree = z }) known psks tokens)
       l.agree_is h2 in
-      let h4 = subst (λ (z : Remote). P (reader v) z secrets tokens) l.known_is h3 in
-      let h5 = subst (λ (z : List (List ℕ)). P (reader v) v.remote z tokens) l.secrets_are h4 in
-      subst (λ (ts : List Token). P (reader v) v.remote v.secrets ts) l.tokens_are h5
+      let h4 = subst (λ (z : Remote). P (reader v) z psks tokens) l.known_is h3 in
+      let h5 = subst (λ (z : List (List ℕ)). P (reader v) v.remote z tokens) l.psks_are h4 in
+      subst (λ (ts : List Token). P (reader v) v.remote v.psks ts) l.tokens_are h5
 
   pub accepted : (m : List ℕ) (xs : List (List ℕ)) (payload : List ℕ) → length m ≤ 65535
-      → Reads (record { role = role; psks = psks; agree = agree }) known secrets v.history tokens m xs payload → Accepts v m xs payload
+      → Reads (record { role = role; has_psks = has_psks; agree = agree }) known psks v.history tokens m xs payload → Accepts v m xs payload
   accepted m xs payload fits h = record {
     listens = l.listens;
     fits = fits;
@@ -211,5 +211,5 @@ module _ (v : View) (role : Role) (psks : Bool) (agree : Own → List ℕ → Op
   }
 
   pub refused : (m : List ℕ) (k : ℕ) (cause : Cause)
-      → Stops (record { role = role; psks = psks; agree = agree }) known secrets v.history tokens m k cause → Refuses v m k cause
+      → Stops (record { role = role; has_psks = has_psks; agree = agree }) known psks v.history tokens m k cause → Refuses v m k cause
   refused m k cause h = record { listens = l.listens; stops = for-view (λ w z s ts. Stops w z s v.history ts m k cause) h }

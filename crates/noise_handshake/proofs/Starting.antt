@@ -1,4 +1,4 @@
--- What a pattern asks of a setup: how many secrets, and whether there is a key after a pre-message.
+-- What a pattern asks of a setup: how many psks, and whether there is a key after a pre-message.
 use Rattle.std.proofs.Common.{◌≡◌, ℕ, zero, suc, ◌+◌, ◌<◌, ◌≤◌, List, [], ◌∷◌, ◌++◌, length, drop, cond, eqb, refl, ap, ◌∙◌, arith}
 use Rattle.std.specs.Prelude.{Bool, true, false, ◌||◌, ◌&&◌, IsTrue, nat_le, count_by}
 use Rattle.std.specs.List.{list_any}
@@ -11,9 +11,9 @@ use Rattle.noise_names.specs.Tokens.{is_psk, same_token, own_tokens}
 use Rattle.noise_names.specs.Plan.{Plan}
 use Rattle.noise_names.specs.Limits.{IsPattern, HavePsksAt, psk_if, with_psk_tokens, is_pre_message}
 use Rattle.noise_handshake.specs.Length.{keyed_after_tokens}
-use Rattle.noise_handshake.specs.Setup.{secrets_of}
+use Rattle.noise_handshake.specs.Setup.{psks_of}
 
--- ---- secrets
+-- ---- psks
 
 no_psk_among : (ts : List Token) → count_by is_psk (own_tokens ts) ≡ 0
 no_psk_among [] = refl
@@ -47,13 +47,13 @@ few_in places n ts front b e f h =
     by true = at_most_one 0 places
     by false = omega arith
 
-later-few : (places : List ℕ) (n : ℕ) (ms : List (List Token)) → 1 < n → HavePsksAt places n ms → secrets_of ms ≤ length ms
+later-few : (places : List ℕ) (n : ℕ) (ms : List (List Token)) → 1 < n → HavePsksAt places n ms → psks_of ms ≤ length ms
 later-few places n [] h k = omega arith
 later-few places n (ts ∷ ms) h k =
     let not_first : eqb n 1 ≡ false = grind (arith, nat_tests) in
     omega (arith, few_in places n ts false 0 not_first refl k.0, later-few places (n + 1) ms (omega arith) k.1)
 
-all-few : (places : List ℕ) (ms : List (List Token)) → HavePsksAt places 1 ms → secrets_of ms ≤ length ms + 1
+all-few : (places : List ℕ) (ms : List (List Token)) → HavePsksAt places 1 ms → psks_of ms ≤ length ms + 1
 all-few places [] k = omega arith
 all-few places (ts ∷ ms) k = omega (arith, few_in places 1 ts true 1 refl refl k.0, later-few places 2 ms (omega arith) k.1)
 
@@ -61,41 +61,41 @@ second : (a b : Bool) → IsTrue (a && b) → IsTrue b
 second true b h = h
 second false b h = cc
 
--- a pattern takes at most 9 secrets
+-- a pattern takes at most 9 psks
 pub few-messages : (p : Plan) → IsPattern p → length p.messages ≤ 8
 few-messages p h = leb-true (length p.messages) 8 (second (nat_le 1 (length p.messages)) (nat_le (length p.messages) 8) h.count)
 
-pub few-secrets : (p : Plan) → IsPattern p → secrets_of p.messages ≤ 9
-few-secrets p h = omega (arith, all-few p.places p.messages h.psks.tokens, few-messages p h)
+pub few-psks : (p : Plan) → IsPattern p → psks_of p.messages ≤ 9
+few-psks p h = omega (arith, all-few p.places p.messages h.psks.tokens, few-messages p h)
 
-later-take-less : (n : ℕ) (ms : List (List Token)) → secrets_of (drop n ms) ≤ secrets_of ms
+later-take-less : (n : ℕ) (ms : List (List Token)) → psks_of (drop n ms) ≤ psks_of ms
 later-take-less zero ms = omega arith
 later-take-less (suc n) [] = omega arith
 later-take-less (suc n) (ts ∷ ms) = omega (arith, later-take-less n ms)
 
 -- and no more where some messages have passed
-pub few-left : (p : Plan) (n : ℕ) → IsPattern p → secrets_of (drop n p.messages) ≤ 9
-few-left p n h = omega (arith, later-take-less n p.messages, few-secrets p h)
+pub few-left : (p : Plan) (n : ℕ) → IsPattern p → psks_of (drop n p.messages) ≤ 9
+few-left p n h = omega (arith, later-take-less n p.messages, few-psks p h)
 
 -- ---- the key after a pre-message
 
-none : (psks k : Bool) → (k || (psks && false)) ≡ k
+none : (has_psks k : Bool) → (k || (has_psks && false)) ≡ k
 none true true = refl
 none true false = refl
 none false true = refl
 none false false = refl
 
-some : (psks k : Bool) → (k || (psks && true)) ≡ (psks || k)
+some : (has_psks k : Bool) → (k || (has_psks && true)) ≡ (has_psks || k)
 some true true = refl
 some true false = refl
 some false true = refl
 some false false = refl
 
 -- in a psk pattern an e gives one
-pub pre-keyed : (psks k : Bool) (ts : List Token) → IsTrue (is_pre_message ts)
-    → (k || (psks && list_any (λ t. same_token t E) ts)) ≡ keyed_after_tokens psks k ts
-pre-keyed psks k [] h = none psks k
-pre-keyed psks k (E ∷ []) h = some psks k
-pre-keyed psks k (S ∷ []) h = none psks k
-pre-keyed psks k (E ∷ S ∷ []) h = some psks k
-pre-keyed psks k _ h = cc
+pub pre-keyed : (has_psks k : Bool) (ts : List Token) → IsTrue (is_pre_message ts)
+    → (k || (has_psks && list_any (λ t. same_token t E) ts)) ≡ keyed_after_tokens has_psks k ts
+pre-keyed has_psks k [] h = none has_psks k
+pre-keyed has_psks k (E ∷ []) h = some has_psks k
+pre-keyed has_psks k (S ∷ []) h = none has_psks k
+pre-keyed has_psks k (E ∷ S ∷ []) h = some has_psks k
+pre-keyed has_psks k _ h = cc

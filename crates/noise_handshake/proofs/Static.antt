@@ -5,7 +5,7 @@ use Rattle.std.specs.Prelude.{Bool, true, false, is_some, if◌then◌else◌, n
 use Rattle.noise_state.specs.History.{History, cipher_key, ciphertext}
 use Rattle.noise_state.specs.Ciphertexts.{length-ciphertext}
 use Rattle.noise_names.specs.declared.token.Token.TheVariants.{S}
-use Rattle.noise_state.specs.Standing.{StateStands, keyed, keyed-is}
+use Rattle.noise_state.specs.Standing.{StateMatches, keyed, keyed-is}
 use Rattle.noise_state.specs.declared.symmetric.SymmetricState.{SymmetricState}
 use Rattle.noise_handshake.specs.Length.{tag_width, token_width}
 use Rattle.noise_handshake.specs.declared.faults.Cause.TheVariants.{Short, Tag}
@@ -16,7 +16,7 @@ key_width true = refl
 key_width false = refl
 
 -- how wide a static key is, by the state
-pub width-is : (s : SymmetricState) (r : History) (n : ℕ) → StateStands s r → n ≡ token_width (keyed s) S → n ≡ width_of_key r
+pub width-is : (s : SymmetricState) (r : History) (n : ℕ) → StateMatches s r → n ≡ token_width (keyed s) S → n ≡ width_of_key r
 width-is s r n h e = e ∙ ap (λ (k : Bool). 32 + tag_width k) (keyed-is s r h) ∙ key_width (is_some (cipher_key r))
 
 wide : (k : Bool) (n : ℕ) → n ≡ 32 → (if k then n + 16 else n) ≡ (if k then 48 else 32)

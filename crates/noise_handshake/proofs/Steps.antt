@@ -9,20 +9,20 @@ use Rattle.noise_names.specs.declared.token.Token.{Token}
 use Rattle.noise_state.specs.History.{History, cipher_key}
 use Rattle.noise_handshake.specs.declared.remote.Remote.{Remote}
 use Rattle.noise_handshake.specs.declared.faults.Cause.{Cause}
-use Rattle.noise_state.specs.Standing.{StateStands}
+use Rattle.noise_state.specs.Standing.{StateMatches}
 use Rattle.noise_state.specs.declared.symmetric.SymmetricState.{SymmetricState}
 use Rattle.noise_handshake.specs.Message.{token_bytes, after_token, after_tokens}
-use Rattle.noise_handshake.specs.View.{Reader, Fits, BeginsAs, known_after, secrets_after, learned, cause_of}
+use Rattle.noise_handshake.specs.Party.{Reader, Fits, BeginsAs, known_after, psks_after, remote_after, cause_of}
 use Rattle.noise_handshake.specs.inner.Listening.{Fails, StopsKnowing}
 use Rattle.noise_handshake.proofs.Apart.{leads-none, leads-more, stops-here, stops-later}
 
-pub stopped : (v : Reader) (known : Remote) (secrets : List (List ℕ)) (r : History) (tokens ts : List Token) (t : Token) (m : List ℕ) (cause : Cause)
+pub stopped : (v : Reader) (known : Remote) (psks : List (List ℕ)) (r : History) (tokens ts : List Token) (t : Token) (m : List ℕ) (cause : Cause)
     (here : Remote)
-    → tokens ≡ t ∷ ts → Fails v known secrets r t m → cause ≡ cause_of (is_some (cipher_key r)) t m → here ≡ known
-    → StopsKnowing v known secrets r tokens m 0 cause here
-stopped v known secrets r tokens ts t m cause here e bad why same =
-    subst (λ (us : List Token). StopsKnowing v known secrets r us m 0 cause here) (sym e)
-    (subst (λ (z : Remote). StopsKnowing v known secrets r (t ∷ ts) m 0 cause z) (sym same) (stops-here v known secrets r t ts m cause bad why))
+    → tokens ≡ t ∷ ts → Fails v known psks r t m → cause ≡ cause_of (is_some (cipher_key r)) t m → here ≡ known
+    → StopsKnowing v known psks r tokens m 0 cause here
+stopped v known psks r tokens ts t m cause here e bad why same =
+    subst (λ (us : List Token). StopsKnowing v known psks r us m 0 cause here) (sym e)
+    (subst (λ (z : Remote). StopsKnowing v known psks r (t ∷ ts) m 0 cause z) (sym same) (stops-here v known psks r t ts m cause bad why))
 
 -- what stands in a list after its first n bytes, once those after were written
 pub written-at : (m buf post : List ℕ) (n len : ℕ) → n ≤ length m → len ≤ length buf → take ((n + len) - n) (drop n (take n m ++ (buf ++ post))) ≡ take len buf
@@ -50,39 +50,39 @@ rest-at m buf n len h rest =
         ∙ ap (λ (p : List ℕ). buf ++ p) (nil_from_length post none)
         ∙ append-nil buf
 
-module _ (v : Reader) (known known2 : Remote) (secrets secrets2 : List (List ℕ)) (r : History) (tokens ts : List Token) (t : Token) (x m m2 : List ℕ) (n : ℕ)
-    (split : tokens ≡ t ∷ ts) (fits : Fits v known secrets t x) (spelled : m ≡ token_bytes r t x ++ drop n m)
-    (knows : known2 ≡ known_after known t x) (holds : secrets2 ≡ secrets_after secrets t) (goes : m2 ≡ drop n m) where
-  pub led : (xs : List (List ℕ)) (k : ℕ) → BeginsAs v known2 secrets2 (after_token v.psks r t x) ts xs m2 (drop k m2)
-      → BeginsAs v known secrets r tokens (x ∷ xs) m (drop (n + k) m)
+module _ (v : Reader) (known known2 : Remote) (psks secrets2 : List (List ℕ)) (r : History) (tokens ts : List Token) (t : Token) (x m m2 : List ℕ) (n : ℕ)
+    (split : tokens ≡ t ∷ ts) (fits : Fits v known psks t x) (spelled : m ≡ token_bytes r t x ++ drop n m)
+    (knows : known2 ≡ known_after known t x) (holds : secrets2 ≡ psks_after psks t) (goes : m2 ≡ drop n m) where
+  pub led : (xs : List (List ℕ)) (k : ℕ) → BeginsAs v known2 secrets2 (after_token v.has_psks r t x) ts xs m2 (drop k m2)
+      → BeginsAs v known psks r tokens (x ∷ xs) m (drop (n + k) m)
   led xs k l =
-      let l1 = subst (λ (z : Remote). BeginsAs v z secrets2 (after_token v.psks r t x) ts xs m2 (drop k m2)) knows l in
-      let l2 = subst (λ (z : List (List ℕ)). BeginsAs v (known_after known t x) z (after_token v.psks r t x) ts xs m2 (drop k m2)) holds l1 in
-      let l3 = subst (λ (z : List ℕ). BeginsAs v (known_after known t x) (secrets_after secrets t) (after_token v.psks r t x) ts xs z (drop k z)) goes l2 in
-      let l4 = leads-more v known secrets r t x ts xs m (drop n m) (drop k (drop n m)) fits spelled l3 in
-      let l5 = subst (λ (z : List ℕ). BeginsAs v known secrets r (t ∷ ts) (x ∷ xs) m z) (drop-drop k n m) l4 in
-      subst (λ (us : List Token). BeginsAs v known secrets r us (x ∷ xs) m (drop (n + k) m)) (sym split) l5
+      let l1 = subst (λ (z : Remote). BeginsAs v z secrets2 (after_token v.has_psks r t x) ts xs m2 (drop k m2)) knows l in
+      let l2 = subst (λ (z : List (List ℕ)). BeginsAs v (known_after known t x) z (after_token v.has_psks r t x) ts xs m2 (drop k m2)) holds l1 in
+      let l3 = subst (λ (z : List ℕ). BeginsAs v (known_after known t x) (psks_after psks t) (after_token v.has_psks r t x) ts xs z (drop k z)) goes l2 in
+      let l4 = leads-more v known psks r t x ts xs m (drop n m) (drop k (drop n m)) fits spelled l3 in
+      let l5 = subst (λ (z : List ℕ). BeginsAs v known psks r (t ∷ ts) (x ∷ xs) m z) (drop-drop k n m) l4 in
+      subst (λ (us : List Token). BeginsAs v known psks r us (x ∷ xs) m (drop (n + k) m)) (sym split) l5
 
-  pub learned-on : (xs : List (List ℕ)) (known3 : Remote) → known3 ≡ learned known2 ts xs → known3 ≡ learned known tokens (x ∷ xs)
-  learned-on xs known3 e = e ∙ ap (λ (z : Remote). learned z ts xs) knows ∙ ap (λ (us : List Token). learned known us (x ∷ xs)) (sym split)
+  pub learned-on : (xs : List (List ℕ)) (known3 : Remote) → known3 ≡ remote_after known2 ts xs → known3 ≡ remote_after known tokens (x ∷ xs)
+  learned-on xs known3 e = e ∙ ap (λ (z : Remote). remote_after z ts xs) knows ∙ ap (λ (us : List Token). remote_after known us (x ∷ xs)) (sym split)
 
   pub stopped-later : (k : ℕ) (cause : Cause) (here : Remote) → k < length ts
-      → StopsKnowing v known2 secrets2 (after_token v.psks r t x) ts m2 k cause here → StopsKnowing v known secrets r tokens m (k + 1) cause here
+      → StopsKnowing v known2 secrets2 (after_token v.has_psks r t x) ts m2 k cause here → StopsKnowing v known psks r tokens m (k + 1) cause here
   stopped-later k cause here h s =
-      let l1 = subst (λ (z : Remote). StopsKnowing v z secrets2 (after_token v.psks r t x) ts m2 k cause here) knows s in
-      let l2 = subst (λ (z : List (List ℕ)). StopsKnowing v (known_after known t x) z (after_token v.psks r t x) ts m2 k cause here) holds l1 in
-      let l3 = subst (λ (z : List ℕ). StopsKnowing v (known_after known t x) (secrets_after secrets t) (after_token v.psks r t x) ts z k cause here)
+      let l1 = subst (λ (z : Remote). StopsKnowing v z secrets2 (after_token v.has_psks r t x) ts m2 k cause here) knows s in
+      let l2 = subst (λ (z : List (List ℕ)). StopsKnowing v (known_after known t x) z (after_token v.has_psks r t x) ts m2 k cause here) holds l1 in
+      let l3 = subst (λ (z : List ℕ). StopsKnowing v (known_after known t x) (psks_after psks t) (after_token v.has_psks r t x) ts z k cause here)
       goes l2 in
-      let l4 = stops-later v known secrets r t x ts m (drop n m) k cause here h fits spelled l3 in
-      let l5 = subst (λ (us : List Token). StopsKnowing v known secrets r us m (suc k) cause here) (sym split) l4 in
+      let l4 = stops-later v known psks r t x ts m (drop n m) k cause here h fits spelled l3 in
+      let l5 = subst (λ (us : List Token). StopsKnowing v known psks r us m (suc k) cause here) (sym split) l4 in
       let next : suc k ≡ k + 1 = omega arith in
-      subst (λ (i : ℕ). StopsKnowing v known secrets r tokens m i cause here) next l5
+      subst (λ (i : ℕ). StopsKnowing v known psks r tokens m i cause here) next l5
 
 -- no tokens
-pub led-none : (v : Reader) (known : Remote) (secrets : List (List ℕ)) (r : History) (tokens : List Token) (m : List ℕ) (state : SymmetricState)
-    → tokens ≡ [] → StateStands state r
-    → (xs : List (List ℕ)) × BeginsAs v known secrets r tokens xs m m × StateStands state (after_tokens v.psks r tokens xs) × (known ≡ learned known tokens xs)
-led-none v known secrets r tokens m state e s =
-    subst (λ (ts : List Token). (xs : List (List ℕ)) × BeginsAs v known secrets r ts xs m m × StateStands state (after_tokens v.psks r ts xs)
-    × (known ≡ learned known ts xs))
-    (sym e) ([], leads-none v known secrets r m, s, refl)
+pub led-none : (v : Reader) (known : Remote) (psks : List (List ℕ)) (r : History) (tokens : List Token) (m : List ℕ) (state : SymmetricState)
+    → tokens ≡ [] → StateMatches state r
+    → (xs : List (List ℕ)) × BeginsAs v known psks r tokens xs m m × StateMatches state (after_tokens v.has_psks r tokens xs) × (known ≡ remote_after known tokens xs)
+led-none v known psks r tokens m state e s =
+    subst (λ (ts : List Token). (xs : List (List ℕ)) × BeginsAs v known psks r ts xs m m × StateMatches state (after_tokens v.has_psks r ts xs)
+    × (known ≡ remote_after known ts xs))
+    (sym e) ([], leads-none v known psks r m, s, refl)

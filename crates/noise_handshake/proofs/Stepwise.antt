@@ -1,4 +1,4 @@
--- What a message's tokens ask and leave, told of its first token and of those after it.
+-- What a message's tokens ask and leave, reported of its first token and of those after it.
 use Rattle.std.proofs.Common.{◌≡◌, ℕ, suc, ◌+◌, ◌-◌, ◌^◌, ◌<◌, ◌≤◌, List, [], ◌∷◌, length, take, refl, sym, ap, subst, ◌∙◌, arith}
 use Rattle.std.specs.Prelude.{Bool, true, false, ◌&&◌, IsTrue, count_by}
 use Rattle.noise_names.specs.declared.token.Token.{Token}
@@ -11,7 +11,7 @@ use Rattle.noise_handshake.specs.Writing.{Writer, Gives, Given, LacksAnswerAt}
 use Rattle.noise_handshake.specs.Nonces.{nonce_after, nonce_after_tokens}
 use Rattle.noise_handshake.specs.inner.Known.{is_known, are_known, e_after, s_after, e_after_tokens, s_after_tokens}
 use Rattle.std.specs.List.{list_all}
-use Rattle.noise_handshake.specs.View.{secrets_after, other_secrets}
+use Rattle.noise_handshake.specs.Party.{psks_after, other_psks}
 use Rattle.noise_handshake.proofs.Later.{one-more}
 
 first-true : (a b : Bool) → IsTrue (a && b) → IsTrue a
@@ -22,25 +22,25 @@ second-true : (a b : Bool) → IsTrue (a && b) → IsTrue b
 second-true true b h = h
 second-true false b h = absurd (cc)
 
-left-psk : (ts : List Token) (secrets : List (List ℕ)) → count_by is_psk (Psk ∷ ts) ≤ length secrets → count_by is_psk ts ≤ length (other_secrets secrets)
+left-psk : (ts : List Token) (psks : List (List ℕ)) → count_by is_psk (Psk ∷ ts) ≤ length psks → count_by is_psk ts ≤ length (other_psks psks)
 left-psk ts [] h = absurd (omega (arith, h, one-more ts))
 left-psk ts (x ∷ xs) h = omega (arith, h, one-more ts)
 
-left-after : (t : Token) (ts : List Token) (secrets : List (List ℕ)) → count_by is_psk (t ∷ ts) ≤ length secrets
-    → count_by is_psk ts ≤ length (secrets_after secrets t)
-left-after Psk ts secrets h = left-psk ts secrets h
-left-after E ts secrets h = h
-left-after S ts secrets h = h
-left-after Ee ts secrets h = h
-left-after Es ts secrets h = h
-left-after Se ts secrets h = h
-left-after Ss ts secrets h = h
+left-after : (t : Token) (ts : List Token) (psks : List (List ℕ)) → count_by is_psk (t ∷ ts) ≤ length psks
+    → count_by is_psk ts ≤ length (psks_after psks t)
+left-after Psk ts psks h = left-psk ts psks h
+left-after E ts psks h = h
+left-after S ts psks h = h
+left-after Ee ts psks h = h
+left-after Es ts psks h = h
+left-after Se ts psks h = h
+left-after Ss ts psks h = h
 
 module _ (tokens ts : List Token) (t : Token) (split : tokens ≡ t ∷ ts) where
-  pub keyed-on : (psks key key2 key3 : Bool) → key2 ≡ keyed_after psks key t → key3 ≡ keyed_after_tokens psks key2 ts
-      → key3 ≡ keyed_after_tokens psks key tokens
-  keyed-on psks key key2 key3 e f =
-      f ∙ ap (λ (b : Bool). keyed_after_tokens psks b ts) e ∙ ap (λ (us : List Token). keyed_after_tokens psks key us) (sym split)
+  pub keyed-on : (has_psks key key2 key3 : Bool) → key2 ≡ keyed_after has_psks key t → key3 ≡ keyed_after_tokens has_psks key2 ts
+      → key3 ≡ keyed_after_tokens has_psks key tokens
+  keyed-on has_psks key key2 key3 e f =
+      f ∙ ap (λ (b : Bool). keyed_after_tokens has_psks b ts) e ∙ ap (λ (us : List Token). keyed_after_tokens has_psks key us) (sym split)
 
   pub e-on : (e e2 e3 : Bool) → e2 ≡ e_after e t → e3 ≡ e_after_tokens e2 ts → e3 ≡ e_after_tokens e tokens
   e-on e e2 e3 f g = g ∙ ap (λ (b : Bool). e_after_tokens b ts) f ∙ ap (λ (us : List Token). e_after_tokens e us) (sym split)
@@ -48,11 +48,11 @@ module _ (tokens ts : List Token) (t : Token) (split : tokens ≡ t ∷ ts) wher
   pub s-on : (s s2 s3 : Bool) → s2 ≡ s_after s t → s3 ≡ s_after_tokens s2 ts → s3 ≡ s_after_tokens s tokens
   s-on s s2 s3 f g = g ∙ ap (λ (b : Bool). s_after_tokens b ts) f ∙ ap (λ (us : List Token). s_after_tokens s us) (sym split)
 
-  pub nonce-on : (psks key key2 : Bool) (n n2 n3 : ℕ) → key2 ≡ keyed_after psks key t → n2 ≡ nonce_after psks key n t
-      → n3 ≡ nonce_after_tokens psks key2 n2 ts → n3 ≡ nonce_after_tokens psks key n tokens
-  nonce-on psks key key2 n n2 n3 e f g =
-      g ∙ ap (λ (b : Bool). nonce_after_tokens psks b n2 ts) e ∙ ap (λ (i : ℕ). nonce_after_tokens psks (keyed_after psks key t) i ts) f
-      ∙ ap (λ (us : List Token). nonce_after_tokens psks key n us) (sym split)
+  pub nonce-on : (has_psks key key2 : Bool) (n n2 n3 : ℕ) → key2 ≡ keyed_after has_psks key t → n2 ≡ nonce_after has_psks key n t
+      → n3 ≡ nonce_after_tokens has_psks key2 n2 ts → n3 ≡ nonce_after_tokens has_psks key n tokens
+  nonce-on has_psks key key2 n n2 n3 e f g =
+      g ∙ ap (λ (b : Bool). nonce_after_tokens has_psks b n2 ts) e ∙ ap (λ (i : ℕ). nonce_after_tokens has_psks (keyed_after has_psks key t) i ts) f
+      ∙ ap (λ (us : List Token). nonce_after_tokens has_psks key n us) (sym split)
 
   pub bound-on : (n n2 n3 : ℕ) → n2 ≤ n + 1 → n3 ≤ n2 + length ts → n3 ≤ n + length tokens
   bound-on n n2 n3 h k = omega (arith, h, k, ap length split)
@@ -69,8 +69,8 @@ module _ (tokens ts : List Token) (t : Token) (split : tokens ≡ t ∷ ts) wher
   pub nonce-left : (n : ℕ) → n + length tokens < 2 ^ 64 - 1 → n < 2 ^ 64 - 1
   nonce-left n h = omega (arith, h)
 
-  pub secret-due : (n : ℕ) → count_by is_psk tokens ≤ n → t ≡ Psk → 0 < n
-  secret-due n h e =
+  pub psk-due : (n : ℕ) → count_by is_psk tokens ≤ n → t ≡ Psk → 0 < n
+  psk-due n h e =
       let at : tokens ≡ Psk ∷ ts = split ∙ ap (λ (u : Token). u ∷ ts) e in
       let due : count_by is_psk (Psk ∷ ts) ≤ n = subst (λ (us : List Token). count_by is_psk us ≤ n) at h in
       let one : count_by is_psk (Psk ∷ ts) ≡ suc (count_by is_psk ts) = one-more ts in
@@ -85,28 +85,28 @@ module _ (tokens ts : List Token) (t : Token) (split : tokens ≡ t ∷ ts) wher
   place-fits n k h j = omega (arith, h, j, ap length split)
 
   -- how many bytes they take
-  pub width-on : (psks key key2 : Bool) (n k : ℕ) → n ≡ token_width key t → key2 ≡ keyed_after psks key t → k ≡ tokens_width psks key2 ts
-      → n + k ≡ tokens_width psks key tokens
-  width-on psks key key2 n k e f g =
-      ap (λ (i : ℕ). i + k) e ∙ ap (λ (i : ℕ). token_width key t + i) (g ∙ ap (λ (b : Bool). tokens_width psks b ts) f)
-      ∙ ap (λ (us : List Token). tokens_width psks key us) (sym split)
+  pub width-on : (has_psks key key2 : Bool) (n k : ℕ) → n ≡ token_width key t → key2 ≡ keyed_after has_psks key t → k ≡ tokens_width has_psks key2 ts
+      → n + k ≡ tokens_width has_psks key tokens
+  width-on has_psks key key2 n k e f g =
+      ap (λ (i : ℕ). i + k) e ∙ ap (λ (i : ℕ). token_width key t + i) (g ∙ ap (λ (b : Bool). tokens_width has_psks b ts) f)
+      ∙ ap (λ (us : List Token). tokens_width has_psks key us) (sym split)
 
-  pub room-first : (psks key : Bool) (room : ℕ) → tokens_width psks key tokens ≤ room → token_width key t ≤ room
-  room-first psks key room h =
-      let all : token_width key t + tokens_width psks (keyed_after psks key t) ts ≤ room =
-      subst (λ (us : List Token). tokens_width psks key us ≤ room) split h in
+  pub room-first : (has_psks key : Bool) (room : ℕ) → tokens_width has_psks key tokens ≤ room → token_width key t ≤ room
+  room-first has_psks key room h =
+      let all : token_width key t + tokens_width has_psks (keyed_after has_psks key t) ts ≤ room =
+      subst (λ (us : List Token). tokens_width has_psks key us ≤ room) split h in
       omega (arith, all)
 
-  pub room-later : (psks key key2 : Bool) (room n : ℕ) → tokens_width psks key tokens ≤ room → n ≡ token_width key t → key2 ≡ keyed_after psks key t
-      → n + tokens_width psks key2 ts ≤ room
-  room-later psks key key2 room n h e f =
-      subst (λ (i : ℕ). i ≤ room) (sym (width-on psks key key2 n (tokens_width psks key2 ts) e f refl)) h
+  pub room-later : (has_psks key key2 : Bool) (room n : ℕ) → tokens_width has_psks key tokens ≤ room → n ≡ token_width key t → key2 ≡ keyed_after has_psks key t
+      → n + tokens_width has_psks key2 ts ≤ room
+  room-later has_psks key key2 room n h e f =
+      subst (λ (i : ℕ). i ≤ room) (sym (width-on has_psks key key2 n (tokens_width has_psks key2 ts) e f refl)) h
 
-  -- the first is a DH without an answer
-  pub lacks-first : (w : Writer) (known : Remote) (secrets : List (List ℕ)) → ((x : List ℕ) → Gives w known secrets t x → ⊥)
-      → LacksAnswerAt w known secrets tokens 0
-  lacks-first w known secrets h =
-      subst (λ (us : List Token). LacksAnswerAt w known secrets us 0) (sym split) (record {
+  -- the first is a DH without a result
+  pub lacks-first : (w : Writer) (known : Remote) (psks : List (List ℕ)) → ((x : List ℕ) → Gives w known psks t x → ⊥)
+      → LacksAnswerAt w known psks tokens 0
+  lacks-first w known psks h =
+      subst (λ (us : List Token). LacksAnswerAt w known psks us 0) (sym split) (record {
         within = one-of ts;
         before = [];
         given = tt;
@@ -116,7 +116,7 @@ module _ (tokens ts : List Token) (t : Token) (split : tokens ≡ t ∷ ts) wher
       one-of : (us : List Token) → 0 < length (t ∷ us)
       one-of us = omega arith
 
-      none : (xs : List (List ℕ)) → Given w known secrets (take 1 (t ∷ ts)) xs → ⊥
+      none : (xs : List (List ℕ)) → Given w known psks (take 1 (t ∷ ts)) xs → ⊥
       none [] g = g
       none (x ∷ xs) g = h x g.0
 
@@ -135,11 +135,11 @@ module _ (tokens ts : List Token) (t : Token) (split : tokens ≡ t ∷ ts) wher
       let l2 : IsTrue (are_known role e2 (s_after s t) ts) = subst (λ (b : Bool). IsTrue (are_known role b (s_after s t) ts)) (sym f) l1 in
       subst (λ (b : Bool). IsTrue (are_known role e2 b ts)) (sym g) l2
 
-  pub secrets-later : (secrets others : List (List ℕ)) → others ≡ secrets_after secrets t → count_by is_psk tokens ≤ length secrets
+  pub psks-later : (psks others : List (List ℕ)) → others ≡ psks_after psks t → count_by is_psk tokens ≤ length psks
       → count_by is_psk ts ≤ length others
-  secrets-later secrets others e h =
+  psks-later psks others e h =
       subst (λ (z : List (List ℕ)). count_by is_psk ts ≤ length z) (sym e)
-      (left-after t ts secrets (subst (λ (us : List Token). count_by is_psk us ≤ length secrets) split h))
+      (left-after t ts psks (subst (λ (us : List Token). count_by is_psk us ≤ length psks) split h))
 
   pub nonces-later : (n n2 : ℕ) → n2 ≤ n + 1 → n + length tokens < 2 ^ 64 - 1 → n2 + length ts < 2 ^ 64 - 1
   nonces-later n n2 e h = omega (arith, e, h, ap length split)

@@ -23,20 +23,20 @@ nothing true = refl
 nothing false = refl
 
 -- among the tokens of one party
-pub stands-token_places : (party role : Role) (t : Token) (m i : ℕ) (ts : List Token)
+pub matches-token_places : (party role : Role) (t : Token) (m i : ℕ) (ts : List Token)
     → is_among role t (token_places party m i ts) ≡ same_role party role && has_token t ts
-stands-token_places party role t m i [] = nothing (same_role party role)
-stands-token_places party role t m i (u ∷ ts) =
-    ap (λ (b : Bool). (same_token u t && same_role party role) || b) (stands-token_places party role t m (i + 1) ts)
+matches-token_places party role t m i [] = nothing (same_role party role)
+matches-token_places party role t m i (u ∷ ts) =
+    ap (λ (b : Bool). (same_token u t && same_role party role) || b) (matches-token_places party role t m (i + 1) ts)
     ∙ shared (same_role party role) (same_token u t) (has_token t ts)
 
 -- among messages
-pub stands-message_places : (party role : Role) (t : Token) (n : ℕ) (ts : List Token) (ms : List (List Token))
+pub matches-message_places : (party role : Role) (t : Token) (n : ℕ) (ts : List Token) (ms : List (List Token))
     → is_among role t (message_places party n (ts ∷ ms)) ≡ (same_role party role && has_token t ts) || is_among role t (message_places (other party) (n + 1) ms)
-stands-message_places party role t n ts ms =
+matches-message_places party role t n ts ms =
     list_any-append (λ q. is_at t q.step && same_role q.party role) (token_places party n 0 ts)
     (place party payload n (length ts) ∷ message_places (other party) (n + 1) ms)
-    ∙ ap (λ (b : Bool). b || is_among role t (message_places (other party) (n + 1) ms)) (stands-token_places party role t n 0 ts)
+    ∙ ap (λ (b : Bool). b || is_among role t (message_places (other party) (n + 1) ms)) (matches-token_places party role t n 0 ts)
 
 -- a walk finds one at once, or goes on
 pub found-here : (party role : Role) (t : Token) (n : ℕ) (ts : List Token) (ms all : List (List Token)) (b : Bool) → all ≡ ts ∷ ms
@@ -44,14 +44,14 @@ pub found-here : (party role : Role) (t : Token) (n : ℕ) (ts : List Token) (ms
     → true ≡ is_among role t (message_places party n all)
 found-here party role t n ts ms all b split e h =
     ap (λ (x : Bool). x || is_among role t (message_places (other party) (n + 1) ms)) (sym h ∙ e)
-    ∙ sym (stands-message_places party role t n ts ms) ∙ ap (λ (zs : List (List Token)). is_among role t (message_places party n zs)) (sym split)
+    ∙ sym (matches-message_places party role t n ts ms) ∙ ap (λ (zs : List (List Token)). is_among role t (message_places party n zs)) (sym split)
 
 pub found-later : (party role : Role) (t : Token) (n : ℕ) (ts : List Token) (ms all : List (List Token)) (b rest : Bool) → all ≡ ts ∷ ms
     → b ≡ (same_role party role && has_token t ts) → b ≡ false
     → rest ≡ is_among role t (message_places (other party) (n + 1) ms) → rest ≡ is_among role t (message_places party n all)
 found-later party role t n ts ms all b rest split e h k =
     k ∙ ap (λ (x : Bool). x || is_among role t (message_places (other party) (n + 1) ms)) (sym h ∙ e)
-    ∙ sym (stands-message_places party role t n ts ms) ∙ ap (λ (zs : List (List Token)). is_among role t (message_places party n zs)) (sym split)
+    ∙ sym (matches-message_places party role t n ts ms) ∙ ap (λ (zs : List (List Token)). is_among role t (message_places party n zs)) (sym split)
 
 no-transport : (p : Plan) (role : Role) (t : Token) → is_among role t (transport_places p) ≡ false
 no-transport p role t = by (is_one_way p) where
@@ -66,9 +66,9 @@ pre-tokens p Initiator t = or-false (has_token t p.initiator)
 pre-tokens p Responder t = refl
 
 -- in a pre-message or a message
-pub stands-places_of : (p : Plan) (role : Role) (t : Token)
+pub matches-places_of : (p : Plan) (role : Role) (t : Token)
     → is_among role t (places_of p) ≡ has_token t (pre_of role p) || is_among role t (message_places Initiator 1 p.messages)
-stands-places_of p role t =
+matches-places_of p role t =
     let test : Place → Bool = λ q. is_at t q.step && same_role q.party role in
     let a : List Place = token_places Initiator 0 0 p.initiator in
     let b : List Place = token_places Responder 0 0 p.responder in
@@ -78,9 +78,9 @@ stands-places_of p role t =
     ∙ or-false (list_any test ((a ++ b) ++ m))
     ∙ list_any-append test (a ++ b) m
     ∙ ap (λ (x : Bool). x || list_any test m)
-    (list_any-append test a b ∙ ap (λ (x : Bool). x || list_any test b) (stands-token_places Initiator role t 0 0 p.initiator)
-    ∙ ap (λ (x : Bool). (same_role Initiator role && has_token t p.initiator) || x) (stands-token_places Responder role t 0 0 p.responder)
+    (list_any-append test a b ∙ ap (λ (x : Bool). x || list_any test b) (matches-token_places Initiator role t 0 0 p.initiator)
+    ∙ ap (λ (x : Bool). (same_role Initiator role && has_token t p.initiator) || x) (matches-token_places Responder role t 0 0 p.responder)
     ∙ pre-tokens p role t)
 
-pub before-stands : (p : Plan) (party : Role) (t : Token) → has_before p party t ≡ true → is_among party t (places_of p) ≡ true
-before-stands p party t e = stands-places_of p party t ∙ ap (λ (b : Bool). b || is_among party t (message_places Initiator 1 p.messages)) e
+pub before-matches : (p : Plan) (party : Role) (t : Token) → has_before p party t ≡ true → is_among party t (places_of p) ≡ true
+before-matches p party t e = matches-places_of p party t ∙ ap (λ (b : Bool). b || is_among party t (message_places Initiator 1 p.messages)) e

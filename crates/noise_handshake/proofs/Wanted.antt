@@ -1,4 +1,4 @@
--- Which DH answer the next message lacks: reading.
+-- Which DH result the next message lacks: reading.
 use Rattle.std.proofs.Common.{◌≡◌, ℕ, zero, suc, ◌+◌, ◌<◌, ◌≤◌, List, [], ◌∷◌, ◌++◌, length, take, drop, get_or, refl, ap, sym, subst, ◌∙◌, arith}
 use Rattle.std.proofs.Common.{append_assoc, drop-cons, add-one, length-take}
 use Rattle.std.proofs.lemmas.List.{take-append-drop}
@@ -13,8 +13,8 @@ use Rattle.noise_handshake.specs.declared.remote.Remote.{Remote}
 use Rattle.noise_handshake.specs.declared.faults.Cause.TheVariants.{Short, Tag, Agreement}
 use Rattle.noise_handshake.specs.declared.layout.PlacedToken.{PlacedToken}
 use Rattle.noise_handshake.specs.Message.{token_bytes, after_token, before_payload, after_tokens}
-use Rattle.noise_handshake.specs.View.{View, Reader, reader, Listens, Fit, BeginsAs, CanBegin, Stops, Refuses, known_after, secrets_after, learned}
-use Rattle.noise_handshake.specs.View.{first_secret, own_at, remote_at, cause_of, cause_at, tokens_now}
+use Rattle.noise_handshake.specs.Party.{Party, Reader, reader, Listens, Fit, BeginsAs, CanBegin, Stops, Refuses, known_after, psks_after, remote_after}
+use Rattle.noise_handshake.specs.Party.{first_psk, own_at, remote_at, cause_of, cause_at, tokens_now}
 use Rattle.noise_handshake.specs.Wanting.{StopsFor, WantsToRead}
 use Rattle.noise_handshake.specs.inner.Known.{is_known, are_known, e_after, s_after, e_after_tokens, s_after_tokens}
 use Rattle.noise_handshake.specs.inner.Layout.{tokens_of}
@@ -68,19 +68,19 @@ s-one known Se x = refl
 s-one known Ss x = refl
 s-one known Psk x = refl
 
-e-many : (v : Reader) (known : Remote) (secrets : List (List ℕ)) (ts : List Token) (xs : List (List ℕ)) → Fit v known secrets ts xs
-    → is_some (learned known ts xs).e ≡ e_after_tokens (is_some known.e) ts
-e-many v known secrets [] xs f = refl
-e-many v known secrets (t ∷ ts) [] f = absurd f
-e-many v known secrets (t ∷ ts) (x ∷ xs) f =
-    e-many v (known_after known t x) (secrets_after secrets t) ts xs f.1 ∙ ap (λ (b : Bool). e_after_tokens b ts) (e-one known t x)
+e-many : (v : Reader) (known : Remote) (psks : List (List ℕ)) (ts : List Token) (xs : List (List ℕ)) → Fit v known psks ts xs
+    → is_some (remote_after known ts xs).e ≡ e_after_tokens (is_some known.e) ts
+e-many v known psks [] xs f = refl
+e-many v known psks (t ∷ ts) [] f = absurd f
+e-many v known psks (t ∷ ts) (x ∷ xs) f =
+    e-many v (known_after known t x) (psks_after psks t) ts xs f.1 ∙ ap (λ (b : Bool). e_after_tokens b ts) (e-one known t x)
 
-s-many : (v : Reader) (known : Remote) (secrets : List (List ℕ)) (ts : List Token) (xs : List (List ℕ)) → Fit v known secrets ts xs
-    → is_some (learned known ts xs).s ≡ s_after_tokens (is_some known.s) ts
-s-many v known secrets [] xs f = refl
-s-many v known secrets (t ∷ ts) [] f = absurd f
-s-many v known secrets (t ∷ ts) (x ∷ xs) f =
-    s-many v (known_after known t x) (secrets_after secrets t) ts xs f.1 ∙ ap (λ (b : Bool). s_after_tokens b ts) (s-one known t x)
+s-many : (v : Reader) (known : Remote) (psks : List (List ℕ)) (ts : List Token) (xs : List (List ℕ)) → Fit v known psks ts xs
+    → is_some (remote_after known ts xs).s ≡ s_after_tokens (is_some known.s) ts
+s-many v known psks [] xs f = refl
+s-many v known psks (t ∷ ts) [] f = absurd f
+s-many v known psks (t ∷ ts) (x ∷ xs) f =
+    s-many v (known_after known t x) (psks_after psks t) ts xs f.1 ∙ ap (λ (b : Bool). s_after_tokens b ts) (s-one known t x)
 
 -- ---- why reading stops at a token
 
@@ -103,86 +103,86 @@ cause-end keyed (t ∷ ts) (suc k) rest h = cause-end keyed ts k rest (omega ari
 below : (k n : ℕ) → (n ≤ k → ⊥) → k < n
 below k n f = grind arith
 
--- for want of an answer it stops at a token
-pub stops-within : (v : Reader) (known : Remote) (secrets : List (List ℕ)) (r : History) (ts : List Token) (m : List ℕ) (k : ℕ)
-    → Stops v known secrets r ts m k Agreement → k < length ts
-stops-within v known secrets r ts m k s =
-    let keyed : Bool = is_some (cipher_key (after_tokens v.psks r (take k ts) s.carried)) in
+-- for want of a DH result it stops at a token
+pub stops-within : (v : Reader) (known : Remote) (psks : List (List ℕ)) (r : History) (ts : List Token) (m : List ℕ) (k : ℕ)
+    → Stops v known psks r ts m k Agreement → k < length ts
+stops-within v known psks r ts m k s =
+    let keyed : Bool = is_some (cipher_key (after_tokens v.has_psks r (take k ts) s.carried)) in
     below k (length ts) (λ h. no-cause (nat_lt (length s.rest) 16) (s.why ∙ cause-end keyed ts k s.rest h))
 
 -- where all tokens are read it stops at none
-pub all-read : (v : Reader) (known : Remote) (secrets : List (List ℕ)) (r : History) (ts : List Token) (xs : List (List ℕ)) (m rest : List ℕ) (k : ℕ)
-    → BeginsAs v known secrets r ts xs m rest → Stops v known secrets r ts m k Agreement → ⊥
-all-read v known secrets r ts xs m rest k l s =
-    s.further (stops-within v known secrets r ts m k s) (reads-leads v known secrets r ts xs m rest (suc k) l)
+pub all-read : (v : Reader) (known : Remote) (psks : List (List ℕ)) (r : History) (ts : List Token) (xs : List (List ℕ)) (m rest : List ℕ) (k : ℕ)
+    → BeginsAs v known psks r ts xs m rest → Stops v known psks r ts m k Agreement → ⊥
+all-read v known psks r ts xs m rest k l s =
+    s.further (stops-within v known psks r ts m k s) (reads-leads v known psks r ts xs m rest (suc k) l)
 
--- a secret is always there
-psk-goes : (v : Reader) (known : Remote) (secrets : List (List ℕ)) (r : History) (before : List Token) (xs : List (List ℕ)) (m rest : List ℕ)
-    → BeginsAs v known secrets r before xs m rest → CanBegin v known secrets r (before ++ Psk ∷ []) m
-psk-goes v known secrets r [] xs m rest l = record {
-  carried = first_secret secrets ∷ [];
+-- a psk is always there
+psk-goes : (v : Reader) (known : Remote) (psks : List (List ℕ)) (r : History) (before : List Token) (xs : List (List ℕ)) (m rest : List ℕ)
+    → BeginsAs v known psks r before xs m rest → CanBegin v known psks r (before ++ Psk ∷ []) m
+psk-goes v known psks r [] xs m rest l = record {
+  carried = first_psk psks ∷ [];
   rest = m;
-  leads = leads-more v known secrets r Psk (first_secret secrets) [] [] m m m refl refl
-      (leads-none v known (secrets_after secrets Psk) (after_token v.psks r Psk (first_secret secrets)) m);
+  leads = leads-more v known psks r Psk (first_psk psks) [] [] m m m refl refl
+      (leads-none v known (psks_after psks Psk) (after_token v.has_psks r Psk (first_psk psks)) m);
 }
-psk-goes v known secrets r (t ∷ before) [] m rest l = absurd l.fit
-psk-goes v known secrets r (t ∷ before) (x ∷ xs) m rest l =
-    let next : History = after_token v.psks r t x in
-    let more : List ℕ = before_payload v.psks next before xs ++ rest in
-    let e : m ≡ token_bytes r t x ++ more = l.spelled ∙ append_assoc (token_bytes r t x) (before_payload v.psks next before xs) rest in
-    let i = psk-goes v (known_after known t x) (secrets_after secrets t) next before xs more rest (record { fit = l.fit.1; spelled = refl }) in
+psk-goes v known psks r (t ∷ before) [] m rest l = absurd l.fit
+psk-goes v known psks r (t ∷ before) (x ∷ xs) m rest l =
+    let next : History = after_token v.has_psks r t x in
+    let more : List ℕ = before_payload v.has_psks next before xs ++ rest in
+    let e : m ≡ token_bytes r t x ++ more = l.spelled ∙ append_assoc (token_bytes r t x) (before_payload v.has_psks next before xs) rest in
+    let i = psk-goes v (known_after known t x) (psks_after psks t) next before xs more rest (record { fit = l.fit.1; spelled = refl }) in
     record {
       carried = x ∷ i.carried;
       rest = i.rest;
-      leads = leads-more v known secrets r t x (before ++ Psk ∷ []) i.carried m more i.rest l.fit.0 e i.leads;
+      leads = leads-more v known psks r t x (before ++ Psk ∷ []) i.carried m more i.rest l.fit.0 e i.leads;
     }
 
 none-some : (o : Option (List ℕ)) → is_some o ≡ true → o ≡ None → ⊥
 none-some (Some x) h e = cc
 none-some None h e = cc
 
--- ---- the answer that is wanted
+-- ---- the DH result that is wanted
 
-module _ (v : Reader) (known : Remote) (secrets : List (List ℕ)) (r : History) (m : List ℕ) (before later : List Token) (t : Token)
+module _ (v : Reader) (known : Remote) (psks : List (List ℕ)) (r : History) (m : List ℕ) (before later : List Token) (t : Token)
     (knows : are_known v.role (is_some known.e) (is_some known.s) (before ++ t ∷ later) ≡ true)
-    (s : Stops v known secrets r (before ++ t ∷ later) m (length before) Agreement) where
+    (s : Stops v known psks r (before ++ t ∷ later) m (length before) Agreement) where
   abbrev keyed-there : Bool
-  keyed-there = is_some (cipher_key (after_tokens v.psks r (take (length before) (before ++ t ∷ later)) s.carried))
+  keyed-there = is_some (cipher_key (after_tokens v.has_psks r (take (length before) (before ++ t ∷ later)) s.carried))
 
-  leads : BeginsAs v known secrets r before s.carried m s.rest
-  leads = subst (λ (us : List Token). BeginsAs v known secrets r us s.carried m s.rest) (take-append_seam before (t ∷ later)) s.leads
+  leads : BeginsAs v known psks r before s.carried m s.rest
+  leads = subst (λ (us : List Token). BeginsAs v known psks r us s.carried m s.rest) (take-append_seam before (t ∷ later)) s.leads
 
   why : Agreement ≡ cause_of keyed-there t s.rest
   why = s.why ∙ cause-there keyed-there before later t s.rest
 
-  on : CanBegin v known secrets r (before ++ t ∷ []) m → ⊥
-  on h = s.further (stops-within v known secrets r (before ++ t ∷ later) m (length before) s)
-      (subst (λ (us : List Token). CanBegin v known secrets r us m) (sym (take-through before later t)) h)
+  on : CanBegin v known psks r (before ++ t ∷ []) m → ⊥
+  on h = s.further (stops-within v known psks r (before ++ t ∷ later) m (length before) s)
+      (subst (λ (us : List Token). CanBegin v known psks r us m) (sym (take-through before later t)) h)
 
-  here : is_known v.role (is_some (learned known before s.carried).e) (is_some (learned known before s.carried).s) t ≡ true
+  here : is_known v.role (is_some (remote_after known before s.carried).e) (is_some (remote_after known before s.carried).s) t ≡ true
   here =
       let h = known-there v.role (is_some known.e) (is_some known.s) before later t knows in
-      subst (λ (b : Bool). is_known v.role b (is_some (learned known before s.carried).s) t ≡ true)
-      (sym (e-many v known secrets before s.carried leads.fit))
+      subst (λ (b : Bool). is_known v.role b (is_some (remote_after known before s.carried).s) t ≡ true)
+      (sym (e-many v known psks before s.carried leads.fit))
       (subst (λ (b : Bool). is_known v.role (e_after_tokens (is_some known.e) before) b t ≡ true)
-      (sym (s-many v known secrets before s.carried leads.fit)) h)
+      (sym (s-many v known psks before s.carried leads.fit)) h)
 
   -- the token is a DH, whose remote key is known there
-  remote-there : remote_at v.role (learned known before s.carried) t ≡ None → ⊥
+  remote-there : remote_at v.role (remote_after known before s.carried) t ≡ None → ⊥
   remote-there =
-      none-some (remote_at v.role (learned known before s.carried) t)
-      (is_some-remote v.role (learned known before s.carried) t
-      ∙ known-dh v.role (is_some (learned known before s.carried).e) (is_some (learned known before s.carried).s) t
+      none-some (remote_at v.role (remote_after known before s.carried) t)
+      (is_some-remote v.role (remote_after known before s.carried) t
+      ∙ known-dh v.role (is_some (remote_after known before s.carried).e) (is_some (remote_after known before s.carried).s) t
       (λ e. no-short (why ∙ ap (λ (u : Token). cause_of keyed-there u s.rest) e))
       (λ e. no-cause (nat_lt (length s.rest) (if keyed-there then 48 else 32)) (why ∙ ap (λ (u : Token). cause_of keyed-there u s.rest) e))
-      (λ e. on (subst (λ (u : Token). CanBegin v known secrets r (before ++ u ∷ []) m) (sym e) (psk-goes v known secrets r before s.carried m s.rest leads)))
+      (λ e. on (subst (λ (u : Token). CanBegin v known psks r (before ++ u ∷ []) m) (sym e) (psk-goes v known psks r before s.carried m s.rest leads)))
       here)
 
   asked-there : (o : Option (Own × List ℕ))
-      → MatchOption o (remote_at v.role (learned known before s.carried) t ≡ None)
-      (λ want. (want.0 ≡ own_at v.role t) × (remote_at v.role (learned known before s.carried) t ≡ Some want.1))
-      → MatchOption o ((j : ℕ) → Stops v known secrets r (before ++ t ∷ later) m j Agreement → ⊥)
-      (λ want. StopsFor v known secrets r (before ++ t ∷ later) m want.0 want.1)
+      → MatchOption o (remote_at v.role (remote_after known before s.carried) t ≡ None)
+      (λ want. (want.0 ≡ own_at v.role t) × (remote_at v.role (remote_after known before s.carried) t ≡ Some want.1))
+      → MatchOption o ((j : ℕ) → Stops v known psks r (before ++ t ∷ later) m j Agreement → ⊥)
+      (λ want. StopsFor v known psks r (before ++ t ∷ later) m want.0 want.1)
   asked-there None h = absurd (remote-there h)
   asked-there (Some want) h = record {
     before = before;
@@ -195,40 +195,40 @@ module _ (v : Reader) (known : Remote) (secrets : List (List ℕ)) (r : History)
   }
 
 -- what is asked at the token where reading stops
-pub asked : (v : Reader) (known here : Remote) (secrets : List (List ℕ)) (r : History) (ts : List Token) (m : List ℕ) (k : ℕ) (t : Token)
+pub asked : (v : Reader) (known here : Remote) (psks : List (List ℕ)) (r : History) (ts : List Token) (m : List ℕ) (k : ℕ) (t : Token)
     → k < length ts → t ≡ get_or ts k t → are_known v.role (is_some known.e) (is_some known.s) ts ≡ true
-    → StopsKnowing v known secrets r ts m k Agreement here → (o : Option (Own × List ℕ))
+    → StopsKnowing v known psks r ts m k Agreement here → (o : Option (Own × List ℕ))
     → MatchOption o (remote_at v.role here t ≡ None) (λ want. (want.0 ≡ own_at v.role t) × (remote_at v.role here t ≡ Some want.1))
-    → MatchOption o ((j : ℕ) → Stops v known secrets r ts m j Agreement → ⊥) (λ want. StopsFor v known secrets r ts m want.0 want.1)
-asked v known here secrets r ts m k t less is knows s o h =
+    → MatchOption o ((j : ℕ) → Stops v known psks r ts m j Agreement → ⊥) (λ want. StopsFor v known psks r ts m want.0 want.1)
+asked v known here psks r ts m k t less is knows s o h =
     let before : List Token = take k ts in
     let later : List Token = drop (k + 1) ts in
     let split : ts ≡ before ++ t ∷ later = split-at ts k t less is in
     let count : k ≡ length before = omega (arith, length-take k ts, less) in
-    let s1 = subst (λ (us : List Token). StopsKnowing v known secrets r us m k Agreement here) split s in
-    let s2 = subst (λ (i : ℕ). StopsKnowing v known secrets r (before ++ t ∷ later) m i Agreement here) count s1 in
-    let same : here ≡ learned known before s2.0.carried =
-    s2.1 ∙ ap (λ (us : List Token). learned known us s2.0.carried) (take-append_seam before (t ∷ later)) in
+    let s1 = subst (λ (us : List Token). StopsKnowing v known psks r us m k Agreement here) split s in
+    let s2 = subst (λ (i : ℕ). StopsKnowing v known psks r (before ++ t ∷ later) m i Agreement here) count s1 in
+    let same : here ≡ remote_after known before s2.0.carried =
+    s2.1 ∙ ap (λ (us : List Token). remote_after known us s2.0.carried) (take-append_seam before (t ∷ later)) in
     let knows1 = subst (λ (us : List Token). are_known v.role (is_some known.e) (is_some known.s) us ≡ true) split knows in
     let h1 = subst (λ (z : Remote). MatchOption o (remote_at v.role z t ≡ None)
     (λ want. (want.0 ≡ own_at v.role t) × (remote_at v.role z t ≡ Some want.1))) same h in
-    subst (λ (us : List Token). MatchOption o ((j : ℕ) → Stops v known secrets r us m j Agreement → ⊥)
-    (λ want. StopsFor v known secrets r us m want.0 want.1)) (sym split)
-    (asked-there v known secrets r m before later t knows1 s2.0 o h1)
+    subst (λ (us : List Token). MatchOption o ((j : ℕ) → Stops v known psks r us m j Agreement → ⊥)
+    (λ want. StopsFor v known psks r us m want.0 want.1)) (sym split)
+    (asked-there v known psks r m before later t knows1 s2.0 o h1)
 
 -- for a party that listens
-wants-of : (v : View) (m : List ℕ) (o : Option (Own × List ℕ)) → Listens v
-    → MatchOption o ((j : ℕ) → Stops (reader v) v.remote v.secrets v.history (tokens_now v) m j Agreement → ⊥)
-    (λ want. StopsFor (reader v) v.remote v.secrets v.history (tokens_now v) m want.0 want.1)
+wants-of : (v : Party) (m : List ℕ) (o : Option (Own × List ℕ)) → Listens v
+    → MatchOption o ((j : ℕ) → Stops (reader v) v.remote v.psks v.history (tokens_now v) m j Agreement → ⊥)
+    (λ want. StopsFor (reader v) v.remote v.psks v.history (tokens_now v) m want.0 want.1)
     → MatchOption o ((j : ℕ) → Refuses v m j Agreement → ⊥) (λ want. WantsToRead v m want.0 want.1)
 wants-of v m None l h = λ j refuses. h j refuses.stops
 wants-of v m (Some want) l h = record { listens = l; stops = h }
 
-pub wants : (v : View) (m : List ℕ) (o : Option (Own × List ℕ)) (role : Role) (psks : Bool) (agree : Own → List ℕ → Option (List ℕ))
-    (secrets : List (List ℕ)) (known : Remote) (ts : List Token) → Listening v role psks agree secrets known ts
-    → MatchOption o ((j : ℕ) → Stops (record { role = role; psks = psks; agree = agree }) known secrets v.history ts m j Agreement → ⊥)
-    (λ want. StopsFor (record { role = role; psks = psks; agree = agree }) known secrets v.history ts m want.0 want.1)
+pub wants : (v : Party) (m : List ℕ) (o : Option (Own × List ℕ)) (role : Role) (has_psks : Bool) (agree : Own → List ℕ → Option (List ℕ))
+    (psks : List (List ℕ)) (known : Remote) (ts : List Token) → Listening v role has_psks agree psks known ts
+    → MatchOption o ((j : ℕ) → Stops (record { role = role; has_psks = has_psks; agree = agree }) known psks v.history ts m j Agreement → ⊥)
+    (λ want. StopsFor (record { role = role; has_psks = has_psks; agree = agree }) known psks v.history ts m want.0 want.1)
     → MatchOption o ((j : ℕ) → Refuses v m j Agreement → ⊥) (λ want. WantsToRead v m want.0 want.1)
-wants v m o role psks agree secrets known ts l h =
-    wants-of v m o l.listens (for-view v role psks agree secrets known ts l
+wants v m o role has_psks agree psks known ts l h =
+    wants-of v m o l.listens (for-view v role has_psks agree psks known ts l
     (λ w z s us. MatchOption o ((j : ℕ) → Stops w z s v.history us m j Agreement → ⊥) (λ want. StopsFor w z s v.history us m want.0 want.1)) h)

@@ -9,11 +9,11 @@ use Rattle.noise_names.specs.Plan.{places_of}
 use Rattle.noise_state.specs.Standing.{keyed, nonce_now}
 use Rattle.noise_keys.specs.declared.keys.Own.{Own}
 use Rattle.noise_keys.specs.declared.keys.Own.TheVariants.{Ephemeral, Static}
-use Rattle.noise_handshake.specs.Held.{Held}
+use Rattle.noise_handshake.specs.HandshakeValue.{HandshakeValue}
 use Rattle.noise_handshake.specs.Nonces.{nonce_due}
 use Rattle.noise_handshake.specs.Parts.{IsWhole}
 use Rattle.noise_handshake.specs.Passed.{passed_places}
-use Rattle.noise_handshake.specs.Setup.{lacks_own, secrets_of}
+use Rattle.noise_handshake.specs.Setup.{lacks_own, psks_of}
 use Rattle.noise_handshake.specs.inner.Known.{KnowsRemote}
 use Rattle.noise_handshake.specs.inner.Sound.{IsSound}
 
@@ -39,9 +39,9 @@ present : (a : Bool) (key : Option (List ℕ)) → (a ≡ true → is_some key �
 present true key f = let h = f refl in grind arith
 present false key f = refl
 
-module _ {K : Type 0} (public_of : K → Own → Option (List ℕ)) (h : Held K) where
+module _ {K : Type 0} (public_of : K → Own → Option (List ℕ)) (h : HandshakeValue K) where
   abbrev pub Counted : Type 0
-  Counted = (h.passed ≤ length h.pattern.messages) × (length h.secrets ≡ secrets_of (drop h.passed h.pattern.messages))
+  Counted = (h.passed ≤ length h.pattern.messages) × (length h.psks ≡ psks_of (drop h.passed h.pattern.messages))
 
   abbrev pub owns : Bool
   owns = not (lacks_own h.pattern h.role E (public_of h.keys Ephemeral)) && not (lacks_own h.pattern h.role S (public_of h.keys Static))
@@ -56,7 +56,7 @@ module _ {K : Type 0} (public_of : K → Own → Option (List ℕ)) (h : Held K)
   pub is-whole : Counted → owns ≡ true → Known → Keyed → IsWhole public_of h
   is-whole a b c d = record {
     within = a.0;
-    secrets = a.1;
+    psks = a.1;
     own_e = left (lacks_own h.pattern h.role E (public_of h.keys Ephemeral)) (lacks_own h.pattern h.role S (public_of h.keys Static)) b;
     own_s = right (lacks_own h.pattern h.role E (public_of h.keys Ephemeral)) (lacks_own h.pattern h.role S (public_of h.keys Static)) b;
     remote_e = c.0;
@@ -66,7 +66,7 @@ module _ {K : Type 0} (public_of : K → Own → Option (List ℕ)) (h : Held K)
   }
 
   pub whole-counted : IsWhole public_of h → Counted
-  whole-counted w = (w.within, w.secrets)
+  whole-counted w = (w.within, w.psks)
 
   pub whole-owns : IsWhole public_of h → owns ≡ true
   whole-owns w =
@@ -83,7 +83,7 @@ module _ {K : Type 0} (public_of : K → Own → Option (List ℕ)) (h : Held K)
   whole-sound few bound w = record {
     within = w.within;
     few = few;
-    secrets = w.secrets;
+    psks = w.psks;
     has_e = absent (is_among h.role E (places_of h.pattern)) (public_of h.keys Ephemeral) w.own_e;
     has_s = absent (is_among h.role S (places_of h.pattern)) (public_of h.keys Static) w.own_s;
     keyed = w.key;
@@ -97,7 +97,7 @@ module _ {K : Type 0} (public_of : K → Own → Option (List ℕ)) (h : Held K)
   pub sound-whole : IsSound public_of h → KnowsRemote h → IsWhole public_of h
   sound-whole s k = record {
     within = s.within;
-    secrets = s.secrets;
+    psks = s.psks;
     own_e = present (is_among h.role E (places_of h.pattern)) (public_of h.keys Ephemeral) s.has_e;
     own_s = present (is_among h.role S (places_of h.pattern)) (public_of h.keys Static) s.has_s;
     remote_e = k.e;

@@ -10,9 +10,9 @@ use Rattle.noise_names.specs.Overhead.{overhead_of}
 use Rattle.noise_keys.specs.declared.keys.Own.{Own}
 use Rattle.noise_handshake.specs.declared.faults.WriteFault.{WriteFault}
 use Rattle.noise_handshake.specs.declared.faults.WriteFault.TheVariants as write
-use Rattle.noise_handshake.specs.Held.{Held, is_turn, length_now, write_fault}
-use Rattle.noise_handshake.specs.Party.{Stands, DoesNotWrite}
-use Rattle.noise_handshake.specs.View.{View}
+use Rattle.noise_handshake.specs.HandshakeValue.{HandshakeValue, is_turn, length_now, write_fault}
+use Rattle.noise_handshake.specs.Matching.{Matches, DoesNotWrite}
+use Rattle.noise_handshake.specs.Party.{Party}
 use Rattle.noise_names.specs.Roles.{same_role-true, same_role-false}
 
 -- what a fault says of the tests, and none
@@ -33,8 +33,8 @@ said false false false long = (refl, refl, refl)
 said false false true true = (refl, refl, refl, refl)
 said false false true false = tt
 
-module _ {K : Type 0} (public_of : K → Own → Option (List ℕ)) (agreement : K → Own → List ℕ → Option (List ℕ)) (h : Held K) (v : View)
-    (s : Stands public_of agreement h v) (within : h.passed ≤ length h.pattern.messages) (payload : ℕ) where
+module _ {K : Type 0} (public_of : K → Own → Option (List ℕ)) (agreement : K → Own → List ℕ → Option (List ℕ)) (h : HandshakeValue K) (v : Party)
+    (s : Matches public_of agreement h v) (within : h.passed ≤ length h.pattern.messages) (payload : ℕ) where
   more : (h.passed == length h.pattern.messages) ≡ false → v.passed < length v.pattern.messages
   more e =
       let less : h.passed < length h.pattern.messages = grind (arith, nat_tests) in

@@ -5,9 +5,9 @@ use Rattle.std.proofs.lemmas.List.{take-append-le, drop-append-le, drop_all}
 use Rattle.std.proofs.Math.Seq.{drop-append_seam, take-append-add, drop-append-add}
 
 -- the rest is as it was, where a text of len bytes was put there first, and then written over with a tag after it
-pub rest-kept : (old put new : List ℕ) (len tag width n : ℕ) → width ≡ len + tag → n ≡ width → length new ≡ width → drop len put ≡ drop len old
+pub rest-unchanged : (old put new : List ℕ) (len tag width n : ℕ) → width ≡ len + tag → n ≡ width → length new ≡ width → drop len put ≡ drop len old
     → drop n (new ++ drop width put) ≡ drop n old
-rest-kept old put new len tag width n e f l same =
+rest-unchanged old put new len tag width n e f l same =
     let after : drop width put ≡ drop width old =
     ap (λ (k : ℕ). drop k put) e ∙ sym (drop-drop tag len put) ∙ ap (drop tag) same ∙ drop-drop tag len old ∙ ap (λ (k : ℕ). drop k old) (sym e) in
     ap (λ (k : ℕ). drop k (new ++ drop width put)) (f ∙ sym l) ∙ drop-append_seam new (drop width put) ∙ after ∙ ap (λ (k : ℕ). drop k old) (sym f)
@@ -24,7 +24,7 @@ module _ (first second : List ℕ) (n k : ℕ) (fits : n ≤ length first) (long
 
   pub rest-after : (old : List ℕ) → drop n first ≡ drop n old → drop k second ≡ drop k (take (length first - n) (drop n first))
       → drop (n + k) (take n first ++ (second ++ drop (length first - n) (drop n first))) ≡ drop (n + k) old
-  rest-after old same kept =
+  rest-after old same unchanged =
       let left : List ℕ = drop n first in
       let post : List ℕ = drop (length first - n) left in
       let whole : take (length first - n) left ≡ left = take_all (length first - n) left (omega (arith, length-drop n first)) in
@@ -32,4 +32,4 @@ module _ (first second : List ℕ) (n k : ℕ) (fits : n ≤ length first) (long
       ap (λ (i : ℕ). drop (i + k) (take n first ++ (second ++ post))) (sym count)
       ∙ drop-append-add (take n first) (second ++ post) k ∙ drop-append-le k second post long
       ∙ ap (λ (z : List ℕ). drop k second ++ z) none ∙ append-nil (drop k second)
-      ∙ kept ∙ ap (drop k) whole ∙ ap (drop k) same ∙ drop-drop k n old
+      ∙ unchanged ∙ ap (drop k) whole ∙ ap (drop k) same ∙ drop-drop k n old

@@ -9,7 +9,7 @@ use Rattle.noise_names.specs.declared.token.Role.TheVariants.{Initiator}
 use Rattle.noise_names.specs.Tokens.{is_psk, turn_from}
 use Rattle.noise_names.specs.Plan.{Plan, has_psk}
 use Rattle.noise_names.specs.Overhead.{has_key, overhead_of}
-use Rattle.noise_state.specs.Standing.{StateStands, keyed}
+use Rattle.noise_state.specs.Standing.{StateMatches, keyed}
 use Rattle.noise_state.specs.declared.symmetric.SymmetricState.{SymmetricState}
 use Rattle.noise_keys.specs.declared.keys.Own.{Own}
 use Rattle.noise_handshake.specs.declared.faults.WriteFault.{WriteFault}
@@ -18,17 +18,17 @@ use Rattle.noise_handshake.specs.declared.remote.Remote.{Remote}
 use Rattle.noise_handshake.specs.Writing.{Writer, writer, Given, LacksAnswerAt, Writes, LacksAnswer}
 use Rattle.noise_handshake.specs.Message.{message_bytes, after_payload}
 use Rattle.noise_handshake.specs.Length.{added_width}
-use Rattle.noise_handshake.specs.View.{View, Speaks, tokens_at, tokens_now}
+use Rattle.noise_handshake.specs.Party.{Party, Speaks, tokens_at, tokens_now}
 use Rattle.noise_handshake.specs.inner.Speaking.{Speaking, has_own}
-use Rattle.noise_handshake.specs.Held.{Held, write_fault, is_turn, length_now, length_unless, message_len_of}
+use Rattle.noise_handshake.specs.HandshakeValue.{HandshakeValue, write_fault, is_turn, length_now, length_unless, message_len_of}
 use Rattle.noise_handshake.specs.inner.Sound.{IsSound}
 use Rattle.noise_handshake.specs.Passed.{passed_places}
-use Rattle.noise_handshake.specs.Party.{Stands, after_own}
+use Rattle.noise_handshake.specs.Matching.{Matches, after_own}
 use Rattle.noise_handshake.proofs.Owned.{owned}
 use Rattle.noise_handshake.proofs.Places.{overhead-is}
 use Rattle.noise_names.specs.Roles.{same_role-true}
 
--- what no fault tells
+-- what no fault reports
 record Clear (ended all ours long : Bool) : Type 0 where
   going : ended ≡ false
   more : all ≡ false
@@ -45,7 +45,7 @@ clear false false false long e = absurd (cc)
 clear false false true true e = absurd (cc)
 clear false false true false e = record { going = refl; more = refl; turn = refl; short = refl }
 
-module _ {K : Type 0} (public_of : K → Own → Option (List ℕ)) (h : Held K) (s : IsSound public_of h) (len : ℕ) (none : write_fault h len ≡ None) where
+module _ {K : Type 0} (public_of : K → Own → Option (List ℕ)) (h : HandshakeValue K) (s : IsSound public_of h) (len : ℕ) (none : write_fault h len ≡ None) where
   clear-now : Clear h.ended (h.passed == length h.pattern.messages) (is_turn h.role h.passed) (nat_lt 65535 (length_now h len))
   clear-now = clear h.ended (h.passed == length h.pattern.messages) (is_turn h.role h.passed) (nat_lt 65535 (length_now h len)) none
 
@@ -66,8 +66,8 @@ module _ {K : Type 0} (public_of : K → Own → Option (List ℕ)) (h : Held K)
   pub writes-length : message_len_of h len ≡ Some (length_now h len)
   writes-length = ap (λ (fault : Option WriteFault). length_unless fault (length_now h len)) none
 
-  module _ (psks : Bool) (tokens : List Token) (b : psks ≡ has_psk h.pattern) (e : tokens ≡ tokens_at h.pattern.messages h.passed) where
-    pub writes-added : added_width psks (keyed h.state) tokens ≡ overhead_of h.pattern (h.passed + 1)
+  module _ (has_psks : Bool) (tokens : List Token) (b : has_psks ≡ has_psk h.pattern) (e : tokens ≡ tokens_at h.pattern.messages h.passed) where
+    pub writes-added : added_width has_psks (keyed h.state) tokens ≡ overhead_of h.pattern (h.passed + 1)
     writes-added =
         ap (λ (c : Bool). added_width c (keyed h.state) tokens) b ∙ ap (λ (c : Bool). added_width (has_psk h.pattern) c tokens) s.keyed
         ∙ ap (λ (ts : List Token). added_width (has_psk h.pattern) (has_key h.pattern (passed_places h.pattern h.passed)) ts) e
@@ -79,7 +79,7 @@ module _ {K : Type 0} (public_of : K → Own → Option (List ℕ)) (h : Held K)
         subst (λ (ts : List Token). IsTrue (list_all (has_own (public_of h.keys)) ts)) (sym e)
         (owned (public_of h.keys) h.pattern h.role h.passed writes-turn s.has_e s.has_s)
 
-  module _ (agreement : K → Own → List ℕ → Option (List ℕ)) (v : View) (t : Stands public_of agreement h v) where
+  module _ (agreement : K → Own → List ℕ → Option (List ℕ)) (v : Party) (t : Matches public_of agreement h v) where
     speaks : Speaks v
     speaks = record {
       going = sym t.ended ∙ clear-now.going;
@@ -87,62 +87,62 @@ module _ {K : Type 0} (public_of : K → Own → Option (List ℕ)) (h : Held K)
       turn = ap (turn_from Initiator) (sym t.passed) ∙ writes-turn ∙ t.role;
     }
 
-    pub speaking : (psks : Bool) (secrets : List (List ℕ)) (tokens : List Token) → psks ≡ has_psk h.pattern → secrets ≡ h.secrets → tokens ≡ tokens_now v
-        → Speaking v h.role psks (public_of h.keys) (agreement h.keys) secrets h.remote tokens
-    speaking psks secrets tokens b d e = record {
+    pub speaking : (has_psks : Bool) (psks : List (List ℕ)) (tokens : List Token) → has_psks ≡ has_psk h.pattern → psks ≡ h.psks → tokens ≡ tokens_now v
+        → Speaking v h.role has_psks (public_of h.keys) (agreement h.keys) psks h.remote tokens
+    speaking has_psks psks tokens b d e = record {
       speaks = speaks;
       role_is = t.role;
       psks_is = b ∙ ap has_psk t.pattern;
       own_is = t.own;
       agree_is = t.agree;
-      secrets_are = d ∙ t.secrets;
+      psks_are = d ∙ t.psks;
       known_is = t.remote;
       tokens_are = e;
     }
 
-    -- the view's message has that length too
+    -- the party's message has that length too
     pub short-view : overhead_of v.pattern (v.passed + 1) + len ≤ 65535
     short-view = subst (λ (k : ℕ). overhead_of v.pattern (k + 1) + len ≤ 65535) t.passed
         (subst (λ (p : Plan). overhead_of p (h.passed + 1) + len ≤ 65535) t.pattern writes-short)
 
     -- after a message of its own
-    pub wrote : (psks : Bool) (tokens : List Token) (xs : List (List ℕ)) (payload : List ℕ) (state : SymmetricState) (secrets : List (List ℕ))
-        (passed : ℕ) → psks ≡ has_psk h.pattern → tokens ≡ tokens_now v
-        → secrets ≡ drop (count_by is_psk tokens) h.secrets → passed ≡ h.passed + 1 → StateStands state (after_payload psks v.history tokens xs payload)
-        → Stands public_of agreement (record h { state = state; secrets = secrets; passed = passed }) (after_own v xs payload)
-    wrote psks tokens xs payload state secrets passed b e u n k = record {
+    pub wrote : (has_psks : Bool) (tokens : List Token) (xs : List (List ℕ)) (payload : List ℕ) (state : SymmetricState) (psks : List (List ℕ))
+        (passed : ℕ) → has_psks ≡ has_psk h.pattern → tokens ≡ tokens_now v
+        → psks ≡ drop (count_by is_psk tokens) h.psks → passed ≡ h.passed + 1 → StateMatches state (after_payload has_psks v.history tokens xs payload)
+        → Matches public_of agreement (record h { state = state; psks = psks; passed = passed }) (after_own v xs payload)
+    wrote has_psks tokens xs payload state psks passed b e u n k = record {
       pattern = t.pattern;
       role = t.role;
-      secrets = u ∙ ap (λ (ts : List Token). drop (count_by is_psk ts) h.secrets) e ∙ ap (drop (count_by is_psk (tokens_now v))) t.secrets;
+      psks = u ∙ ap (λ (ts : List Token). drop (count_by is_psk ts) h.psks) e ∙ ap (drop (count_by is_psk (tokens_now v))) t.psks;
       own = t.own;
       agree = t.agree;
       remote = t.remote;
       passed = n ∙ ap (λ (i : ℕ). i + 1) t.passed;
       ended = t.ended;
-      history = subst (λ (ts : List Token). StateStands state (after_payload (has_psk v.pattern) v.history ts xs payload)) e
-          (subst (λ (z : Bool). StateStands state (after_payload z v.history tokens xs payload)) (b ∙ ap has_psk t.pattern) k);
+      history = subst (λ (ts : List Token). StateMatches state (after_payload (has_psk v.pattern) v.history ts xs payload)) e
+          (subst (λ (z : Bool). StateMatches state (after_payload z v.history tokens xs payload)) (b ∙ ap has_psk t.pattern) k);
     }
 
--- what holds of a party's parts holds of the view that it speaks for
-module _ (v : View) (role : Role) (psks : Bool) (own : Own → Option (List ℕ)) (agree : Own → List ℕ → Option (List ℕ)) (secrets : List (List ℕ))
+-- what holds of a party's parts holds of the party that it speaks for
+module _ (v : Party) (role : Role) (has_psks : Bool) (own : Own → Option (List ℕ)) (agree : Own → List ℕ → Option (List ℕ)) (psks : List (List ℕ))
     (known : Remote) (tokens : List Token)
-    (l : Speaking v role psks own agree secrets known tokens) where
+    (l : Speaking v role has_psks own agree psks known tokens) where
   pub for-view : (P : Writer → Remote → List (List ℕ) → List Token → Type 0)
-      → P (record { role = role; psks = psks; own = own; agree = agree }) known secrets tokens
-      → P (writer v) v.remote v.secrets (tokens_now v)
+      → P (record { role = role; has_psks = has_psks; own = own; agree = agree }) known psks tokens
+      → P (writer v) v.remote v.psks (tokens_now v)
   for-view P h =
-      let h1 = subst (λ (z : Role). P (record { role = z; psks = psks; own = own; agree = agree }) known secrets tokens) l.role_is h in
-      let h2 = subst (λ (z : Bool). P (record { role = v.role; psks = z; own = own; agree = agree }) known secrets tokens) l.psks_is h1 in
-      let h3 = subst (λ (z : Own → Option (List ℕ)). P (record { role = v.role; psks = has_psk v.pattern; own = z; agree = agree }) known secrets
+      let h1 = subst (λ (z : Role). P (record { role = z; has_psks = has_psks; own = own; agree = agree }) known psks tokens) l.role_is h in
+      let h2 = subst (λ (z : Bool). P (record { role = v.role; has_psks = z; own = own; agree = agree }) known psks tokens) l.psks_is h1 in
+      let h3 = subst (λ (z : Own → Option (List ℕ)). P (record { role = v.role; has_psks = has_psk v.pattern; own = z; agree = agree }) known psks
       tokens) l.own_is h2 in
-      let h4 = subst (λ (z : Own → List ℕ → Option (List ℕ)). P (record { role = v.role; psks = has_psk v.pattern; own = v.own; agree = z }) known
-      secrets tokens) l.agree_is h3 in
-      let h5 = subst (λ (z : Remote). P (writer v) z secrets tokens) l.known_is h4 in
-      let h6 = subst (λ (z : List (List ℕ)). P (writer v) v.remote z tokens) l.secrets_are h5 in
-      subst (λ (ts : List Token). P (writer v) v.remote v.secrets ts) l.tokens_are h6
+      let h4 = subst (λ (z : Own → List ℕ → Option (List ℕ)). P (record { role = v.role; has_psks = has_psk v.pattern; own = v.own; agree = z }) known
+      psks tokens) l.agree_is h3 in
+      let h5 = subst (λ (z : Remote). P (writer v) z psks tokens) l.known_is h4 in
+      let h6 = subst (λ (z : List (List ℕ)). P (writer v) v.remote z tokens) l.psks_are h5 in
+      subst (λ (ts : List Token). P (writer v) v.remote v.psks ts) l.tokens_are h6
 
   pub written : (payload : List ℕ) (xs : List (List ℕ)) (m : List ℕ) → length m ≤ 65535
-      → Given (record { role = role; psks = psks; own = own; agree = agree }) known secrets tokens xs → m ≡ message_bytes psks v.history tokens xs payload
+      → Given (record { role = role; has_psks = has_psks; own = own; agree = agree }) known psks tokens xs → m ≡ message_bytes has_psks v.history tokens xs payload
       → Writes v payload xs m
   written payload xs m fits g e = record {
     speaks = l.speaks;
@@ -152,5 +152,5 @@ module _ (v : View) (role : Role) (psks : Bool) (own : Own → Option (List ℕ)
     fits = fits;
   }
 
-  pub lacking : (k : ℕ) → LacksAnswerAt (record { role = role; psks = psks; own = own; agree = agree }) known secrets tokens k → LacksAnswer v k
+  pub lacking : (k : ℕ) → LacksAnswerAt (record { role = role; has_psks = has_psks; own = own; agree = agree }) known psks tokens k → LacksAnswer v k
   lacking k h = record { speaks = l.speaks; lacks = for-view (λ w z s ts. LacksAnswerAt w z s ts k) h }

@@ -10,23 +10,24 @@ use Rattle.noise_handshake.specs.Passed.{passed_places}
 
 -- the nonce after a token, with or without a key before it: a new key starts at 0, and an s that is encrypted takes one
 abbrev pub nonce_after : Bool → Bool → ℕ → Token → ℕ
-nonce_after psks keyed n E = if psks then 0 else n
-nonce_after psks keyed n S = next_nonce keyed n
-nonce_after psks keyed n _ = 0
+nonce_after has_psks keyed n E = if has_psks then 0 else n
+nonce_after has_psks keyed n S = next_nonce keyed n
+nonce_after has_psks keyed n _ = 0
 
 abbrev pub nonce_after_tokens : Bool → Bool → ℕ → List Token → ℕ
-nonce_after_tokens psks keyed n [] = n
-nonce_after_tokens psks keyed n (t ∷ ts) =
-    nonce_after_tokens psks (keyed_after psks keyed t) (nonce_after psks keyed n t) ts
+nonce_after_tokens has_psks keyed n [] = n
+nonce_after_tokens has_psks keyed n (t ∷ ts) =
+    nonce_after_tokens has_psks (keyed_after has_psks keyed t) (nonce_after has_psks keyed n t) ts
 
 -- after a message, whose payload takes one if there is a key
 abbrev pub nonce_after_message : Bool → Bool → ℕ → List Token → ℕ
-nonce_after_message psks keyed n ts = next_nonce (keyed_after_tokens psks keyed ts) (nonce_after_tokens psks keyed n ts)
+nonce_after_message has_psks keyed n ts =
+    next_nonce (keyed_after_tokens has_psks keyed ts) (nonce_after_tokens has_psks keyed n ts)
 
 abbrev pub nonce_after_messages : Bool → Bool → ℕ → List (List Token) → ℕ
-nonce_after_messages psks keyed n [] = n
-nonce_after_messages psks keyed n (ts ∷ ms) =
-    nonce_after_messages psks (keyed_after_tokens psks keyed ts) (nonce_after_message psks keyed n ts) ms
+nonce_after_messages has_psks keyed n [] = n
+nonce_after_messages has_psks keyed n (ts ∷ ms) =
+    nonce_after_messages has_psks (keyed_after_tokens has_psks keyed ts) (nonce_after_message has_psks keyed n ts) ms
 
 -- the nonce of a handshake of this pattern in which so many messages have passed
 abbrev pub nonce_due : Plan → ℕ → ℕ

@@ -5,7 +5,7 @@ use Rattle.noise_names.specs.Plan.{is_one_way}
 use Rattle.noise_state.specs.declared.cipher.CipherState.{CipherState}
 use Rattle.noise_state.specs.Cipher.{key_in, nonce_in}
 use Rattle.noise_state.specs.History.{hash, initiator_key, responder_key}
-use Rattle.noise_handshake.specs.View.{View}
+use Rattle.noise_handshake.specs.Party.{Party}
 
 -- the parts that it leaves; the cipher states are those of the messages that the initiator and the responder write
 pub record Opening : Type 0 where
@@ -21,8 +21,8 @@ pub record IsFresh (c : CipherState) : Type 0 where
   pub key : IsSome (key_in c)
   pub nonce : nonce_in c ≡ 0
 
--- they are those of the view, of which all messages have passed and none was refused
-pub record Opens (o : Opening) (v : View) : Type 0 where
+-- they are those of the party, of which all messages have passed and none was refused
+pub record Opens (o : Opening) (v : Party) : Type 0 where
   pub going : v.ended ≡ false
   pub whole : v.passed ≡ length v.pattern.messages
   pub role : o.role ≡ v.role

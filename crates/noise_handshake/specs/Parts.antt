@@ -9,39 +9,39 @@ use Rattle.noise_keys.specs.declared.keys.Own.{Own}
 use Rattle.noise_keys.specs.declared.keys.Own.TheVariants.{Ephemeral, Static}
 use Rattle.noise_handshake.specs.declared.parts.Parts.{Parts}
 use Rattle.noise_handshake.specs.declared.parts.Progress.{Progress}
-use Rattle.noise_handshake.specs.Held.{Held}
+use Rattle.noise_handshake.specs.HandshakeValue.{HandshakeValue}
 use Rattle.noise_handshake.specs.Nonces.{nonce_due}
-use Rattle.noise_handshake.specs.Setup.{lacks_own, secrets_of}
+use Rattle.noise_handshake.specs.Setup.{lacks_own, psks_of}
 use Rattle.noise_handshake.specs.Passed.{passed_places}
 
--- what these parts and secrets hold
-abbrev pub held_of : {K : Type 0} → Parts K → List (List ℕ) → Held K
-held_of p secrets = record {
+-- what these parts and psks hold
+abbrev pub held_of : {K : Type 0} → Parts K → List (List ℕ) → HandshakeValue K
+held_of p psks = record {
   pattern = p.pattern;
   role = p.role;
   keys = p.keys;
   remote = p.progress.remote;
-  secrets = secrets;
+  psks = psks;
   passed = p.progress.passed;
   ended = p.progress.ended;
   state = state_of p.progress.state;
 }
 
 -- so far a handshake has come
-pub record HasProgress {K : Type 0} (h : Held K) (g : Progress) : Type 0 where
+pub record HasProgress {K : Type 0} (h : HandshakeValue K) (g : Progress) : Type 0 where
   pub remote : g.remote ≡ h.remote
   pub passed : g.passed ≡ h.passed
   pub ended : g.ended ≡ h.ended
   pub state : state_of g.state ≡ h.state
 
--- What holds of every handshake: no more messages have passed than there are, a secret is left for each psk token that
+-- What holds of every handshake: no more messages have passed than there are, a psk is left for each psk token that
 -- is still to come (9.2), the party has each key of its own that the pattern has a token for, exactly those keys of the
 -- other party's are known whose tokens stand in its pre-message or in a message that has passed (5.3), there is a
 -- cipher key exactly where the pattern says so (5.2), and its nonce counts the texts that were encrypted under it
 -- (5.1), 0 without a key.
-pub record IsWhole {K : Type 0} (public_of : K → Own → Option (List ℕ)) (h : Held K) : Type 0 where
+pub record IsWhole {K : Type 0} (public_of : K → Own → Option (List ℕ)) (h : HandshakeValue K) : Type 0 where
   pub within : h.passed ≤ length h.pattern.messages
-  pub secrets : length h.secrets ≡ secrets_of (drop h.passed h.pattern.messages)
+  pub psks : length h.psks ≡ psks_of (drop h.passed h.pattern.messages)
   pub own_e : lacks_own h.pattern h.role E (public_of h.keys Ephemeral) ≡ false
   pub own_s : lacks_own h.pattern h.role S (public_of h.keys Static) ≡ false
   pub remote_e : is_some h.remote.e ≡ is_among (other h.role) E (passed_places h.pattern h.passed)

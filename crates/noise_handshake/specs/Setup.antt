@@ -15,12 +15,12 @@ use Rattle.noise_keys.specs.declared.keys.Own.TheVariants.{Ephemeral, Static}
 use Rattle.noise_handshake.specs.declared.remote.Remote.{Remote}
 use Rattle.noise_keys.specs.declared.faults.SetupFault.{SetupFault}
 use Rattle.noise_keys.specs.declared.faults.SetupFault.TheVariants.{EphemeralMissing, StaticMissing, RemoteMissing, RemoteUnexpected, PskCount}
-use Rattle.noise_handshake.specs.View.{View, start}
+use Rattle.noise_handshake.specs.Party.{Party, start}
 
--- how many secrets these messages take: one for each psk token
-abbrev pub secrets_of : List (List Token) → ℕ
-secrets_of [] = 0
-secrets_of (tokens ∷ more) = count_by is_psk tokens + secrets_of more
+-- how many psks these messages take: one for each psk token
+abbrev pub psks_of : List (List Token) → ℕ
+psks_of [] = 0
+psks_of (tokens ∷ more) = count_by is_psk tokens + psks_of more
 
 -- the public keys of a party's own
 abbrev pub public_keys : (Own → Option (List ℕ)) → Remote
@@ -36,13 +36,13 @@ start_of p role prologue own remote =
     start (name_bytes (record { base = p.base; places = p.places })) p prologue (keys_of Initiator role own remote)
     (keys_of Responder role own remote)
 
--- the view at the start
-abbrev pub begun : Plan → Role → List ℕ → (Own → Option (List ℕ)) → (Own → List ℕ → Option (List ℕ)) → Remote
-    → List (List ℕ) → View
-begun p role prologue own agree remote secrets = record {
+-- the party at the start
+abbrev pub party_at_start : Plan → Role → List ℕ → (Own → Option (List ℕ)) → (Own → List ℕ → Option (List ℕ)) → Remote
+    → List (List ℕ) → Party
+party_at_start p role prologue own agree remote psks = record {
   pattern = p;
   role = role;
-  secrets = secrets;
+  psks = psks;
   own = own;
   agree = agree;
   remote = remote;
@@ -80,10 +80,10 @@ has_unexpected p role remote = (is_some remote.e && not (has_before p (other rol
 
 -- what is wrong with a setup, the first of these
 abbrev pub setup_fault : Plan → Role → (Own → Option (List ℕ)) → Remote → ℕ → Option SetupFault
-setup_fault p role own remote secrets =
+setup_fault p role own remote psks =
     if lacks_own p role E (own Ephemeral) then Some EphemeralMissing
     else if lacks_own p role S (own Static) then Some StaticMissing
     else if lacks_remote p role remote then Some RemoteMissing
     else if has_unexpected p role remote then Some RemoteUnexpected
-    else if not (secrets == secrets_of p.messages) then Some PskCount
+    else if not (psks == psks_of p.messages) then Some PskCount
     else None

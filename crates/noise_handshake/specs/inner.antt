@@ -6,5 +6,7 @@ pub mod Late
 pub mod Layout
 pub mod Listening
 pub mod PreMessage
+pub mod Reading
 pub mod Sound
 pub mod Speaking
+pub mod Writing

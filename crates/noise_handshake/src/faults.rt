@@ -12,7 +12,7 @@ pub enum WriteFault {
     TooLong,
     /// All messages have passed.
     Done,
-    /// The keys give no answer at this DH token, counted from 0. The handshake has ended.
+    /// The keys give no DH result at this DH token, counted from 0. The handshake has ended.
     Agreement { token: u8 },
     /// The handshake has ended.
     Ended,
@@ -31,12 +31,12 @@ pub enum ReadFault {
     Refused { token: u8, cause: Cause },
 }
 
-/// Why a message isn't read, where a DH answer that is lacking is no refusal.
+/// Why a message isn't read, where a DH result that is lacking is no refusal.
 #[derive(Clone, Copy, Debug, PartialEq, Eq)]
 pub enum Unread {
-    /// Reading lacks the answer of this key pair of the party to this public key of the other. Nothing has changed.
+    /// Reading lacks the DH result of this key pair of the party to this public key of the other. Nothing has changed.
     Wanted { own: Own, key: [u8; 32] },
-    /// The message isn't read for this fault, which is never the want of an answer.
+    /// The message isn't read for this fault, which is never `Refused` with the cause `Agreement`.
     Declined(ReadFault),
 }
 
@@ -47,6 +47,6 @@ pub enum Cause {
     Short,
     /// The tag is wrong.
     Tag,
-    /// The keys give no answer.
+    /// The keys give no DH result.
     Agreement,
 }

@@ -1,8 +1,8 @@
 //! A handshake of one party.
 #![tactic(auto)]
 
-ghost use Rattle.std.specs.Prelude.{◌≡◌, ◌≤◌, ◌<◌, ◌+◌, ◌-◌, ◌*◌, true, false, ℕ, List, ◌↔◌, length, take, drop, slice_range, Some, None, IsOk, IfOk};
-ghost use Rattle.std.specs.Prelude.{IfErr, OnErr, MatchResult, MatchOption, IsSome, IfSome, not, ◌&&◌, ◌==◌, count_by, set};
+ghost use Rattle.std.specs.Prelude.{◌≡◌, ◌≤◌, ◌<◌, ◌+◌, ◌-◌, ◌*◌, true, false, ℕ, ◌↔◌, length, take, drop, Some, None, IsOk, IfOk};
+ghost use Rattle.std.specs.Prelude.{IfErr, OnErr, MatchResult, MatchOption, IsSome, IfSome, ◌&&◌, ◌==◌, count_by, set};
 ghost use Rattle.std.specs.Option.{ForSome};
 
 use crate::layout::{MessageLayout, lay_next, psk_after};
@@ -17,10 +17,8 @@ use crate::{
 use arrayvec::ArrayVec;
 use noise_names::{Role, ValidPattern};
 use noise_state::SymmetricState;
+use noise_state::limits::MAX_LEN;
 use std::marker::Model;
-
-// The longest message, in bytes (Noise, 3).
-const MAX_LEN: usize = 65535;
 
 /// One party of a handshake (Noise, 5.3), in either role of any valid pattern. It asks for no memory.
 ///
@@ -30,22 +28,20 @@ const MAX_LEN: usize = 65535;
 #[derive(Drop)]
 pub struct Handshake<K: Keys> {
     pattern: ValidPattern,
-    role: Role,
-    keys: K,
+    means: Means<K>,
     remote: Remote,
-    secrets: ArrayVec<[u8; 32], 9>,
+    psks: ArrayVec<[u8; 32], 9>,
     used: usize,
     passed: u8,
     ended: bool,
-    psks: bool,
     next: MessageLayout,
     state: SymmetricState,
 }
 
 impl<K: Keys> Model for Handshake<K> {
-    ghost use Rattle.noise_handshake.specs.Held.{Held};
+    ghost use Rattle.noise_handshake.specs.HandshakeValue.{HandshakeValue};
 
-    ghost Value = { Held K };
+    ghost Value = { HandshakeValue K };
 
     ghost use Rattle.noise_handshake.specs.inner.Kept.{held_in, IsKept};
 
@@ -62,26 +58,26 @@ impl<K: Keys> Handshake<K> {
     ghost use Rattle.noise_names.specs.Overhead.{has_key, overhead_of};
     ghost use Rattle.noise_handshake.specs.Passed.{passed_places};
     ghost use Rattle.noise_handshake.specs.inner.Layout.{IsLaid};
-    ghost use Rattle.noise_handshake.specs.View.{View, Accepts, Refuses, Speaks, reader, tokens_at, tokens_now};
+    ghost use Rattle.noise_handshake.specs.Party.{Party, Refuses, Speaks, reader, tokens_at, tokens_now};
     ghost use Rattle.noise_handshake.specs.inner.Late.{IsPskAfter};
     ghost use Rattle.noise_handshake.specs.inner.Listening.{BeginsBefore};
     ghost use Rattle.noise_names.specs.Tokens.{is_psk};
-    ghost use Rattle.noise_handshake.specs.Held.{is_turn, read_fault, after_read_fault, write_fault, after_write_fault, message_len_of, IsRefusal};
-    ghost use Rattle.noise_handshake.specs.Held.{IsAgreement, Advances, IsOfDue, after_unread, ended_as};
+    ghost use Rattle.noise_handshake.specs.HandshakeValue.{is_turn, read_fault, after_read_fault, write_fault, after_write_fault, message_len_of, IsRefusal};
+    ghost use Rattle.noise_handshake.specs.HandshakeValue.{IsAgreement, Advances, IsOfDue, after_unread, ended_as};
     ghost use Rattle.noise_handshake.specs.Asking.{LeavesUnread, after_asked};
+    ghost use Rattle.noise_handshake.specs.Calls.{HasBegun, HasNotRead, HasNotWritten, HasRead, HasReadAt, HasWrittenTo, IsPlaceIn, IsSameAround, ReadingWants, WritingWants, speaks_now};
+    ghost use Rattle.noise_handshake.specs.inner.Speaking.{WriterWants};
     ghost use Rattle.noise_handshake.specs.declared.faults.Unread.{Unread};
     ghost use Rattle.noise_handshake.specs.Opening.{Opens};
     ghost use Rattle.noise_handshake.specs.Parts.{held_of, HasProgress, IsWhole};
-    ghost use Rattle.noise_handshake.specs.Setup.{begun, secrets_of, setup_fault};
-    ghost use Rattle.noise_handshake.specs.Writing.{Writes, LacksAnswer, LacksAnswerAt, writer};
-    ghost use Rattle.noise_handshake.specs.Wanting.{WantsToRead, WantsToWrite, LacksAnswerFor};
-    ghost use Rattle.noise_handshake.specs.declared.faults.Cause.{Cause};
-    ghost use Rattle.noise_handshake.specs.Party.{Stands, after_message, after_own, DoesNotRead, after_not_read, DoesNotWrite, after_not_written};
+    ghost use Rattle.noise_handshake.specs.Setup.{party_at_start, psks_of, setup_fault};
+    ghost use Rattle.noise_handshake.specs.Writing.{Writes, writer};
+    ghost use Rattle.noise_handshake.specs.Matching.{Matches, DoesNotWrite};
 
     /// The handshake of one party before its first message.
     ///
     /// The prologue has at most 65535 bytes. `remote` has the keys of the other party's pre-message and no others, and
-    /// `psks` a secret for each `psk` token, in their order. At an `Err` what was handed in is gone.
+    /// `psks` a psk for each `psk` token, in their order. At an `Err` what was handed in is gone.
     pub fn new(
         pattern: ValidPattern,
         role: Role,
@@ -93,11 +89,10 @@ impl<K: Keys> Handshake<K> {
         requires { length prologue.now ≤ 65535 }
         ensures fault { MatchOption (setup_fault pattern role (K.public_of keys) remote (length psks.now))
             (IsOk result) (λ fault. result ≡ Err fault) }
-        ensures stands { IfOk result
-            (λ h. Stands K.public_of K.agreement h (begun pattern role prologue.now (K.public_of keys)
+        ensures matches { IfOk result
+            (λ h. Matches K.public_of K.agreement h (party_at_start pattern role prologue.now (K.public_of keys)
             (K.agreement keys) remote psks.now)) }
-        ensures parts { IfOk result
-            (λ h. (h.pattern ≡ pattern) × (h.role ≡ role) × (h.keys ≡ keys) × (h.passed ≡ 0) × (h.ended ≡ false)) }
+        ensures parts { IfOk result (HasBegun pattern role keys) }
         ensures valid { IsPattern pattern × IsValid pattern }
     {
         let plan = pattern.pattern();
@@ -105,9 +100,9 @@ impl<K: Keys> Handshake<K> {
         if let Some(fault) = setup_fault(plan, role, &keys, &remote, psks.len()) {
             return Err(fault);
         }
-        let mut secrets = ArrayVec::new();
-        secrets.try_extend_from_slice(psks).unwrap();
-        Ok(Handshake::begin(pattern, role, prologue, keys, remote, secrets))
+        let mut due = ArrayVec::new();
+        due.try_extend_from_slice(psks).unwrap();
+        Ok(Handshake::begin(pattern, role, prologue, keys, remote, due))
     }
 
     // The handshake before its first message, of a setup without a fault.
@@ -117,50 +112,51 @@ impl<K: Keys> Handshake<K> {
         prologue: &[u8],
         keys: K,
         remote: Remote,
-        secrets: ArrayVec<[u8; 32], 9>,
+        psks: ArrayVec<[u8; 32], 9>,
     ) -> Handshake<K>
         requires len { length prologue.now ≤ 65535 }
-        requires right { setup_fault pattern role (K.public_of keys) remote (length secrets.items) ≡ None }
-        ensures stands { Stands K.public_of K.agreement result
-            (begun pattern role prologue.now (K.public_of keys) (K.agreement keys) remote secrets.items) }
-        ensures parts { (result.pattern ≡ pattern) × (result.role ≡ role) × (result.keys ≡ keys) × (result.passed ≡ 0)
-            × (result.ended ≡ false) }
-        ensures secrets { result.secrets ≡ secrets.items }
+        requires right { setup_fault pattern role (K.public_of keys) remote (length psks.items) ≡ None }
+        ensures matches { Matches K.public_of K.agreement result
+            (party_at_start pattern role prologue.now (K.public_of keys) (K.agreement keys) remote psks.items) }
+        ensures parts { HasBegun pattern role keys result }
+        ensures psks { result.psks ≡ psks.items }
     {
         let plan = pattern.pattern();
         let _ = plan.messages();
-        let with_psks = !plan.is_plain();
+        let has_psks = !plan.is_plain();
         let state = start(plan, role, prologue, &public_keys(&keys), &remote);
-        let next = lay_next(plan, with_psks, state.has_key(), 0);
+        let next = lay_next(plan, has_psks, state.has_key(), 0);
         Handshake {
             pattern,
-            role,
-            keys,
+            means: Means {
+                keys,
+                role,
+                has_psks,
+            },
             remote,
-            secrets,
+            psks,
             used: 0,
             passed: 0,
             ended: false,
-            psks: with_psks,
             next,
             state,
         }
     }
 
-    /// The secrets of the psk tokens that are still to come, in their order.
-    pub fn secrets(&self) -> &[[u8; 32]]
-        ensures same { result.now ≡ self.now.secrets }
+    /// The psks of the psk tokens that are still to come, in their order.
+    pub fn psks(&self) -> &[[u8; 32]]
+        ensures value { result.now ≡ self.now.psks }
         ensures few { length result.now ≤ 9 }
     {
-        &self.secrets[self.used..]
+        &self.psks[self.used..]
     }
 
-    /// A copy of what messages have changed so far, the secrets aside, for a caller that keeps it itself until the next
+    /// A copy of what messages have changed so far, the psks aside, for a caller that keeps it itself until the next
     /// message. It has the cipher key with its nonce, and nothing prevents going on both with this handshake and with
     /// one that is put together of the copy: the two would encrypt at the same nonce. So take it when this handshake is
     /// given up.
     pub fn progress(&self) -> Progress
-        ensures same { HasProgress self.now result }
+        ensures value { HasProgress self.now result }
         ensures whole { IsWhole K.public_of self.now }
         ensures valid { IsValid self.now.pattern }
     {
@@ -172,60 +168,67 @@ impl<K: Keys> Handshake<K> {
         }
     }
 
-    /// What it holds, for a caller that keeps it itself until the next message. Its secrets are gone: `secrets` tells
+    /// What it holds, for a caller that keeps it itself until the next message. Its psks are gone: `psks` reports
     /// them before.
     pub fn into_parts(self) -> Parts<K>
-        ensures same { held_of result self.secrets ≡ self }
+        ensures value { held_of result self.psks ≡ self }
         ensures whole { IsWhole K.public_of self }
     {
         let progress = self.progress();
         Parts {
             pattern: self.pattern,
-            role: self.role,
-            keys: self.keys,
+            role: self.means.role,
+            keys: self.means.keys,
             progress,
         }
     }
 
-    /// The handshake that holds these parts, and these secrets for the psk tokens that are still to come, in their
-    /// order; or None for what no handshake holds. It stands for what the handshake stood for that was taken apart; at
-    /// None the parts are gone. What can't be told from the parts isn't tested, as whether the keys and the hash come
-    /// of messages: of other parts it may be a handshake that stands for no view. The nonce has to be the number of
+    /// The handshake that holds these parts, and these psks for the psk tokens that are still to come, in their
+    /// order; or None for what no handshake holds. It matches what the handshake stood for that was taken apart; at
+    /// None the parts are gone. What doesn't show in the parts isn't tested, as whether the keys and the hash come
+    /// of messages: of other parts it may be a handshake that matches no party. The nonce has to be the number of
     /// texts that the pattern's tokens encrypt under the present key.
     ///
     /// A handshake that was taken apart is put together once: two of them would encrypt at the same nonce.
-    pub fn from_parts(parts: Parts<K>, secrets: &[[u8; 32]]) -> Option<Handshake<K>>
-        ensures whole { IsSome result ↔ IsWhole K.public_of (held_of parts secrets.now) }
-        ensures same { IfSome result (λ h. h ≡ held_of parts secrets.now) }
+    pub fn from_parts(parts: Parts<K>, psks: &[[u8; 32]]) -> Option<Handshake<K>>
+        ensures whole { IsSome result ↔ IsWhole K.public_of (held_of parts psks.now) }
+        ensures value { IfSome result (λ h. h ≡ held_of parts psks.now) }
     {
-        if secrets.len() != parts.secrets_due()? {
+        if psks.len() != parts.psks_due()? {
             return None;
         }
-        let mut kept = ArrayVec::new();
-        kept.try_extend_from_slice(secrets).unwrap();
-        Some(Handshake::of_parts(parts, kept))
+        let mut unchanged = ArrayVec::new();
+        unchanged.try_extend_from_slice(psks).unwrap();
+        Some(Handshake::of_parts(parts, unchanged))
     }
 
-    // The handshake that holds these parts and secrets.
-    pub(crate) fn of_parts(parts: Parts<K>, secrets: ArrayVec<[u8; 32], 9>) -> Handshake<K>
-        requires whole { IsWhole K.public_of (held_of parts secrets.items) }
+    // The handshake that holds these parts and psks.
+    pub(crate) fn of_parts(parts: Parts<K>, psks: ArrayVec<[u8; 32], 9>) -> Handshake<K>
+        requires whole { IsWhole K.public_of (held_of parts psks.items) }
         requires bound { parts.progress.state.nonce ≤ 11 * parts.progress.passed }
-        ensures { result ≡ held_of parts secrets.items }
+        ensures { result ≡ held_of parts psks.items }
     {
         let progress = parts.progress;
         let plan = parts.pattern.pattern();
-        let psks = !plan.is_plain();
-        let next = lay_next(plan, psks, progress.state.key.is_some(), progress.passed);
+        let has_psks = !plan.is_plain();
+        let next = lay_next(
+            plan,
+            has_psks,
+            progress.state.key.is_some(),
+            progress.passed,
+        );
         Handshake {
             pattern: parts.pattern,
-            role: parts.role,
-            keys: parts.keys,
+            means: Means {
+                keys: parts.keys,
+                role: parts.role,
+                has_psks,
+            },
             remote: progress.remote,
-            secrets,
+            psks,
             used: 0,
             passed: progress.passed,
             ended: progress.ended,
-            psks,
             next,
             state: SymmetricState::from_parts(progress.state),
         }
@@ -233,7 +236,7 @@ impl<K: Keys> Handshake<K> {
 
     /// The pattern, with the tokens of its messages.
     pub fn pattern(&self) -> &ValidPattern
-        ensures same { result.now ≡ self.now.pattern }
+        ensures value { result.now ≡ self.now.pattern }
         ensures valid { IsValid self.now.pattern }
         ensures limits { IsPattern self.now.pattern }
     {
@@ -245,7 +248,7 @@ impl<K: Keys> Handshake<K> {
     pub fn role(&self) -> Role
         ensures { result ≡ self.now.role }
     {
-        self.role
+        self.means.role
     }
 
     /// How many messages have passed, of both parties together, also after the handshake has ended.
@@ -256,7 +259,7 @@ impl<K: Keys> Handshake<K> {
         self.passed
     }
 
-    /// Whether it has ended: a message was refused, or had no answer. It then neither reads nor writes any more.
+    /// Whether it has ended: a message was refused, or had no DH result. It then neither reads nor writes any more.
     pub fn ended(&self) -> bool
         ensures { result ≡ self.now.ended }
     {
@@ -267,13 +270,13 @@ impl<K: Keys> Handshake<K> {
     pub fn writes_next(&self) -> bool
         ensures { result ≡ is_turn self.now.role self.now.passed }
     {
-        match self.role {
+        match self.means.role {
             Role::Initiator => self.passed % 2 == 0,
             Role::Responder => self.passed % 2 == 1,
         }
     }
 
-    /// The other party's static public key, 32 bytes, as far as its pre-message and the messages that passed tell it,
+    /// The other party's static public key, 32 bytes, as far as its pre-message and the messages that passed show it,
     /// also after the handshake has ended.
     pub fn remote_static(&self) -> Option<[u8; 32]>
         ensures { result ≡ self.now.remote.s }
@@ -320,35 +323,24 @@ impl<K: Keys> Handshake<K> {
     fn attempt(&mut self, message: &mut [u8]) -> Result<(usize, usize), Stop>
         requires fits { length message.old ≤ 65535 }
         requires due { read_fault self.old ≡ None }
-        ensures range { IfOk result (λ place. (place.0 ≤ place.1) × (place.1 ≤ length message.new)) }
-        ensures beyond { IfOk result (λ place.
-            (take place.0 message.new ≡ take place.0 message.old)
-            × (drop place.1 message.new ≡ drop place.1 message.old)) }
+        ensures range { IfOk result (IsPlaceIn message.new) }
+        ensures beyond { IfOk result (IsSameAround message.old message.new) }
         ensures unchanged { OnErr result (message.new ≡ message.old) }
         ensures state { MatchResult result (λ _. Advances self.old self.new) (λ _. self.new ≡ self.old) }
-        ensures reads { (v : View) → Stands K.public_of K.agreement self.old v → MatchResult result
-            (λ place. let payload = slice_range message.new place.0 place.1 in (xs : List (List ℕ))
-            × Accepts v message.old xs payload
-            × Stands K.public_of K.agreement self.new (after_message v xs payload))
-            (λ stop. Refuses v message.old stop.token stop.cause × MatchOption stop.want
-            ((token : ℕ) → Refuses v message.old token Cause.Agreement → ⊥)
-            (λ want. WantsToRead v message.old want.0 want.1)) }
+        ensures reads { (v : Party) → Matches K.public_of K.agreement self.old v → MatchResult result
+            (HasReadAt K.public_of K.agreement v message.old message.new self.new)
+            (λ stop. Refuses v message.old stop.token stop.cause × ReadingWants v message.old stop.want) }
     {
-        let means = Means {
-            keys: &self.keys,
-            role: self.role,
-            psks: self.psks,
-        };
-        let secrets = &self.secrets[self.used..];
+        let psks = &self.psks[self.used..];
         let placed = &self.next.tokens[..];
         let mut state = self.state.for_trial();
         let mut remote = self.remote;
-        match read_message(&mut state, &mut remote, &means, secrets, placed, message) {
+        match read_message(&mut state, &mut remote, &self.means, psks, placed, message) {
             Ok(place) => {
-                self.used += self.next.secrets as usize;
+                self.used += self.next.psks as usize;
                 self.passed += 1;
                 let plan = self.pattern.pattern();
-                self.next = lay_next(plan, self.psks, state.has_key(), self.passed);
+                self.next = lay_next(plan, self.means.has_psks, state.has_key(), self.passed);
                 self.state = state;
                 self.remote = remote;
                 Ok(place)
@@ -356,7 +348,7 @@ impl<K: Keys> Handshake<K> {
             Err((token, cause)) => Err(Stop {
                 token: token as u8,
                 cause,
-                want: lacked(self.role, &remote, placed, token, cause),
+                want: lacked(self.means.role, &remote, placed, token, cause),
             }),
         }
     }
@@ -368,20 +360,15 @@ impl<K: Keys> Handshake<K> {
     /// other faults leave it as it was.
     pub fn read_within(&mut self, message: &mut [u8]) -> Result<(usize, usize), ReadFault>
         requires { length message.old ≤ 65535 }
-        ensures range { IfOk result (λ place. (place.0 ≤ place.1) × (place.1 ≤ length message.new)) }
-        ensures beyond { IfOk result (λ place.
-            (take place.0 message.new ≡ take place.0 message.old)
-            × (drop place.1 message.new ≡ drop place.1 message.old)) }
+        ensures range { IfOk result (IsPlaceIn message.new) }
+        ensures beyond { IfOk result (IsSameAround message.old message.new) }
         ensures unchanged { OnErr result (message.new ≡ message.old) }
         ensures fault { MatchOption (read_fault self.old) (IfErr result IsRefusal) (λ fault. result ≡ Err fault) }
         ensures state { MatchResult result (λ _. Advances self.old self.new)
             (λ fault. self.new ≡ after_read_fault self.old fault) }
-        ensures reads { (v : View) → Stands K.public_of K.agreement self.old v → MatchResult result
-            (λ place. let payload = slice_range message.new place.0 place.1 in (xs : List (List ℕ))
-            × Accepts v message.old xs payload
-            × Stands K.public_of K.agreement self.new (after_message v xs payload))
-            (λ fault. DoesNotRead v message.old fault
-            × Stands K.public_of K.agreement self.new (after_not_read v fault)) }
+        ensures reads { (v : Party) → Matches K.public_of K.agreement self.old v → MatchResult result
+            (HasReadAt K.public_of K.agreement v message.old message.new self.new)
+            (λ fault. HasNotRead K.public_of K.agreement v message.old fault self.new) }
     {
         if let Some(fault) = self.read_fault() {
             return Err(fault);
@@ -407,39 +394,32 @@ impl<K: Keys> Handshake<K> {
         ensures fault { MatchOption (read_fault self.old) (IfErr result IsRefusal) (λ fault. result ≡ Err fault) }
         ensures state { MatchResult result (λ _. Advances self.old self.new)
             (λ fault. self.new ≡ after_read_fault self.old fault) }
-        ensures reads { (v : View) → Stands K.public_of K.agreement self.old v → MatchResult result
-            (λ payload. (xs : List (List ℕ)) × Accepts v message.old xs payload.now
-            × Stands K.public_of K.agreement self.new (after_message v xs payload.now))
-            (λ fault. DoesNotRead v message.old fault
-            × Stands K.public_of K.agreement self.new (after_not_read v fault)) }
+        ensures reads { (v : Party) → Matches K.public_of K.agreement self.old v → MatchResult result
+            (λ payload. HasRead K.public_of K.agreement v message.old payload.now self.new)
+            (λ fault. HasNotRead K.public_of K.agreement v message.old fault self.new) }
     {
         let (from, to) = self.read_within(message)?;
         Ok(&mut message[from..to])
     }
 
-    /// Reads a message in place as `read_within` does; but where it would be refused for want of a DH answer, this
-    /// returns which answer is wanted, and changes nothing.
+    /// Reads a message in place as `read_within` does; but where it would be refused because a DH has no result, this
+    /// returns the key pair and the public key of that DH, and changes nothing.
     ///
     /// The message has at most 65535 bytes. At an `Err` its bytes are unchanged. `Declined` with `Refused` ends the
-    /// handshake, and everything else leaves it as it was. So a caller whose private keys lie elsewhere has the answer
-    /// made, puts it to its keys, and reads the message again.
+    /// handshake, and everything else leaves it as it was. So a caller whose private keys lie elsewhere has the DH
+    /// result made, puts it to its keys, and reads the message again.
     pub fn read_or_ask(&mut self, message: &mut [u8]) -> Result<(usize, usize), Unread>
         requires { length message.old ≤ 65535 }
-        ensures range { IfOk result (λ place. (place.0 ≤ place.1) × (place.1 ≤ length message.new)) }
-        ensures beyond { IfOk result (λ place.
-            (take place.0 message.new ≡ take place.0 message.old)
-            × (drop place.1 message.new ≡ drop place.1 message.old)) }
+        ensures range { IfOk result (IsPlaceIn message.new) }
+        ensures beyond { IfOk result (IsSameAround message.old message.new) }
         ensures unchanged { OnErr result (message.new ≡ message.old) }
         ensures fault { MatchOption (read_fault self.old) (IfErr result IsOfDue)
             (λ fault. result ≡ Err (Unread.Declined fault)) }
         ensures state { MatchResult result (λ _. Advances self.old self.new)
             (λ unread. self.new ≡ after_unread self.old unread) }
-        ensures reads { (v : View) → Stands K.public_of K.agreement self.old v → MatchResult result
-            (λ place. let payload = slice_range message.new place.0 place.1 in (xs : List (List ℕ))
-            × Accepts v message.old xs payload
-            × Stands K.public_of K.agreement self.new (after_message v xs payload))
-            (λ unread. LeavesUnread v message.old unread
-            × Stands K.public_of K.agreement self.new (after_asked v unread)) }
+        ensures reads { (v : Party) → Matches K.public_of K.agreement self.old v → MatchResult result
+            (HasReadAt K.public_of K.agreement v message.old message.new self.new)
+            (λ u. LeavesUnread v message.old u × Matches K.public_of K.agreement self.new (after_asked v u)) }
     {
         if let Some(fault) = self.read_fault() {
             return Err(Unread::Declined(fault));
@@ -459,30 +439,22 @@ impl<K: Keys> Handshake<K> {
         }
     }
 
-    /// The DH answer without which this message would be refused: of which key pair of this party it is, and to which
-    /// public key of the other party, as the message tells it. None where the message wouldn't be refused for that.
-    /// Nothing changes.
+    /// The key pair of this party and the public key of the other of the DH whose result reading this message lacks.
+    /// None where the message wouldn't be refused for that. Nothing changes.
     ///
-    /// So a caller whose private keys lie elsewhere asks, has the answer made, puts it to its keys, and asks again.
+    /// So a caller whose private keys lie elsewhere asks, has the DH result made, puts it to its keys, and asks again.
     pub fn wants_to_read(&self, message: &[u8]) -> Option<(Own, [u8; 32])>
-        ensures { (v : View) → Stands K.public_of K.agreement self.now v → MatchOption result
-            ((token : ℕ) → Refuses v message.now token Cause.Agreement → ⊥)
-            (λ want. WantsToRead v message.now want.0 want.1) }
+        ensures { (v : Party) → Matches K.public_of K.agreement self.now v → ReadingWants v message.now result }
     {
         if let Some(_) = self.read_fault() {
             return None;
         }
-        let means = Means {
-            keys: &self.keys,
-            role: self.role,
-            psks: self.psks,
-        };
-        let secrets = &self.secrets[self.used..];
+        let psks = &self.psks[self.used..];
         read_lacking(
             &self.state,
             &self.remote,
-            &means,
-            secrets,
+            &self.means,
+            psks,
             &self.next.tokens,
             message,
         )
@@ -491,15 +463,16 @@ impl<K: Keys> Handshake<K> {
     /// The handshake hash (Noise, 11.2), 32 bytes, of the start and the messages that passed, also after the handshake
     /// has ended.
     pub fn hash(&self) -> [u8; 32]
-        ensures { (v : View) → Stands K.public_of K.agreement self.now v → result ≡ hash v.history }
+        ensures { (v : Party) → Matches K.public_of K.agreement self.now v → result ≡ hash v.history }
     {
         self.state.hash()
     }
 
-    // Why no message with a payload of this length is written now, whatever the keys answer.
+    // Why no message with a payload of this length is written now, whatever the DH results are.
     pub(crate) fn write_fault(&self, payload_len: usize) -> Option<WriteFault>
         ensures value { result ≡ write_fault self.now payload_len }
         ensures due { result ≡ None → self.now.passed < length self.now.pattern.messages }
+        ensures within { self.now.passed ≤ length self.now.pattern.messages }
     {
         if self.ended {
             Some(WriteFault::Ended)
@@ -514,14 +487,13 @@ impl<K: Keys> Handshake<K> {
         }
     }
 
-    // The same, as the views of the handshake have it.
+    // The same, as the parties of the handshake have it.
     pub(crate) fn withheld(&self, payload_len: usize) -> Option<WriteFault>
         ensures value { result ≡ write_fault self.now payload_len }
         ensures due { result ≡ None → self.now.passed < length self.now.pattern.messages }
-        ensures withholds { (v : View) → Stands K.public_of K.agreement self.now v
+        ensures withholds { (v : Party) → Matches K.public_of K.agreement self.now v
             → IfSome result (λ fault. DoesNotWrite v payload_len fault) }
     {
-        let _ = self.left();
         self.write_fault(payload_len)
     }
 
@@ -550,36 +522,29 @@ impl<K: Keys> Handshake<K> {
         ensures state { MatchResult result (λ _. Advances self.old self.new)
             (λ fault. self.new ≡ after_write_fault self.old fault) }
         ensures beyond { IfOk result (λ n. drop n out.new ≡ drop n out.old) }
-        ensures writes { (v : View) → Stands K.public_of K.agreement self.old v → MatchResult result
-            (λ n. (xs : List (List ℕ)) × Writes v payload.now xs (take n out.new)
-            × Stands K.public_of K.agreement self.new (after_own v xs payload.now))
-            (λ fault. DoesNotWrite v (length payload.now) fault
-            × Stands K.public_of K.agreement self.new (after_not_written v fault)) }
+        ensures writes { (v : Party) → Matches K.public_of K.agreement self.old v → MatchResult result
+            (HasWrittenTo K.public_of K.agreement v payload.now out.new self.new)
+            (λ fault. HasNotWritten K.public_of K.agreement v (length payload.now) fault self.new) }
     {
         if let Some(fault) = self.write_fault(payload.len()) {
             return Err(fault);
         }
-        let means = Means {
-            keys: &self.keys,
-            role: self.role,
-            psks: self.psks,
-        };
-        let secrets = &self.secrets[self.used..];
+        let psks = &self.psks[self.used..];
         let mut state = self.state.for_trial();
         match write_message(
             &mut state,
             &self.remote,
-            &means,
-            secrets,
+            &self.means,
+            psks,
             &self.next.tokens,
             payload,
             out,
         ) {
             Ok(len) => {
-                self.used += self.next.secrets as usize;
+                self.used += self.next.psks as usize;
                 self.passed += 1;
                 let plan = self.pattern.pattern();
-                self.next = lay_next(plan, self.psks, state.has_key(), self.passed);
+                self.next = lay_next(plan, self.means.has_psks, state.has_key(), self.passed);
                 self.state = state;
                 Ok(len)
             }
@@ -592,50 +557,41 @@ impl<K: Keys> Handshake<K> {
 
     // Whether a message of this party is due.
     pub(crate) fn speaks(&self) -> bool
-        ensures { result ≡ (not self.now.ended && not (self.now.passed == length self.now.pattern.messages)
-            && is_turn self.now.role self.now.passed) }
+        ensures { result ≡ speaks_now self.now }
     {
         !self.ended
             && self.passed as usize != self.pattern.pattern().messages().len()
             && self.writes_next()
     }
 
-    /// The DH answer without which no message can be written now: of which key pair of this party it is, and to which
-    /// public key of the other party. None where a message is due and lacks no answer, and where none is due. Nothing
-    /// changes.
+    /// The key pair of this party and the public key of the other of the DH whose result writing a message lacks now.
+    /// None where a message is due and lacks none, and where none is due. Nothing changes.
     pub fn wants_to_write(&self) -> Option<(Own, [u8; 32])>
-        ensures { (v : View) → Stands K.public_of K.agreement self.now v → MatchOption result
-            ((token : ℕ) → LacksAnswer v token → ⊥)
-            (λ want. WantsToWrite v want.0 want.1) }
+        ensures { (v : Party) → Matches K.public_of K.agreement self.now v → WritingWants v result }
     {
         if !self.speaks() {
             return None;
         }
-        let means = Means {
-            keys: &self.keys,
-            role: self.role,
-            psks: self.psks,
-        };
-        let secrets = &self.secrets[self.used..];
-        write_lacking(&self.remote, &means, secrets, &self.next.tokens)
+        let psks = &self.psks[self.used..];
+        write_lacking(&self.remote, &self.means, psks, &self.next.tokens)
     }
 
-    // How many secrets are left: one for each psk token that is still to come.
+    // How many psks are left: one for each psk token that is still to come.
     pub(crate) fn left(&self) -> usize
-        ensures count { result ≡ length self.now.secrets }
-        ensures few { length self.now.secrets ≤ 9 }
-        ensures due { length self.now.secrets ≡ secrets_of (drop self.now.passed self.now.pattern.messages) }
+        ensures count { result ≡ length self.now.psks }
+        ensures few { length self.now.psks ≤ 9 }
+        ensures due { length self.now.psks ≡ psks_of (drop self.now.passed self.now.pattern.messages) }
         ensures within { self.now.passed ≤ length self.now.pattern.messages }
     {
-        self.secrets.len() - self.used
+        self.psks.len() - self.used
     }
 
-    // Puts a secret in place of another one that is still to come.
-    pub(crate) fn replace_secret(&mut self, index: usize, secret: [u8; 32])
-        requires { index < length self.old.secrets }
-        ensures { self.new ≡ record self.old { secrets = set self.old.secrets index secret } }
+    // Puts a psk in place of another one that is still to come.
+    pub(crate) fn replace_psk(&mut self, index: usize, psk: [u8; 32])
+        requires { index < length self.old.psks }
+        ensures { self.new ≡ record self.old { psks = set self.old.psks index psk } }
     {
-        self.secrets[self.used + index] = secret;
+        self.psks[self.used + index] = psk;
     }
 
     // Ends it.
@@ -650,10 +606,9 @@ impl<K: Keys> Handshake<K> {
         requires { self.now.passed < length self.now.pattern.messages }
         ensures found { let tokens = tokens_at self.now.pattern.messages self.now.passed in
             MatchOption result (count_by is_psk tokens ≤ count) (λ k. IsPskAfter tokens count k) }
-        ensures due { length self.now.secrets ≡ secrets_of (drop self.now.passed self.now.pattern.messages) }
+        ensures due { length self.now.psks ≡ psks_of (drop self.now.passed self.now.pattern.messages) }
     {
-        let _ = self.left();
-        psk_after(&self.next_layout().tokens, count)
+        psk_after(&self.next.tokens, count)
     }
 
     // Reads a due message before token k, and returns the other party's static key as it is known there; or where
@@ -661,51 +616,38 @@ impl<K: Keys> Handshake<K> {
     pub(crate) fn read_before(&self, k: usize, message: &[u8]) -> Result<Option<[u8; 32]>, Stop>
         requires due { read_fault self.now ≡ None }
         requires within { k ≤ length (tokens_at self.now.pattern.messages self.now.passed) }
-        ensures { (v : View) → Stands K.public_of K.agreement self.now v → MatchResult result
-            (λ s. BeginsBefore (reader v) v.remote v.secrets v.history (tokens_now v) message.now k s)
-            (λ stop. (stop.token < k) × Refuses v message.now stop.token stop.cause × MatchOption stop.want
-            ((token : ℕ) → Refuses v message.now token Cause.Agreement → ⊥)
-            (λ want. WantsToRead v message.now want.0 want.1)) }
+        ensures { (v : Party) → Matches K.public_of K.agreement self.now v → MatchResult result
+            (λ s. BeginsBefore (reader v) v.remote v.psks v.history (tokens_now v) message.now k s)
+            (λ stop. (stop.token < k) × Refuses v message.now stop.token stop.cause
+            × ReadingWants v message.now stop.want) }
     {
-        let means = Means {
-            keys: &self.keys,
-            role: self.role,
-            psks: self.psks,
-        };
-        let secrets = &self.secrets[self.used..];
+        let psks = &self.psks[self.used..];
         read_before(
             &self.state,
             &self.remote,
-            &means,
-            secrets,
+            &self.means,
+            psks,
             &self.next.tokens,
             k,
             message,
         )
     }
 
-    // The DH answer before token k without which no message can be written now, if there is one.
+    // The DH result before token k without which no message can be written now, if there is one.
     pub(crate) fn wants_before(&self, k: usize) -> Option<(Own, [u8; 32])>
-        requires due { (not self.now.ended && not (self.now.passed == length self.now.pattern.messages)
-            && is_turn self.now.role self.now.passed) ≡ true }
+        requires due { speaks_now self.now ≡ true }
         requires within { k ≤ length (tokens_at self.now.pattern.messages self.now.passed) }
-        ensures { (v : View) → Stands K.public_of K.agreement self.now v → Speaks v × MatchOption result
-            ((token : ℕ) → LacksAnswerAt (writer v) v.remote v.secrets (take k (tokens_now v)) token → ⊥)
-            (λ want. LacksAnswerFor (writer v) v.remote v.secrets (take k (tokens_now v)) want.0 want.1) }
+        ensures { (v : Party) → Matches K.public_of K.agreement self.now v
+            → Speaks v × WriterWants (writer v) v.remote v.psks (take k (tokens_now v)) result }
     {
-        let means = Means {
-            keys: &self.keys,
-            role: self.role,
-            psks: self.psks,
-        };
-        let secrets = &self.secrets[self.used..];
-        write_lacking_before(&self.remote, &means, secrets, &self.next.tokens, k)
+        let psks = &self.psks[self.used..];
+        write_lacking_before(&self.remote, &self.means, psks, &self.next.tokens, k)
     }
 
     /// What the handshake leaves once all messages have passed and it hasn't ended; else it comes back as it was.
     pub fn finish(self) -> Result<Opened, Handshake<K>>
         ensures when { IsOk result ↔ ((self.ended ≡ false) × (self.passed ≡ length self.pattern.messages)) }
-        ensures opened { (v : View) → Stands K.public_of K.agreement self v → IfOk result (λ o. Opens o v) }
+        ensures opened { (v : Party) → Matches K.public_of K.agreement self v → IfOk result (λ o. Opens o v) }
         ensures back { IfErr result (λ h. h ≡ self) }
     {
         if self.ended || (self.passed as usize) < self.pattern.pattern().messages().len() {
@@ -714,7 +656,7 @@ impl<K: Keys> Handshake<K> {
         let hash = self.state.hash();
         let (initiator, responder) = self.state.split();
         Ok(Opened {
-            role: self.role,
+            role: self.means.role,
             one_way: self.pattern.one_way(),
             hash,
             remote_static: self.remote.s,

@@ -1,8 +1,8 @@
-//! A handshake that may start with fewer secrets than its pattern has psk tokens.
+//! A handshake that may start with fewer psks than its pattern has psk tokens.
 #![tactic(auto)]
 
-ghost use Rattle.std.specs.Prelude.{◌≡◌, ◌≤◌, ◌<◌, ◌↔◌, ◌∷◌, ◌++◌, [], ℕ, List, length, take, drop, slice_range, true, false, None, Some};
-ghost use Rattle.std.specs.Prelude.{IsOk, IfOk, IfErr, OnErr, MatchResult, MatchOption, IsSome, IfSome, IsTrue, not, ◌&&◌, ◌==◌, count_by, Option};
+ghost use Rattle.std.specs.Prelude.{◌≡◌, ◌≤◌, ◌<◌, ◌↔◌, ◌∷◌, ◌++◌, [], ℕ, List, length, take, drop, true, false, None, Some};
+ghost use Rattle.std.specs.Prelude.{IsOk, IfOk, IfErr, OnErr, MatchResult, MatchOption, IsSome, IfSome, IsTrue, ◌==◌, count_by, Option};
 ghost use Rattle.std.specs.Option.{ForSome};
 
 use crate::setup::{psk_total, setup_fault};
@@ -14,40 +14,40 @@ use arrayvec::ArrayVec;
 use noise_names::{Role, ValidPattern};
 use std::marker::Model;
 
-/// One party of a handshake as `Handshake` is, which may start with fewer secrets than the pattern has psk tokens
+/// One party of a handshake as `Handshake` is, which may start with fewer psks than the pattern has psk tokens
 /// (Noise, 9): reading and writing ask for the others when their tokens come, and `put_secret` hands them in. So a
-/// responder can choose the secret when it knows the other party.
+/// responder can choose the psk when it knows the other party.
 ///
-/// It runs as a handshake that had all secrets from the start: what its calls do holds for each view whose secrets
-/// begin with those that were handed in. No message is read or written whose psk tokens lack a secret.
+/// It runs as a handshake that had all psks from the start: what its calls do holds for each party whose psks
+/// begin with those that were handed in. No message is read or written whose psk tokens lack a psk.
 #[derive(Drop)]
 pub struct LateHandshake<K: Keys> {
-    // It has zeros in place of the secrets that lack, the last ones. No call mixes them.
+    // It has zeros in place of the psks that lack, the last ones. No call mixes them.
     filled: Handshake<K>,
     lacking: usize,
 }
 
 impl<K: Keys> Model for LateHandshake<K> {
     ghost use Rattle.std.specs.Prelude.{◌≤◌, length};
-    ghost use Rattle.noise_handshake.specs.Held.{Held};
+    ghost use Rattle.noise_handshake.specs.HandshakeValue.{HandshakeValue};
     ghost use Rattle.noise_handshake.specs.inner.Late.{without_last};
 
-    ghost Value = { Held K };
+    ghost Value = { HandshakeValue K };
 
     ghost view = { λ a. without_last a.lacking a.filled };
 
-    ghost invariant = { λ a. a.lacking ≤ length a.filled.secrets };
+    ghost invariant = { λ a. a.lacking ≤ length a.filled.psks };
 }
 
-// The secrets, and zeros after them up to so many.
-fn filled(secrets: &[[u8; 32]], total: usize) -> ArrayVec<[u8; 32], 9>
-    requires fits { length secrets.now ≤ total }
+// The psks, and zeros after them up to so many.
+fn filled(psks: &[[u8; 32]], total: usize) -> ArrayVec<[u8; 32], 9>
+    requires fits { length psks.now ≤ total }
     requires few { total ≤ 9 }
-    ensures kept { take (length secrets.now) result.items ≡ secrets.now }
+    ensures unchanged { take (length psks.now) result.items ≡ psks.now }
     ensures count { length result.items ≡ total }
 {
     let mut all = ArrayVec::new();
-    all.try_extend_from_slice(secrets).unwrap();
+    all.try_extend_from_slice(psks).unwrap();
     while all.len() < total {
         all.push([0; 32]);
     }
@@ -59,18 +59,18 @@ impl<K: Keys> LateHandshake<K> {
     ghost use Rattle.noise_names.specs.Validity.{IsValid};
     ghost use Rattle.noise_state.specs.History.{hash};
     ghost use Rattle.noise_names.specs.Tokens.{is_psk};
-    ghost use Rattle.noise_handshake.specs.View.{View, Accepts, Refuses, tokens_at};
+    ghost use Rattle.noise_handshake.specs.Party.{Party, Refuses, tokens_at};
     ghost use Rattle.noise_handshake.specs.declared.faults.Cause.TheVariants.{Agreement};
-    ghost use Rattle.noise_handshake.specs.Held.{is_turn, read_fault, write_fault, message_len_of, Advances};
+    ghost use Rattle.noise_handshake.specs.HandshakeValue.{is_turn, read_fault, write_fault, message_len_of, Advances};
     ghost use Rattle.noise_handshake.specs.Opening.{Opens};
     ghost use Rattle.noise_handshake.specs.Parts.{held_of, HasProgress};
-    ghost use Rattle.noise_handshake.specs.Party.{Stands, after_message, after_own};
-    ghost use Rattle.noise_handshake.specs.Setup.{begun, secrets_of};
+    ghost use Rattle.noise_handshake.specs.Setup.{party_at_start, psks_of};
     ghost use Rattle.noise_handshake.specs.Writing.{Writes, LacksAnswer};
-    ghost use Rattle.noise_handshake.specs.Late.{with_later, late_fault, IsLateWhole, WantsSecretToRead, WantsSecretToWrite, WantsLate, LeavesLateUnread};
-    ghost use Rattle.noise_handshake.specs.Late.{LeavesLateUnwritten, after_late_unread, after_late_declined, after_late_unwritten, IsLateOfDue, IsLateOfTurn, IsLateWant};
+    ghost use Rattle.noise_handshake.specs.Calls.{HasBegun, HasReadAt, HasWrittenTo, IsPlaceIn, IsSameAround, speaks_now};
+    ghost use Rattle.noise_handshake.specs.Late.{IsLeftUnread, IsLeftUnwritten, MatchesWith, with_later, late_fault, IsLateWhole, WantsPskToRead, WantsPskToWrite, WantsLate, LeavesLateUnread};
+    ghost use Rattle.noise_handshake.specs.Late.{after_late_unread, after_late_unwritten, IsLateOfDue, IsLateOfTurn, IsLateWant};
 
-    /// The handshake of one party before its first message, as `Handshake::new` makes it; `psks` has the secrets of the
+    /// The handshake of one party before its first message, as `Handshake::new` makes it; `psks` has the psks of the
     /// first psk tokens, in their order, and may have fewer than there are psk tokens. At an `Err` what was handed in
     /// is gone.
     pub fn new(
@@ -84,11 +84,11 @@ impl<K: Keys> LateHandshake<K> {
         requires { length prologue.now ≤ 65535 }
         ensures fault { MatchOption (late_fault pattern role (K.public_of keys) remote (length psks.now)) (IsOk result)
             (λ fault. result ≡ Err fault) }
-        ensures stands { IfOk result (λ h. (later : List (List ℕ)) → Stands K.public_of K.agreement (with_later h later)
-            (begun pattern role prologue.now (K.public_of keys) (K.agreement keys) remote (psks.now ++ later))) }
-        ensures parts { IfOk result
-            (λ h. (h.pattern ≡ pattern) × (h.role ≡ role) × (h.keys ≡ keys) × (h.passed ≡ 0) × (h.ended ≡ false)) }
-        ensures secrets { IfOk result (λ h. h.secrets ≡ psks.now) }
+        ensures matches { IfOk result (λ h. (later : List (List ℕ)) → MatchesWith K.public_of K.agreement h later
+            (party_at_start pattern role prologue.now (K.public_of keys) (K.agreement keys)
+            remote (psks.now ++ later))) }
+        ensures parts { IfOk result (HasBegun pattern role keys) }
+        ensures psks { IfOk result (λ h. h.psks ≡ psks.now) }
         ensures valid { IsPattern pattern × IsValid pattern }
     {
         let plan = pattern.pattern();
@@ -98,69 +98,69 @@ impl<K: Keys> LateHandshake<K> {
             return Err(fault);
         }
         let lacking = total - psks.len();
-        let secrets = filled(psks, total);
-        let filled = Handshake::begin(pattern, role, prologue, keys, remote, secrets);
+        let psks = filled(psks, total);
+        let filled = Handshake::begin(pattern, role, prologue, keys, remote, psks);
         Ok(LateHandshake { filled, lacking })
     }
 
-    /// The secrets that were handed in for psk tokens that are still to come, in their order.
-    pub fn secrets(&self) -> &[[u8; 32]]
-        ensures same { result.now ≡ self.now.secrets }
+    /// The psks that were handed in for psk tokens that are still to come, in their order.
+    pub fn psks(&self) -> &[[u8; 32]]
+        ensures value { result.now ≡ self.now.psks }
         ensures few { length result.now ≤ 9 }
     {
-        let secrets = self.filled.secrets();
-        &secrets[..secrets.len() - self.lacking]
+        let psks = self.filled.psks();
+        &psks[..psks.len() - self.lacking]
     }
 
-    /// Hands in the secret of the first psk token that lacks one. False where none does; then nothing changes.
-    pub fn put_secret(&mut self, secret: [u8; 32]) -> bool
+    /// Hands in the psk of the first psk token that lacks one. False where none does; then nothing changes.
+    pub fn put_psk(&mut self, psk: [u8; 32]) -> bool
         ensures lacks { IsTrue result
-            ↔ (length self.old.secrets < secrets_of (drop self.old.passed self.old.pattern.messages)) }
-        ensures put { IsTrue result → self.new ≡ with_later self.old (secret ∷ []) }
-        ensures same { result ≡ false → self.new ≡ self.old }
-        ensures stands { IsTrue result → (v : View) (later : List (List ℕ))
-            → Stands K.public_of K.agreement (with_later self.old (secret ∷ later)) v
-            → Stands K.public_of K.agreement (with_later self.new later) v }
+            ↔ (length self.old.psks < psks_of (drop self.old.passed self.old.pattern.messages)) }
+        ensures put { IsTrue result → self.new ≡ with_later self.old (psk ∷ []) }
+        ensures unchanged { result ≡ false → self.new ≡ self.old }
+        ensures matches { IsTrue result → (v : Party) (later : List (List ℕ))
+            → MatchesWith K.public_of K.agreement self.old (psk ∷ later) v
+            → MatchesWith K.public_of K.agreement self.new later v }
     {
         let left = self.filled.left();
         if self.lacking == 0 {
             return false;
         }
-        self.filled.replace_secret(left - self.lacking, secret);
+        self.filled.replace_psk(left - self.lacking, psk);
         self.lacking -= 1;
         true
     }
 
-    /// A copy of what messages have changed so far, the secrets aside, as `Handshake::progress` makes it.
+    /// A copy of what messages have changed so far, the psks aside, as `Handshake::progress` makes it.
     pub fn progress(&self) -> Progress
-        ensures same { HasProgress self.now result }
+        ensures value { HasProgress self.now result }
         ensures whole { IsLateWhole K.public_of self.now }
         ensures valid { IsValid self.now.pattern }
     {
         self.filled.progress()
     }
 
-    /// The handshake that holds these parts, and these secrets for the first psk tokens that are still to come, in
+    /// The handshake that holds these parts, and these psks for the first psk tokens that are still to come, in
     /// their order; or None for what no handshake holds. Else it is as `Handshake::from_parts`.
-    pub fn from_parts(parts: Parts<K>, secrets: &[[u8; 32]]) -> Option<LateHandshake<K>>
-        ensures whole { IsSome result ↔ IsLateWhole K.public_of (held_of parts secrets.now) }
-        ensures same { IfSome result (λ h. h ≡ held_of parts secrets.now) }
+    pub fn from_parts(parts: Parts<K>, psks: &[[u8; 32]]) -> Option<LateHandshake<K>>
+        ensures whole { IsSome result ↔ IsLateWhole K.public_of (held_of parts psks.now) }
+        ensures value { IfSome result (λ h. h ≡ held_of parts psks.now) }
     {
-        let total = parts.secrets_due()?;
-        if secrets.len() > total {
+        let total = parts.psks_due()?;
+        if psks.len() > total {
             return None;
         }
-        let filled = Handshake::of_parts(parts, filled(secrets, total));
+        let filled = Handshake::of_parts(parts, filled(psks, total));
         Some(LateHandshake {
             filled,
-            lacking: total - secrets.len(),
+            lacking: total - psks.len(),
         })
     }
 
-    /// The handshake, once no psk token lacks its secret; else it comes back as it was.
+    /// The handshake, once no psk token lacks its psk; else it comes back as it was.
     pub fn into_handshake(self) -> Result<Handshake<K>, LateHandshake<K>>
-        ensures when { IsOk result ↔ (length self.secrets ≡ secrets_of (drop self.passed self.pattern.messages)) }
-        ensures same { MatchResult result (λ h. h ≡ self) (λ h. h ≡ self) }
+        ensures when { IsOk result ↔ (length self.psks ≡ psks_of (drop self.passed self.pattern.messages)) }
+        ensures value { MatchResult result (λ h. h ≡ self) (λ h. h ≡ self) }
     {
         let _ = self.filled.left();
         if self.lacking == 0 {
@@ -172,7 +172,7 @@ impl<K: Keys> LateHandshake<K> {
 
     /// The pattern, with the tokens of its messages.
     pub fn pattern(&self) -> &ValidPattern
-        ensures same { result.now ≡ self.now.pattern }
+        ensures value { result.now ≡ self.now.pattern }
         ensures valid { IsValid self.now.pattern }
         ensures limits { IsPattern self.now.pattern }
     {
@@ -187,7 +187,7 @@ impl<K: Keys> LateHandshake<K> {
         self.filled.done()
     }
 
-    /// Whether it has ended: a message was refused, or had no answer. It then neither reads nor writes any more.
+    /// Whether it has ended: a message was refused, or had no DH result. It then neither reads nor writes any more.
     pub fn ended(&self) -> bool
         ensures { result ≡ self.now.ended }
     {
@@ -201,7 +201,7 @@ impl<K: Keys> LateHandshake<K> {
         self.filled.writes_next()
     }
 
-    /// The other party's static public key, 32 bytes, as far as its pre-message and the messages that passed tell it.
+    /// The other party's static public key, 32 bytes, as far as its pre-message and the messages that passed show it.
     pub fn remote_static(&self) -> Option<[u8; 32]>
         ensures { result ≡ self.now.remote.s }
     {
@@ -210,7 +210,7 @@ impl<K: Keys> LateHandshake<K> {
 
     /// The handshake hash (Noise, 11.2), 32 bytes, of the start and the messages that passed.
     pub fn hash(&self) -> [u8; 32]
-        ensures { (v : View) (later : List (List ℕ)) → Stands K.public_of K.agreement (with_later self.now later) v
+        ensures { (v : Party) (later : List (List ℕ)) → MatchesWith K.public_of K.agreement self.now later v
             → result ≡ hash v.history }
     {
         self.filled.hash()
@@ -224,41 +224,34 @@ impl<K: Keys> LateHandshake<K> {
         self.filled.message_len(payload_len)
     }
 
-    // How many secrets were handed in for psk tokens that are still to come.
+    // How many psks were handed in for psk tokens that are still to come.
     fn given(&self) -> usize
-        ensures count { result ≡ length self.now.secrets }
+        ensures count { result ≡ length self.now.psks }
         ensures within { self.now.passed ≤ length self.now.pattern.messages }
     {
         self.filled.left() - self.lacking
     }
 
     /// Reads a message in place, and returns from where to where its payload then is in it, as `Handshake::read_within`
-    /// does; but where reading lacks a DH answer or a secret, this returns which, and changes nothing.
+    /// does; but where reading lacks a DH result or a psk, this returns which, and changes nothing.
     ///
     /// The message has at most 65535 bytes. At an `Err` its bytes are unchanged. `Declined` with `Refused` ends the
     /// handshake, and everything else leaves it as it was: hand in what is wanted, and read the message again.
     pub fn read_or_ask(&mut self, message: &mut [u8]) -> Result<(usize, usize), LateUnread>
         requires { length message.old ≤ 65535 }
-        ensures range { IfOk result (λ place. (place.0 ≤ place.1) × (place.1 ≤ length message.new)) }
-        ensures beyond { IfOk result (λ place.
-            (take place.0 message.new ≡ take place.0 message.old)
-            × (drop place.1 message.new ≡ drop place.1 message.old)) }
+        ensures range { IfOk result (IsPlaceIn message.new) }
+        ensures beyond { IfOk result (IsSameAround message.old message.new) }
         ensures unchanged { OnErr result (message.new ≡ message.old) }
         ensures fault { MatchOption (read_fault self.old) (IfErr result IsLateOfDue)
             (λ fault. result ≡ Err (LateUnread.Declined fault)) }
         ensures state { MatchResult result (λ _. Advances self.old self.new)
             (λ unread. self.new ≡ after_late_unread self.old unread) }
-        ensures reads { (v : View) (later : List (List ℕ))
-            → Stands K.public_of K.agreement (with_later self.old later) v → MatchResult result
-            (λ place. let payload = slice_range message.new place.0 place.1 in (xs : List (List ℕ))
-            × Accepts v message.old xs payload
-            × Stands K.public_of K.agreement (with_later self.new later) (after_message v xs payload))
-            (λ unread. LeavesLateUnread v (length self.old.secrets) message.old unread
-            × Stands K.public_of K.agreement (with_later self.new later) (after_late_declined v unread)) }
-        ensures asked { (v : View) (later : List (List ℕ))
-            → Stands K.public_of K.agreement (with_later self.old later) v → (remote : Option (List ℕ))
-            → WantsSecretToRead v (length self.old.secrets) message.old remote
-            → result ≡ Err (LateUnread.Wants (Want.Secret remote)) }
+        ensures reads { (v : Party) (later : List (List ℕ)) → MatchesWith K.public_of K.agreement self.old later v →
+            MatchResult result (HasReadAt K.public_of K.agreement v message.old message.new (with_later self.new later))
+            (IsLeftUnread K.public_of K.agreement self.old self.new later v message.old) }
+        ensures asked { (v : Party) (later : List (List ℕ)) → MatchesWith K.public_of K.agreement self.old later v
+            → (remote : Option (List ℕ)) → WantsPskToRead v (length self.old.psks) message.old remote
+            → result ≡ Err (LateUnread.Wants (Want.Psk remote)) }
     {
         if let Some(fault) = self.filled.read_fault() {
             return Err(LateUnread::Declined(fault));
@@ -276,7 +269,7 @@ impl<K: Keys> LateHandshake<K> {
                 Ok(place)
             }
             Some(k) => match self.filled.read_before(k, message) {
-                Ok(remote) => Err(LateUnread::Wants(Want::Secret { remote })),
+                Ok(remote) => Err(LateUnread::Wants(Want::Psk { remote })),
                 Err(stop) => match stop.want {
                     Some(want) => {
                         let (own, key) = want;
@@ -291,16 +284,15 @@ impl<K: Keys> LateHandshake<K> {
         }
     }
 
-    /// The DH answer or secret that reading this message lacks now, as `read_or_ask` returns it. None where it lacks
+    /// The DH result or psk that reading this message lacks now, as `read_or_ask` returns it. None where it lacks
     /// neither, and where no message is due. Nothing changes.
     pub fn wants_to_read(&self, message: &[u8]) -> Option<Want>
-        ensures wants { (v : View) (later : List (List ℕ))
-            → Stands K.public_of K.agreement (with_later self.now later) v → MatchOption result
-            ((token : ℕ) → Refuses v message.now token Agreement → ⊥)
-            (λ want. LeavesLateUnread v (length self.now.secrets) message.now (LateUnread.Wants want)) }
-        ensures asked { (v : View) (later : List (List ℕ))
-            → Stands K.public_of K.agreement (with_later self.now later) v → (remote : Option (List ℕ))
-            → WantsSecretToRead v (length self.now.secrets) message.now remote → result ≡ Some (Want.Secret remote) }
+        ensures wants { (v : Party) (later : List (List ℕ)) → MatchesWith K.public_of K.agreement self.now later v
+            → MatchOption result ((token : ℕ) → Refuses v message.now token Agreement → ⊥)
+            (λ want. LeavesLateUnread v (length self.now.psks) message.now (LateUnread.Wants want)) }
+        ensures asked { (v : Party) (later : List (List ℕ)) → MatchesWith K.public_of K.agreement self.now later v
+            → (remote : Option (List ℕ)) → WantsPskToRead v (length self.now.psks) message.now remote
+            → result ≡ Some (Want.Psk remote) }
     {
         if let Some(_) = self.filled.read_fault() {
             return None;
@@ -314,7 +306,7 @@ impl<K: Keys> LateHandshake<K> {
                 None => None,
             },
             Some(k) => match self.filled.read_before(k, message) {
-                Ok(remote) => Some(Want::Secret { remote }),
+                Ok(remote) => Some(Want::Psk { remote }),
                 Err(stop) => match stop.want {
                     Some(want) => {
                         let (own, key) = want;
@@ -326,19 +318,17 @@ impl<K: Keys> LateHandshake<K> {
         }
     }
 
-    /// The DH answer or secret that writing a message lacks now. None where a message is due and lacks neither, and
+    /// The DH result or psk that writing a message lacks now. None where a message is due and lacks neither, and
     /// where none is due. Nothing changes.
     pub fn wants_to_write(&self) -> Option<Want>
-        ensures wants { (v : View) (later : List (List ℕ))
-            → Stands K.public_of K.agreement (with_later self.now later) v → MatchOption result
-            ((token : ℕ) → LacksAnswer v token → ⊥) (λ want. WantsLate v (length self.now.secrets) want) }
-        ensures asked { (v : View) (later : List (List ℕ))
-            → Stands K.public_of K.agreement (with_later self.now later) v
-            → WantsSecretToWrite v (length self.now.secrets) → result ≡ Some (Want.Secret self.now.remote.s) }
-        ensures few { (not self.now.ended && not (self.now.passed == length self.now.pattern.messages)
-            && is_turn self.now.role self.now.passed) ≡ true
-            → result ≡ None → count_by is_psk (tokens_at self.now.pattern.messages self.now.passed)
-            ≤ length self.now.secrets }
+        ensures wants { (v : Party) (later : List (List ℕ)) → MatchesWith K.public_of K.agreement self.now later v
+            → MatchOption result ((token : ℕ) → LacksAnswer v token → ⊥)
+            (λ want. WantsLate v (length self.now.psks) want) }
+        ensures asked { (v : Party) (later : List (List ℕ)) → MatchesWith K.public_of K.agreement self.now later v
+            → WantsPskToWrite v (length self.now.psks) → result ≡ Some (Want.Psk self.now.remote.s) }
+        ensures few { speaks_now self.now ≡ true → result ≡ None
+            → count_by is_psk (tokens_at self.now.pattern.messages self.now.passed)
+            ≤ length self.now.psks }
     {
         if !self.filled.speaks() {
             return None;
@@ -356,7 +346,7 @@ impl<K: Keys> LateHandshake<K> {
                     let (own, key) = want;
                     Some(Want::Answer { own, key })
                 }
-                None => Some(Want::Secret {
+                None => Some(Want::Psk {
                     remote: self.filled.remote_static(),
                 }),
             },
@@ -364,7 +354,7 @@ impl<K: Keys> LateHandshake<K> {
     }
 
     /// Writes a message to the front of `out`, and returns its length in bytes, as `Handshake::write` does; but where
-    /// writing lacks a DH answer or a secret, this returns which, and changes nothing.
+    /// writing lacks a DH result or a psk, this returns which, and changes nothing.
     ///
     /// Where `message_len` gives a length, `out` holds it. At an `Err` nothing changes: hand in what is wanted, and
     /// write again.
@@ -378,16 +368,12 @@ impl<K: Keys> LateHandshake<K> {
             (λ unwritten. self.new ≡ after_late_unwritten self.old unwritten) }
         ensures beyond { IfOk result (λ n. drop n out.new ≡ drop n out.old) }
         ensures asks { IfErr result (λ unwritten. IsLateWant unwritten → out.new ≡ out.old) }
-        ensures writes { (v : View) (later : List (List ℕ))
-            → Stands K.public_of K.agreement (with_later self.old later) v → MatchResult result
-            (λ n. (xs : List (List ℕ)) × Writes v payload.now xs (take n out.new)
-            × Stands K.public_of K.agreement (with_later self.new later) (after_own v xs payload.now))
-            (λ unwritten. LeavesLateUnwritten v (length self.old.secrets) (length payload.now) unwritten
-            × Stands K.public_of K.agreement (with_later self.new later) v) }
-        ensures asked { write_fault self.old (length payload.now) ≡ None → (v : View) (later : List (List ℕ))
-            → Stands K.public_of K.agreement (with_later self.old later) v
-            → WantsSecretToWrite v (length self.old.secrets)
-            → result ≡ Err (LateUnwritten.Wants (Want.Secret self.old.remote.s)) }
+        ensures writes { (v : Party) (later : List (List ℕ)) → MatchesWith K.public_of K.agreement self.old later v →
+            MatchResult result (HasWrittenTo K.public_of K.agreement v payload.now out.new (with_later self.new later))
+            (IsLeftUnwritten K.public_of K.agreement self.old self.new later v (length payload.now)) }
+        ensures asked { write_fault self.old (length payload.now) ≡ None → (v : Party) (later : List (List ℕ))
+            → MatchesWith K.public_of K.agreement self.old later v → WantsPskToWrite v (length self.old.psks)
+            → result ≡ Err (LateUnwritten.Wants (Want.Psk self.old.remote.s)) }
     {
         if let Some(fault) = self.filled.withheld(payload.len()) {
             return Err(LateUnwritten::Withheld(fault));
@@ -407,7 +393,7 @@ impl<K: Keys> LateHandshake<K> {
     /// What the handshake leaves once all messages have passed and it hasn't ended; else it comes back as it was.
     pub fn finish(self) -> Result<Opened, LateHandshake<K>>
         ensures when { IsOk result ↔ ((self.ended ≡ false) × (self.passed ≡ length self.pattern.messages)) }
-        ensures opened { (v : View) (later : List (List ℕ)) → Stands K.public_of K.agreement (with_later self later) v
+        ensures opened { (v : Party) (later : List (List ℕ)) → MatchesWith K.public_of K.agreement self later v
             → IfOk result (λ o. Opens o v) }
         ensures back { IfErr result (λ h. h ≡ self) }
     {

@@ -1,4 +1,4 @@
-//! What a handshake wants that may lack secrets, and why its messages aren't read or written.
+//! What a handshake wants that may lack psks, and why its messages aren't read or written.
 #![tactic(auto)]
 
 use crate::{Own, ReadFault, WriteFault};
@@ -6,11 +6,11 @@ use crate::{Own, ReadFault, WriteFault};
 /// What the next message lacks of what a caller hands in.
 #[derive(Clone, Copy, Debug, PartialEq, Eq)]
 pub enum Want {
-    /// The DH answer of this key pair of the party to this public key of the other.
+    /// The DH result of this key pair of the party to this public key of the other.
     Answer { own: Own, key: [u8; 32] },
-    /// The secret of a psk token. `remote` is the other party's static key as it is known before that token: the
-    /// message that is read may have told it.
-    Secret { remote: Option<[u8; 32]> },
+    /// The psk of a psk token. `remote` is the other party's static key as it is known before that token: the
+    /// message that is read may have shown it.
+    Psk { remote: Option<[u8; 32]> },
 }
 
 /// Why a message isn't read.
@@ -18,7 +18,7 @@ pub enum Want {
 pub enum LateUnread {
     /// Reading lacks this. Nothing has changed.
     Wants(Want),
-    /// The message isn't read for this fault, which is never the want of an answer or a secret.
+    /// The message isn't read for this fault, which is never `Refused` with the cause `Agreement`.
     Declined(ReadFault),
 }
 

@@ -22,12 +22,12 @@ pub(crate) struct PlacedToken {
     pub(crate) place: u16,
 }
 
-// A message: its tokens, how much longer than its payload it is, in bytes, and how many secrets it takes.
+// A message: its tokens, how much longer than its payload it is, in bytes, and how many psks it takes.
 #[derive(Default, Drop)]
 pub(crate) struct MessageLayout {
     pub(crate) tokens: ArrayVec<PlacedToken, 10>,
     pub(crate) overhead: u16,
-    pub(crate) secrets: u8,
+    pub(crate) psks: u8,
 }
 
 // How many bytes a token travels as.
@@ -44,11 +44,11 @@ fn token_width(keyed: bool, token: Token) -> u8
 }
 
 // Whether there is a key after a token.
-pub(crate) fn keyed_after(psks: bool, keyed: bool, token: Token) -> bool
-    ensures { result ≡ keyed_after psks keyed token }
+pub(crate) fn keyed_after(has_psks: bool, keyed: bool, token: Token) -> bool
+    ensures { result ≡ keyed_after has_psks keyed token }
 {
     match token {
-        Token::E => psks || keyed,
+        Token::E => has_psks || keyed,
         Token::S => keyed,
         _ => true,
     }
@@ -57,17 +57,17 @@ pub(crate) fn keyed_after(psks: bool, keyed: bool, token: Token) -> bool
 // Places tokens one after another, and returns where the bytes after them start, and whether there is a key there.
 fn place_tokens(
     tokens: &[Token],
-    psks: bool,
+    has_psks: bool,
     keyed: bool,
     place: u16,
     placed: &mut ArrayVec<PlacedToken, 10>,
 ) -> (u16, bool)
     requires room { length placed.old.items + length tokens.now ≤ 10 }
     requires small { place ≤ 48 * length placed.old.items }
-    ensures place { result.0 ≡ place + tokens_width psks keyed tokens.now }
+    ensures place { result.0 ≡ place + tokens_width has_psks keyed tokens.now }
     ensures small { result.0 ≤ 480 }
-    ensures key { result.1 ≡ keyed_after_tokens psks keyed tokens.now }
-    ensures placed { placed.new.items ≡ placed.old.items ++ placed_from psks keyed place tokens.now }
+    ensures key { result.1 ≡ keyed_after_tokens has_psks keyed tokens.now }
+    ensures placed { placed.new.items ≡ placed.old.items ++ placed_from has_psks keyed place tokens.now }
 {
     let Some((token, later)) = tokens.split_first() else {
         return (place, keyed);
@@ -78,34 +78,34 @@ fn place_tokens(
         width,
         place,
     });
-    let after = keyed_after(psks, keyed, *token);
-    place_tokens(later, psks, after, place + u16::from(width), placed)
+    let after = keyed_after(has_psks, keyed, *token);
+    place_tokens(later, has_psks, after, place + u16::from(width), placed)
 }
 
 // The layout of a message.
-fn lay_message(tokens: &[Token], psks: bool, keyed: bool) -> MessageLayout
+fn lay_message(tokens: &[Token], has_psks: bool, keyed: bool) -> MessageLayout
     requires { length tokens.now ≤ 10 }
-    ensures { IsLaid psks keyed tokens.now result }
+    ensures { IsLaid has_psks keyed tokens.now result }
 {
     let mut placed = ArrayVec::new();
-    let (payload, after) = place_tokens(tokens, psks, keyed, 0, &mut placed);
+    let (payload, after) = place_tokens(tokens, has_psks, keyed, 0, &mut placed);
     let tag = if after { 16 } else { 0 };
     MessageLayout {
         tokens: placed,
         overhead: payload + tag,
-        secrets: psk_count(tokens) as u8,
+        psks: psk_count(tokens) as u8,
     }
 }
 
 // The layout of the message after so many, where there is a key before it or not. After the last message there is none,
 // and the result is empty.
-pub(crate) fn lay_next(pattern: &Pattern, psks: bool, keyed: bool, passed: u8) -> MessageLayout
-    requires psks { psks ≡ has_psk pattern.now }
+pub(crate) fn lay_next(pattern: &Pattern, has_psks: bool, keyed: bool, passed: u8) -> MessageLayout
+    requires has_psks { has_psks ≡ has_psk pattern.now }
     requires key { keyed ≡ has_key pattern.now (passed_places pattern.now passed) }
     ensures { LaysNext pattern.now passed result }
 {
     match pattern.messages().get(passed as usize) {
-        Some(message) => lay_message(message.tokens(), psks, keyed),
+        Some(message) => lay_message(message.tokens(), has_psks, keyed),
         None => MessageLayout::default(),
     }
 }

@@ -32,60 +32,60 @@ fn next_nonce(keyed: bool, nonce: u64) -> u64
 }
 
 // The nonce after a token.
-fn nonce_after(psks: bool, count: Count, token: Token) -> u64
+fn nonce_after(has_psks: bool, count: Count, token: Token) -> u64
     requires { count.nonce < 2 ^ 64 - 1 }
-    ensures value { result ≡ nonce_after psks count.keyed count.nonce token }
+    ensures value { result ≡ nonce_after has_psks count.keyed count.nonce token }
     ensures bound { result ≤ count.nonce + 1 }
 {
     match token {
-        Token::E => { if psks { 0 } else { count.nonce } }
+        Token::E => { if has_psks { 0 } else { count.nonce } }
         Token::S => next_nonce(count.keyed, count.nonce),
         _ => 0,
     }
 }
 
-fn after_tokens(psks: bool, count: Count, tokens: &[Token]) -> Count
+fn after_tokens(has_psks: bool, count: Count, tokens: &[Token]) -> Count
     requires { count.nonce + length tokens.now < 2 ^ 64 - 1 }
-    ensures keyed { result.keyed ≡ keyed_after_tokens psks count.keyed tokens.now }
-    ensures nonce { result.nonce ≡ nonce_after_tokens psks count.keyed count.nonce tokens.now }
+    ensures keyed { result.keyed ≡ keyed_after_tokens has_psks count.keyed tokens.now }
+    ensures nonce { result.nonce ≡ nonce_after_tokens has_psks count.keyed count.nonce tokens.now }
     ensures bound { result.nonce ≤ count.nonce + length tokens.now }
 {
     let Some((token, later)) = tokens.split_first() else {
         return count;
     };
     let after = Count {
-        keyed: keyed_after(psks, count.keyed, *token),
-        nonce: nonce_after(psks, count, *token),
+        keyed: keyed_after(has_psks, count.keyed, *token),
+        nonce: nonce_after(has_psks, count, *token),
     };
-    after_tokens(psks, after, later)
+    after_tokens(has_psks, after, later)
 }
 
-fn after_messages(psks: bool, count: Count, messages: &[Message]) -> Count
+fn after_messages(has_psks: bool, count: Count, messages: &[Message]) -> Count
     requires small { count.nonce ≤ 88 - 11 * length messages.now }
     requires few { length messages.now ≤ 8 }
-    ensures keyed { result.keyed ≡ keyed_after_messages psks count.keyed messages.now }
-    ensures nonce { result.nonce ≡ nonce_after_messages psks count.keyed count.nonce messages.now }
+    ensures keyed { result.keyed ≡ keyed_after_messages has_psks count.keyed messages.now }
+    ensures nonce { result.nonce ≡ nonce_after_messages has_psks count.keyed count.nonce messages.now }
     ensures bound { result.nonce ≤ count.nonce + 11 * length messages.now }
 {
     let Some((message, later)) = messages.split_first() else {
         return count;
     };
-    let after = after_tokens(psks, count, message.tokens());
+    let after = after_tokens(has_psks, count, message.tokens());
     let next = Count {
         keyed: after.keyed,
         nonce: next_nonce(after.keyed, after.nonce),
     };
-    after_messages(psks, next, later)
+    after_messages(has_psks, next, later)
 }
 
 // Whether there is a key after the pre-messages.
-fn keyed_first(pattern: &Pattern, psks: bool) -> bool
-    requires { psks ≡ has_psk pattern.now }
+fn keyed_first(pattern: &Pattern, has_psks: bool) -> bool
+    requires { has_psks ≡ has_psk pattern.now }
     ensures { result ≡ has_key pattern.now (passed_places pattern.now 0) }
 {
     let first = has_token(pattern.pre(Role::Initiator), Own::Ephemeral);
     let second = has_token(pattern.pre(Role::Responder), Own::Ephemeral);
-    psks && (first || second)
+    has_psks && (first || second)
 }
 
 // Whether there is a key in a handshake in which so many messages have passed, and its nonce.
@@ -96,10 +96,10 @@ pub(crate) fn count_due(valid: &ValidPattern, passed: u8) -> Count
     ensures bound { result.nonce ≤ 11 * passed }
 {
     let pattern: &Pattern = valid.pattern();
-    let psks = !pattern.is_plain();
+    let has_psks = !pattern.is_plain();
     let count = Count {
-        keyed: keyed_first(pattern, psks),
+        keyed: keyed_first(pattern, has_psks),
         nonce: 0,
     };
-    after_messages(psks, count, &pattern.messages()[..passed as usize])
+    after_messages(has_psks, count, &pattern.messages()[..passed as usize])
 }

@@ -68,7 +68,7 @@ impl Opened {
 
     /// The cipher states, that of the initiator's messages first.
     pub fn into_ciphers(self) -> (CipherState, CipherState)
-        ensures same { (result.0 ≡ self.initiator) × (result.1 ≡ self.responder) }
+        ensures value { (result.0 ≡ self.initiator) × (result.1 ≡ self.responder) }
         ensures fresh { IsFresh result.0 × IsFresh result.1 }
     {
         (self.initiator, self.responder)

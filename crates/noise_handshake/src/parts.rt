@@ -8,7 +8,7 @@ ghost use Rattle.noise_names.specs.Validity.{is_among};
 ghost use Rattle.noise_names.specs.Overhead.{has_key};
 ghost use Rattle.noise_handshake.specs.Nonces.{nonce_due};
 ghost use Rattle.noise_handshake.specs.Passed.{passed_places};
-ghost use Rattle.noise_handshake.specs.Setup.{lacks_own, secrets_of};
+ghost use Rattle.noise_handshake.specs.Setup.{lacks_own, psks_of};
 ghost use Rattle.noise_handshake.specs.Parts.{held_of, IsWhole};
 
 use crate::nonces::count_due;
@@ -17,7 +17,7 @@ use crate::{Keys, Own, Remote};
 use noise_names::{Role, ValidPattern};
 use noise_state::StateParts;
 
-/// What messages change of a handshake, its secrets aside.
+/// What messages change of a handshake, its psks aside.
 #[derive(Drop)]
 pub struct Progress {
     /// The public keys of the other party that are known: those of its pre-message and of the messages that passed, and
@@ -25,12 +25,12 @@ pub struct Progress {
     pub remote: Remote,
     /// How many messages have passed.
     pub passed: u8,
-    /// Whether a message was refused, or had no answer.
+    /// Whether a message was refused, or had no DH result.
     pub ended: bool,
     pub state: StateParts,
 }
 
-/// What a handshake holds between two messages, its secrets aside, for a caller that keeps it itself, as one in another
+/// What a handshake holds between two messages, its psks aside, for a caller that keeps it itself, as one in another
 /// language.
 #[derive(Drop)]
 pub struct Parts<K> {
@@ -86,7 +86,7 @@ impl<K: Keys> Parts<K> {
     fn due(&self) -> Option<usize>
         ensures { MatchOption result (length self.now.pattern.messages < self.now.progress.passed)
             (λ n. (self.now.progress.passed ≤ length self.now.pattern.messages)
-            × (n ≡ secrets_of (drop self.now.progress.passed self.now.pattern.messages)) × (n ≤ 9)) }
+            × (n ≡ psks_of (drop self.now.progress.passed self.now.pattern.messages)) × (n ≤ 9)) }
     {
         let messages = self.pattern.pattern().messages();
         let passed = self.progress.passed as usize;
@@ -96,11 +96,11 @@ impl<K: Keys> Parts<K> {
         Some(psk_total(&messages[passed..]))
     }
 
-    // How many secrets a handshake that holds them has; None where none holds them.
-    pub(crate) fn secrets_due(&self) -> Option<usize>
-        ensures { MatchOption result ((secrets : List (List ℕ)) → IsWhole K.public_of (held_of self.now secrets) → ⊥)
+    // How many psks a handshake that holds them has; None where none holds them.
+    pub(crate) fn psks_due(&self) -> Option<usize>
+        ensures { MatchOption result ((psks : List (List ℕ)) → IsWhole K.public_of (held_of self.now psks) → ⊥)
             (λ n. (n ≤ 9) × (self.now.progress.state.nonce ≤ 11 * self.now.progress.passed)
-            × ((secrets : List (List ℕ)) → IsWhole K.public_of (held_of self.now secrets) ↔ (length secrets ≡ n))) }
+            × ((psks : List (List ℕ)) → IsWhole K.public_of (held_of self.now psks) ↔ (length psks ≡ n))) }
     {
         let due = self.due()?;
         if !self.has_own() {

@@ -8,10 +8,10 @@ ghost use Rattle.noise_names.specs.Plan.{places_of, message_places};
 ghost use Rattle.noise_names.specs.Validity.{is_among};
 ghost use Rattle.noise_names.specs.Overhead.{has_key};
 ghost use Rattle.noise_names.specs.declared.token.Token.TheVariants.{E, S};
-ghost use Rattle.noise_state.specs.Standing.{StateStands, keyed, nonce_now};
+ghost use Rattle.noise_state.specs.Standing.{StateMatches, keyed, nonce_now};
 ghost use Rattle.noise_state.specs.History.{History, MixHash, and_then};
-ghost use Rattle.noise_handshake.specs.View.{with_premessage};
-ghost use Rattle.noise_handshake.specs.Setup.{token_of, secrets_of, setup_fault, public_keys, keys_of, lacks_own, start_of};
+ghost use Rattle.noise_handshake.specs.Party.{with_premessage};
+ghost use Rattle.noise_handshake.specs.Setup.{token_of, psks_of, setup_fault, public_keys, keys_of, lacks_own, start_of};
 ghost use Rattle.noise_handshake.specs.inner.PreMessage.{HasPre};
 ghost use Rattle.noise_handshake.specs.Passed.{passed_places};
 
@@ -91,7 +91,7 @@ pub(crate) fn was_sent(pattern: &Pattern, passed: usize, role: Role, own: Own) -
     sends_in(&pattern.messages()[..passed], Role::Initiator, role, own)
 }
 
-// How many secrets the tokens take.
+// How many psks the tokens take.
 pub(crate) fn psk_count(tokens: &[Token]) -> usize
     ensures { result ≡ count_by is_psk tokens.now }
 {
@@ -101,10 +101,10 @@ pub(crate) fn psk_count(tokens: &[Token]) -> usize
         .count()
 }
 
-// How many secrets the messages take.
+// How many psks the messages take.
 pub(crate) fn psk_total(messages: &[Message]) -> usize
     requires { length messages.now ≤ 8 }
-    ensures total { result ≡ secrets_of messages.now }
+    ensures total { result ≡ psks_of messages.now }
     ensures bound { result ≤ 10 * length messages.now }
 {
     let Some((message, later)) = messages.split_first() else {
@@ -144,10 +144,10 @@ pub(crate) fn setup_fault<K: Keys>(
     role: Role,
     keys: &K,
     remote: &Remote,
-    secrets: usize,
+    psks: usize,
 ) -> Option<SetupFault>
-    ensures fault { result ≡ setup_fault pattern.now role (K.public_of keys.now) remote.now secrets }
-    ensures few { result ≡ None → secrets ≤ 9 }
+    ensures fault { result ≡ setup_fault pattern.now role (K.public_of keys.now) remote.now psks }
+    ensures few { result ≡ None → psks ≤ 9 }
     ensures short { length pattern.now.messages ≤ 8 }
 {
     let pre = pattern.pre(role.other());
@@ -164,7 +164,7 @@ pub(crate) fn setup_fault<K: Keys>(
     if has_other_key(pre, remote) {
         return Some(SetupFault::RemoteUnexpected);
     }
-    if secrets == total {
+    if psks == total {
         None
     } else {
         Some(SetupFault::PskCount)
@@ -184,28 +184,28 @@ pub(crate) fn public_keys<K: Keys>(keys: &K) -> Remote
 // Mixes the keys of a pre-message.
 pub(crate) fn mix_premessage(
     state: &mut SymmetricState,
-    psks: bool,
+    has_psks: bool,
     keys: &Remote,
     tokens: &[Token],
 )
     requires e { list_any (λ t. same_token t (token_of Own.Ephemeral)) tokens.now ≡ true → is_some keys.now.e ≡ true }
     requires s { list_any (λ t. same_token t (token_of Own.Static)) tokens.now ≡ true → is_some keys.now.s ≡ true }
     ensures key { keyed state.new ≡ keyed state.old
-        || (psks && list_any (λ t. same_token t (token_of Own.Ephemeral)) tokens.now) }
+        || (has_psks && list_any (λ t. same_token t (token_of Own.Ephemeral)) tokens.now) }
     ensures nonce { nonce_now state.new ≤ nonce_now state.old }
-    ensures mixed { (r : History) → StateStands state.old r
-        → StateStands state.new (with_premessage psks keys.now tokens.now r) }
+    ensures mixed { (r : History) → StateMatches state.old r
+        → StateMatches state.new (with_premessage has_psks keys.now tokens.now r) }
 {
     let Some((token, later)) = tokens.split_first() else {
         return;
     };
     match (*token, keys.e, keys.s) {
-        (Token::E, Some(key), _) => mix_ephemeral(state, psks, &key),
+        (Token::E, Some(key), _) => mix_ephemeral(state, has_psks, &key),
         (Token::S, _, Some(key)) => state.mix_hash(&key),
         (Token::E, None, _) | (Token::S, _, None) => unreachable!(),
         _ => {}
     }
-    mix_premessage(state, psks, keys, later)
+    mix_premessage(state, has_psks, keys, later)
 }
 
 // The public keys of a party, for a role with these keys of its own and these of the other party.
@@ -219,8 +219,8 @@ fn keys_of(party: Role, role: Role, own: &Remote, remote: &Remote) -> Remote
 fn mix_prologue(state: &mut SymmetricState, prologue: &[u8])
     ensures key { keyed state.new ≡ keyed state.old }
     ensures nonce { nonce_now state.new ≡ nonce_now state.old }
-    ensures mixed { (r : History) → StateStands state.old r
-        → StateStands state.new (and_then r (MixHash prologue.now)) }
+    ensures mixed { (r : History) → StateMatches state.old r
+        → StateMatches state.new (and_then r (MixHash prologue.now)) }
 {
     state.mix_hash(prologue);
 }
@@ -235,7 +235,7 @@ pub(crate) fn start(
 ) -> SymmetricState
     requires initiator { HasPre pattern.now Role.Initiator (keys_of Role.Initiator role own.now remote.now) }
     requires responder { HasPre pattern.now Role.Responder (keys_of Role.Responder role own.now remote.now) }
-    ensures stands { StateStands result (start_of pattern.now role prologue.now own.now remote.now) }
+    ensures matches { StateMatches result (start_of pattern.now role prologue.now own.now remote.now) }
     ensures key { keyed result ≡ has_key pattern.now (passed_places pattern.now 0) }
     ensures nonce { nonce_now result ≡ 0 }
 {

@@ -6,8 +6,8 @@ ghost use Rattle.noise_handshake.specs.declared.faults.ReadFault.TheVariants.{Re
 
 use crate::{Cause, Own, ReadFault};
 
-// The token at which reading stopped, counted from 0, and why; and which DH answer it wanted, if it stopped for want of
-// one: of which key pair, and to which remote key.
+// The token at which reading stopped, counted from 0, and why; and the key pair and the remote key of its DH, if that
+// has no result.
 #[derive(Clone, Copy)]
 pub(crate) struct Stop {
     pub(crate) token: u8,

@@ -3,13 +3,13 @@
 
 ghost use Rattle.std.specs.Prelude.{◌≡◌, ◌<◌, ◌≤◌, length, is_some, Some, None, IsTrue, MatchOption};
 ghost use Rattle.noise_names.specs.declared.token.Token.{Token};
-ghost use Rattle.noise_state.specs.Standing.{StateStands, keyed, nonce_now};
+ghost use Rattle.noise_state.specs.Standing.{StateMatches, keyed, nonce_now};
 ghost use Rattle.noise_handshake.specs.Nonces.{nonce_after};
 ghost use Rattle.noise_state.specs.History.{History};
 ghost use Rattle.noise_handshake.specs.inner.Known.{remote_known};
 ghost use Rattle.noise_handshake.specs.Length.{keyed_after};
 ghost use Rattle.noise_handshake.specs.Message.{with_ephemeral};
-ghost use Rattle.noise_handshake.specs.View.{answered, own_at, remote_at, secrets_after};
+ghost use Rattle.noise_handshake.specs.Party.{dh_result_of, own_at, remote_at, psks_after};
 
 use crate::{Keys, Own, Remote};
 use noise_names::{Role, Token};
@@ -17,10 +17,10 @@ use noise_state::SymmetricState;
 
 // What a message is read or written with, but for what changes along its tokens.
 #[derive(Drop)]
-pub(crate) struct Means<'a, K: Keys> {
-    pub(crate) keys: &'a K,
+pub(crate) struct Means<K> {
+    pub(crate) keys: K,
     pub(crate) role: Role,
-    pub(crate) psks: bool,
+    pub(crate) has_psks: bool,
 }
 
 // Which own key a DH token takes.
@@ -45,7 +45,7 @@ fn remote_at(role: Role, known: &Remote, token: Token) -> Option<[u8; 32]>
     }
 }
 
-// Of which own key a DH token asks the answer, and to which remote key, if that is known.
+// Of which own key a DH token asks the DH result, and to which remote key, if that is known.
 pub(crate) fn asked_at(role: Role, known: &Remote, token: Token) -> Option<(Own, [u8; 32])>
     ensures { MatchOption result (remote_at role known.now token ≡ None)
         (λ want. (want.0 ≡ own_at role token) × (remote_at role known.now token ≡ Some want.1)) }
@@ -54,7 +54,7 @@ pub(crate) fn asked_at(role: Role, known: &Remote, token: Token) -> Option<(Own,
     Some((own_at(role, token), key))
 }
 
-// The answer at a DH token.
+// The DH result at a DH token.
 pub(crate) fn answer_at<K: Keys>(
     keys: &K,
     role: Role,
@@ -62,7 +62,7 @@ pub(crate) fn answer_at<K: Keys>(
     token: Token,
 ) -> Option<[u8; 32]>
     requires { IsTrue (remote_known role (is_some known.now.e) (is_some known.now.s) token) }
-    ensures { result ≡ answered (K.agreement keys.now) (own_at role token) (remote_at role known.now token) }
+    ensures { result ≡ dh_result_of (K.agreement keys.now) (own_at role token) (remote_at role known.now token) }
 {
     let own = own_at(role, token);
     match remote_at(role, known, token) {
@@ -72,25 +72,26 @@ pub(crate) fn answer_at<K: Keys>(
 }
 
 // Mixes an ephemeral public key; in a psk pattern it is a key input too.
-pub(crate) fn mix_ephemeral(state: &mut SymmetricState, psks: bool, key: &[u8; 32])
-    ensures mixed { (r : History) → StateStands state.old r → StateStands state.new (with_ephemeral psks r key.now) }
-    ensures keyed { keyed state.new ≡ keyed_after psks (keyed state.old) Token.E }
+pub(crate) fn mix_ephemeral(state: &mut SymmetricState, has_psks: bool, key: &[u8; 32])
+    ensures mixed { (r : History) → StateMatches state.old r
+        → StateMatches state.new (with_ephemeral has_psks r key.now) }
+    ensures keyed { keyed state.new ≡ keyed_after has_psks (keyed state.old) Token.E }
     ensures used { nonce_now state.new ≤ nonce_now state.old }
-    ensures counted { nonce_now state.new ≡ nonce_after psks (keyed state.old) (nonce_now state.old) Token.E }
+    ensures counted { nonce_now state.new ≡ nonce_after has_psks (keyed state.old) (nonce_now state.old) Token.E }
 {
     state.mix_hash(key);
-    if psks {
+    if has_psks {
         state.mix_key(key);
     }
 }
 
-// The secrets still to come after a token.
-pub(crate) fn secrets_after(secrets: &[[u8; 32]], token: Token) -> &[[u8; 32]]
-    requires { token ≡ Token.Psk → 0 < length secrets.now }
-    ensures { result.now ≡ secrets_after secrets.now token }
+// The psks still to come after a token.
+pub(crate) fn psks_after(psks: &[[u8; 32]], token: Token) -> &[[u8; 32]]
+    requires { token ≡ Token.Psk → 0 < length psks.now }
+    ensures { result.now ≡ psks_after psks.now token }
 {
     match token {
-        Token::Psk => &secrets[1..],
-        _ => secrets,
+        Token::Psk => &psks[1..],
+        _ => psks,
     }
 }

@@ -16,7 +16,7 @@ key_of Static e s = s
 abbrev pub xored : List ℕ → List ℕ → List ℕ
 xored xs ys = map (λ pair. bit_xor pair.0 pair.1) (zip xs ys)
 
--- the answer of a key, where there is one
+-- the DH result of a key, where there is one
 abbrev pub xor_answer : Option (List ℕ) → List ℕ → Option (List ℕ)
 xor_answer None remote = None
 xor_answer (Some key) remote = Some (xored key remote)
@@ -28,14 +28,14 @@ xored-comm (x ∷ xs) [] = refl
 xored-comm (x ∷ xs) (y ∷ ys) =
     ap (λ (b : ℕ). b ∷ xored xs ys) (xor_comm x y) ∙ ap (λ (bs : List ℕ). bit_xor y x ∷ bs) (xored-comm xs ys)
 
--- two keys answer one another alike
+-- two keys' DH results are alike
 pub xor_answer-commutes : (k l : Option (List ℕ)) (p q : List ℕ) → k ≡ Some p → l ≡ Some q
     → xor_answer k q ≡ xor_answer l p
 xor_answer-commutes k l p q ek el =
     ap (λ (o : Option (List ℕ)). xor_answer o q) ek ∙ ap Some (xored-comm p q)
     ∙ sym (ap (λ (o : Option (List ℕ)). xor_answer o p) el)
 
--- where both keys have an answer, the two answers are the same
+-- where both keys have a DH result, the two DH results are the same
 pub xor_answer-same : (k l : Option (List ℕ)) (p q r s : List ℕ) → k ≡ Some p → l ≡ Some q
     → xor_answer k q ≡ Some r → xor_answer l p ≡ Some s → r ≡ s
 xor_answer-same k l p q r s ek el er es = same_Some r s (sym er ∙ xor_answer-commutes k l p q ek el ∙ es)

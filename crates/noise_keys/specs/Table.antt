@@ -1,11 +1,11 @@
--- Keys whose answers are in a table.
+-- Keys whose DH results are in a table.
 use Rattle.std.specs.Prelude.{ℕ, Bool, true, false, ◌&&◌, List, Option, find, nat_eq}
 use Rattle.std.specs.Option.{option_map}
 use Rattle.std.specs.Cmp.Lexicographic.{pointwise}
 use Rattle.noise_keys.specs.declared.keys.Own.{Own}
 use Rattle.noise_keys.specs.declared.keys.Own.TheVariants.{Ephemeral, Static}
 
--- the answer of a key pair to a remote public key
+-- the DH result of a key pair to a remote public key
 pub record TableEntry : Type 0 where
   pub own : Own
   pub remote : List ℕ
@@ -27,6 +27,6 @@ same_own Static Static = true
 abbrev pub is_for : Own → List ℕ → TableEntry → Bool
 is_for own remote entry = same_own entry.own own && pointwise nat_eq entry.remote remote
 
--- the answer of the first entry for them, if there is one
+-- the DH result of the first entry for them, if there is one
 abbrev pub answer_in : List TableEntry → Own → List ℕ → Option (List ℕ)
 answer_in entries own remote = option_map (λ entry. entry.answer) (find (is_for own remote) entries)

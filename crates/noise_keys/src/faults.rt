@@ -12,6 +12,6 @@ pub enum SetupFault {
     RemoteMissing,
     /// A key of the other party is given that isn't in its pre-message.
     RemoteUnexpected,
-    /// The number of secrets isn't that of the pattern's `psk` tokens.
+    /// The number of psks isn't that of the pattern's `psk` tokens.
     PskCount,
 }

@@ -1,4 +1,4 @@
-//! The keys of a party, by what they answer (Noise, 4.1).
+//! The keys of a party, by the DH results that they return (Noise, 4.1).
 #![tactic(auto)]
 
 ghost use Rattle.std.specs.Prelude.{◌≡◌, ℕ, List, Option, Some};
@@ -12,21 +12,21 @@ pub enum Own {
     Static,
 }
 
-/// The key pairs of a party. Private keys stay after it: a handshake asks for public keys and for DH answers alone.
+/// The key pairs of a party. Private keys stay after it: a handshake asks for public keys and for DH results alone.
 ///
-/// Both answers are functions of the value: the same call on the same value answers the same.
+/// Both DH results are functions of the value: the same call on the same value returns the same.
 pub trait Keys: Drop {
     /// The public key of each key pair, where there is one.
     ghost public_of: { Self → Own → Option (List ℕ) };
 
-    /// The answer of each key pair to the bytes of a remote public key, where there is one.
+    /// The DH result of each key pair to the bytes of a remote public key, where there is one.
     ghost agreement: { Self → Own → List ℕ → Option (List ℕ) };
 
     /// The public key of a key pair, 32 bytes, or None where the party has no such key pair.
     fn public(&self, own: Own) -> Option<[u8; 32]>
         ensures { result ≡ public_of self.now own };
 
-    /// The result of DH between a key pair and a remote public key, 32 bytes, or None where there is no answer
+    /// The result of DH between a key pair and a remote public key, 32 bytes, or None where there is no DH result
     /// (Noise, 4.1 and 12.1).
     fn agree(&self, own: Own, remote: &[u8; 32]) -> Option<[u8; 32]>
         ensures { result ≡ agreement self.now own remote.now };

@@ -1,4 +1,4 @@
-//! The key pairs of a party, by the public keys and DH answers that they give (Noise, revision 34, sections 3, 4.1 and
+//! The key pairs of a party, by the public keys and DH results that they give (Noise, revision 34, sections 3, 4.1 and
 //! 12.1).
 #![tactic(auto)]
 

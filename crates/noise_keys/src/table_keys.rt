@@ -1,4 +1,4 @@
-//! A toy whose answers are given in advance.
+//! A toy whose DH results are given in advance.
 #![tactic(auto)]
 
 ghost use Rattle.std.specs.Prelude.{◌≡◌, ◌↔◌, ◌==◌, ◌<◌, [], ◌∷◌, ◌++◌, length, IsErr, OnOk, OnErr};
@@ -8,7 +8,7 @@ use arrayvec::ArrayVec;
 use std::marker::Model;
 use thiserror::Error;
 
-// One answer of a table.
+// One DH result of a table.
 #[derive(Clone, Copy, Debug, Default, Drop, PartialEq, Eq)]
 struct Entry {
     own: Own,
@@ -37,11 +37,11 @@ impl Entry {
     }
 }
 
-/// Keys for tests and examples, whose DH answers are in a table. **A toy, not secure at all:** there is no private key
-/// after it, and nothing but its maker sees to it that the answers of two ends are the same.
+/// Keys for tests and examples, whose DH results are in a table. **A toy, not secure at all:** there is no private key
+/// after it, and nothing but its maker sees to it that the DH results of two ends are the same.
 ///
-/// It holds at most 8 entries. The answer of a key pair to a remote public key is that of the first entry for the two;
-/// there is none where there is no such entry, whether or not the table has a public key of that key pair.
+/// It holds at most 8 entries. The DH result of a key pair to a remote public key is that of the first entry for the
+/// two; there is none where there is no such entry, whether or not the table has a public key of that key pair.
 #[derive(Debug, Drop)]
 pub struct TableKeys {
     e: Option<[u8; 32]>,
@@ -74,7 +74,7 @@ impl TableKeys {
         }
     }
 
-    /// Adds an entry after the others: the answer of this key pair to that remote public key.
+    /// Adds an entry after the others: the DH result of this key pair to that remote public key.
     ///
     /// A table with 8 entries is `TableFull`, and stays as it was.
     pub fn add(&mut self, own: Own, remote: [u8; 32], answer: [u8; 32]) -> Result<(), TableFull>

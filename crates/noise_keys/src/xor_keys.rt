@@ -7,10 +7,10 @@ ghost use Rattle.noise_keys.specs.Keys.{xored};
 use crate::{Agreeing, Keys, Own};
 
 /// Keys for tests and examples, whose DH is the xor of bytes. **A toy, not secure at all:** the bytes that it stores
-/// are sent as the public key, and whoever reads them has every answer.
+/// are sent as the public key, and whoever reads them has every DH result.
 ///
-/// The public key of a key pair is the stored bytes, and the answer to a remote public key is the xor of the two, byte
-/// by byte. There is no answer only where there is no such key pair.
+/// The public key of a key pair is the stored bytes, and the DH result to a remote public key is the xor of the two,
+/// byte by byte. There is no DH result only where there is no such key pair.
 #[derive(Clone, Copy, Debug, Drop, PartialEq, Eq)]
 pub struct XorKeys {
     pub e: Option<[u8; 32]>,

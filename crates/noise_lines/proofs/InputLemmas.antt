@@ -4,11 +4,11 @@ use Rattle.std.specs.Prelude.{IfSome}
 use Rattle.std.specs.Io.KnownBytes.{Consumes, IsAtEnd, Keeps}
 use Rattle.std.proofs.lemmas.List.{length-append}
 
-pub kept-consumes : (a b c : Option (List ℕ)) (bs : List ℕ) → Keeps a b → Consumes b c bs → Consumes a c bs
-kept-consumes None b c bs p q = tt
-kept-consumes (Some x) None c bs p q = absurd p
-kept-consumes (Some x) (Some y) None bs p q = absurd q
-kept-consumes (Some x) (Some y) (Some z) bs p q = sym p ∙ q
+pub unchanged-consumes : (a b c : Option (List ℕ)) (bs : List ℕ) → Keeps a b → Consumes b c bs → Consumes a c bs
+unchanged-consumes None b c bs p q = tt
+unchanged-consumes (Some x) None c bs p q = absurd p
+unchanged-consumes (Some x) (Some y) None bs p q = absurd q
+unchanged-consumes (Some x) (Some y) (Some z) bs p q = sym p ∙ q
 
 -- where a read gives nothing and nothing is left, what was read before is all
 pub all-read : (known left after : Option (List ℕ)) (text piece : List ℕ) (count : ℕ) → count ≡ 0 → Consumes known left text

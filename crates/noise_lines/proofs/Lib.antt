@@ -3,4 +3,4 @@ pub mod InputLemmas
 pub mod OutputLemmas
 pub mod PrefixLemmas
 pub mod PrintedWordLemmas
-pub mod WovenLemmas
+pub mod TracedLinesLemmas

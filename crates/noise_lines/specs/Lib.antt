@@ -6,6 +6,6 @@ pub mod Output
 pub mod Prefixes
 pub mod PrintedWords
 pub mod Shown
-pub mod Told
+pub mod Reported
 pub mod Verdicts
-pub mod Woven
+pub mod TracedLines

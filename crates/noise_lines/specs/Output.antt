@@ -1,4 +1,4 @@
--- What the commands `list`, `show` and `check` print, and which faults they tell.
+-- What the commands `list`, `show` and `check` print, and which faults they report.
 use Rattle.std.specs.Prelude.{ℕ, List, ◌∷◌, ◌++◌, ⊤, codes, decimal, flat_map, length}
 use Rattle.std.specs.List.{range_with_len}
 use Rattle.noise_names.specs.Plan.{Plan}

@@ -7,5 +7,5 @@ use Rattle.noise_vectors.specs.HexWord.{hex_of}
 abbrev pub shown_byte : ℕ → List ℕ
 shown_byte b = if is_printed_byte b then b ∷ [] else (92 ∷ 120 ∷ hex_of (b ∷ []))
 
-abbrev pub shown : List ℕ → List ℕ
-shown bytes = flat_map shown_byte bytes
+abbrev pub shown_text : List ℕ → List ℕ
+shown_text bytes = flat_map shown_byte bytes

@@ -3,8 +3,8 @@ use Rattle.std.specs.Prelude.{◌≡◌, ◌≢◌, ◌⊎◌, ◌-◌, ℕ, Boo
 use Rattle.std.specs.Global.{Global}
 use Rattle.noise_names.specs.Text.{line}
 use Rattle.noise_vectors.specs.Expectations.{IsFirstUnmet}
-use Rattle.noise_lines.specs.Shown.{shown}
-use Rattle.noise_lines.specs.Told.{fault_line}
+use Rattle.noise_lines.specs.Shown.{shown_text}
+use Rattle.noise_lines.specs.Reported.{fault_line}
 use Rattle.noise_lines.specs.declared.faults.Fault.{Fault}
 use Rattle.noise_lines.specs.declared.faults.Fault.TheVariants.{Unmet}
 use Rattle.noise_lines.specs.declared.verdict.Verdict.{Verdict}
@@ -27,9 +27,9 @@ IsJudged lines expected NamedTwice = ⊥
 abbrev pub IsMet : List (List ℕ) → List (List ℕ) → Type 0
 IsMet expected lines = (expected ≡ []) ⊎ (lines ≡ expected)
 
--- lines are expected, and this tells the first one that the run's differ in
-abbrev pub TellsUnmet : List (List ℕ) → List (List ℕ) → Fault → Type 0
-TellsUnmet expected lines fault =
+-- lines are expected, and this reports the first one that the run's differ in
+abbrev pub ReportsUnmet : List (List ℕ) → List (List ℕ) → Fault → Type 0
+ReportsUnmet expected lines fault =
     (number : ℕ) × (fault ≡ Unmet number) × (expected ≢ []) × IsFirstUnmet lines expected number
 
 abbrev pub is_met : Verdict → Bool
@@ -38,7 +38,7 @@ is_met _ = false
 
 -- a line of a word, the name of a file, and the rest
 abbrev pub named_line : List ℕ → List ℕ → List ℕ → List ℕ
-named_line word name rest = line (word ++ 32 ∷ (shown name ++ rest))
+named_line word name rest = line (word ++ 32 ∷ (shown_text name ++ rest))
 
 -- the line of what is wrong with a file
 abbrev pub named_fault : List ℕ → List ℕ → List ℕ

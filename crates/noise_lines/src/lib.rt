@@ -4,6 +4,7 @@
 
 mod checking;
 mod converting;
+mod fault_report;
 mod faults;
 mod input;
 mod line;
@@ -13,12 +14,13 @@ mod output;
 mod overheads;
 mod showing;
 mod shown;
-mod telling;
+mod traced_lines;
+mod valid;
 mod verdict;
-mod woven;
 
 pub use checking::check;
 pub use converting::convert;
+pub use fault_report::{fault_line, report_fault};
 pub use faults::Fault;
 pub use input::read_file;
 pub use line::{Line, role_word, token_word};
@@ -27,6 +29,6 @@ pub use named::named_pattern;
 pub use output::{flush, write, write_lines};
 pub use showing::show;
 pub use shown::push_shown;
-pub use telling::{fault_line, tell};
+pub use traced_lines::{write_traced, write_traced_to};
+pub use valid::{named_valid_pattern, spelled_valid_pattern};
 pub use verdict::{Difference, Verdict, compare, judge, named_fault, verdict_lines};
-pub use woven::{write_traced, write_traced_to};

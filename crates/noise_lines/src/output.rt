@@ -47,7 +47,7 @@ fn write_some<O: Write>(text: &[u8], out: &mut O) -> Result<usize, Fault>
 
 /// Writes what a buffer in front of the output holds back.
 pub fn flush<O: Write>(out: &mut O) -> Result<(), Fault>
-    ensures kept { Keeps (O.contents out.old) (O.contents out.new) }
+    ensures unchanged { Keeps (O.contents out.old) (O.contents out.new) }
     ensures fault { IfErr result (λ fault. fault ≡ Unwritable) }
 {
     match out.flush() {

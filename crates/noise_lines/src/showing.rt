@@ -5,9 +5,8 @@ ghost use Rattle.noise_names.specs.Plan.{Plan};
 ghost use Rattle.noise_lines.specs.Output.{IsShowFault, NamesPattern, show_text};
 
 use crate::faults::Fault;
-use crate::named::named_pattern;
 use crate::overheads::push_overheads;
-use noise_names::{ProtocolName, ValidPattern};
+use crate::valid::named_valid_pattern;
 use std::alloc::Global;
 
 /// The text of the pattern that has this protocol name, and after it the overhead of each message. The faults are
@@ -17,18 +16,9 @@ pub fn show(alloc: Global, name: &[u8]) -> Result<Vec<u8>, Fault>
     ensures shown { IfOk result (λ text. (p : Plan) × NamesPattern name.now p × (text.items ≡ show_text p)) }
     ensures fault { IfErr result (λ fault. IsShowFault name.now fault) }
 {
-    let valid = valid_pattern(name)?;
+    let valid = named_valid_pattern(name)?;
     let mut text = Vec::new(alloc);
     valid.pattern().write_text(&mut text)?;
     push_overheads(alloc, &valid, &mut text)?;
     Ok(text)
-}
-
-// The pattern that has this protocol name.
-fn valid_pattern(name: &[u8]) -> Result<ValidPattern, Fault>
-    ensures named { IfOk result (λ pattern. NamesPattern name.now pattern) }
-    ensures fault { IfErr result (λ fault. IsShowFault name.now fault) }
-{
-    let name = ProtocolName::parse(name).map_err(Fault::Name)?;
-    named_pattern(&name)?.check().map_err(Fault::Rule)
 }

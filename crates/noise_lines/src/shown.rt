@@ -2,14 +2,14 @@
 
 ghost use Rattle.std.specs.Prelude.{◌≡◌, ◌++◌, OnOk};
 ghost use Rattle.noise_lines.specs.PrintedWords.{is_printed_byte};
-ghost use Rattle.noise_lines.specs.Shown.{shown, shown_byte};
+ghost use Rattle.noise_lines.specs.Shown.{shown_text, shown_byte};
 
 use noise_vectors::hex_word;
 use std::alloc::AllocError;
 
 /// Appends these bytes as they are shown: printed ASCII as it is, and any other byte as `\x` and two hex digits.
 pub fn push_shown(bytes: &[u8], text: &mut Vec<u8>) -> Result<(), AllocError>
-    ensures { OnOk result (text.new.items ≡ text.old.items ++ shown bytes.now) }
+    ensures { OnOk result (text.new.items ≡ text.old.items ++ shown_text bytes.now) }
 {
     for byte in bytes {
         push_byte(*byte, text)?;

@@ -3,11 +3,11 @@
 ghost use Rattle.std.specs.Prelude.{◌≡◌, ◌<◌, ◌++◌, IfErr, IfOk, OnOk, slice_get};
 ghost use Rattle.noise_vectors.specs.Expectations.{bytes_of};
 ghost use Rattle.noise_lines.specs.declared.verdict.Verdict.TheVariants.{Differs};
-ghost use Rattle.noise_lines.specs.Verdicts.{IsJudged, IsMet, TellsUnmet, bytes_in, is_met, named_fault, named_line, shown_line, verdict_text};
+ghost use Rattle.noise_lines.specs.Verdicts.{IsJudged, IsMet, ReportsUnmet, bytes_in, is_met, named_fault, named_line, shown_line, verdict_text};
 
+use crate::fault_report::fault_line;
 use crate::faults::Fault;
 use crate::shown::push_shown;
-use crate::telling::fault_line;
 use noise_vectors::first_unmet;
 use std::alloc::{AllocError, Global};
 
@@ -73,11 +73,11 @@ pub fn judge(lines: &[Vec<u8>], expected: &[Vec<u8>]) -> Result<Verdict, AllocEr
     }
 }
 
-/// Whether the lines of a run are those that its file expects, where it expects any. The fault tells the number of the
-/// first line that differs.
+/// Whether the lines of a run are those that its file expects, where it expects any. The fault reports the number of
+/// the first line that differs.
 pub fn compare(lines: &[Vec<u8>], expected: &[Vec<u8>]) -> Result<(), Fault>
     ensures met { OnOk result (IsMet (bytes_of expected.now) (bytes_of lines.now)) }
-    ensures unmet { IfErr result (TellsUnmet (bytes_of expected.now) (bytes_of lines.now)) }
+    ensures unmet { IfErr result (ReportsUnmet (bytes_of expected.now) (bytes_of lines.now)) }
 {
     if expected.is_empty() {
         return Ok(());

@@ -66,8 +66,8 @@ some_first broken earlier (q ∷ later) fault e = at (some_first broken (earlier
       → broken earlier q ≡ rules → fault_or rules q (first_fault_by broken (earlier ++ q ∷ []) later) ≡ Some fault
       → FirstBroken broken earlier (q ∷ later) fault
   at deeper (r ∷ rs) b h =
-      let told : RuleFault = record { rule = r; message = q.message; token = q.token } in
-      let same : told ≡ fault = cc in
+      let reported : RuleFault = record { rule = r; message = q.message; token = q.token } in
+      let same : reported ≡ fault = cc in
       record {
         front = [];
         at = q;
@@ -152,7 +152,7 @@ by_step earlier Responder payload message token = refl
 by_step earlier Initiator transport message token = refl
 by_step earlier Responder transport message token = refl
 
--- what is kept tells the broken rules
+-- what is kept reports the broken rules
 pub rules_by-seen_of : (earlier : List Place) (p : Place) → rules_by (seen_of earlier) p.party p.step ≡ broken_rules earlier p
 rules_by-seen_of earlier p = by_step earlier p.party p.step p.message p.token
 

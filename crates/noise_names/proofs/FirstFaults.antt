@@ -11,7 +11,7 @@ use Rattle.noise_names.specs.declared.faults.TextFaultKind.TheVariants as kinds
 use Rattle.noise_names.specs.declared.token.Role.{Role}
 use Rattle.noise_names.specs.declared.token.Role.TheVariants.{Initiator, Responder}
 use Rattle.noise_names.specs.declared.token.Token.{Token}
-use Rattle.noise_names.specs.Judging.{IsFirstLine, IsNextOf, IsWrong, Passed, Stands, passed_lines}
+use Rattle.noise_names.specs.Judging.{IsFirstLine, IsNextOf, IsWrong, Passed, Matches, passed_lines}
 use Rattle.noise_names.specs.Names.{Section, IsSection, section_bytes}
 use Rattle.noise_names.specs.Text.{line, message_lines, pre_line, pre_lines, words}
 use Rattle.noise_names.specs.WrongText.{BeginsRight, IsAfter, IsLike, IsTextFault, IsTextFaultAt, IsWrongLine}
@@ -57,17 +57,22 @@ like-lines places lines body dotted s x d e = record {
   pre_messages = subst (λ (b : Bool). pre_lines x.p.initiator x.p.responder ≢ [] ↔ IsTrue b) (d ∙ ap has_dots e) x.pre_messages;
 }
 
-abbrev begins-right : (s : Section) (lines rest : List ℕ) (number : ℕ) (j : Judged) → IsSection s → (r : AreRight s.places lines rest number j)
-    → IsExtended s.places (has_dots lines) r.passed → BeginsRight (text_with s lines) (passed_lines r.passed) rest
-begins-right s lines rest number j h r x = record {
+abbrev begins-so : (s : Section) (lines rest : List ℕ) (number : ℕ) (j : Judged) (passed : Passed) → IsSection s → (r : AreRight s.places lines rest number j)
+    → (x : IsExtended s.places (has_dots lines) passed) → (more : List ℕ) × (body_of x.p ≡ passed_lines r.passed ++ more)
+    → BeginsRight (text_with s lines) (passed_lines r.passed) rest
+begins-so s lines rest number j passed h r x begun = record {
   heading = s;
   is_section = h;
   text_is = ap (λ (y : List ℕ). line (heading_of s) ++ y) r.lines_are;
   ended = r.ended;
   p = x.p;
-  like = like-lines s.places lines (passed_lines r.passed ++ rest) (has_dots lines) r.passed x refl r.lines_are;
-  begun = x.begun;
+  like = like-lines s.places lines (passed_lines r.passed ++ rest) (has_dots lines) passed x refl r.lines_are;
+  begun = begun;
 }
+
+abbrev begins-right : (s : Section) (lines rest : List ℕ) (number : ℕ) (j : Judged) → IsSection s → (r : AreRight s.places lines rest number j)
+    → IsExtended s.places (has_dots lines) r.passed → BeginsRight (text_with s lines) (passed_lines r.passed) rest
+begins-right s lines rest number j h r x = begins-so s lines rest number j r.passed h r x x.begun
 
 at-message : (places : List ℕ) (dotted : Bool) (s : Passed) (x : IsExtended places dotted s) → s.ahead ≡ false → IsAfter x.p s.messages (passed_lines s)
 at-message places dotted s x h =
@@ -132,15 +137,7 @@ cut-in-line s lines rest bytes number j next h r some is cut n =
     inr (record {
       front = passed_lines r.passed;
       left = rest;
-      it = record {
-        heading = s;
-        is_section = h;
-        text_is = ap (λ (y : List ℕ). line (heading_of s) ++ y) r.lines_are;
-        ended = r.ended;
-        p = x.p;
-        like = like-lines s.places lines (passed_lines r.passed ++ rest) (has_dots lines) n.passed x refl r.lines_are;
-        begun = (line bytes ++ more, begun);
-      };
+      it = begins-so s lines rest number j n.passed h r x (line bytes ++ more, begun);
       last = cut ∙ is;
       counted = r.counted;
       next = inl (more, some, begun ∙ ap (λ (y : List ℕ). passed_lines r.passed ++ (line y ++ more)) (sym cut));
@@ -198,11 +195,11 @@ no-message s lines number j h r x none =
       );
     })
 
-within-count : (j : Judged) (s : Passed) (places : List ℕ) (b : Bool) → Stands j s → list_all (λ n. leb n j.messages) places ≡ b
+within-count : (j : Judged) (s : Passed) (places : List ℕ) (b : Bool) → Matches j s → list_all (λ n. leb n j.messages) places ≡ b
     → list_all (λ n. leb n (length s.messages)) places ≡ b
 within-count j s places b st h = ap (λ (k : ℕ). list_all (λ n. leb n k) places) (sym st.messages) ∙ h
 
-some-messages : (j : Judged) (s : Passed) → Stands j s → j.messages ≢ 0 → s.messages ≢ []
+some-messages : (j : Judged) (s : Passed) → Matches j s → j.messages ≢ 0 → s.messages ≢ []
 some-messages j s st some e = some (st.messages ∙ ap length e)
 
 place-beyond : (s : Section) (lines : List ℕ) (number : ℕ) (j : Judged) → IsSection s → (r : AreRight s.places lines [] number j)
@@ -383,6 +380,6 @@ wrong-heading text name after fault every some no_feed e =
 
 pub after-heading : (text : List ℕ) (name : Section) (after lines : List ℕ) (fault : TextFault) → text ≡ heading_of name ++ after
     → after ≡ codes "\n" ++ lines → IsTextFault (text_with name lines) fault → IsTextFault text fault
-after-heading text name after lines fault e f told =
+after-heading text name after lines fault e f reported =
     subst (λ (y : List ℕ). IsTextFault y fault)
-    (append_assoc (heading_of name) (10 ∷ []) lines ∙ ap (λ (y : List ℕ). heading_of name ++ y) (sym f) ∙ sym e) told
+    (append_assoc (heading_of name) (10 ∷ []) lines ∙ ap (λ (y : List ℕ). heading_of name ++ y) (sym f) ∙ sym e) reported

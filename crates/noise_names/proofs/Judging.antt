@@ -10,7 +10,7 @@ use Rattle.noise_names.specs.declared.faults.TextFaultKind.TheVariants as kinds
 use Rattle.noise_names.specs.declared.token.Role.{Role}
 use Rattle.noise_names.specs.declared.token.Role.TheVariants.{Initiator, Responder}
 use Rattle.noise_names.specs.declared.token.Token.{Token}
-use Rattle.noise_names.specs.Judging.{IsNextOf, IsPassed, IsWrong, Passed, Stands, is_some, passed_lines}
+use Rattle.noise_names.specs.Judging.{IsNextOf, IsPassed, IsWrong, Passed, Matches, is_some, passed_lines}
 use Rattle.noise_names.specs.Limits.{has_few_tokens, is_pre_message, with_psk_tokens}
 use Rattle.noise_names.specs.Text.{line, message_lines, pre_line, pre_lines, token_line, words}
 use Rattle.noise_names.specs.Tokens.{other, own_tokens, turn_from}
@@ -81,7 +81,7 @@ judged ahead initiator responder messages = record { dots_ahead = ahead; initiat
 
 -- the line that ends the pre-messages
 pub next-dots : (places : List ℕ) (s : Passed) (dotted : Bool) (j : Judged) → j.dots_ahead ≡ true → (j.initiator ≡ true) ⊎ (j.responder ≡ true)
-    → Stands j s → IsPassed places dotted s → IsNextOf places dotted s dots (judged false j.initiator j.responder j.messages)
+    → Matches j s → IsPassed places dotted s → IsNextOf places dotted s dots (judged false j.initiator j.responder j.messages)
 next-dots places s dotted j ahead begun st p =
     let is_ahead : s.ahead ≡ true = sym st.ahead ∙ ahead in
     let some : (s.initiator ≢ []) ⊎ (s.responder ≢ []) = elim begun [
@@ -108,7 +108,7 @@ next-dots places s dotted j ahead begun st p =
 -- a pre-message of the initiator
 pub next-first : (places : List ℕ) (s : Passed) (dotted : Bool) (tokens : List Token) (j : Judged) → j.dots_ahead ≡ true
     → (j.initiator ≡ true → ⊥) → (j.responder ≡ true → ⊥) → tokens ≢ [] → is_pre_message tokens ≡ true
-    → Stands j s → IsPassed places dotted s → IsNextOf places dotted s (arrow_then Initiator (words tokens)) (judged j.dots_ahead true j.responder j.messages)
+    → Matches j s → IsPassed places dotted s → IsNextOf places dotted s (arrow_then Initiator (words tokens)) (judged j.dots_ahead true j.responder j.messages)
 next-first places s dotted tokens j ahead no_first no_second some pre st p =
     let is_ahead : s.ahead ≡ true = sym st.ahead ∙ ahead in
     let first : s.initiator ≡ [] = none-is s.initiator (sym st.initiator ∙ false_from_ne_true j.initiator no_first) in
@@ -136,7 +136,7 @@ next-first places s dotted tokens j ahead no_first no_second some pre st p =
 -- a pre-message of the responder
 pub next-second : (places : List ℕ) (s : Passed) (dotted : Bool) (tokens : List Token) (j : Judged) → j.dots_ahead ≡ true → (j.responder ≡ true → ⊥)
     → tokens ≢ [] → is_pre_message tokens ≡ true
-    → Stands j s → IsPassed places dotted s → IsNextOf places dotted s (arrow_then Responder (words tokens)) (judged j.dots_ahead j.initiator true j.messages)
+    → Matches j s → IsPassed places dotted s → IsNextOf places dotted s (arrow_then Responder (words tokens)) (judged j.dots_ahead j.initiator true j.messages)
 next-second places s dotted tokens j ahead no_second some pre st p =
     let is_ahead : s.ahead ≡ true = sym st.ahead ∙ ahead in
     let second : s.responder ≡ [] = none-is s.responder (sym st.responder ∙ false_from_ne_true j.responder no_second) in
@@ -162,7 +162,7 @@ next-second places s dotted tokens j ahead no_second some pre st p =
 -- a message
 pub next-message : (places : List ℕ) (s : Passed) (dotted : Bool) (tokens : List Token) (role : Role) (j : Judged) → j.dots_ahead ≡ false
     → role ≡ turn_from Initiator j.messages → j.messages < 8 → tokens ≢ [] → has_few_tokens tokens ≡ true
-    → tokens ≡ with_psk_tokens places (j.messages + 1) (own_tokens tokens) → Stands j s → IsPassed places dotted s
+    → tokens ≡ with_psk_tokens places (j.messages + 1) (own_tokens tokens) → Matches j s → IsPassed places dotted s
     → IsNextOf places dotted s (arrow_then role (words tokens)) (judged j.dots_ahead j.initiator j.responder (j.messages + 1))
 next-message places s dotted tokens role j ahead turn less some few psks st p =
     let is_behind : s.ahead ≡ false = sym st.ahead ∙ ahead in
@@ -202,7 +202,7 @@ next-of-role places dotted s tokens j party role e n = subst (λ (r : Role). IsN
 -- a message with other psk tokens
 pub wrong-psks : (places : List ℕ) (s : Passed) (tokens : List Token) (role : Role) (j : Judged) → j.dots_ahead ≡ false
     → role ≡ turn_from Initiator j.messages → j.messages < 8 → tokens ≢ [] → has_few_tokens tokens ≡ true
-    → tokens ≢ with_psk_tokens places (j.messages + 1) (own_tokens tokens) → Stands j s → IsWrong places s (arrow_then role (words tokens)) kinds.PskPlace
+    → tokens ≢ with_psk_tokens places (j.messages + 1) (own_tokens tokens) → Matches j s → IsWrong places s (arrow_then role (words tokens)) kinds.PskPlace
 wrong-psks places s tokens role j ahead turn less some few psks st =
     let same : j.messages ≡ length s.messages = st.messages in (
       sym st.ahead ∙ ahead,
@@ -232,7 +232,7 @@ judged-line places dotted s r a b e h =
 -- ---- the lines after the heading, of which some were judged right
 pub record AreRight (places lines rest : List ℕ) (number : ℕ) (j : Judged) : Type 0 where
   pub passed : Passed
-  pub stands : Stands j passed
+  pub stands : Matches j passed
   pub are : IsPassed places (has_dots lines) passed
   pub lines_are : lines ≡ passed_lines passed ++ rest
   pub counted : number ≡ line_feeds (passed_lines passed) + 2

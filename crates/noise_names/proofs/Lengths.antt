@@ -29,7 +29,7 @@ key_by-seen_of plan earlier =
     ap (λ (b : Bool). occurs Ee earlier || occurs Es earlier || occurs Se earlier || occurs Ss earlier || occurs Psk earlier || (has_psk plan && b))
     (sym (occurs-e earlier))
 
--- what is kept tells what a place adds
+-- what is kept reports what a place adds
 pub added_by-seen_of : (plan : Plan) (earlier : List Place) (step : Step) → added_by (seen_of earlier) (has_psk plan) step ≡ added_len plan earlier step
 added_by-seen_of plan earlier (does E) = refl
 added_by-seen_of plan earlier (does S) = ap (λ (b : Bool). 32 + cond b 16 0) (key_by-seen_of plan earlier)

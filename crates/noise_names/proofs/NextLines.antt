@@ -63,32 +63,32 @@ next_pre (t ∷ ts) (x ∷ r) (u ∷ us) [] rest more row pj ps some e = absurd 
 next_pre (t ∷ ts) (x ∷ r) (u ∷ us) (v ∷ vs) rest more row pj ps some e = inl (cc, λ f g. cc)
 
 -- the next line of a right text after right lines
-pub record IsNextLine (s : Passed) (q : Plan) (told : List ℕ) : Type 0 where
+pub record IsNextLine (s : Passed) (q : Plan) (reported : List ℕ) : Type 0 where
   pub row : Row
   pub right : is_row row ≡ true
-  pub told_is : told ≡ content row
+  pub reported_is : reported ≡ content row
   pub message : s.ahead ≡ false → IsNextMessage Initiator s.messages q.messages row
   pub pre_message : s.ahead ≡ true → IsNextPre s.initiator s.responder row
 
 -- a right text begins with these lines
-pub record IsBegun (places : List ℕ) (dotted : Bool) (s : Passed) (told rest : List ℕ) (q : Plan) : Type 0 where
+pub record IsBegun (places : List ℕ) (dotted : Bool) (s : Passed) (reported rest : List ℕ) (q : Plan) : Type 0 where
   pub passed : IsPassed places dotted s
-  pub feedless : no_feed told ≡ true
+  pub feedless : no_feed reported ≡ true
   pub right : IsPattern q
   pub places_are : q.places ≡ places
   pub form : pre_lines q.initiator q.responder ≢ [] ↔ IsTrue dotted
-  pub begins : body_of q ≡ passed_lines s ++ (line told ++ rest)
+  pub begins : body_of q ≡ passed_lines s ++ (line reported ++ rest)
 
-at_messages : (places : List ℕ) (dotted : Bool) (s : Passed) (told rest : List ℕ) (q : Plan) → IsBegun places dotted s told rest q → s.ahead ≡ false
-    → IsNextLine s q told
-at_messages places dotted s told rest q b none_ahead =
+at_messages : (places : List ℕ) (dotted : Bool) (s : Passed) (reported rest : List ℕ) (q : Plan) → IsBegun places dotted s reported rest q → s.ahead ≡ false
+    → IsNextLine s q reported
+at_messages places dotted s reported rest q b none_ahead =
     let before : List Row = all_rows s.initiator s.responder s.messages in
     let rows : List Row = all_rows q.initiator q.responder q.messages in
     let lines : passed_lines s ≡ lines_of before = rw none_ahead (sym (all_lines s.initiator s.responder s.messages)) in
-    let begun : lines_of rows ≡ lines_of before ++ (line told ++ rest) =
-    all_lines q.initiator q.responder q.messages ∙ b.begins ∙ ap (λ (text : List ℕ). text ++ (line told ++ rest)) lines in
-    let next : IsNextRow told before rows =
-    next_row told rest b.feedless before rows (all_right s.initiator s.responder s.messages b.passed.sizes)
+    let begun : lines_of rows ≡ lines_of before ++ (line reported ++ rest) =
+    all_lines q.initiator q.responder q.messages ∙ b.begins ∙ ap (λ (text : List ℕ). text ++ (line reported ++ rest)) lines in
+    let next : IsNextRow reported before rows =
+    next_row reported rest b.feedless before rows (all_right s.initiator s.responder s.messages b.passed.sizes)
     (all_right q.initiator q.responder q.messages b.right.sizes) begun in
     let there : pre_lines s.initiator s.responder ≢ [] → pre_lines q.initiator q.responder ≢ [] = λ f. b.form.1 (b.passed.form.1 (inr f)) in
     let back : pre_lines q.initiator q.responder ≢ [] → pre_lines s.initiator s.responder ≢ [] = λ f. not_ahead (b.passed.form.0 (b.form.0 f)) in
@@ -98,7 +98,7 @@ at_messages places dotted s told rest q b none_ahead =
     record {
       row = next.row;
       right = next.right;
-      told_is = next.told_is;
+      reported_is = next.reported_is;
       message = λ f. next_message Initiator s.messages q.messages next.row next.more messages;
       pre_message = λ f. absurd (let bad : false ≡ true = sym none_ahead ∙ f in cc);
     }
@@ -107,27 +107,27 @@ at_messages places dotted s told rest q b none_ahead =
     not_ahead (inl f) = absurd (let bad : false ≡ true = sym none_ahead ∙ f in cc)
     not_ahead (inr f) = f
 
-at_pre_messages : (places : List ℕ) (dotted : Bool) (s : Passed) (told rest : List ℕ) (q : Plan) → IsBegun places dotted s told rest q → s.ahead ≡ true
-    → IsNextLine s q told
-at_pre_messages places dotted s told rest q b ahead =
+at_pre_messages : (places : List ℕ) (dotted : Bool) (s : Passed) (reported rest : List ℕ) (q : Plan) → IsBegun places dotted s reported rest q → s.ahead ≡ true
+    → IsNextLine s q reported
+at_pre_messages places dotted s reported rest q b ahead =
     let before : List Row = first_rows s.initiator s.responder in
     let rows : List Row = all_rows q.initiator q.responder q.messages in
     let lines : passed_lines s ≡ lines_of before = rw ahead (sym (first_lines s.initiator s.responder)) in
-    let begun : lines_of rows ≡ lines_of before ++ (line told ++ rest) =
-    all_lines q.initiator q.responder q.messages ∙ b.begins ∙ ap (λ (text : List ℕ). text ++ (line told ++ rest)) lines in
-    let next : IsNextRow told before rows =
-    next_row told rest b.feedless before rows (first_right s.initiator s.responder) (all_right q.initiator q.responder q.messages b.right.sizes) begun in
+    let begun : lines_of rows ≡ lines_of before ++ (line reported ++ rest) =
+    all_lines q.initiator q.responder q.messages ∙ b.begins ∙ ap (λ (text : List ℕ). text ++ (line reported ++ rest)) lines in
+    let next : IsNextRow reported before rows =
+    next_row reported rest b.feedless before rows (first_right s.initiator s.responder) (all_right q.initiator q.responder q.messages b.right.sizes) begun in
     record {
       row = next.row;
       right = next.right;
-      told_is = next.told_is;
+      reported_is = next.reported_is;
       message = λ f. absurd (let bad : false ≡ true = sym f ∙ ahead in cc);
       pre_message = λ f. next_pre s.initiator s.responder q.initiator q.responder (message_rows Initiator q.messages) next.more next.row b.right.initiator
           b.right.responder (b.form.1 (b.passed.form.1 (inl ahead))) next.rows_are;
     }
 
-pub next_line : (places : List ℕ) (dotted : Bool) (s : Passed) (told rest : List ℕ) (q : Plan) → IsBegun places dotted s told rest q → IsNextLine s q told
-next_line places dotted s told rest q b = at s.ahead refl where
-  at : (ahead : Bool) → s.ahead ≡ ahead → IsNextLine s q told
-  at true h = at_pre_messages places dotted s told rest q b h
-  at false h = at_messages places dotted s told rest q b h
+pub next_line : (places : List ℕ) (dotted : Bool) (s : Passed) (reported rest : List ℕ) (q : Plan) → IsBegun places dotted s reported rest q → IsNextLine s q reported
+next_line places dotted s reported rest q b = at s.ahead refl where
+  at : (ahead : Bool) → s.ahead ≡ ahead → IsNextLine s q reported
+  at true h = at_pre_messages places dotted s reported rest q b h
+  at false h = at_messages places dotted s reported rest q b h

@@ -7,7 +7,7 @@ use Rattle.std.proofs.lemmas.Bool.Decides.{nat_tests}
 use Rattle.noise_names.specs.declared.token.Token.{Token}
 use Rattle.noise_names.specs.declared.token.Token.TheVariants.{Psk}
 use Rattle.noise_names.specs.Tokens.{is_psk, own_tokens}
-use Rattle.noise_names.specs.Plan.{Plan, plain_of, has_psk}
+use Rattle.noise_names.specs.Plan.{Plan, plan_of, plain_of, has_psk}
 use Rattle.noise_names.specs.Names.{are_places}
 use Rattle.noise_names.specs.Fundamental.{fundamental_of}
 use Rattle.noise_names.specs.Limits.{psk_if, with_psk_tokens, with_psks_from, HavePsksAt, HavePsks, Placed, has_few_tokens, IsPattern}
@@ -166,20 +166,8 @@ one_message messages h = leb-true 1 (length messages) (and_parts (leb 1 (length 
 
 pub plain_of-with : (plain : Plan) (places : List ℕ) → has_psk plain ≡ false → IsPattern plain → plain_of (with_psks plain places) ≡ plain
 plain_of-with plain places none limits =
-    ap (λ (ms : List (List Token)). let p : Plan = record {
-      base = plain.base;
-      places = [];
-      initiator = plain.initiator;
-      responder = plain.responder;
-      messages = ms;
-    } in p) (own_of_psks places 1 plain.messages none)
-    ∙ ap (λ (ns : List ℕ). let p : Plan = record {
-      base = plain.base;
-      places = ns;
-      initiator = plain.initiator;
-      responder = plain.responder;
-      messages = plain.messages;
-    } in p) (sym (plain_places plain.places plain.messages none limits.psks (one_message plain.messages limits.count)))
+    ap (λ (ms : List (List Token)). plan_of plain.base [] plain.initiator plain.responder ms) (own_of_psks places 1 plain.messages none)
+    ∙ ap (λ (ns : List ℕ). plan_of plain.base ns plain.initiator plain.responder plain.messages) (sym (plain_places plain.places plain.messages none limits.psks (one_message plain.messages limits.count)))
 
 pub psks_placed : (plain : Plan) (places : List ℕ) → has_psk plain ≡ false → IsPattern plain → find (λ n. ltb (length plain.messages) n) places ≡ None
     → Placed plain places (with_psks plain places)
@@ -197,13 +185,7 @@ pub psks_pattern : (plain : Plan) (places : List ℕ) → has_psk plain ≡ fals
 psks_pattern plain places none limits rising range =
     let placed : Placed plain places (with_psks plain places) = psks_placed plain places none limits range in
     let same : plain_of plain ≡ plain_of (with_psks plain places) =
-    ap (λ (ms : List (List Token)). let p : Plan = record {
-      base = plain.base;
-      places = [];
-      initiator = plain.initiator;
-      responder = plain.responder;
-      messages = ms;
-    } in p) (own_of_plain plain.messages none ∙ sym (own_of_psks places 1 plain.messages none)) in
+    ap (λ (ms : List (List Token)). plan_of plain.base [] plain.initiator plain.responder ms) (own_of_plain plain.messages none ∙ sym (own_of_psks places 1 plain.messages none)) in
     record {
       base = limits.base;
       places = rising;

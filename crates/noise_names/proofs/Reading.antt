@@ -9,7 +9,7 @@ use Rattle.std.proofs.lemmas.Slice.Eq.{strip_prefix_is}
 use Rattle.std.proofs.lemmas.List.{length-map}
 use Rattle.std.proofs.lemmas.List.Folds.{list_any-append, list_all-append}
 use Rattle.noise_names.specs.declared.faults.NameFault.{NameFault}
-use Rattle.noise_names.specs.Plan.{Plan, plain_of, has_psk}
+use Rattle.noise_names.specs.Plan.{Plan, plan_of, plain_of, has_psk}
 use Rattle.noise_names.specs.Names.{is_section_byte, Section, IsSection, section_bytes, is_base}
 use Rattle.noise_names.specs.Sections.{section_read}
 use Rattle.noise_names.specs.Fundamental.{fundamental_of, fundamentals}
@@ -321,6 +321,12 @@ pub section-of : (s : Section) (front : List ℕ) (read : Result Section NameFau
     → read ≡ section_read front → read ≡ Ok s
 section-of s front read h e r = r ∙ ap section_read e ∙ section_read-every s h
 
+pub within-eight : (n : ℕ) → 1 ≤ n → n ≤ 8 → leb 1 n && leb n 8 ≡ true
+within-eight n low high =
+    let one : leb 1 n ≡ true = grind (arith, nat_tests) in
+    let eight : leb n 8 ≡ true = grind (arith, nat_tests) in
+    rw (one, eight) refl
+
 -- the pattern of these parts, whose base is no fundamental pattern's
 pub plain-pattern : (base : List ℕ) (i r : List Token) (ms : List (List Token)) → is_base base ≡ true → fundamental_of base ≡ None → is_pre_message i ≡ true
     → is_pre_message r ≡ true → 1 ≤ length ms → length ms ≤ 8 → list_all has_few_tokens ms ≡ true → list_any (λ tokens. list_any is_psk tokens) ms ≡ false
@@ -330,16 +336,11 @@ plain-pattern base i r ms b unknown pi pr low high sizes plain = record {
   places = refl;
   initiator = pi;
   responder = pr;
-  count = count (length ms) low high;
+  count = within-eight (length ms) low high;
   sizes = sizes;
   psks = record { tokens = plain_messages 1 ms (own_of_plain ms plain); in_range = refl };
   known = rw unknown tt;
-} where
-  count : (n : ℕ) → 1 ≤ n → n ≤ 8 → leb 1 n && leb n 8 ≡ true
-  count n low high =
-      let one : leb 1 n ≡ true = grind (arith, nat_tests) in
-      let eight : leb n 8 ≡ true = grind (arith, nat_tests) in
-      rw (one, eight) refl
+}
 
 -- a fundamental pattern is plain, and is that of each pattern of its base
 pub known-plain : (base : List ℕ) (f : Plan) → fundamental_of base ≡ Some f → has_psk f ≡ false
@@ -379,11 +380,8 @@ placed-same p q plain places h is places_is placed = placed-once plain places q 
 pub within-places : (p plain : Plan) (places : List ℕ) (n : ℕ) → IsPattern p → plain ≡ plain_of p → places ≡ p.places → first_beyond plain places ≡ Some n → ⊥
 within-places p plain places n h is places_is e = none-beyond plain places p n (placed-itself p plain places h is places_is) e
 
-abbrev pub plan : List ℕ → List ℕ → List Token → List Token → List (List Token) → Plan
-plan base places initiator responder messages = record { base = base; places = places; initiator = initiator; responder = responder; messages = messages }
-
 pub plan-same : (b c : List ℕ) (ps qs : List ℕ) (i j r s : List Token) (ms ks : List (List Token)) → b ≡ c → ps ≡ qs → i ≡ j → r ≡ s → ms ≡ ks
-    → plan b ps i r ms ≡ plan c qs j s ks
+    → plan_of b ps i r ms ≡ plan_of c qs j s ks
 plan-same b c ps qs i j r s ms ks e f g h k = cc
 
 pub ok-same : (r : Result Section NameFault) (x y : Section) → r ≡ Ok x → r ≡ Ok y → x ≡ y

@@ -11,7 +11,7 @@ use Rattle.noise_names.specs.declared.token.Role.TheVariants.{Initiator, Respond
 use Rattle.noise_names.specs.declared.token.Token.{Token}
 use Rattle.noise_names.specs.declared.token.Token.TheVariants.{E, S}
 use Rattle.noise_names.specs.Tokens.{is_psk, other, turn_from}
-use Rattle.noise_names.specs.Plan.{Plan}
+use Rattle.noise_names.specs.Plan.{Plan, plan_of}
 use Rattle.noise_names.specs.Names.{are_places, rises}
 use Rattle.noise_names.specs.Fundamental.{fundamental_of, fundamentals}
 use Rattle.noise_names.specs.Limits.{HavePsksAt, IsPattern, has_few_tokens, is_pre_message, with_psks_from}
@@ -19,7 +19,7 @@ use Rattle.noise_names.specs.Text.{line, message_lines, pre_line, pre_lines, tok
 use Rattle.noise_names.specs.WrongText.{body_of, dots}
 use Rattle.noise_names.specs.Judging.{IsPassed, Passed, passed_lines}
 use Rattle.noise_names.proofs.PskTokens.{few_psks, have_psks, length-psks}
-use Rattle.noise_names.proofs.Reading.{plan}
+use Rattle.noise_names.proofs.Reading.{within-eight}
 use Rattle.std.proofs.lemmas.Bool.{and_parts}
 
 -- ---- messages and then others
@@ -96,26 +96,21 @@ no_fundamental = refl
 -- of the given messages
 right_pattern : (places : List ℕ) (i r : List Token) (ms : List (List Token)) → are_places places ≡ true → is_pre_message i ≡ true → is_pre_message r ≡ true
     → 1 ≤ length ms → length ms ≤ 8 → list_all has_few_tokens ms ≡ true → HavePsksAt places 1 ms → list_all (λ n. leb n (length ms)) places ≡ true
-    → IsPattern (plan own_base places i r ms)
+    → IsPattern (plan_of own_base places i r ms)
 right_pattern places i r ms rising pi pr low high sizes psks range = record {
   base = refl;
   places = rising;
   initiator = pi;
   responder = pr;
-  count = count (length ms) low high;
+  count = within-eight (length ms) low high;
   sizes = sizes;
   psks = record { tokens = psks; in_range = range };
   known = rw no_fundamental tt;
-} where
-  count : (n : ℕ) → 1 ≤ n → n ≤ 8 → leb 1 n && leb n 8 ≡ true
-  count n low high =
-      let one : leb 1 n ≡ true = grind (arith, nat_tests) in
-      let eight : leb n 8 ≡ true = grind (arith, nat_tests) in
-      rw (one, eight) refl
+}
 
 -- of those and the added ones
 filled_pattern : (places : List ℕ) (i r : List Token) (ms : List (List Token)) → are_places places ≡ true → is_pre_message i ≡ true → is_pre_message r ≡ true
-    → length ms ≤ 8 → list_all has_few_tokens ms ≡ true → HavePsksAt places 1 ms → IsPattern (plan own_base places i r (filled places ms))
+    → length ms ≤ 8 → list_all has_few_tokens ms ≡ true → HavePsksAt places 1 ms → IsPattern (plan_of own_base places i r (filled places ms))
 filled_pattern places i r ms rising pi pr high sizes psks =
     let eight : length (filled places ms) ≡ 8 = filled_length places ms high in
     let range : list_all (λ n. leb n 8) places ≡ true = (and_parts (rises places) (list_all (λ n. leb n 8) places) rising).1 in
@@ -162,7 +157,7 @@ after_dots places dotted i r ms h = (λ some. h.form.1 (inr some), λ d. other_c
 extended_after : (places : List ℕ) (dotted : Bool) (i r : List Token) (ms : List (List Token)) → are_places places ≡ true
     → IsPassed places dotted (passed false i r ms) → IsExtended places dotted (passed false i r ms)
 extended_after places dotted i r ms rising h = record {
-  p = plan own_base places i r (filled places ms);
+  p = plan_of own_base places i r (filled places ms);
   is_pattern = filled_pattern places i r ms rising h.initiator h.responder h.count h.sizes h.psks;
   own_name = no_fundamental;
   places_are = refl;
@@ -181,7 +176,7 @@ extended_before : (places : List ℕ) (dotted : Bool) (i r i' r' : List Token) (
     → (rest : List ℕ) × (pre_lines i' r' ≡ (pre_line Initiator i ++ pre_line Responder r) ++ rest)
     → IsExtended places dotted (passed true i r ms)
 extended_before places dotted i r i' r' ms rising h pi pr some begun = record {
-  p = plan own_base places i' r' (filled places ms);
+  p = plan_of own_base places i' r' (filled places ms);
   is_pattern = filled_pattern places i' r' ms rising pi pr h.count h.sizes h.psks;
   own_name = no_fundamental;
   places_are = refl;
@@ -213,7 +208,7 @@ whole_at : (places : List ℕ) (dotted ahead : Bool) (i r : List Token) (ms : Li
     → IsWhole places dotted (passed ahead i r ms)
 whole_at places dotted true i r ms rising h behind low range = absurd (cc)
 whole_at places dotted false i r ms rising h behind low range = record {
-  p = plan own_base places i r ms;
+  p = plan_of own_base places i r ms;
   is_pattern = right_pattern places i r ms rising h.initiator h.responder low h.count h.sizes h.psks range;
   own_name = no_fundamental;
   places_are = refl;

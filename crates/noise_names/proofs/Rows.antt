@@ -88,31 +88,31 @@ rows_same (x ∷ xs) (y ∷ ys) h k e =
     cons-same (row_same x y a.0 b.0 same.0) (rows_same xs ys a.1 b.1 same.1)
 
 -- the rows begin with those before, and the next row has this line
-pub record IsNextRow (told : List ℕ) (before rows : List Row) : Type 0 where
+pub record IsNextRow (reported : List ℕ) (before rows : List Row) : Type 0 where
   pub row : Row
   pub more : List Row
   pub right : is_row row ≡ true
   pub rows_are : rows ≡ before ++ row ∷ more
-  pub told_is : told ≡ content row
+  pub reported_is : reported ≡ content row
 
-pub next_row : (told rest : List ℕ) → no_feed told ≡ true → (before rows : List Row) → list_all is_row before ≡ true → list_all is_row rows ≡ true
-    → lines_of rows ≡ lines_of before ++ (line told ++ rest) → IsNextRow told before rows
-next_row told rest n [] [] h k e = absurd (no_line told rest e)
-next_row told rest n [] (r ∷ rs) h k e =
-    let same = first_same (content r) told (lines_of rs) rest (no_feed-row r) n e in
-    record { row = r; more = rs; right = (and_parts (is_row r) (list_all is_row rs) k).0; rows_are = refl; told_is = sym same.0 }
-next_row told rest n (s ∷ ss) [] h k e =
-    absurd (no_line (content s) (lines_of ss ++ (line told ++ rest)) (e ∙ append_assoc (line (content s)) (lines_of ss) (line told ++ rest)))
-next_row told rest n (s ∷ ss) (r ∷ rs) h k e =
+pub next_row : (reported rest : List ℕ) → no_feed reported ≡ true → (before rows : List Row) → list_all is_row before ≡ true → list_all is_row rows ≡ true
+    → lines_of rows ≡ lines_of before ++ (line reported ++ rest) → IsNextRow reported before rows
+next_row reported rest n [] [] h k e = absurd (no_line reported rest e)
+next_row reported rest n [] (r ∷ rs) h k e =
+    let same = first_same (content r) reported (lines_of rs) rest (no_feed-row r) n e in
+    record { row = r; more = rs; right = (and_parts (is_row r) (list_all is_row rs) k).0; rows_are = refl; reported_is = sym same.0 }
+next_row reported rest n (s ∷ ss) [] h k e =
+    absurd (no_line (content s) (lines_of ss ++ (line reported ++ rest)) (e ∙ append_assoc (line (content s)) (lines_of ss) (line reported ++ rest)))
+next_row reported rest n (s ∷ ss) (r ∷ rs) h k e =
     let a = and_parts (is_row s) (list_all is_row ss) h in
     let b = and_parts (is_row r) (list_all is_row rs) k in
-    let same = first_same (content r) (content s) (lines_of rs) (lines_of ss ++ (line told ++ rest)) (no_feed-row r) (no_feed-row s) (e
-    ∙ append_assoc (line (content s)) (lines_of ss) (line told ++ rest)) in
-    let next : IsNextRow told ss rs = next_row told rest n ss rs a.1 b.1 same.1 in
+    let same = first_same (content r) (content s) (lines_of rs) (lines_of ss ++ (line reported ++ rest)) (no_feed-row r) (no_feed-row s) (e
+    ∙ append_assoc (line (content s)) (lines_of ss) (line reported ++ rest)) in
+    let next : IsNextRow reported ss rs = next_row reported rest n ss rs a.1 b.1 same.1 in
     record {
       row = next.row;
       more = next.more;
       right = next.right;
       rows_are = cons-same (row_same r s b.0 a.0 same.0) next.rows_are;
-      told_is = next.told_is;
+      reported_is = next.reported_is;
     }

@@ -61,7 +61,7 @@ rest-is (r ∷ rs) left t (v ∷ vs) e =
     (first_word_same r t 44 44 (32 ∷ (with_commas rs ++ left)) (32 ∷ words (v ∷ vs)) refl refl f).1 in
     rest-is rs left v vs (cc)
 
-take-take : {A : Type 0} (n : ℕ) (xs ys : List A) → take n (take n xs ++ ys) ≡ take n (xs ++ ys)
+pub take-take : {A : Type 0} (n : ℕ) (xs ys : List A) → take n (take n xs ++ ys) ≡ take n (xs ++ ys)
 take-take zero xs ys = refl
 take-take (suc n) [] ys = refl
 take-take (suc n) (x ∷ xs) ys = ap (λ zs. x ∷ zs) (take-take n xs ys)
@@ -72,9 +72,6 @@ pub record IsRead (list left : List ℕ) (first own : List Token) : Type 0 where
   pub list_is : list ≡ with_commas read ++ left
   pub first_is : first ≡ take 11 read
   pub own_is : own ≡ take 9 (own_tokens read)
-
-pub read-start : (list : List ℕ) (first own : List Token) → first ≡ [] → own ≡ [] → IsRead list list first own
-read-start list first own e f = record { read = []; list_is = refl; first_is = e; own_is = f }
 
 first-more : (read first first' : List Token) (t : Token) → first ≡ take 11 read → first' ≡ take 11 (first ++ t ∷ []) → first' ≡ take 11 (read ++ t ∷ [])
 first-more read first first' t e f = f ∙ ap (λ (ts : List Token). take 11 (ts ++ t ∷ [])) e ∙ take-take 11 read (t ∷ [])
@@ -136,29 +133,6 @@ no-comma list left after first own token r every last filled no_comma tokens som
       at u [] f = filled (ap length (last u f).1)
       at u (v ∷ vs) f =
           no_comma (words (v ∷ vs)) (every u 44 (32 ∷ words (v ∷ vs)) refl (f ∙ append_assoc (word_of u) (codes ", ") (words (v ∷ vs)))).1
-
--- a word and its token
-pub word-of-named : (w : List ℕ) (t : Token) → token_named w ≡ Some t → w ≡ word_of t
-word-of-named w t e = at (bytes_eq w (codes "e")) (bytes_eq w (codes "s")) (bytes_eq w (codes "ee")) (bytes_eq w (codes "es")) (bytes_eq w (codes "se"))
-    (bytes_eq w (codes "ss")) (bytes_eq w (codes "psk")) (is w (codes "e")) (is w (codes "s")) (is w (codes "ee")) (is w (codes "es")) (is w (codes "se"))
-    (is w (codes "ss")) (is w (codes "psk")) e
-  where
-    is : (w x : List ℕ) → bytes_eq w x ≡ true → w ≡ x
-    is w x h = (slice_eq-Decides Decides-eqb w x _ refl).0 h
-
-    at : (b1 b2 b3 b4 b5 b6 b7 : Bool) → (b1 ≡ true → w ≡ codes "e") → (b2 ≡ true → w ≡ codes "s") → (b3 ≡ true → w ≡ codes "ee")
-        → (b4 ≡ true → w ≡ codes "es") → (b5 ≡ true → w ≡ codes "se") → (b6 ≡ true → w ≡ codes "ss") → (b7 ≡ true → w ≡ codes "psk")
-        → cond b1 (Some E) (cond b2 (Some S) (cond b3 (Some Ee) (cond b4 (Some Es) (cond b5 (Some Se) (cond b6 (Some Ss) (cond b7 (Some Psk) None))))))
-        ≡ Some t
-        → w ≡ word_of t
-    at true b2 b3 b4 b5 b6 b7 h1 h2 h3 h4 h5 h6 h7 f = let same : E ≡ t = cc in h1 refl ∙ ap word_of same
-    at false true b3 b4 b5 b6 b7 h1 h2 h3 h4 h5 h6 h7 f = let same : S ≡ t = cc in h2 refl ∙ ap word_of same
-    at false false true b4 b5 b6 b7 h1 h2 h3 h4 h5 h6 h7 f = let same : Ee ≡ t = cc in h3 refl ∙ ap word_of same
-    at false false false true b5 b6 b7 h1 h2 h3 h4 h5 h6 h7 f = let same : Es ≡ t = cc in h4 refl ∙ ap word_of same
-    at false false false false true b6 b7 h1 h2 h3 h4 h5 h6 h7 f = let same : Se ≡ t = cc in h5 refl ∙ ap word_of same
-    at false false false false false true b7 h1 h2 h3 h4 h5 h6 h7 f = let same : Ss ≡ t = cc in h6 refl ∙ ap word_of same
-    at false false false false false false true h1 h2 h3 h4 h5 h6 h7 f = let same : Psk ≡ t = cc in h7 refl ∙ ap word_of same
-    at false false false false false false false h1 h2 h3 h4 h5 h6 h7 f = absurd (cc)
 
 -- the tokens of a pre-message are few enough that all are kept
 pre-three : (t u v : Token) (ts : List Token) → is_pre_message (t ∷ u ∷ v ∷ ts) ≡ false

@@ -13,7 +13,7 @@ use Rattle.noise_names.specs.Limits.{has_few_tokens}
 use Rattle.noise_names.specs.Text.{message_lines, pre_lines, token_line, word_of, words}
 use Rattle.noise_names.specs.Tokens.{other, turn_from}
 use Rattle.noise_names.specs.WrongText.{BeginsRight, IsAfter, IsArrowFault, IsAtMessage, IsLimitFault, IsMessage, IsPreMessageFault}
-use Rattle.noise_names.specs.WrongText.{IsPskFault, IsTokenFault, IsTokens, IsTurnFault, IsWrongLine, arrow_then, dots, first_line, has_dots, is_within, told}
+use Rattle.noise_names.specs.WrongText.{IsPskFault, IsTokenFault, IsTokens, IsTurnFault, IsWrongLine, arrow_then, dots, first_line, has_dots, is_within, wrong_line}
 use Rattle.noise_names.proofs.DotsLine.{not_ahead}
 use Rattle.noise_names.proofs.Rows.{no_feed-row, tokens_of}
 use Rattle.noise_names.proofs.WrongLines.{next_turn, not_dots}
@@ -95,7 +95,7 @@ IsMessageFault w kind =
 
 -- both are the same line
 abbrev pub AreSame : {text : List ℕ} {m n : ℕ} → IsWrongLine text m → IsWrongLine text n → Type 0
-AreSame w v = (w.front ≡ v.front) × (told w ≡ told v)
+AreSame w v = (w.front ≡ v.front) × (wrong_line w ≡ wrong_line v)
 
 swapped : {text : List ℕ} {m n : ℕ} (w : IsWrongLine text m) (v : IsWrongLine text n) → AreSame w v → AreSame v w
 swapped w v s = (sym s.0, sym s.1)
@@ -141,14 +141,14 @@ record IsAtSome {text : List ℕ} {number : ℕ} (w : IsWrongLine text number) :
   at : IsAtMessage w before
   party : Role
   tokens : List Token
-  are : IsTokens party tokens (told w)
+  are : IsTokens party tokens (wrong_line w)
 
 at_some : {text : List ℕ} {n : ℕ} (w : IsWrongLine text n) (k : TextFaultKind) → IsMessageFault w k → IsAtSome w
 at_some w k (inl (e, (ms, ts, at, are))) = record { before = ms; at = at; party = _; tokens = ts; are = are }
 at_some w k (inr (inl (e, (ms, ts, is, _)))) = record { before = ms; at = is.0; party = _; tokens = ts; are = is.1 }
 at_some w k (inr (inr (e, (ms, ts, is, _)))) = record { before = ms; at = is.0; party = _; tokens = ts; are = is.1 }
 
-pre_message : {text : List ℕ} {m n : ℕ} (w : IsWrongLine text m) (v : IsWrongLine text n) → w.front ≡ v.front → w.left ≡ v.left → told w ≡ told v
+pre_message : {text : List ℕ} {m n : ℕ} (w : IsWrongLine text m) (v : IsWrongLine text n) → w.front ≡ v.front → w.left ≡ v.left → wrong_line w ≡ wrong_line v
     → IsPreMessageFault w → IsAtSome v → ⊥
 pre_message w v e f g (inl h) i = not_dots i.party (words i.tokens) (sym h ∙ g ∙ i.are.1)
 pre_message w v e f g (inr (h, _)) i =
@@ -157,13 +157,13 @@ pre_message w v e f g (inr (h, _)) i =
 abbrev IsListedFault : {text : List ℕ} {number : ℕ} → IsWrongLine text number → TextFaultKind → Type 0
 IsListedFault w kind = ((kind ≡ kinds.PreMessage) × IsPreMessageFault w) ⊎ IsMessageFault w kind
 
-listed : {text : List ℕ} {n : ℕ} (w : IsWrongLine text n) (k : TextFaultKind) → IsListedFault w k → IsListed (told w)
+listed : {text : List ℕ} {n : ℕ} (w : IsWrongLine text n) (k : TextFaultKind) → IsListedFault w k → IsListed (wrong_line w)
 listed w k (inl (e, (inl h))) = inl h
 listed w k (inl (e, (inr (h, are)))) = inr are
 listed w k (inr h) = let at = at_some w k h in inr (at.party, at.tokens, at.are)
 
 listed_kinds : {text : List ℕ} {m n : ℕ} (w : IsWrongLine text m) (v : IsWrongLine text n) (k l : TextFaultKind) → w.front ≡ v.front → w.left ≡ v.left
-    → told w ≡ told v → IsListedFault w k → IsListedFault v l → k ≡ l
+    → wrong_line w ≡ wrong_line v → IsListedFault w k → IsListedFault v l → k ≡ l
 listed_kinds w v k l e f g (inl (h, _)) (inl (i, _)) = h ∙ sym i
 listed_kinds w v k l e f g (inl (h, fault)) (inr i) = absurd (pre_message w v e f g fault (at_some v l i))
 listed_kinds w v k l e f g (inr h) (inl (i, fault)) = absurd (pre_message v w (sym e) (sym f) (sym g) fault (at_some w k h))
@@ -171,15 +171,15 @@ listed_kinds w v k l e f g (inr h) (inr i) = messages w v k l (e, g) h i
 
 -- ---- kinds of any wrong line
 
-token_listed : {text : List ℕ} {n : ℕ} (w : IsWrongLine text n) (line : List ℕ) → told w ≡ line → IsTokenFault w → IsListed line → ⊥
+token_listed : {text : List ℕ} {n : ℕ} (w : IsWrongLine text n) (line : List ℕ) → wrong_line w ≡ line → IsTokenFault w → IsListed line → ⊥
 token_listed w line e (party, list, is, none) (inl h) = not_dots party list (sym h ∙ sym e ∙ is)
 token_listed w line e (party, list, is, none) (inr (role, tokens, are)) =
     none tokens are.0 (arrow_same party role list (words tokens) (sym is ∙ e ∙ are.1)).1
 
-arrow_token : {text : List ℕ} {m n : ℕ} (w : IsWrongLine text m) (v : IsWrongLine text n) → told w ≡ told v → IsArrowFault w → IsTokenFault v → ⊥
+arrow_token : {text : List ℕ} {m n : ℕ} (w : IsWrongLine text m) (v : IsWrongLine text n) → wrong_line w ≡ wrong_line v → IsArrowFault w → IsTokenFault v → ⊥
 arrow_token w v e h (party, list, is, none) = h.1 party list (e ∙ is)
 
-arrow_listed : {text : List ℕ} {n : ℕ} (w : IsWrongLine text n) (line : List ℕ) → told w ≡ line → IsArrowFault w → IsListed line → ⊥
+arrow_listed : {text : List ℕ} {n : ℕ} (w : IsWrongLine text n) (line : List ℕ) → wrong_line w ≡ line → IsArrowFault w → IsListed line → ⊥
 arrow_listed w line e h (inl i) = h.0 (e ∙ i)
 arrow_listed w line e h (inr (party, tokens, are)) = h.1 party (words tokens) (e ∙ are.1)
 
@@ -187,15 +187,15 @@ abbrev pub IsWrongKind : {text : List ℕ} {number : ℕ} → IsWrongLine text n
 IsWrongKind w kind = ((kind ≡ kinds.Arrow) × IsArrowFault w) ⊎ (((kind ≡ kinds.Token) × IsTokenFault w) ⊎ IsListedFault w kind)
 
 kinds_same : {text : List ℕ} {m n : ℕ} (w : IsWrongLine text m) (v : IsWrongLine text n) (k l : TextFaultKind) → w.front ≡ v.front → w.left ≡ v.left
-    → told w ≡ told v → IsWrongKind w k → IsWrongKind v l → k ≡ l
+    → wrong_line w ≡ wrong_line v → IsWrongKind w k → IsWrongKind v l → k ≡ l
 kinds_same w v k l e f g (inl (h, _)) (inl (i, _)) = h ∙ sym i
 kinds_same w v k l e f g (inl (h, a)) (inr (inl (i, t))) = absurd (arrow_token w v g a t)
-kinds_same w v k l e f g (inl (h, a)) (inr (inr i)) = absurd (arrow_listed w (told v) g a (listed v l i))
+kinds_same w v k l e f g (inl (h, a)) (inr (inr i)) = absurd (arrow_listed w (wrong_line v) g a (listed v l i))
 kinds_same w v k l e f g (inr (inl (h, t))) (inl (i, a)) = absurd (arrow_token v w (sym g) a t)
-kinds_same w v k l e f g (inr (inr h)) (inl (i, a)) = absurd (arrow_listed v (told w) (sym g) a (listed w k h))
+kinds_same w v k l e f g (inr (inr h)) (inl (i, a)) = absurd (arrow_listed v (wrong_line w) (sym g) a (listed w k h))
 kinds_same w v k l e f g (inr (inl (h, _))) (inr (inl (i, _))) = h ∙ sym i
-kinds_same w v k l e f g (inr (inl (h, t))) (inr (inr i)) = absurd (token_listed w (told v) g t (listed v l i))
-kinds_same w v k l e f g (inr (inr h)) (inr (inl (i, t))) = absurd (token_listed v (told w) (sym g) t (listed w k h))
+kinds_same w v k l e f g (inr (inl (h, t))) (inr (inr i)) = absurd (token_listed w (wrong_line v) g t (listed v l i))
+kinds_same w v k l e f g (inr (inr h)) (inr (inl (i, t))) = absurd (token_listed v (wrong_line w) (sym g) t (listed w k h))
 kinds_same w v k l e f g (inr (inr h)) (inr (inr i)) = listed_kinds w v k l e f g h i
 
 pub one_kind : {text : List ℕ} {m n : ℕ} (w : IsWrongLine text m) (v : IsWrongLine text n) (k l : TextFaultKind) → w.front ≡ v.front → w.left ≡ v.left

@@ -43,12 +43,12 @@ row_list (tokens_of role []) party list h e none = absurd (let bad : false ≡ t
 row_list (tokens_of role (t ∷ ts)) party list h e none = none (t ∷ ts) (λ f. cc) (sym (list_same role party (words (t ∷ ts)) list e))
 
 -- the row of a line
-row_ending : (row : Row) (told : List ℕ) → is_row row ≡ true → told ≡ content row → told ≡ dots → row ≡ ending
-row_ending row told h e f = row_same row ending h refl (sym e ∙ f)
+row_ending : (row : Row) (reported : List ℕ) → is_row row ≡ true → reported ≡ content row → reported ≡ dots → row ≡ ending
+row_ending row reported h e f = row_same row ending h refl (sym e ∙ f)
 
-row_tokens : (row : Row) (told : List ℕ) (party : Role) (tokens : List Token) → is_row row ≡ true → told ≡ content row → IsTokens party tokens told
+row_tokens : (row : Row) (reported : List ℕ) (party : Role) (tokens : List Token) → is_row row ≡ true → reported ≡ content row → IsTokens party tokens reported
     → row ≡ tokens_of party tokens
-row_tokens row told party tokens h e f = row_same row (tokens_of party tokens) h (some tokens f.0) (sym e ∙ f.1) where
+row_tokens row reported party tokens h e f = row_same row (tokens_of party tokens) h (some tokens f.0) (sym e ∙ f.1) where
   some : (ts : List Token) → ts ≢ [] → is_row (tokens_of party ts) ≡ true
   some [] g = absurd (g refl)
   some (t ∷ ts) g = refl
@@ -101,17 +101,17 @@ psks_at places n (x ∷ before) more m h =
 
 -- ---- each kind of wrong line, where the next line of a right text is this
 
-no_arrow : (s : Passed) (q : Plan) (told : List ℕ) → IsNextLine s q told → told ≢ dots → ((party : Role) (list : List ℕ) → told ≢ arrow_then party list) → ⊥
-no_arrow s q told n other_line none = row_arrow n.row n.right (λ e. other_line (n.told_is ∙ e)) (λ party list e. none party list (n.told_is ∙ e))
+no_arrow : (s : Passed) (q : Plan) (reported : List ℕ) → IsNextLine s q reported → reported ≢ dots → ((party : Role) (list : List ℕ) → reported ≢ arrow_then party list) → ⊥
+no_arrow s q reported n other_line none = row_arrow n.row n.right (λ e. other_line (n.reported_is ∙ e)) (λ party list e. none party list (n.reported_is ∙ e))
 
-no_token : (s : Passed) (q : Plan) (told : List ℕ) (party : Role) (list : List ℕ) → IsNextLine s q told → told ≡ arrow_then party list
+no_token : (s : Passed) (q : Plan) (reported : List ℕ) (party : Role) (list : List ℕ) → IsNextLine s q reported → reported ≡ arrow_then party list
     → ((tokens : List Token) → tokens ≢ [] → list ≢ words tokens) → ⊥
-no_token s q told party list n e none = row_list n.row party list n.right (sym n.told_is ∙ e) none
+no_token s q reported party list n e none = row_list n.row party list n.right (sym n.reported_is ∙ e) none
 
-no_dots : (s : Passed) (q : Plan) (told : List ℕ) → IsNextLine s q told → told ≡ dots → (s.ahead ≡ false) ⊎ ((s.initiator ≡ []) × (s.responder ≡ [])) → ⊥
-no_dots s q told n e where_it_is = at s.ahead refl where_it_is where
+no_dots : (s : Passed) (q : Plan) (reported : List ℕ) → IsNextLine s q reported → reported ≡ dots → (s.ahead ≡ false) ⊎ ((s.initiator ≡ []) × (s.responder ≡ [])) → ⊥
+no_dots s q reported n e where_it_is = at s.ahead refl where_it_is where
   is : n.row ≡ ending
-  is = row_ending n.row told n.right n.told_is e
+  is = row_ending n.row reported n.right n.reported_is e
 
   before_none : IsNextPre s.initiator s.responder n.row → (s.initiator ≡ []) × (s.responder ≡ []) → ⊥
   before_none (inl h) none = h.1 none.0 none.1
@@ -122,11 +122,11 @@ no_dots s q told n e where_it_is = at s.ahead refl where_it_is where
   at true h (inl k) = let bad : true ≡ false = sym h ∙ k in cc
   at true h (inr k) = before_none (n.pre_message h) k
 
-no_pre_message : (s : Passed) (q : Plan) (told : List ℕ) (party : Role) (tokens : List Token) → IsNextLine s q told → s.ahead ≡ true
-    → IsTokens party tokens told → (is_pre_message tokens ≡ false) ⊎ IsBarred party s → ⊥
-no_pre_message s q told party tokens n ahead are wrong = at (n.pre_message ahead) wrong where
+no_pre_message : (s : Passed) (q : Plan) (reported : List ℕ) (party : Role) (tokens : List Token) → IsNextLine s q reported → s.ahead ≡ true
+    → IsTokens party tokens reported → (is_pre_message tokens ≡ false) ⊎ IsBarred party s → ⊥
+no_pre_message s q reported party tokens n ahead are wrong = at (n.pre_message ahead) wrong where
   is : n.row ≡ tokens_of party tokens
-  is = row_tokens n.row told party tokens n.right n.told_is are
+  is = row_tokens n.row reported party tokens n.right n.reported_is are
 
   at : IsNextPre s.initiator s.responder n.row → (is_pre_message tokens ≡ false) ⊎ IsBarred party s → ⊥
   at (inl h) k = not_ending party tokens (sym h.0 ∙ is)
@@ -143,12 +143,12 @@ pub record IsMessageAt (s : Passed) (q : Plan) (party : Role) (tokens : List Tok
   pub messages_are : q.messages ≡ s.messages ++ tokens ∷ more
   pub turn : party ≡ turn_from Initiator (length s.messages)
 
-message_at : (s : Passed) (q : Plan) (told : List ℕ) (party : Role) (tokens : List Token) → IsNextLine s q told → s.ahead ≡ false → IsTokens party tokens told
+message_at : (s : Passed) (q : Plan) (reported : List ℕ) (party : Role) (tokens : List Token) → IsNextLine s q reported → s.ahead ≡ false → IsTokens party tokens reported
     → IsMessageAt s q party tokens
-message_at s q told party tokens n none_ahead are =
+message_at s q reported party tokens n none_ahead are =
     let next : IsNextMessage Initiator s.messages q.messages n.row = n.message none_ahead in
     let same : tokens_of party tokens ≡ tokens_of (turn_from Initiator (length s.messages)) next.message =
-    sym (row_tokens n.row told party tokens n.right n.told_is are) ∙ next.row_is in
+    sym (row_tokens n.row reported party tokens n.right n.reported_is are) ∙ next.row_is in
     let is : tokens ≡ next.message = tokens_same party (turn_from Initiator (length s.messages)) tokens next.message same in
     record {
       more = next.more;
@@ -156,46 +156,46 @@ message_at s q told party tokens n none_ahead are =
       turn = party_same party (turn_from Initiator (length s.messages)) tokens next.message same;
     }
 
-no_turn : (s : Passed) (q : Plan) (told : List ℕ) (tokens : List Token) → IsNextLine s q told → s.ahead ≡ false
-    → IsTokens (turn_from Initiator (length s.messages + 1)) tokens told → ⊥
-no_turn s q told tokens n none_ahead are =
-    next_turn (length s.messages) (sym (message_at s q told (turn_from Initiator (length s.messages + 1)) tokens n none_ahead are).turn)
+no_turn : (s : Passed) (q : Plan) (reported : List ℕ) (tokens : List Token) → IsNextLine s q reported → s.ahead ≡ false
+    → IsTokens (turn_from Initiator (length s.messages + 1)) tokens reported → ⊥
+no_turn s q reported tokens n none_ahead are =
+    next_turn (length s.messages) (sym (message_at s q reported (turn_from Initiator (length s.messages + 1)) tokens n none_ahead are).turn)
 
-no_limit : (s : Passed) (q : Plan) (told : List ℕ) (tokens : List Token) → IsPattern q → IsNextLine s q told → s.ahead ≡ false
-    → IsTokens (turn_from Initiator (length s.messages)) tokens told → is_within s.messages tokens ≡ false → ⊥
-no_limit s q told tokens h n none_ahead are wrong =
-    let at = message_at s q told (turn_from Initiator (length s.messages)) tokens n none_ahead are in
+no_limit : (s : Passed) (q : Plan) (reported : List ℕ) (tokens : List Token) → IsPattern q → IsNextLine s q reported → s.ahead ≡ false
+    → IsTokens (turn_from Initiator (length s.messages)) tokens reported → is_within s.messages tokens ≡ false → ⊥
+no_limit s q reported tokens h n none_ahead are wrong =
+    let at = message_at s q reported (turn_from Initiator (length s.messages)) tokens n none_ahead are in
     let bad : true ≡ false = sym (within q s.messages at.more tokens h at.messages_are) ∙ wrong in
     cc
 
-no_psk : (places : List ℕ) (s : Passed) (q : Plan) (told : List ℕ) (tokens : List Token) → IsPattern q → q.places ≡ places → IsNextLine s q told
-    → s.ahead ≡ false → IsTokens (turn_from Initiator (length s.messages)) tokens told
+no_psk : (places : List ℕ) (s : Passed) (q : Plan) (reported : List ℕ) (tokens : List Token) → IsPattern q → q.places ≡ places → IsNextLine s q reported
+    → s.ahead ≡ false → IsTokens (turn_from Initiator (length s.messages)) tokens reported
     → tokens ≢ with_psk_tokens places (length s.messages + 1) (own_tokens tokens) → ⊥
-no_psk places s q told tokens h same n none_ahead are wrong =
-    let at = message_at s q told (turn_from Initiator (length s.messages)) tokens n none_ahead are in
+no_psk places s q reported tokens h same n none_ahead are wrong =
+    let at = message_at s q reported (turn_from Initiator (length s.messages)) tokens n none_ahead are in
     let psks : HavePsksAt q.places 1 (s.messages ++ tokens ∷ at.more) =
     subst (λ (ms : List (List Token)). HavePsksAt q.places 1 ms) at.messages_are h.psks.tokens in
     wrong (psks_at q.places 1 s.messages at.more tokens psks
     ∙ ap (λ (ns : List ℕ). with_psk_tokens ns (length s.messages + 1) (own_tokens tokens)) same)
 
-wrong_line : (places : List ℕ) (s : Passed) (told : List ℕ) (kind : TextFaultKind) (q : Plan) → IsPattern q → q.places ≡ places → IsNextLine s q told
-    → IsWrong places s told kind → ⊥
-wrong_line places s told kinds.Arrow q h same n w = no_arrow s q told n w.0 w.1
-wrong_line places s told kinds.Token q h same n (party, list, e, none) = no_token s q told party list n e none
-wrong_line places s told kinds.PreMessage q h same n (inl w) = no_dots s q told n w.0 w.1
-wrong_line places s told kinds.PreMessage q h same n (inr (ahead, (party, tokens, are, w))) = no_pre_message s q told party tokens n ahead are w
-wrong_line places s told kinds.Turn q h same n (none_ahead, (tokens, are)) = no_turn s q told tokens n none_ahead are
-wrong_line places s told kinds.Limit q h same n (none_ahead, (tokens, are, w)) = no_limit s q told tokens h n none_ahead are w
-wrong_line places s told kinds.PskPlace q h same n (none_ahead, (tokens, are, limits, w)) = no_psk places s q told tokens h same n none_ahead are w
-wrong_line places s told kinds.Heading q h same n w = w
-wrong_line places s told kinds.NameTaken q h same n w = w
-wrong_line places s told kinds.Ending q h same n w = w
+wrong_line : (places : List ℕ) (s : Passed) (reported : List ℕ) (kind : TextFaultKind) (q : Plan) → IsPattern q → q.places ≡ places → IsNextLine s q reported
+    → IsWrong places s reported kind → ⊥
+wrong_line places s reported kinds.Arrow q h same n w = no_arrow s q reported n w.0 w.1
+wrong_line places s reported kinds.Token q h same n (party, list, e, none) = no_token s q reported party list n e none
+wrong_line places s reported kinds.PreMessage q h same n (inl w) = no_dots s q reported n w.0 w.1
+wrong_line places s reported kinds.PreMessage q h same n (inr (ahead, (party, tokens, are, w))) = no_pre_message s q reported party tokens n ahead are w
+wrong_line places s reported kinds.Turn q h same n (none_ahead, (tokens, are)) = no_turn s q reported tokens n none_ahead are
+wrong_line places s reported kinds.Limit q h same n (none_ahead, (tokens, are, w)) = no_limit s q reported tokens h n none_ahead are w
+wrong_line places s reported kinds.PskPlace q h same n (none_ahead, (tokens, are, limits, w)) = no_psk places s q reported tokens h same n none_ahead are w
+wrong_line places s reported kinds.Heading q h same n w = w
+wrong_line places s reported kinds.NameTaken q h same n w = w
+wrong_line places s reported kinds.Ending q h same n w = w
 
 -- It is in no right text of these psk places that has the line after the pre-messages exactly if this text has it.
-pub excluded : (places : List ℕ) (dotted : Bool) (s : Passed) (told : List ℕ) (kind : TextFaultKind) → IsPassed places dotted s → IsWrong places s told kind
-    → list_all (λ b. not (b == 10)) told ≡ true → (q : Plan) → IsPattern q → q.places ≡ places
-    → (pre_lines q.initiator q.responder ≢ [] ↔ IsTrue dotted) → (rest : List ℕ) → ¬ (body_of q ≡ passed_lines s ++ (line told ++ rest))
-excluded places dotted s told kind passed wrong feedless q right same form rest e =
-    let begun : IsBegun places dotted s told rest q =
+pub excluded : (places : List ℕ) (dotted : Bool) (s : Passed) (reported : List ℕ) (kind : TextFaultKind) → IsPassed places dotted s → IsWrong places s reported kind
+    → list_all (λ b. not (b == 10)) reported ≡ true → (q : Plan) → IsPattern q → q.places ≡ places
+    → (pre_lines q.initiator q.responder ≢ [] ↔ IsTrue dotted) → (rest : List ℕ) → ¬ (body_of q ≡ passed_lines s ++ (line reported ++ rest))
+excluded places dotted s reported kind passed wrong feedless q right same form rest e =
+    let begun : IsBegun places dotted s reported rest q =
     record { passed = passed; feedless = feedless; right = right; places_are = same; form = form; begins = e } in
-    wrong_line places s told kind q right same (next_line places dotted s told rest q begun) wrong
+    wrong_line places s reported kind q right same (next_line places dotted s reported rest q begun) wrong

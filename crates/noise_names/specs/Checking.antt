@@ -1,5 +1,5 @@
--- What the check keeps of the places that it passed, and what that tells of the next one. No public contract cites this
--- file.
+-- What the check keeps of the places that it passed, and what that reports of the next one. No public contract cites
+-- this file.
 use Rattle.std.specs.Prelude.{◌≡◌, ℕ, ◌+◌, if◌then◌else◌, Bool, not, ◌&&◌, ◌||◌, List, [], ◌∷◌, ◌++◌, Option, Some, None, Result, MatchResult}
 use Rattle.noise_names.specs.declared.token.Role.{Role}
 use Rattle.noise_names.specs.declared.token.Role.TheVariants.{Initiator, Responder}
@@ -8,7 +8,7 @@ use Rattle.noise_names.specs.declared.faults.RuleFault.{RuleFault}
 use Rattle.noise_names.specs.declared.seen.Seen.{Seen}
 use Rattle.noise_names.specs.Tokens.{same_role}
 use Rattle.noise_names.specs.Plan.{Place, Step, does, payload, transport}
-use Rattle.noise_names.specs.Validity.{is_among, occurs, is_at, unless_kept, comes_with, first_fault_from}
+use Rattle.noise_names.specs.Validity.{is_among, occurs, is_at, unless_satisfied, comes_with, first_fault_from}
 
 -- what is kept of the places that were passed
 unfoldable pub seen_of : List Place → Seen
@@ -48,7 +48,7 @@ s_of seen Initiator = seen.initiator_s
 s_of seen Responder = seen.responder_s
 
 abbrev pub dh_rules : Bool → Bool → Bool → List ℕ
-dh_rules first second done = unless_kept 1 (first && second) ++ unless_kept 3 (not done)
+dh_rules first second done = unless_satisfied 1 (first && second) ++ unless_satisfied 3 (not done)
 
 abbrev pub is_fresh : Seen → Role → Bool
 is_fresh seen Initiator = comes_with seen.se seen.ee && comes_with seen.ss seen.es
@@ -56,11 +56,11 @@ is_fresh seen Responder = comes_with seen.es seen.ee && comes_with seen.ss seen.
 
 abbrev pub encrypting_rules : Seen → Role → List ℕ
 encrypting_rules seen party =
-    unless_kept 4 (is_fresh seen party) ++ unless_kept 5 (comes_with seen.psk (e_of seen party))
+    unless_satisfied 4 (is_fresh seen party) ++ unless_satisfied 5 (comes_with seen.psk (e_of seen party))
 
 abbrev pub rules_by : Seen → Role → Step → List ℕ
-rules_by seen party (does E) = unless_kept 2 (not (e_of seen party))
-rules_by seen party (does S) = unless_kept 2 (not (s_of seen party)) ++ encrypting_rules seen party
+rules_by seen party (does E) = unless_satisfied 2 (not (e_of seen party))
+rules_by seen party (does S) = unless_satisfied 2 (not (s_of seen party)) ++ encrypting_rules seen party
 rules_by seen party (does Ee) = dh_rules seen.initiator_e seen.responder_e seen.ee
 rules_by seen party (does Es) = dh_rules seen.initiator_e seen.responder_s seen.es
 rules_by seen party (does Se) = dh_rules seen.initiator_s seen.responder_e seen.se

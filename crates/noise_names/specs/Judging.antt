@@ -82,7 +82,7 @@ is_some [] = false
 is_some (x ∷ xs) = true
 
 -- what was judged is that of the lines so far
-pub record Stands (j : Judged) (s : Passed) : Type 0 where
+pub record Matches (j : Judged) (s : Passed) : Type 0 where
   pub ahead : j.dots_ahead ≡ s.ahead
   pub initiator : j.initiator ≡ is_some s.initiator
   pub responder : j.responder ≡ is_some s.responder
@@ -91,7 +91,7 @@ pub record Stands (j : Judged) (s : Passed) : Type 0 where
 -- one more right line
 pub record IsNextOf (places : List ℕ) (dotted : Bool) (s : Passed) (bytes : List ℕ) (j : Judged) : Type 0 where
   pub passed : Passed
-  pub stands : Stands j passed
+  pub stands : Matches j passed
   pub are_right : IsPassed places dotted passed
   pub lines : passed_lines passed ≡ passed_lines s ++ line bytes
 

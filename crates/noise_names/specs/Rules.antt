@@ -6,7 +6,7 @@ use Rattle.noise_names.specs.declared.token.Role.TheVariants.{Initiator, Respond
 use Rattle.noise_names.specs.declared.token.Token.{Token}
 use Rattle.noise_names.specs.Tokens.{turn_from, other}
 use Rattle.noise_names.specs.Plan.{Plan, Place, does, payload, place, place_after, token_places, message_places, transport_places, places_of, places_before}
-use Rattle.noise_names.specs.Validity.{keys_stand, key_is_first, dh_is_first, comes_with, encrypts, dh_is_fresh, psk_is_fresh, unless_kept, broken_rules}
+use Rattle.noise_names.specs.Validity.{keys_match, key_is_first, dh_is_first, comes_with, encrypts, dh_is_fresh, psk_is_fresh, unless_satisfied, broken_rules}
 use Rattle.noise_names.specs.Validity.{IsValid, KeepsRules, TokensKeepRules}
 use Rattle.noise_names.specs.Facts.{message_places-append}
 
@@ -14,37 +14,38 @@ no_rules : (rules others : List ℕ) → rules ++ others ≡ [] → (rules ≡ [
 no_rules [] others h = (refl, h)
 no_rules (r ∷ rs) others h = absurd (cc)
 
-kept_of : (n : ℕ) (kept : Bool) → unless_kept n kept ≡ [] → kept ≡ true
-kept_of n true h = refl
-kept_of n false h = absurd (cc)
+satisfied_of : (n : ℕ) (kept : Bool) → unless_satisfied n kept ≡ [] → kept ≡ true
+satisfied_of n true h = refl
+satisfied_of n false h = absurd (cc)
 
 -- the five rules at a place that breaks none
 pub keeps_rules : (earlier : List Place) (p : Place) → broken_rules earlier p ≡ [] → KeepsRules earlier p
 keeps_rules earlier p h =
-    by_tests (keys_stand earlier p.step) (key_is_first earlier p.party p.step) (dh_is_first earlier p.step)
+    by_tests (keys_match earlier p.step) (key_is_first earlier p.party p.step) (dh_is_first earlier p.step)
     (comes_with (encrypts p.step) (dh_is_fresh earlier p.party))
     (comes_with (encrypts p.step) (psk_is_fresh earlier p.party)) refl refl refl refl refl h where
-      by_tests : (a b c d e : Bool) → keys_stand earlier p.step ≡ a → key_is_first earlier p.party p.step ≡ b
+      by_tests : (a b c d e : Bool) → keys_match earlier p.step ≡ a → key_is_first earlier p.party p.step ≡ b
           → dh_is_first earlier p.step ≡ c
           → comes_with (encrypts p.step) (dh_is_fresh earlier p.party) ≡ d
           → comes_with (encrypts p.step) (psk_is_fresh earlier p.party) ≡ e
-          → (((unless_kept 1 a ++ unless_kept 2 b) ++ unless_kept 3 c) ++ unless_kept 4 d) ++ unless_kept 5 e ≡ []
+          → (((unless_satisfied 1 a ++ unless_satisfied 2 b) ++ unless_satisfied 3 c) ++ unless_satisfied 4 d)
+          ++ unless_satisfied 5 e ≡ []
           → KeepsRules earlier p
       by_tests a b c d e ka kb kc kd ke h =
-          let two : List ℕ = unless_kept 1 a ++ unless_kept 2 b in
-          let three : List ℕ = two ++ unless_kept 3 c in
-          let four : List ℕ = three ++ unless_kept 4 d in
-          let fifth : (four ≡ []) × (unless_kept 5 e ≡ []) = no_rules four (unless_kept 5 e) h in
-          let fourth : (three ≡ []) × (unless_kept 4 d ≡ []) = no_rules three (unless_kept 4 d) fifth.0 in
-          let third : (two ≡ []) × (unless_kept 3 c ≡ []) = no_rules two (unless_kept 3 c) fourth.0 in
-          let second : (unless_kept 1 a ≡ []) × (unless_kept 2 b ≡ []) =
-          no_rules (unless_kept 1 a) (unless_kept 2 b) third.0 in
+          let two : List ℕ = unless_satisfied 1 a ++ unless_satisfied 2 b in
+          let three : List ℕ = two ++ unless_satisfied 3 c in
+          let four : List ℕ = three ++ unless_satisfied 4 d in
+          let fifth : (four ≡ []) × (unless_satisfied 5 e ≡ []) = no_rules four (unless_satisfied 5 e) h in
+          let fourth : (three ≡ []) × (unless_satisfied 4 d ≡ []) = no_rules three (unless_satisfied 4 d) fifth.0 in
+          let third : (two ≡ []) × (unless_satisfied 3 c ≡ []) = no_rules two (unless_satisfied 3 c) fourth.0 in
+          let second : (unless_satisfied 1 a ≡ []) × (unless_satisfied 2 b ≡ []) =
+          no_rules (unless_satisfied 1 a) (unless_satisfied 2 b) third.0 in
           record {
-            keys = ka ∙ kept_of 1 a second.0;
-            key = kb ∙ kept_of 2 b second.1;
-            dh = kc ∙ kept_of 3 c third.1;
-            fresh_dh = kd ∙ kept_of 4 d fourth.1;
-            fresh_psk = ke ∙ kept_of 5 e fifth.1;
+            keys = ka ∙ satisfied_of 1 a second.0;
+            key = kb ∙ satisfied_of 2 b second.1;
+            dh = kc ∙ satisfied_of 3 c third.1;
+            fresh_dh = kd ∙ satisfied_of 4 d fourth.1;
+            fresh_psk = ke ∙ satisfied_of 5 e fifth.1;
           }
 
 token_places-append : (party : Role) (n i : ℕ) (front rest : List Token)

@@ -29,12 +29,12 @@ abbrev pub comes_with : Bool → Bool → Bool
 comes_with first second = not first || second
 
 -- rule 1: both public keys of a DH token come earlier (7.3, first rule)
-abbrev pub keys_stand : List Place → Step → Bool
-keys_stand earlier (does Ee) = is_among Initiator E earlier && is_among Responder E earlier
-keys_stand earlier (does Es) = is_among Initiator E earlier && is_among Responder S earlier
-keys_stand earlier (does Se) = is_among Initiator S earlier && is_among Responder E earlier
-keys_stand earlier (does Ss) = is_among Initiator S earlier && is_among Responder S earlier
-keys_stand earlier _ = true
+abbrev pub keys_match : List Place → Step → Bool
+keys_match earlier (does Ee) = is_among Initiator E earlier && is_among Responder E earlier
+keys_match earlier (does Es) = is_among Initiator E earlier && is_among Responder S earlier
+keys_match earlier (does Se) = is_among Initiator S earlier && is_among Responder E earlier
+keys_match earlier (does Ss) = is_among Initiator S earlier && is_among Responder S earlier
+keys_match earlier _ = true
 
 -- rule 2: a party has one ephemeral and one static key (7.3, second rule)
 abbrev pub key_is_first : List Place → Role → Step → Bool
@@ -70,17 +70,17 @@ encrypts transport = true
 encrypts _ = false
 
 -- rule n, if it is broken
-abbrev pub unless_kept : ℕ → Bool → List ℕ
-unless_kept n kept = if kept then [] else n ∷ []
+abbrev pub unless_satisfied : ℕ → Bool → List ℕ
+unless_satisfied n kept = if kept then [] else n ∷ []
 
 -- the rules that a place breaks after the earlier ones, the lowest first
 abbrev pub broken_rules : List Place → Place → List ℕ
 broken_rules earlier p =
-    unless_kept 1 (keys_stand earlier p.step)
-    ++ unless_kept 2 (key_is_first earlier p.party p.step)
-    ++ unless_kept 3 (dh_is_first earlier p.step)
-    ++ unless_kept 4 (comes_with (encrypts p.step) (dh_is_fresh earlier p.party))
-    ++ unless_kept 5 (comes_with (encrypts p.step) (psk_is_fresh earlier p.party))
+    unless_satisfied 1 (keys_match earlier p.step)
+    ++ unless_satisfied 2 (key_is_first earlier p.party p.step)
+    ++ unless_satisfied 3 (dh_is_first earlier p.step)
+    ++ unless_satisfied 4 (comes_with (encrypts p.step) (dh_is_fresh earlier p.party))
+    ++ unless_satisfied 5 (comes_with (encrypts p.step) (psk_is_fresh earlier p.party))
 
 -- no place of these breaks a rule after those before it (7.3, 9.3)
 abbrev pub AllKeepRules : List Place → Type 0
@@ -93,7 +93,7 @@ IsValid plan = AllKeepRules (places_of plan)
 
 -- the place breaks none of the five rules after the earlier ones
 pub record KeepsRules (earlier : List Place) (p : Place) : Type 0 where
-  pub keys : IsTrue (keys_stand earlier p.step)
+  pub keys : IsTrue (keys_match earlier p.step)
   pub key : IsTrue (key_is_first earlier p.party p.step)
   pub dh : IsTrue (dh_is_first earlier p.step)
   pub fresh_dh : IsTrue (comes_with (encrypts p.step) (dh_is_fresh earlier p.party))

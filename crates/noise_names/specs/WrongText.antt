@@ -83,8 +83,8 @@ pub record IsWrongLine (text : List ℕ) (number : ℕ) : Type 0 where
       → ¬ (body_of q ≡ front ++ (line (first_line left) ++ rest))
 
 -- the wrong line, without its line feed
-abbrev pub told : {text : List ℕ} → {number : ℕ} → IsWrongLine text number → List ℕ
-told w = first_line w.left
+abbrev pub wrong_line : {text : List ℕ} → {number : ℕ} → IsWrongLine text number → List ℕ
+wrong_line w = first_line w.left
 
 -- ---- the kinds of faults
 
@@ -106,26 +106,26 @@ abbrev pub IsInPreMessages : {text : List ℕ} → {number : ℕ} → IsWrongLin
 IsInPreMessages w = IsFalse (has_dots w.front) × IsTrue (has_dots w.left)
 
 abbrev pub IsArrowFault : {text : List ℕ} → {number : ℕ} → IsWrongLine text number → Type 0
-IsArrowFault w = (told w ≢ dots) × ((party : Role) (list : List ℕ) → told w ≢ arrow_then party list)
+IsArrowFault w = (wrong_line w ≢ dots) × ((party : Role) (list : List ℕ) → wrong_line w ≢ arrow_then party list)
 
 abbrev pub IsTokenFault : {text : List ℕ} → {number : ℕ} → IsWrongLine text number → Type 0
 IsTokenFault w =
-    (party : Role) × (list : List ℕ) × (told w ≡ arrow_then party list)
+    (party : Role) × (list : List ℕ) × (wrong_line w ≡ arrow_then party list)
     × ((tokens : List Token) → tokens ≢ [] → list ≢ words tokens)
 
 abbrev pub IsPreMessageFault : {text : List ℕ} → {number : ℕ} → IsWrongLine text number → Type 0
-IsPreMessageFault w = (told w ≡ dots)
-    ⊎ (IsInPreMessages w × ((party : Role) × (tokens : List Token) × IsTokens party tokens (told w)))
+IsPreMessageFault w = (wrong_line w ≡ dots)
+    ⊎ (IsInPreMessages w × ((party : Role) × (tokens : List Token) × IsTokens party tokens (wrong_line w)))
 
 -- a line of the party whose turn it isn't
 abbrev pub IsTurnFault : {text : List ℕ} → {number : ℕ} → IsWrongLine text number → Type 0
 IsTurnFault w = (before : List (List Token)) × (tokens : List Token) × IsAtMessage w before
-    × IsTokens (turn_from Initiator (length before + 1)) tokens (told w)
+    × IsTokens (turn_from Initiator (length before + 1)) tokens (wrong_line w)
 
 -- a line of the other party, with these tokens
 abbrev pub IsMessage : {text : List ℕ} → {number : ℕ} → IsWrongLine text number → List (List Token) → List Token
     → Type 0
-IsMessage w before tokens = IsAtMessage w before × IsTokens (turn_from Initiator (length before)) tokens (told w)
+IsMessage w before tokens = IsAtMessage w before × IsTokens (turn_from Initiator (length before)) tokens (wrong_line w)
 
 -- whether the message is no more than the eighth, and has from one to eight tokens other than psk
 abbrev pub is_within : List (List Token) → List Token → Bool

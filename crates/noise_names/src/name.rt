@@ -72,7 +72,7 @@ impl ProtocolName {
 
     /// The base, 1 to 8 bytes.
     pub fn base(&self) -> &[u8]
-        ensures same { result.now ≡ self.now.base }
+        ensures value { result.now ≡ self.now.base }
         ensures limits { IsTrue (is_base self.now.base) }
     {
         &self.base

@@ -41,14 +41,14 @@ impl Message {
         requires { length tokens.now ≤ 10 }
         ensures { result ≡ tokens.now }
     {
-        let mut kept = ArrayVec::new();
-        kept.try_extend_from_slice(tokens).unwrap();
-        Message { tokens: kept }
+        let mut copy = ArrayVec::new();
+        copy.try_extend_from_slice(tokens).unwrap();
+        Message { tokens: copy }
     }
 
     /// The tokens, in order.
     pub fn tokens(&self) -> &[Token]
-        ensures same { result.now ≡ self.now }
+        ensures value { result.now ≡ self.now }
         ensures few { length self.now ≤ 10 }
     {
         &self.tokens
@@ -121,14 +121,14 @@ impl Pattern {
         requires { IsPattern (plan_of base.now places initiator.now responder.now messages.items) }
         ensures { result ≡ plan_of base.now places initiator.now responder.now messages.items }
     {
-        let mut kept = ArrayVec::new();
-        kept.try_extend_from_slice(base).unwrap();
+        let mut name = ArrayVec::new();
+        name.try_extend_from_slice(base).unwrap();
         let mut first = ArrayVec::new();
         first.try_extend_from_slice(initiator).unwrap();
         let mut second = ArrayVec::new();
         second.try_extend_from_slice(responder).unwrap();
         Pattern {
-            base: kept,
+            base: name,
             places,
             initiator: first,
             responder: second,
@@ -138,21 +138,21 @@ impl Pattern {
 
     /// The base of its name, 1 to 8 bytes.
     pub fn base(&self) -> &[u8]
-        ensures same { result.now ≡ self.now.base }
+        ensures value { result.now ≡ self.now.base }
     {
         &self.base
     }
 
     /// The places of its psk tokens.
     pub fn places(&self) -> &PskPlaces
-        ensures same { result.now ≡ self.now.places }
+        ensures value { result.now ≡ self.now.places }
     {
         &self.places
     }
 
     /// The pre-message of a party: nothing, `e`, `s`, or `e` and `s`.
     pub fn pre(&self, role: Role) -> &[Token]
-        ensures same { result.now ≡ pre_of role self.now }
+        ensures value { result.now ≡ pre_of role self.now }
         ensures kinds { IsTrue (is_pre_message (pre_of role self.now)) }
     {
         match role {
@@ -163,7 +163,7 @@ impl Pattern {
 
     /// The messages, 1 to 8, the initiator's first.
     pub fn messages(&self) -> &[Message]
-        ensures same { result.now ≡ self.now.messages }
+        ensures value { result.now ≡ self.now.messages }
         ensures limits { IsPattern self.now }
     {
         &self.messages

@@ -30,23 +30,23 @@ impl PskPlaces {
     /// These numbers as places, the empty list too. None if they do not rise strictly or one is above 8.
     pub fn new(numbers: &[u8]) -> Option<PskPlaces>
         ensures only { IsSome result ↔ IsTrue (are_places numbers.now) }
-        ensures same { IfSome result (λ places. places ≡ numbers.now) }
+        ensures value { IfSome result (λ places. places ≡ numbers.now) }
     {
-        let mut kept: ArrayVec<u8, 9> = ArrayVec::new();
+        let mut copy: ArrayVec<u8, 9> = ArrayVec::new();
         let mut low = 0;
         for n in numbers {
             if *n < low || *n > 8 {
                 return None;
             }
-            kept.push(*n);
+            copy.push(*n);
             low = *n + 1;
         }
-        Some(PskPlaces { numbers: kept })
+        Some(PskPlaces { numbers: copy })
     }
 
     /// The numbers, at most 9.
     pub fn numbers(&self) -> &[u8]
-        ensures same { result.now ≡ self.now }
+        ensures value { result.now ≡ self.now }
         ensures few { length self.now ≤ 9 }
         ensures rising { IsTrue (are_places self.now) }
     {

@@ -58,13 +58,13 @@ pub(crate) fn message_with_psks(tokens: &[Token], number: u8, places: &[u8]) -> 
     requires { length tokens.now ≤ 8 }
     ensures { result ≡ with_psk_tokens places.now number tokens.now }
 {
-    let mut kept: ArrayVec<Token, 10> = ArrayVec::new();
+    let mut all: ArrayVec<Token, 10> = ArrayVec::new();
     if number == 1 && places.contains(&0) {
-        kept.push(Token::Psk);
+        all.push(Token::Psk);
     }
-    kept.try_extend_from_slice(tokens).unwrap();
+    all.try_extend_from_slice(tokens).unwrap();
     if places.contains(&number) {
-        kept.push(Token::Psk);
+        all.push(Token::Psk);
     }
-    Message::new(kept)
+    Message::new(all)
 }

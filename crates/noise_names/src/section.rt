@@ -1,6 +1,6 @@
 #![tactic(auto)]
 
-ghost use Rattle.std.specs.Prelude.{◌≡◌, ◌≤◌, ◌++◌, ℕ, List, take_while, length, IfSome, IfNone, IsTrue, map, Ok, Err};
+ghost use Rattle.std.specs.Prelude.{◌≡◌, ◌≤◌, [], ◌∷◌, ◌++◌, ℕ, List, take, take_while, length, IfSome, IfNone, IsTrue, map, Ok, Err};
 ghost use Rattle.std.specs.List.{list_all};
 ghost use Rattle.noise_names.specs.Names.{modifier, is_base_byte, base_front, is_base};
 ghost use Rattle.noise_names.specs.Sections.{modifiers_read, section_read};
@@ -57,18 +57,14 @@ fn parse_modifiers(modifiers: &[u8]) -> Result<PskPlaces, NameFault>
     if modifiers.is_empty() {
         return Ok(PskPlaces::none());
     }
-    let mut numbers: ArrayVec<u8, 9> = ArrayVec::new();
-    let mut too_many = false;
+    // Ten numbers are too many to rise from 0 to 8.
+    let mut numbers: ArrayVec<u8, 10> = ArrayVec::new();
     let mut rest = modifiers;
     loop {
         let Some((number, after)) = first_modifier(rest) else {
             return Err(NameFault::Modifier);
         };
-        if numbers.is_full() {
-            too_many = true;
-        } else {
-            numbers.push(number);
-        }
+        push_number(&mut numbers, number);
         if after.is_empty() {
             break;
         }
@@ -77,10 +73,16 @@ fn parse_modifiers(modifiers: &[u8]) -> Result<PskPlaces, NameFault>
         };
         rest = more;
     }
-    if too_many {
-        return Err(NameFault::ModifierOrder);
-    }
     PskPlaces::new(&numbers).ok_or(NameFault::ModifierOrder)
+}
+
+// Appends the number if there is room.
+fn push_number<const N: usize>(numbers: &mut ArrayVec<u8, N>, number: u8)
+    ensures { numbers.new.items ≡ take N (numbers.old.items ++ number ∷ []) }
+{
+    if !numbers.is_full() {
+        numbers.push(number);
+    }
 }
 
 // The modifier at the front, and what follows it.

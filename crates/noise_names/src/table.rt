@@ -9,7 +9,7 @@ use arrayvec::ArrayVec;
 
 /// The fundamental pattern of this base, such as `XX` (Noise, 7.4 and 7.5). None if the base is none of the fifteen.
 pub fn fundamental(base: &[u8]) -> Option<Pattern>
-    ensures same { result ≡ fundamental_of base.now }
+    ensures value { result ≡ fundamental_of base.now }
     ensures plain { IfSome result (λ pattern. IsFalse (has_psk pattern)) }
 {
     fundamental_at(place_of(base)?)
@@ -81,9 +81,9 @@ fn plain(base: &[u8], initiator: &[Token], responder: &[Token], messages: &[&[To
         ≡ Some (plain base.now initiator.now responder.now (map (λ m. m.now) messages.now)) }
     ensures { result ≡ plain base.now initiator.now responder.now (map (λ m. m.now) messages.now) }
 {
-    let mut kept = ArrayVec::new();
+    let mut list = ArrayVec::new();
     for tokens in messages {
-        kept.push(Message::of(tokens));
+        list.push(Message::of(tokens));
     }
-    Pattern::of(base, PskPlaces::none(), initiator, responder, kept)
+    Pattern::of(base, PskPlaces::none(), initiator, responder, list)
 }

@@ -19,7 +19,7 @@ impl Pattern {
     pub fn parse_text(text: &[u8]) -> Result<Pattern, TextFault>
         ensures spelled { IfOk result (λ pattern. Spells text.now pattern) }
         ensures every { (pattern : Plan) → Spells text.now pattern → result ≡ Ok pattern }
-        ensures told { IfErr result (IsTextFault text.now) }
+        ensures reported { IfErr result (IsTextFault text.now) }
     {
         match read::read(text) {
             Some(pattern) => Ok(pattern),

@@ -40,6 +40,6 @@ pub enum Token {
     Se,
     /// DH of both static keys.
     Ss,
-    /// A pre-shared secret.
+    /// A pre-shared key.
     Psk,
 }

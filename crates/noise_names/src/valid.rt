@@ -36,7 +36,7 @@ impl ValidPattern {
     /// The fundamental pattern of this base, such as `XX` (Noise, 7.4 and 7.5), which is valid. None if the base is
     /// none of the fifteen. It has no psk tokens.
     pub fn fundamental(base: &[u8]) -> Option<ValidPattern>
-        ensures same { result ≡ fundamental_of base.now }
+        ensures value { result ≡ fundamental_of base.now }
         ensures valid { IfSome result (λ pattern. IsValid pattern) }
         ensures placed { IfSome result (λ pattern. Placed pattern [] pattern) }
     {
@@ -52,7 +52,7 @@ impl ValidPattern {
 
     /// The pattern.
     pub fn pattern(&self) -> &Pattern
-        ensures same { result.now ≡ self.now }
+        ensures value { result.now ≡ self.now }
         ensures valid { IsValid self.now }
     {
         &self.pattern
@@ -109,7 +109,7 @@ impl Pattern {
     /// fault the pattern is gone: keep a clone where it is needed again.
     pub fn check(self) -> Result<ValidPattern, RuleFault>
         ensures first { MatchResult result (λ _. first_fault self ≡ None) (λ fault. first_fault self ≡ Some fault) }
-        ensures same { IfOk result (λ checked. checked ≡ self) }
+        ensures value { IfOk result (λ checked. checked ≡ self) }
         ensures valid { IsOk result ↔ IsValid self }
         ensures fault { IfErr result (λ fault. IsFirstFault self fault) }
     {

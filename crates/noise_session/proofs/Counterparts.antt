@@ -11,25 +11,25 @@ use Rattle.noise_names.specs.Validity.{IsValid}
 use Rattle.noise_aead.specs.Sealing.{nonce_of}
 use Rattle.noise_aead.specs.Sealed.{length-sealed}
 use Rattle.noise_state.specs.History.{History}
-use Rattle.noise_handshake.specs.View.{View, Accepts, Listens}
+use Rattle.noise_handshake.specs.Party.{Party, Accepts, Listens}
 use Rattle.noise_handshake.specs.Writing.{Writes}
-use Rattle.noise_handshake.specs.Party.{after_own, after_message}
+use Rattle.noise_handshake.specs.Matching.{after_own, after_message}
 use Rattle.noise_handshake.specs.Counterparts.{Counterparts}
 use Rattle.noise_session.specs.declared.faults.SendFault.{SendFault}
 use Rattle.noise_session.specs.declared.faults.SendFault.TheVariants as fault
 use Rattle.noise_session.specs.Frames.{frame}
-use Rattle.noise_session.specs.Transport.{packet, transport_key, last_nonce}
-use Rattle.noise_session.specs.Steps.Told.{Payload}
+use Rattle.noise_session.specs.Transport.{transport_message, transport_key, last_nonce}
+use Rattle.noise_session.specs.Steps.StepValue.{Payload}
 use Rattle.noise_session.specs.Progress.{Progress, is_open, idle_step, refusal}
 use Rattle.noise_session.specs.Progress.Progress.{Open}
-use Rattle.noise_session.specs.Ends.{EndView, progress_of}
+use Rattle.noise_session.specs.Ends.{EndState, progress_of}
 use Rattle.noise_session.specs.Counterparts.{EndCounterparts}
 use Rattle.noise_session.specs.Sending.{Sends}
 use Rattle.noise_session.specs.Sending.Sends.{refuses, lacks_answer, sends_handshake, sends_transport}
 use Rattle.noise_session.specs.Taking.{Takes}
 use Rattle.noise_session.specs.Taking.Takes.{judges}
 use Rattle.noise_session.specs.Taking.Judges.{accepted, opened}
-use Rattle.noise_session.proofs.Views.{progress-handshaking, progress-open, open-passed}
+use Rattle.noise_session.proofs.Parties.{progress-handshaking, progress-open, open-passed}
 use Rattle.noise_names.specs.Roles.{same_role-other}
 
 -- ---- the other end listens
@@ -37,7 +37,7 @@ use Rattle.noise_names.specs.Roles.{same_role-other}
 fewer : (a b : ℕ) → suc a ≤ b → a ≢ b
 fewer a b h e = omega (arith, h, e)
 
-listens-now : (w : EndView) → Listens w.party → idle_step (progress_of w) ≡ None
+listens-now : (w : EndState) → Listens w.party → idle_step (progress_of w) ≡ None
 listens-now w h =
     ap idle_step (progress-handshaking w h.going (fewer w.party.passed (length w.party.pattern.messages) h.more))
     ∙ rw (ap (λ (r : Role). same_role r w.party.role) h.turn ∙ same_role-other w.party.role) refl
@@ -81,19 +81,19 @@ not-ok a f e = cc
 
 -- ---- the law
 
-abbrev pub IsTaken : EndView → EndView → List ℕ → List ℕ → Type 0
-IsTaken x w payload f = (y : EndView) × Takes w f (length f) (Payload payload) y × EndCounterparts x y
+abbrev pub IsTaken : EndState → EndState → List ℕ → List ℕ → Type 0
+IsTaken x w payload f = (y : EndState) × Takes w f (length f) (Payload payload) y × EndCounterparts x y
 
-module _ (accepts : (v w : View) (payload message : List ℕ) (xs : List (List ℕ)) → IsValid v.pattern → Counterparts v w → Writes v payload xs message
+module _ (accepts : (v w : Party) (payload message : List ℕ) (xs : List (List ℕ)) → IsValid v.pattern → Counterparts v w → Writes v payload xs message
     → Accepts w message xs payload)
-    (next : (v w : View) (payload message : List ℕ) (xs : List (List ℕ)) → IsValid v.pattern → Counterparts v w → Writes v payload xs message
+    (next : (v w : Party) (payload message : List ℕ) (xs : List (List ℕ)) → IsValid v.pattern → Counterparts v w → Writes v payload xs message
     → Counterparts (after_own v xs payload) (after_message w xs payload)) where
-  handshake-taken : (v w : EndView) (payload message : List ℕ) (xs : List (List ℕ)) → IsValid v.party.pattern → EndCounterparts v w
+  handshake-taken : (v w : EndState) (payload message : List ℕ) (xs : List (List ℕ)) → IsValid v.party.pattern → EndCounterparts v w
       → Writes v.party payload xs message → IsTaken (record v { party = after_own v.party xs payload }) w payload (frame message)
   handshake-taken v w payload message xs valid c writes =
       let a : Accepts w.party message xs payload = accepts v.party w.party payload message xs valid c.parties writes in
-      let y : EndView = record w { party = after_message w.party xs payload; held = [] } in
-      let all : w.held ++ frame message ≡ frame message ++ [] = ap (λ (h : List ℕ). h ++ frame message) c.held_there ∙ sym (append-nil (frame message)) in (
+      let y : EndState = record w { party = after_message w.party xs payload; partial = [] } in
+      let all : w.partial ++ frame message ≡ frame message ++ [] = ap (λ (h : List ℕ). h ++ frame message) c.held_there ∙ sym (append-nil (frame message)) in (
         y,
         judges w y (frame message) message [] (length (frame message)) (Payload payload) (listens-now w a.listens) all a.fits (omega arith)
             (accepted w message payload xs a),
@@ -102,29 +102,29 @@ module _ (accepts : (v w : View) (payload message : List ℕ) (xs : List (List �
           interval = c.interval;
           there = c.there;
           back = c.back;
-          held = c.held;
+          partial = c.partial;
           held_there = refl;
         },
       )
 
-  transport-taken : (v w : EndView) (payload : List ℕ) → EndCounterparts v w → refusal (progress_of v) (length payload) ≡ None
+  transport-taken : (v w : EndState) (payload : List ℕ) → EndCounterparts v w → refusal (progress_of v) (length payload) ≡ None
       → IsTrue (is_open (progress_of v))
-      → IsTaken (record v { sent = v.sent + 1 }) w payload (frame (packet v.party.history v.party.role v.interval v.sent payload))
+      → IsTaken (record v { sent = v.sent + 1 }) w payload (frame (transport_message v.party.history v.party.role v.interval v.sent payload))
   transport-taken v w payload c due opens =
       let p : Plan = v.party.pattern in
-      let there : w.party.pattern ≡ p = ap (λ (z : View). z.pattern) c.parties.there in
-      let passed : w.party.passed ≡ v.party.passed = ap (λ (z : View). z.passed) c.parties.there in
-      let role : w.party.role ≡ other v.party.role = ap (λ (z : View). z.role) c.parties.there in
-      let mine : v.party.role ≡ other w.party.role = ap (λ (z : View). z.role) c.parties.back in
-      let history : w.party.history ≡ v.party.history = ap (λ (z : View). z.history) c.parties.there in
-      let going : v.party.ended ≡ false = ap (λ (z : View). z.ended) c.parties.back in
-      let going_there : w.party.ended ≡ false = ap (λ (z : View). z.ended) c.parties.there in
+      let there : w.party.pattern ≡ p = ap (λ (z : Party). z.pattern) c.parties.there in
+      let passed : w.party.passed ≡ v.party.passed = ap (λ (z : Party). z.passed) c.parties.there in
+      let role : w.party.role ≡ other v.party.role = ap (λ (z : Party). z.role) c.parties.there in
+      let mine : v.party.role ≡ other w.party.role = ap (λ (z : Party). z.role) c.parties.back in
+      let history : w.party.history ≡ v.party.history = ap (λ (z : Party). z.history) c.parties.there in
+      let going : v.party.ended ≡ false = ap (λ (z : Party). z.ended) c.parties.back in
+      let going_there : w.party.ended ≡ false = ap (λ (z : Party). z.ended) c.parties.there in
       let all : v.party.passed ≡ length p.messages = open-passed v opens in
       let all_there : w.party.passed ≡ length w.party.pattern.messages = passed ∙ all ∙ ap (λ (q : Plan). length q.messages) (sym there) in
       let is : IsDue (is_one_way p) v.party.role v.sent (length payload) =
       due-open (is_one_way p) v.party.role v.sent v.received (length payload)
       (ap (λ (q : Progress). refusal q (length payload)) (sym (progress-open v going all)) ∙ due) in
-      let m : List ℕ = packet v.party.history v.party.role v.interval v.sent payload in
+      let m : List ℕ = transport_message v.party.history v.party.role v.interval v.sent payload in
       let size : length m ≡ length payload + 16 =
       length-sealed (transport_key v.party.history v.party.role v.interval v.sent) (nonce_of v.sent) [] payload in
       let short : length payload + 16 ≤ 65535 = in-room (length payload + 16) is.room in
@@ -134,13 +134,13 @@ module _ (accepts : (v w : View) (payload message : List ℕ) (xs : List (List �
       ∙ ap (λ (z : Plan). is_one_way z && same_role (other v.party.role) Initiator) there ∙ heard-there (is_one_way p) v.party.role is.heard in
       let idle : idle_step (progress_of w) ≡ None = ap idle_step q ∙ rw silent refl in
       let low : w.received ≢ last_nonce = subst (λ (k : ℕ). k ≢ last_nonce) (sym c.there) (not-last v.sent is.low) in
-      let same : m ≡ packet w.party.history (other w.party.role) w.interval w.received payload =
-      ap (λ (r : History). packet r v.party.role v.interval v.sent payload) (sym history)
-      ∙ ap (λ (r : Role). packet w.party.history r v.interval v.sent payload) mine
-      ∙ ap (λ (k : ℕ). packet w.party.history (other w.party.role) k v.sent payload) (sym c.interval)
-      ∙ ap (λ (k : ℕ). packet w.party.history (other w.party.role) w.interval k payload) (sym c.there) in
-      let y : EndView = record w { received = w.received + 1; held = [] } in
-      let whole : w.held ++ frame m ≡ frame m ++ [] = ap (λ (h : List ℕ). h ++ frame m) c.held_there ∙ sym (append-nil (frame m)) in (
+      let same : m ≡ transport_message w.party.history (other w.party.role) w.interval w.received payload =
+      ap (λ (r : History). transport_message r v.party.role v.interval v.sent payload) (sym history)
+      ∙ ap (λ (r : Role). transport_message w.party.history r v.interval v.sent payload) mine
+      ∙ ap (λ (k : ℕ). transport_message w.party.history (other w.party.role) k v.sent payload) (sym c.interval)
+      ∙ ap (λ (k : ℕ). transport_message w.party.history (other w.party.role) w.interval k payload) (sym c.there) in
+      let y : EndState = record w { received = w.received + 1; partial = [] } in
+      let whole : w.partial ++ frame m ≡ frame m ++ [] = ap (λ (h : List ℕ). h ++ frame m) c.held_there ∙ sym (append-nil (frame m)) in (
         y,
         judges w y (frame m) m [] (length (frame m)) (Payload payload) idle whole (omega (arith, size, short)) (omega arith)
             (opened w m payload (ap is_open q) low same),
@@ -149,12 +149,12 @@ module _ (accepts : (v w : View) (payload message : List ℕ) (xs : List (List �
           interval = c.interval;
           there = ap (λ (k : ℕ). k + 1) c.there;
           back = c.back;
-          held = c.held;
+          partial = c.partial;
           held_there = refl;
         },
       )
 
-  sent-taken : (v w x : EndView) (payload f : List ℕ) (r : Result (List ℕ) SendFault) → r ≡ Ok f → IsValid v.party.pattern → EndCounterparts v w
+  sent-taken : (v w x : EndState) (payload f : List ℕ) (r : Result (List ℕ) SendFault) → r ≡ Ok f → IsValid v.party.pattern → EndCounterparts v w
       → Sends v payload r x → IsTaken x w payload f
   sent-taken v w x payload f r e valid c (refuses _ _ why _) = absurd (not-ok why f e)
   sent-taken v w x payload f r e valid c (lacks_answer _ _ token _ _) = absurd (not-ok (fault.Agreement token) f e)
@@ -162,8 +162,8 @@ module _ (accepts : (v w : View) (payload message : List ℕ) (xs : List (List �
       subst (IsTaken (record v { party = after_own v.party xs payload }) w payload) (ok-same (frame message) f (Ok (frame message)) refl e)
       (handshake-taken v w payload message xs valid c writes)
   sent-taken v w x payload f r e valid c (sends_transport _ _ due opens) =
-      let m : List ℕ = packet v.party.history v.party.role v.interval v.sent payload in
+      let m : List ℕ = transport_message v.party.history v.party.role v.interval v.sent payload in
       subst (IsTaken (record v { sent = v.sent + 1 }) w payload) (ok-same (frame m) f (Ok (frame m)) refl e) (transport-taken v w payload c due opens)
 
-  pub written-taken : (v w x : EndView) (payload f : List ℕ) → IsValid v.party.pattern → EndCounterparts v w → Sends v payload (Ok f) x → IsTaken x w payload f
+  pub written-taken : (v w x : EndState) (payload f : List ℕ) → IsValid v.party.pattern → EndCounterparts v w → Sends v payload (Ok f) x → IsTaken x w payload f
   written-taken v w x payload f valid c sends = sent-taken v w x payload f (Ok f) refl valid c sends

@@ -15,41 +15,41 @@ use Rattle.noise_session.specs.declared.faults.SendFault.{SendFault}
 use Rattle.noise_session.specs.declared.faults.SendFault.TheVariants as send
 use Rattle.noise_session.specs.declared.datagram_fault.DatagramFault.{DatagramFault}
 use Rattle.noise_session.specs.declared.datagram_fault.DatagramFault.TheVariants as fault
-use Rattle.noise_session.specs.Transport.{transport_key, packet, last_nonce}
+use Rattle.noise_session.specs.Transport.{transport_key, transport_message, last_nonce}
 use Rattle.noise_session.specs.Windows.{is_among, window_fault}
-use Rattle.noise_session.specs.Datagrams.{DatagramView, Opens, Runs, AreOnce, AreParties, IsSealed, datagram, nonce_named, accepting, unsealed, datagram_fault}
+use Rattle.noise_session.specs.Datagrams.{DatagramState, Opens, Runs, AreOnce, AreParties, IsSealed, datagram, nonce_named, accepting, unsealed, datagram_fault}
 use Rattle.noise_session.specs.Datagrams.Opens.{opened, refused, forged}
 use Rattle.noise_session.specs.Datagrams.Runs.{ends, seals, opens, refuses}
-use Rattle.noise_session.proofs.DatagramViews.{no-fault, young}
+use Rattle.noise_session.proofs.DatagramStates.{no-fault, young}
 use Rattle.noise_names.specs.Roles.{other-other}
 
 -- ---- once
-opened-as : (v : DatagramView) (bytes payload : List ℕ) (w : DatagramView) → Opens v bytes (Ok payload) w
+opened-as : (v : DatagramState) (bytes payload : List ℕ) (w : DatagramState) → Opens v bytes (Ok payload) w
     → (datagram_fault v bytes ≡ None) × (w ≡ accepting v (nonce_named bytes))
 opened-as v bytes payload w (opened _ _ _ none is) = (none, refl)
 
-refused-as : (v w : DatagramView) (bytes : List ℕ) (why : DatagramFault) → Opens v bytes (Err why) w → w ≡ v
+refused-as : (v w : DatagramState) (bytes : List ℕ) (why : DatagramFault) → Opens v bytes (Err why) w → w ≡ v
 refused-as v w bytes why (refused _ _ _ is) = refl
 refused-as v w bytes why (forged _ _ none never) = refl
 
 -- a nonce that was opened isn't opened again
-not-again : (v w : DatagramView) (nonces : List ℕ) → Runs v nonces w → (n : ℕ) → is_among v.accepted n ≡ true → is_among nonces n ≡ false
+not-again : (v w : DatagramState) (nonces : List ℕ) → Runs v nonces w → (n : ℕ) → is_among v.accepted n ≡ true → is_among nonces n ≡ false
 not-again v w nonces (ends _) n there = refl
 not-again v w nonces (seals _ _ _ r) n there = not-again (record v { sent = v.sent + 1 }) w nonces r n there
 not-again v w nonces (opens _ x _ bytes payload rest o r) n there =
     let is = opened-as v bytes payload x o in
-    let set = ap (λ (u : DatagramView). is_among u.accepted n) is.1 in
+    let set = ap (λ (u : DatagramState). is_among u.accepted n) is.1 in
     let apart : nonce_named bytes ≢ n = λ same. false≢true (sym (young v bytes is.0).1 ∙ ap (is_among v.accepted) same ∙ there) in
     rw (ne_eqb (nonce_named bytes) n apart) (not-again x w rest r n (set ∙ or_right (eqb (nonce_named bytes) n) (is_among v.accepted n) there))
 not-again v w nonces (refuses _ x _ bytes _ why o r) n there =
-    not-again x w nonces r n (ap (λ (u : DatagramView). is_among u.accepted n) (refused-as v x bytes why o) ∙ there)
+    not-again x w nonces r n (ap (λ (u : DatagramState). is_among u.accepted n) (refused-as v x bytes why o) ∙ there)
 
-pub once : (v w : DatagramView) (nonces : List ℕ) → Runs v nonces w → AreOnce nonces
+pub once : (v w : DatagramState) (nonces : List ℕ) → Runs v nonces w → AreOnce nonces
 once v w nonces (ends _) = tt
 once v w nonces (seals _ _ _ r) = once (record v { sent = v.sent + 1 }) w nonces r
 once v w nonces (opens _ x _ bytes payload rest o r) =
     let is = opened-as v bytes payload x o in
-    let set = ap (λ (u : DatagramView). is_among u.accepted (nonce_named bytes)) is.1 in
+    let set = ap (λ (u : DatagramState). is_among u.accepted (nonce_named bytes)) is.1 in
     let n = nonce_named bytes in
     let here = or_left (eqb n n) (is_among v.accepted n) (eq-eqb n n refl) in
     (not-again x w rest r n (set ∙ here), once x w rest r)
@@ -83,19 +83,19 @@ past false x rest e = refl
 named : (n : ℕ) (rest : List ℕ) → n < 2 ^ 64 → nonce_named (to_be_bytes w64 n ++ rest) ≡ n
 named n rest low = from_be_bytes-to_be_bytes_8 n low
 
-told : (w : DatagramView) (bytes payload : List ℕ) (n : ℕ) (o : Option DatagramFault) → datagram_fault w bytes ≡ o
+reported : (w : DatagramState) (bytes payload : List ℕ) (n : ℕ) (o : Option DatagramFault) → datagram_fault w bytes ≡ o
     → nonce_named bytes ≡ n → IsSealed w bytes payload
     → MatchOption o (Opens w bytes (Ok payload) (accepting w n)) (λ why. Opens w bytes (Err why) w)
-told w bytes payload n None e is sealed = subst (λ (k : ℕ). Opens w bytes (Ok payload) (accepting w k)) is (opened w bytes payload e sealed)
-told w bytes payload n (Some why) e is sealed = refused w bytes why e
+reported w bytes payload n None e is sealed = subst (λ (k : ℕ). Opens w bytes (Ok payload) (accepting w k)) is (opened w bytes payload e sealed)
+reported w bytes payload n (Some why) e is sealed = refused w bytes why e
 
-module _ (v w : DatagramView) (payload : List ℕ) (p : AreParties v w) (d : IsDue v.role v.one_way v.sent (length payload)) where
+module _ (v w : DatagramState) (payload : List ℕ) (p : AreParties v w) (d : IsDue v.role v.one_way v.sent (length payload)) where
   bytes : List ℕ
   bytes = datagram v.history v.role v.sent payload
 
   is-named : nonce_named bytes ≡ v.sent
   unfolding bytes
-  is-named = let low = d.low in named v.sent (packet v.history v.role 0 v.sent payload) (omega arith)
+  is-named = let low = d.low in named v.sent (transport_message v.history v.role 0 v.sent payload) (omega arith)
 
   long : length bytes ≡ length payload + 24
   unfolding bytes
@@ -109,12 +109,12 @@ module _ (v w : DatagramView) (payload : List ℕ) (p : AreParties v w) (d : IsD
       let name = is-named in
       let window = window_fault w.width w.accepted (nonce_named bytes) in
       let reserved : Option DatagramFault = if nonce_named bytes == last_nonce then Some fault.Reserved else window in
-      let over : Option DatagramFault = if nat_lt 65543 (length bytes) then Some fault.TooLong else reserved in
-      let short : Option DatagramFault = if nat_lt (length bytes) 24 then Some fault.Short else over in
+      let ended_party : Option DatagramFault = if nat_lt 65543 (length bytes) then Some fault.TooLong else reserved in
+      let short : Option DatagramFault = if nat_lt (length bytes) 24 then Some fault.Short else ended_party in
       let heard : (w.one_way && same_role w.role Initiator) ≡ false = rw (p.role, p.one_way) (heard-there v.one_way v.role d.heard) in
       let apart : nonce_named bytes ≢ last_nonce = λ same. absurd (omega arith) in
       past (w.one_way && same_role w.role Initiator) fault.OneWay short heard
-      ∙ past (nat_lt (length bytes) 24) fault.Short over (le-ltb (length bytes) 24 (omega arith))
+      ∙ past (nat_lt (length bytes) 24) fault.Short ended_party (le-ltb (length bytes) 24 (omega arith))
       ∙ past (nat_lt 65543 (length bytes)) fault.TooLong reserved (le-ltb 65543 (length bytes) (omega arith))
       ∙ past (nonce_named bytes == last_nonce) fault.Reserved window (ne_eqb (nonce_named bytes) last_nonce apart)
       ∙ ap (window_fault w.width w.accepted) is-named
@@ -122,14 +122,14 @@ module _ (v w : DatagramView) (payload : List ℕ) (p : AreParties v w) (d : IsD
   is-sealed : IsSealed w bytes payload
   unfolding bytes
   is-sealed =
-      ap (λ (r : History). packet r v.role 0 v.sent payload) (sym p.history)
-      ∙ ap (λ (role : Role). packet w.history role 0 v.sent payload) (sym (ap other p.role ∙ other-other v.role))
-      ∙ ap (λ (n : ℕ). packet w.history (other w.role) 0 n payload) (sym is-named)
+      ap (λ (r : History). transport_message r v.role 0 v.sent payload) (sym p.history)
+      ∙ ap (λ (role : Role). transport_message w.history role 0 v.sent payload) (sym (ap other p.role ∙ other-other v.role))
+      ∙ ap (λ (n : ℕ). transport_message w.history (other w.role) 0 n payload) (sym is-named)
 
   comes : MatchOption (window_fault w.width w.accepted v.sent) (Opens w bytes (Ok payload) (accepting w v.sent)) (λ why. Opens w bytes (Err why) w)
-  comes = told w bytes payload v.sent (window_fault w.width w.accepted v.sent) fault-there is-named is-sealed
+  comes = reported w bytes payload v.sent (window_fault w.width w.accepted v.sent) fault-there is-named is-sealed
 
-pub sealed-opened : (v w : DatagramView) (payload : List ℕ) → AreParties v w → unsealed v.role v.one_way v.sent (length payload) ≡ None
+pub sealed-opened : (v w : DatagramState) (payload : List ℕ) → AreParties v w → unsealed v.role v.one_way v.sent (length payload) ≡ None
     → MatchOption (window_fault w.width w.accepted v.sent)
     (Opens w (datagram v.history v.role v.sent payload) (Ok payload) (accepting w v.sent))
     (λ why. Opens w (datagram v.history v.role v.sent payload) (Err why) w)

@@ -9,7 +9,7 @@ use Rattle.byteorder.specs.Numbers.{big_from-take}
 use Rattle.noise_session.specs.Frames.{frame_length, IsPartial, IsWhole}
 use Rattle.std.proofs.lemmas.Bool.{eqb-true, ltb-true, ltb-false, eqb-false}
 
--- fewer than two bytes tell nothing
+-- fewer than two bytes report nothing
 length-short : (xs : List ℕ) → length xs < 2 → frame_length xs ≡ 2
 length-short xs short = grind (arith, nat_tests)
 
@@ -25,9 +25,9 @@ length-same xs ys long other same =
 
 -- So many bytes of p come to the first h of xs, of a frame of w, and those are then the first of ys, of a frame of u.
 module _ (xs ys p : List ℕ) (h n w u : ℕ) (joined : take (h + n) ys ≡ take h xs ++ p) (came : length p ≡ n) (room : h + n ≤ length xs)
-    (kept_room : length ys ≡ length xs)
+    (unchanged_room : length ys ≡ length xs)
     (known : w ≡ frame_length (take h xs)) (fits : h + n ≤ w) (low : w ≤ 65537) (spelled : 2 ≤ h → take 2 xs ≡ big_bytes 2 (w - 2))
-    (read : h + n ≡ 2 → (u ≡ frame_length (take 2 ys)) × (u ≤ 65537) × (take 2 ys ≡ big_bytes 2 (u - 2))) (kept : h + n ≢ 2 → u ≡ w) where
+    (read : h + n ≡ 2 → (u ≡ frame_length (take 2 ys)) × (u ≤ 65537) × (take 2 ys ≡ big_bytes 2 (u - 2))) (unchanged : h + n ≢ 2 → u ≡ w) where
   length-front : length (take h xs) ≡ h
   length-front = length-take-le h xs (omega arith)
 
@@ -41,7 +41,7 @@ module _ (xs ys p : List ℕ) (h n w u : ℕ) (joined : take (h + n) ys ≡ take
 
   at-most : (b : Bool) → (h + n == 2) ≡ b → u ≤ 65537
   at-most true e = (read (eqb-true (h + n) 2 e)).1
-  at-most false e = let same = kept (eqb-false (h + n) 2 e) in omega arith
+  at-most false e = let same = unchanged (eqb-false (h + n) 2 e) in omega arith
 
   begun : (b : Bool) → nat_lt h 2 ≡ b → h + n ≢ 2 → 2 ≤ h + n → 2 ≤ h
   begun true e not long =
@@ -60,14 +60,14 @@ module _ (xs ys p : List ℕ) (h n w u : ℕ) (joined : take (h + n) ys ≡ take
       let short = ltb-true (h + n) 2 f in
       let front = length-front in
       let back = length-back in
-      kept not ∙ (known ∙ (length-short (take h xs) (omega arith) ∙ sym (length-short (take (h + n) ys) (omega arith))))
+      unchanged not ∙ (known ∙ (length-short (take h xs) (omega arith) ∙ sym (length-short (take (h + n) ys) (omega arith))))
   known-by false false e f =
       let not = eqb-false (h + n) 2 e in
       let long = ltb-false (h + n) 2 f in
       let front = length-front in
       let back = length-back in
       let two = begun (nat_lt h 2) refl not long in
-      kept not
+      unchanged not
       ∙ (known ∙ length-same (take h xs) (take (h + n) ys) (omega arith) (omega arith)
       (take-take 2 h xs two ∙ (sym (first-two two) ∙ sym (take-take 2 (h + n) ys (omega arith)))))
 
@@ -76,7 +76,7 @@ module _ (xs ys p : List ℕ) (h n w u : ℕ) (joined : take (h + n) ys ≡ take
   spelled-by false e long =
       let not = eqb-false (h + n) 2 e in
       let two = begun (nat_lt h 2) refl not long in
-      first-two two ∙ (spelled two ∙ ap (λ (k : ℕ). big_bytes 2 (k - 2)) (sym (kept not)))
+      first-two two ∙ (spelled two ∙ ap (λ (k : ℕ). big_bytes 2 (k - 2)) (sym (unchanged not)))
 
   within-by : (b : Bool) → (h + n == 2) ≡ b → h + n ≤ u
   within-by true e =
@@ -84,7 +84,7 @@ module _ (xs ys p : List ℕ) (h n w u : ℕ) (joined : take (h + n) ys ≡ take
       let at = (read is).0 in
       let two = length-long (take 2 ys) (let l = length-take-le 2 ys (omega arith) in omega arith) in
       omega arith
-  within-by false e = let same = kept (eqb-false (h + n) 2 e) in omega arith
+  within-by false e = let same = unchanged (eqb-false (h + n) 2 e) in omega arith
 
   pub grown-most : u ≤ 65537
   grown-most = at-most (h + n == 2) refl

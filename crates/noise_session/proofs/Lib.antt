@@ -3,7 +3,7 @@ pub mod Unopened
 pub mod Splitting
 pub mod Streaming
 pub mod Facing
-pub mod Views
+pub mod Parties
 pub mod Judging
 pub mod Making
 pub mod Growing
@@ -14,7 +14,7 @@ pub mod Counterparts
 pub mod Ringing
 pub mod Clearing
 pub mod Rings
-pub mod DatagramViews
+pub mod DatagramStates
 pub mod DatagramSplitting
 pub mod DatagramLaws
 pub mod Exactly

@@ -4,7 +4,7 @@ use Rattle.std.proofs.Common.{IfErr, IsOk, if◌then◌else◌, refl}
 use Rattle.std.specs.Prelude.{⊤}
 use Rattle.noise_handshake.specs.declared.faults.WriteFault.{WriteFault}
 use Rattle.noise_handshake.specs.declared.faults.WriteFault.TheVariants as write
-use Rattle.noise_handshake.specs.Held.{Held, is_turn, write_fault, length_now, IsAgreement}
+use Rattle.noise_handshake.specs.HandshakeValue.{HandshakeValue, is_turn, write_fault, length_now, IsAgreement}
 use Rattle.noise_session.specs.declared.faults.SendFault.{SendFault}
 use Rattle.noise_session.specs.declared.faults.SendFault.TheVariants as fault
 use Rattle.noise_session.specs.Progress.{Progress, refusal}
@@ -18,64 +18,64 @@ asked ended done turn long =
 abbrev answered : Bool → Bool → Option SendFault
 answered turn long = if not turn then Some fault.NotYourTurn else if long then Some fault.TooLong else None
 
--- what a result of the handshake tells of that
-abbrev Told : Bool → Bool → Bool → Bool → List ℕ → List ℕ → Result ℕ WriteFault → Type 0
-Told ended done turn long old new r = MatchOption (asked ended done turn long) (IfErr r IsAgreement) (λ f. (r ≡ Err f) × (new ≡ old))
+-- what a result of the handshake reports of that
+abbrev StepValue : Bool → Bool → Bool → Bool → List ℕ → List ℕ → Result ℕ WriteFault → Type 0
+StepValue ended done turn long old new r = MatchOption (asked ended done turn long) (IfErr r IsAgreement) (λ f. (r ≡ Err f) × (new ≡ old))
 
-ok-told : (ended done turn long : Bool) (old new : List ℕ) (n : ℕ) → Told ended done turn long old new (Ok n) → answered turn long ≡ None
-ok-told true done turn long old new n h = cc
-ok-told false true turn long old new n h = cc
-ok-told false false false long old new n h = cc
-ok-told false false true true old new n h = cc
-ok-told false false true false old new n h = refl
+ok-reported : (ended done turn long : Bool) (old new : List ℕ) (n : ℕ) → StepValue ended done turn long old new (Ok n) → answered turn long ≡ None
+ok-reported true done turn long old new n h = cc
+ok-reported false true turn long old new n h = cc
+ok-reported false false false long old new n h = cc
+ok-reported false false true true old new n h = cc
+ok-reported false false true false old new n h = refl
 
-turn-told : (ended done turn long : Bool) (old new : List ℕ) → not ended && not done ≡ true → Told ended done turn long old new (Err write.NotYourTurn)
+turn-reported : (ended done turn long : Bool) (old new : List ℕ) → not ended && not done ≡ true → StepValue ended done turn long old new (Err write.NotYourTurn)
     → answered turn long ≡ Some fault.NotYourTurn
-turn-told true done turn long old new due h = cc
-turn-told false true turn long old new due h = cc
-turn-told false false false long old new due h = refl
-turn-told false false true true old new due h = cc
-turn-told false false true false old new due h = absurd h
+turn-reported true done turn long old new due h = cc
+turn-reported false true turn long old new due h = cc
+turn-reported false false false long old new due h = refl
+turn-reported false false true true old new due h = cc
+turn-reported false false true false old new due h = absurd h
 
-long-told : (ended done turn long : Bool) (old new : List ℕ) → not ended && not done ≡ true → Told ended done turn long old new (Err write.TooLong)
+long-reported : (ended done turn long : Bool) (old new : List ℕ) → not ended && not done ≡ true → StepValue ended done turn long old new (Err write.TooLong)
     → answered turn long ≡ Some fault.TooLong
-long-told true done turn long old new due h = cc
-long-told false true turn long old new due h = cc
-long-told false false false long old new due h = cc
-long-told false false true true old new due h = refl
-long-told false false true false old new due h = absurd h
+long-reported true done turn long old new due h = cc
+long-reported false true turn long old new due h = cc
+long-reported false false false long old new due h = cc
+long-reported false false true true old new due h = refl
+long-reported false false true false old new due h = absurd h
 
-lack-told : (ended done turn long : Bool) (old new : List ℕ) (k : ℕ) → Told ended done turn long old new (Err (write.Agreement k))
+lack-reported : (ended done turn long : Bool) (old new : List ℕ) (k : ℕ) → StepValue ended done turn long old new (Err (write.Agreement k))
     → answered turn long ≡ None
-lack-told true done turn long old new k h = cc
-lack-told false true turn long old new k h = cc
-lack-told false false false long old new k h = cc
-lack-told false false true true old new k h = cc
-lack-told false false true false old new k h = refl
+lack-reported true done turn long old new k h = cc
+lack-reported false true turn long old new k h = cc
+lack-reported false false false long old new k h = cc
+lack-reported false false true true old new k h = cc
+lack-reported false false true false old new k h = refl
 
-module _ {K : Type 0} (h : Held K) (n : ℕ) (old new : List ℕ) where
+module _ {K : Type 0} (h : HandshakeValue K) (n : ℕ) (old new : List ℕ) where
   abbrev now : Progress
   now = Handshaking h.pattern h.role h.passed
 
-  abbrev Tells : Result ℕ WriteFault → Type 0
-  Tells r = MatchOption (write_fault h n) (IfErr r IsAgreement) (λ f. (r ≡ Err f) × (new ≡ old))
+  abbrev Reports : Result ℕ WriteFault → Type 0
+  Reports r = MatchOption (write_fault h n) (IfErr r IsAgreement) (λ f. (r ≡ Err f) × (new ≡ old))
 
   abbrev due : Bool
   due = not h.ended && not (h.passed == length h.pattern.messages)
 
-  pub ok-due : (m : ℕ) → Tells (Ok m) → refusal now n ≡ None
-  ok-due m t = ok-told h.ended (h.passed == length h.pattern.messages) (is_turn h.role h.passed) (nat_lt 65535 (length_now h n)) old new m t
+  pub ok-due : (m : ℕ) → Reports (Ok m) → refusal now n ≡ None
+  ok-due m t = ok-reported h.ended (h.passed == length h.pattern.messages) (is_turn h.role h.passed) (nat_lt 65535 (length_now h n)) old new m t
 
-  pub not-turn : due ≡ true → Tells (Err write.NotYourTurn) → refusal now n ≡ Some fault.NotYourTurn
-  not-turn d t = turn-told h.ended (h.passed == length h.pattern.messages) (is_turn h.role h.passed) (nat_lt 65535 (length_now h n)) old new d t
+  pub not-turn : due ≡ true → Reports (Err write.NotYourTurn) → refusal now n ≡ Some fault.NotYourTurn
+  not-turn d t = turn-reported h.ended (h.passed == length h.pattern.messages) (is_turn h.role h.passed) (nat_lt 65535 (length_now h n)) old new d t
 
-  pub too-long : due ≡ true → Tells (Err write.TooLong) → refusal now n ≡ Some fault.TooLong
-  too-long d t = long-told h.ended (h.passed == length h.pattern.messages) (is_turn h.role h.passed) (nat_lt 65535 (length_now h n)) old new d t
+  pub too-long : due ≡ true → Reports (Err write.TooLong) → refusal now n ≡ Some fault.TooLong
+  too-long d t = long-reported h.ended (h.passed == length h.pattern.messages) (is_turn h.role h.passed) (nat_lt 65535 (length_now h n)) old new d t
 
-  pub lack-due : (k : ℕ) → Tells (Err (write.Agreement k)) → refusal now n ≡ None
-  lack-due k t = lack-told h.ended (h.passed == length h.pattern.messages) (is_turn h.role h.passed) (nat_lt 65535 (length_now h n)) old new k t
+  pub lack-due : (k : ℕ) → Reports (Err (write.Agreement k)) → refusal now n ≡ None
+  lack-due k t = lack-reported h.ended (h.passed == length h.pattern.messages) (is_turn h.role h.passed) (nat_lt 65535 (length_now h n)) old new k t
 
--- what a result of a transport tells of why nothing is sealed
+-- what a result of a transport reports of why nothing is sealed
 abbrev sealed : ℕ → Result ℕ SendFault
 sealed n = Ok n
 

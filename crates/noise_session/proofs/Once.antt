@@ -4,30 +4,30 @@ use Rattle.noise_names.specs.declared.token.Role.{Role}
 use Rattle.noise_names.specs.Tokens.{other}
 use Rattle.noise_state.specs.History.{History}
 use Rattle.noise_handshake.specs.declared.faults.Cause.{Cause}
-use Rattle.noise_handshake.specs.View.{View, Accepts, Refuses}
-use Rattle.noise_handshake.specs.Party.{after_message}
+use Rattle.noise_handshake.specs.Party.{Party, Accepts, Refuses}
+use Rattle.noise_handshake.specs.Matching.{after_message}
 use Rattle.noise_session.specs.Frames.{IsPartial}
-use Rattle.noise_session.specs.Transport.{packet}
-use Rattle.noise_session.specs.Steps.{Told}
-use Rattle.noise_session.specs.Steps.Told.{Payload, Refused}
-use Rattle.noise_session.specs.Ends.{EndView}
+use Rattle.noise_session.specs.Transport.{transport_message}
+use Rattle.noise_session.specs.Steps.{StepValue}
+use Rattle.noise_session.specs.Steps.StepValue.{Payload, Refused}
+use Rattle.noise_session.specs.Ends.{EndState}
 use Rattle.noise_session.specs.Taking.{Judges, Takes}
 use Rattle.noise_session.specs.Taking.Judges.{accepted, refused, opened, dropped, exhausted}
 use Rattle.noise_session.specs.Taking.Takes.{idles, waits, judges}
 use Rattle.noise_session.specs.Framing.{frame-whole, frame-same}
-use Rattle.noise_session.proofs.Views.{open-passed}
+use Rattle.noise_session.proofs.Parties.{open-passed}
 
-module _ (accepted-one : (v : View) (message : List ℕ) (xs ys : List (List ℕ)) (p q : List ℕ) → Accepts v message xs p → Accepts v message ys q
+module _ (accepted-one : (v : Party) (message : List ℕ) (xs ys : List (List ℕ)) (p q : List ℕ) → Accepts v message xs p → Accepts v message ys q
     → (xs ≡ ys) × (p ≡ q))
-    (refused-one : (v : View) (message : List ℕ) (k j : ℕ) (c d : Cause) → Refuses v message k c → Refuses v message j d → (k ≡ j) × (c ≡ d))
-    (apart : (v : View) (message : List ℕ) (xs : List (List ℕ)) (p : List ℕ) (k : ℕ) (c : Cause) → Accepts v message xs p → Refuses v message k c → ⊥)
-    (packet-one : (r : History) (writer : Role) (interval n : ℕ) (p q : List ℕ) → packet r writer interval n p ≡ packet r writer interval n q → p ≡ q) where
-  pub judged-once : (v x y : EndView) (m : List ℕ) (s t : Told) → Judges v m s x → Judges v m t y → (s ≡ t) × (x ≡ y)
+    (refused-one : (v : Party) (message : List ℕ) (k j : ℕ) (c d : Cause) → Refuses v message k c → Refuses v message j d → (k ≡ j) × (c ≡ d))
+    (apart : (v : Party) (message : List ℕ) (xs : List (List ℕ)) (p : List ℕ) (k : ℕ) (c : Cause) → Accepts v message xs p → Refuses v message k c → ⊥)
+    (transport_message-one : (r : History) (writer : Role) (interval n : ℕ) (p q : List ℕ) → transport_message r writer interval n p ≡ transport_message r writer interval n q → p ≡ q) where
+  pub judged-once : (v x y : EndState) (m : List ℕ) (s t : StepValue) → Judges v m s x → Judges v m t y → (s ≡ t) × (x ≡ y)
   judged-once v x y m s t (accepted _ _ p xs a) (accepted _ _ q ys b) =
       let one = accepted-one v.party m xs ys p q a b in (
         ap Payload one.1,
-        ap (λ (zs : List (List ℕ)). record v { party = after_message v.party zs p; held = [] }) one.0
-            ∙ ap (λ (r : List ℕ). record v { party = after_message v.party ys r; held = [] }) one.1,
+        ap (λ (zs : List (List ℕ)). record v { party = after_message v.party zs p; partial = [] }) one.0
+            ∙ ap (λ (r : List ℕ). record v { party = after_message v.party ys r; partial = [] }) one.1,
       )
   judged-once v x y m s t (accepted _ _ p xs a) (refused _ _ k c b) = absurd (apart v.party m xs p k c a b)
   judged-once v x y m s t (accepted _ _ p xs a) (opened _ _ q opens low is) =
@@ -67,7 +67,7 @@ module _ (accepted-one : (v : View) (message : List ℕ) (xs ys : List (List ℕ
       let all = open-passed v opens in
       absurd (omega arith)
   judged-once v x y m s t (opened _ _ p opens low is) (opened _ _ q other_opens other_low be) =
-      (ap Payload (packet-one v.party.history (other v.party.role) v.interval v.received p q (sym is ∙ be)), refl)
+      (ap Payload (transport_message-one v.party.history (other v.party.role) v.interval v.received p q (sym is ∙ be)), refl)
   judged-once v x y m s t (opened _ _ p opens low is) (dropped _ _ other_opens other_low never) = absurd (never p is)
   judged-once v x y m s t (opened _ _ p opens low is) (exhausted _ _ other_opens last) = absurd (low last)
   judged-once v x y m s t (dropped _ _ opens low never) (accepted _ _ q xs a) =
@@ -93,7 +93,7 @@ module _ (accepted-one : (v : View) (message : List ℕ) (xs ys : List (List ℕ
   judged-once v x y m s t (exhausted _ _ opens last) (dropped _ _ other_opens low never) = absurd (low last)
   judged-once v x y m s t (exhausted _ _ opens last) (exhausted _ _ other_opens other_last) = (refl, refl)
 
-  pub takes-once : (v x y : EndView) (piece : List ℕ) (m n : ℕ) (s t : Told) → Takes v piece m s x → Takes v piece n t y → (m ≡ n) × (s ≡ t) × (x ≡ y)
+  pub takes-once : (v x y : EndState) (piece : List ℕ) (m n : ℕ) (s t : StepValue) → Takes v piece m s x → Takes v piece n t y → (m ≡ n) × (s ≡ t) × (x ≡ y)
   takes-once v x y piece m n s t (idles _ _ _ e) (idles _ _ _ f) = let same : s ≡ t = cc in (refl, same, refl)
   takes-once v x y piece m n s t (idles _ _ _ e) (waits _ _ f partial) = cc
   takes-once v x y piece m n s t (idles _ _ _ e) (judges _ _ _ message rest _ _ f is short count j) = cc

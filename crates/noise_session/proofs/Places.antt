@@ -3,12 +3,11 @@ use Rattle.std.proofs.Common.{◌≡◌, ℕ, ◌+◌, ◌-◌, ◌≤◌, List,
 use Rattle.std.proofs.Common.{length-drop, length-append}
 use Rattle.std.proofs.lemmas.List.{take-append-drop, places, same_lists, drop_at, drop-drop, take_rest, length-take-le, nil_from_length, append-nil}
 use borrow.Rule.Slice.PartMut.{put_mid}
-use Rattle.noise_session.specs.declared.outcome.Outcome.{Outcome}
-use Rattle.noise_session.specs.declared.outcome.Outcome.TheVariants as outcome
+use Rattle.noise_session.specs.declared.step.Step.{Step}
 use Rattle.noise_session.specs.Frames.{frame}
-use Rattle.noise_session.specs.inner.Outcomes.{tells, StandsIn}
-use Rattle.noise_session.specs.Steps.Told.{Payload}
-use Rattle.std.specs.Prelude.{slice_range}
+use Rattle.noise_session.specs.inner.Places.{reported_in, MatchesIn}
+use Rattle.noise_session.specs.Steps.StepValue.{Payload}
+use Rattle.std.specs.Prelude.{slice_range, Result, Ok, Err}
 
 -- a part of what follows the first two bytes
 slice_on : (d m post rest : List ℕ) (len from to : ℕ) → 2 ≤ length d → from ≤ to → to ≤ length m → length m + 2 ≤ len
@@ -28,16 +27,10 @@ slice_after d m post rest len from to two order within long =
     slice-drop (take len (take 2 d ++ (m ++ post) ++ rest)) from to ∙ slice_on d m post rest len from to two order within long
 
 -- a step by the places of its payload there
-pub tells-after : (d m post rest : List ℕ) (len : ℕ) (o : Outcome) → 2 ≤ length d → StandsIn m o → length m + 2 ≤ len
-    → tells (drop 2 (take len (take 2 d ++ (m ++ post) ++ rest))) o ≡ tells m o
-tells-after d m post rest len outcome.Ended two place long = refl
-tells-after d m post rest len outcome.YourTurn two place long = refl
-tells-after d m post rest len outcome.Silent two place long = refl
-tells-after d m post rest len outcome.More two place long = refl
-tells-after d m post rest len (outcome.Payload from to) two place long = ap Payload (slice_after d m post rest len from to two place.0 place.1 long)
-tells-after d m post rest len (outcome.Dropped cause) two place long = refl
-tells-after d m post rest len (outcome.Refused token cause) two place long = refl
-tells-after d m post rest len outcome.Exhausted two place long = refl
+pub reported-after : (d m post rest : List ℕ) (len : ℕ) (o : Result (ℕ × ℕ) Step) → 2 ≤ length d → MatchesIn m o → length m + 2 ≤ len
+    → reported_in (drop 2 (take len (take 2 d ++ (m ++ post) ++ rest))) o ≡ reported_in m o
+reported-after d m post rest len (Ok p) two place long = ap Payload (slice_after d m post rest len p.0 p.1 two place.0 place.1 long)
+reported-after d m post rest len (Err step) two place long = refl
 
 -- what follows the first k of the first n
 pub drop-front : (xs : List ℕ) (k n : ℕ) → take (n - k) (drop k xs) ≡ drop k (take n xs)

@@ -58,8 +58,8 @@ touched W64 n g near = omega arith
 touched W256 n g near = omega arith
 touched W1024 n g near = omega arith
 
-pub old-told : (r : Ring) (accepted : List ℕ) (n : ℕ) → Recalls r accepted → leb (width_of r.window) (r.greatest - n) ≡ is_old (width_of r.window) accepted n
-old-told r accepted n h =
+pub old-reported : (r : Ring) (accepted : List ℕ) (n : ℕ) → Recalls r accepted → leb (width_of r.window) (r.greatest - n) ≡ is_old (width_of r.window) accepted n
+old-reported r accepted n h =
     let some = width-some r.window in
     elim (cases_Bool (is_old (width_of r.window) accepted n)) [
       | inl old ↦
@@ -74,9 +74,9 @@ old-told r accepted n h =
     ]
 
 -- a nonce that isn't old is near the greatest
-pub near-told : (r : Ring) (accepted : List ℕ) (n : ℕ) → Recalls r accepted → is_old (width_of r.window) accepted n ≡ false
+pub near-reported : (r : Ring) (accepted : List ℕ) (n : ℕ) → Recalls r accepted → is_old (width_of r.window) accepted n ≡ false
     → r.greatest / 64 < n / 64 + words_of r.window
-near-told r accepted n h not =
+near-reported r accepted n h not =
     let some = width-some r.window in
     touched r.window n r.greatest (elim (cases_lt r.greatest (n + width_of r.window)) [
       | inl near ↦ near
@@ -92,13 +92,13 @@ pub record Ready (r : Ring) (accepted : List ℕ) (n : ℕ) : Type 0 where
   pub near : r.greatest / 64 < n / 64 + words_of r.window
   pub bits : (m : ℕ) → m / 64 ≤ r.greatest / 64 → r.greatest / 64 < m / 64 + words_of r.window → eqb (bit_of r m) 1 ≡ is_among accepted m
 
-pub ready-kept : (r : Ring) (accepted : List ℕ) (n : ℕ) → Recalls r accepted → is_old (width_of r.window) accepted n ≡ false
+pub ready-unchanged : (r : Ring) (accepted : List ℕ) (n : ℕ) → Recalls r accepted → is_old (width_of r.window) accepted n ≡ false
     → n ≤ r.greatest → Ready r accepted n
-ready-kept r accepted n h not below = record {
+ready-unchanged r accepted n h not below = record {
   most = h.greatest;
   above = below;
   reached = λ some. or_right (eqb n r.greatest) (is_among accepted r.greatest) (h.reached some);
-  near = near-told r accepted n h not;
+  near = near-reported r accepted n h not;
   bits = h.bits;
 }
 
@@ -114,7 +114,7 @@ module _ (r : Ring) (accepted : List ℕ) (n : ℕ) (words : List ℕ) where
       → ((b : ℕ) → r.greatest / 64 < b → b ≤ n / 64 → n / 64 < b + words_of r.window → get_or words (b % words_of r.window) 0 ≡ 0)
       → ((b : ℕ) → b ≤ r.greatest / 64 → n / 64 < b + words_of r.window → get_or words (b % words_of r.window) 0 ≡ get_or r.words (b % words_of r.window) 0)
       → Ready (record { window = r.window; greatest = n; words = words }) accepted n
-  ready-moved h more fresh kept =
+  ready-moved h more fresh unchanged =
       let some = words-some r.window in
       record {
         most = λ m e. let low = h.greatest m e in omega arith;
@@ -127,7 +127,7 @@ module _ (r : Ring) (accepted : List ℕ) (n : ℕ) (words : List ℕ) where
               ∙ ap (λ (b : ℕ). eqb b 1) (bit_at-zero (m % 64))
               ∙ sym (beyond accepted r.greatest m h.greatest (omega arith))
           | inr below ↦
-              ap (λ (w : ℕ). eqb (bit_at w (m % 64)) 1) (kept (m / 64) below near) ∙ h.bits m below (omega arith)
+              ap (λ (w : ℕ). eqb (bit_at w (m % 64)) 1) (unchanged (m / 64) below near) ∙ h.bits m below (omega arith)
         ];
       }
 
@@ -164,10 +164,10 @@ module _ (r : Ring) (accepted : List ℕ) (n : ℕ) (room : length r.words ≡ 1
   unlike : (m : ℕ) → n ≢ m → is_among accepted m ≡ is_among (n ∷ accepted) m
   unlike m ne = rw (ne_eqb n m ne) refl
 
-  bit-told : (m : ℕ) → m / 64 ≤ r.greatest / 64 → r.greatest / 64 < m / 64 + words_of r.window
+  bit-reported : (m : ℕ) → m / 64 ≤ r.greatest / 64 → r.greatest / 64 < m / 64 + words_of r.window
       → eqb (bit_at (get_or words (m / 64 % words_of r.window) 0) (m % 64)) 1 ≡ is_among (n ∷ accepted) m
   unfolding marked
-  bit-told m low near = elim (cases_eq (m / 64) (n / 64)) [
+  bit-reported m low near = elim (cases_eq (m / 64) (n / 64)) [
     | inl same ↦
         let word = ap (λ (w : ℕ). eqb (bit_at w (m % 64)) 1) (same-block m same) in
         elim (cases_eq (m % 64) (n % 64)) [
@@ -202,5 +202,5 @@ module _ (r : Ring) (accepted : List ℕ) (n : ℕ) (room : length r.words ≡ 1
       | inr there ↦ h.most m there
     ];
     reached = h.reached;
-    bits = bit-told;
+    bits = bit-reported;
   }

@@ -39,8 +39,8 @@ ring-says r e =
     let b = and_parts (ltb r.greatest last_nonce) (ends_at_greatest r) a.0 in
     record { below = ltb-true r.greatest last_nonce b.0; top = top-says (top_word r) r.greatest b.1; beyond = a.1 }
 
-ring-told : (r : Ring) → r.greatest < last_nonce → top_word r / 2 ^ (r.greatest % 64) ≡ 1 → are_zeros (drop (begun_words r) r.words) ≡ true → is_ring r ≡ true
-ring-told r low top beyond =
+ring-reported : (r : Ring) → r.greatest < last_nonce → top_word r / 2 ^ (r.greatest % 64) ≡ 1 → are_zeros (drop (begun_words r) r.words) ≡ true → is_ring r ≡ true
+ring-reported r low top beyond =
     and_from (ltb r.greatest last_nonce && ends_at_greatest r) (are_zeros (drop (begun_words r) r.words))
     (and_from (ltb r.greatest last_nonce) (ends_at_greatest r) (lt-ltb r.greatest last_nonce low)
     (or_left (eqb (top_word r / 2 ^ (r.greatest % 64)) 1) (eqb r.greatest 0 && eqb (top_word r) 0) (eq-eqb (top_word r / 2 ^ (r.greatest % 64)) 1 top)))
@@ -98,8 +98,8 @@ pub record IsOpen (r : Ring) (n : ℕ) : Type 0 where
   pub top : (top_word r / 2 ^ (r.greatest % 64) ≡ 1) ⊎ ((top_word r / 2 ^ (r.greatest % 64) ≡ 0) × (n ≡ r.greatest))
   pub beyond : are_zeros (drop (begun_words r) r.words) ≡ true
 
-pub open-kept : (r : Ring) (n : ℕ) → IsRing r → r.greatest < n + width_of r.window → n ≤ r.greatest → IsOpen r n
-open-kept r n h near low = record {
+pub open-unchanged : (r : Ring) (n : ℕ) → IsRing r → r.greatest < n + width_of r.window → n ≤ r.greatest → IsOpen r n
+open-unchanged r n h near low = record {
   below = h.below;
   within = low;
   near = near;
@@ -114,7 +114,7 @@ module _ (r : Ring) (n : ℕ) (words : List ℕ) (h : IsRing r) (more : r.greate
   unmarked : ((b : ℕ) → r.greatest / 64 < b → b ≤ n / 64 → n / 64 < b + words_of r.window → get_or words (b % words_of r.window) 0 ≡ 0)
       → ((b : ℕ) → b ≤ r.greatest / 64 → n / 64 < b + words_of r.window → get_or words (b % words_of r.window) 0 ≡ get_or r.words (b % words_of r.window) 0)
       → get_or words (n / 64 % words_of r.window) 0 / 2 ^ (n % 64) ≡ 0
-  unmarked fresh kept =
+  unmarked fresh unchanged =
       let some = words-some r.window in
       elim (cases_lt (r.greatest / 64) (n / 64)) [
         | inl later ↦ ap (λ (w : ℕ). w / 2 ^ (n % 64)) (fresh (n / 64) later (omega arith) (omega arith)) ∙ nothing (n % 64)
@@ -122,7 +122,7 @@ module _ (r : Ring) (n : ℕ) (words : List ℕ) (h : IsRing r) (more : r.greate
             let same : n / 64 ≡ r.greatest / 64 = omega arith in
             let less : r.greatest % 64 < n % 64 = omega arith in
             let is : get_or words (n / 64 % words_of r.window) 0 ≡ top_word r =
-            kept (n / 64) back (omega arith) ∙ ap (λ (b : ℕ). get_or r.words (b % words_of r.window) 0) same in
+            unchanged (n / 64) back (omega arith) ∙ ap (λ (b : ℕ). get_or r.words (b % words_of r.window) 0) same in
             ap (λ (w : ℕ). w / 2 ^ (n % 64)) is ∙ elim h.top [
               | inl one ↦ above (top_word r) (r.greatest % 64) (n % 64) less one
               | inr none ↦ ap (λ (w : ℕ). w / 2 ^ (n % 64)) none.1 ∙ nothing (n % 64)
@@ -134,13 +134,13 @@ module _ (r : Ring) (n : ℕ) (words : List ℕ) (h : IsRing r) (more : r.greate
       → ((b : ℕ) → b ≤ r.greatest / 64 → n / 64 < b + words_of r.window → get_or words (b % words_of r.window) 0 ≡ get_or r.words (b % words_of r.window) 0)
       → drop (min (words_of r.window) (n / 64 + 1)) words ≡ drop (min (words_of r.window) (n / 64 + 1)) r.words
       → IsOpen (record { window = r.window; greatest = n; words = words }) n
-  open-moved small fresh kept beyond =
+  open-moved small fresh unchanged beyond =
       let some = width-some r.window in
       record {
         below = small;
         within = omega arith;
         near = omega arith;
-        top = inr (unmarked fresh kept, refl);
+        top = inr (unmarked fresh unchanged, refl);
         beyond =
             ap are_zeros beyond
             ∙ zeros-more (begun_words r) (min (words_of r.window) (n / 64 + 1)) r.words
@@ -195,7 +195,7 @@ module _ (r : Ring) (n : ℕ) (room : length r.words ≡ 17) (h : IsOpen r n) wh
   }) ≡ true
   unfolding words marked
   ring-marked =
-      ring-told (record { window = r.window; greatest = r.greatest; words = words }) h.below
+      ring-reported (record { window = r.window; greatest = r.greatest; words = words }) h.below
       (elim (cases_eq (n / 64) (r.greatest / 64)) [
         | inl same ↦ same-top same
         | inr other ↦ other-top other

@@ -1,24 +1,24 @@
 -- A payload comes to one thing at an end.
 use Rattle.std.proofs.Common.{◌≡◌, ℕ, List, length, Option, Some, Result, Ok, Err, refl, ap, arith}
-use Rattle.noise_handshake.specs.View.{View}
+use Rattle.noise_handshake.specs.Party.{Party}
 use Rattle.noise_handshake.specs.Writing.{Writes, LacksAnswer}
-use Rattle.noise_handshake.specs.Party.{after_own}
+use Rattle.noise_handshake.specs.Matching.{after_own}
 use Rattle.noise_session.specs.declared.faults.SendFault.{SendFault}
 use Rattle.noise_session.specs.declared.faults.SendFault.TheVariants as fault
 use Rattle.noise_session.specs.Frames.{frame}
 use Rattle.noise_session.specs.Progress.{refusal}
-use Rattle.noise_session.specs.Ends.{EndView, progress_of}
+use Rattle.noise_session.specs.Ends.{EndState, progress_of}
 use Rattle.noise_session.specs.Sending.{Sends, after_fault}
-use Rattle.noise_session.proofs.Views.{open-passed}
+use Rattle.noise_session.proofs.Parties.{open-passed}
 use Rattle.noise_session.specs.Sending.Sends.{refuses, lacks_answer, sends_handshake, sends_transport}
 
-module _ (written-one : (v : View) (payload m n : List ℕ) (xs ys : List (List ℕ)) → Writes v payload xs m → Writes v payload ys n → (xs ≡ ys) × (m ≡ n))
-    (lacks-one : (v : View) (k j : ℕ) → LacksAnswer v k → LacksAnswer v j → k ≡ j)
-    (apart : (v : View) (payload m : List ℕ) (xs : List (List ℕ)) (k : ℕ) → Writes v payload xs m → LacksAnswer v k → ⊥) where
+module _ (written-one : (v : Party) (payload m n : List ℕ) (xs ys : List (List ℕ)) → Writes v payload xs m → Writes v payload ys n → (xs ≡ ys) × (m ≡ n))
+    (lacks-one : (v : Party) (k j : ℕ) → LacksAnswer v k → LacksAnswer v j → k ≡ j)
+    (apart : (v : Party) (payload m : List ℕ) (xs : List (List ℕ)) (k : ℕ) → Writes v payload xs m → LacksAnswer v k → ⊥) where
   refused-one : (o : Option SendFault) (a b : SendFault) → o ≡ Some a → o ≡ Some b → a ≡ b
   refused-one o a b e f = cc
 
-  pub sends-once : (v x y : EndView) (payload : List ℕ) (r s : Result (List ℕ) SendFault) → Sends v payload r x → Sends v payload s y → (r ≡ s) × (x ≡ y)
+  pub sends-once : (v x y : EndState) (payload : List ℕ) (r s : Result (List ℕ) SendFault) → Sends v payload r x → Sends v payload s y → (r ≡ s) × (x ≡ y)
   sends-once v x y payload r s (refuses _ _ a e) (refuses _ _ b f) =
       let one = refused-one (refusal (progress_of v) (length payload)) a b e f in (ap (λ (w : SendFault). Err w) one, ap (after_fault v) one)
   sends-once v x y payload r s (refuses _ _ a e) (lacks_answer _ _ k f lacks) = cc

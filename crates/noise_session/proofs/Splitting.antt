@@ -1,59 +1,111 @@
--- What a transport stands for, by its two halves; and the bytes after a message.
-use Rattle.std.proofs.Common.{◌≡◌, ◌≤◌, ℕ, ◌+◌, ◌∙◌, ◌++◌, List, length, drop, Result, Ok, Err, refl, sym, ap, subst}
-use Rattle.std.specs.Prelude.{IfOk}
-use Rattle.std.proofs.lemmas.List.{drop_at, drop-drop}
+-- What the calls of a transport are, by those of its two halves; and the bytes after a message.
+use Rattle.std.proofs.Common.{◌≡◌, ◌≤◌, ℕ, ◌+◌, ◌∙◌, ◌++◌, Bool, List, length, take, drop, Result, Ok, Err, refl, sym, ap, subst}
+use Rattle.std.specs.Prelude.{IfOk, OnOk, OnErr, MatchResult}
+use Rattle.std.proofs.lemmas.List.{take_at, drop_at, drop-drop}
+use Rattle.noise_names.specs.declared.token.Role.{Role}
 use Rattle.noise_session.specs.declared.faults.SendFault.{SendFault}
-use Rattle.noise_session.specs.Halves.{HeldHalf, receiver_fault}
-use Rattle.noise_session.specs.HeldTransport.{HeldTransport, TransportView, TransportStands, SenderStands, ReceiverStands, sending_half, open_fault}
+use Rattle.noise_session.specs.declared.faults.OpenFault.{OpenFault}
+use Rattle.noise_session.specs.Halves.{HalfValue}
+use Rattle.noise_session.specs.HalfCalls.{SenderSeals, ReceiverOpens, TransportSeals, TransportOpens, IsCounted, one_sent, one_received}
+use Rattle.noise_session.specs.TransportValue.{TransportValue, TransportState, TransportMatches, SenderMatches, ReceiverMatches, sending_half, receiving_half}
 
-pub sender-stands : (t : HeldTransport) (v : TransportView) → TransportStands t v → SenderStands (sending_half t) v
-sender-stands t v s = record { role = s.role; one_way = s.one_way; interval = s.interval; key = s.send_key; nonce = s.send_nonce }
+-- a half of the same party
+pub same-party : (h : HalfValue) (role : Role) (one_way : Bool) (interval : ℕ) → h.role ≡ role → h.one_way ≡ one_way → h.interval ≡ interval
+    → h ≡ record h { role = role; one_way = one_way; interval = interval }
+same-party h role one_way interval a b c =
+    ap (λ (r : Role). record h { role = r }) a
+    ∙ ap (λ (w : Bool). record h { role = role; one_way = w }) b
+    ∙ ap (λ (n : ℕ). record h { role = role; one_way = one_way; interval = n }) c
 
--- the other half is of the same party
-pub receiver-stands : (t : HeldTransport) (h : HeldHalf) (v : TransportView) → TransportStands t v → h.role ≡ t.role → h.one_way ≡ t.one_way
-    → h.interval ≡ t.interval → h.key ≡ t.receive_key → h.nonce ≡ t.receive_nonce → ReceiverStands h v
-receiver-stands t h v s role one_way interval key nonce = record {
-  role = role ∙ s.role;
-  one_way = one_way ∙ s.one_way;
-  interval = interval ∙ s.interval;
-  key = key ∙ s.receive_key;
-  nonce = nonce ∙ s.receive_nonce;
-}
+-- a call of a half changes its key and its nonce alone
+key-and-nonce : {T E : Type 0} (r : Result T E) (h next : HalfValue) → OnOk r (IsCounted h next) → OnErr r (next ≡ h)
+    → next ≡ record h { key = next.key; nonce = next.nonce }
+key-and-nonce (Ok x) h next counted unchanged =
+    counted ∙ ap (λ (n : ℕ). record h { key = next.key; nonce = n }) (sym (ap (λ (z : HalfValue). z.nonce) counted))
+key-and-nonce (Err e) h next counted unchanged =
+    unchanged ∙ ap (λ (z : HalfValue). record h { key = z.key; nonce = z.nonce }) (sym unchanged)
 
--- the transport after a message that its half has sealed
-pub transport-sealed : (t : HeldTransport) (h : HeldHalf) (v : TransportView) → TransportStands t v → SenderStands h (record v { sent = v.sent + 1 })
-    → TransportStands (record t { role = h.role; one_way = h.one_way; interval = h.interval; send_key = h.key; send_nonce = h.nonce })
-    (record v { sent = v.sent + 1 })
-transport-sealed t h v s k = record {
-  role = k.role;
-  one_way = k.one_way;
+-- ---- the transport after a call of its sending half
+abbrev after_sealing : TransportValue → HalfValue → TransportValue
+after_sealing t h =
+    record t { role = h.role; one_way = h.one_way; interval = h.interval; send_key = h.key; send_nonce = h.nonce }
+
+sealed-unchanged : (r : Result ℕ SendFault) (t : TransportValue) (h : HalfValue) (A : Type 0) → OnErr r ((h ≡ sending_half t) × A) → OnErr r (after_sealing t h ≡ t)
+sealed-unchanged (Ok n) t h A e = tt
+sealed-unchanged (Err f) t h A e = ap (after_sealing t) e.0
+
+sealed-matches : (r : Result ℕ SendFault) (t : TransportValue) (h : HalfValue) (v : TransportState) (P : ℕ → Type 0) → TransportMatches t v
+    → IfOk r (λ n. P n × SenderMatches h (one_sent v)) → OnOk r (TransportMatches (after_sealing t h) (one_sent v))
+sealed-matches (Ok n) t h v P s k = record {
   hash = s.hash;
   remote_static = s.remote_static;
-  interval = k.interval;
-  send_key = k.key;
-  send_nonce = k.nonce;
-  receive_key = s.receive_key;
-  receive_nonce = s.receive_nonce;
+  sender = k.1;
+  receiver = record {
+    role = k.1.role;
+    one_way = k.1.one_way;
+    interval = k.1.interval;
+    key = s.receiver.key;
+    nonce = s.receiver.nonce;
+  };
 }
+sealed-matches (Err f) t h v P s k = tt
 
--- the transport after a message that its half has opened
-pub transport-opened : (t : HeldTransport) (h : HeldHalf) (v : TransportView) → TransportStands t v → ReceiverStands h (record v { received = v.received + 1 })
-    → TransportStands (record t { receive_key = h.key; receive_nonce = h.nonce }) (record v { received = v.received + 1 })
-transport-opened t h v s k = record {
-  role = s.role;
-  one_way = s.one_way;
+pub transport-seals : (t u : TransportValue) (h : HalfValue) (n : ℕ) (payload out after : List ℕ) (r : Result ℕ SendFault) → t ≡ u
+    → SenderSeals (sending_half t) h n payload out after r → TransportSeals u (after_sealing t h) n payload out after r
+transport-seals t u h n payload out after r is s = subst (λ (z : TransportValue). TransportSeals z (after_sealing t h) n payload out after r) is (record {
+  half = s;
+  others = ap (after_sealing t) (key-and-nonce r (sending_half t) h s.counted (unchanged-half r s.unchanged));
+  unchanged = sealed-unchanged r t h (after ≡ out) s.unchanged;
+  matches = λ v p. sealed-matches r t h v _ p (s.seals v p.sender);
+})
+  where
+    unchanged-half : (q : Result ℕ SendFault) → OnErr q ((h ≡ sending_half t) × (after ≡ out)) → OnErr q (h ≡ sending_half t)
+    unchanged-half (Ok m) e = tt
+    unchanged-half (Err f) e = e.0
+
+-- ---- the transport after a call of its receiving half
+abbrev after_opening : TransportValue → HalfValue → TransportValue
+after_opening t h = record t { receive_key = h.key; receive_nonce = h.nonce }
+
+opened-unchanged : {T : Type 0} (r : Result T OpenFault) (t : TransportValue) (h : HalfValue) → OnErr r (h ≡ receiving_half t) → OnErr r (after_opening t h ≡ t)
+opened-unchanged (Ok x) t h e = tt
+opened-unchanged (Err f) t h e = ap (after_opening t) e
+
+opened-matches : {T : Type 0} (r : Result T OpenFault) (t : TransportValue) (h : HalfValue) (v : TransportState) (P : T → Type 0) (Q : OpenFault → Type 0)
+    → TransportMatches t v → MatchResult r (λ x. P x × ReceiverMatches h (one_received v)) Q → OnOk r (TransportMatches (after_opening t h) (one_received v))
+opened-matches (Ok x) t h v P Q s k = record {
   hash = s.hash;
   remote_static = s.remote_static;
-  interval = s.interval;
-  send_key = s.send_key;
-  send_nonce = s.send_nonce;
-  receive_key = k.key;
-  receive_nonce = k.nonce;
+  sender = record { role = s.sender.role; one_way = s.sender.one_way; interval = s.sender.interval; key = s.sender.key; nonce = s.sender.nonce };
+  receiver = record {
+    role = s.receiver.role;
+    one_way = s.receiver.one_way;
+    interval = s.receiver.interval;
+    key = k.1.key;
+    nonce = k.1.nonce;
+  };
 }
+opened-matches (Err f) t h v P Q s k = tt
 
--- it opens nothing for the same reason
-pub same-fault : (t : HeldTransport) (h : HeldHalf) → h.role ≡ t.role → h.one_way ≡ t.one_way → h.nonce ≡ t.receive_nonce → receiver_fault h ≡ open_fault t
-same-fault t h role one_way nonce = rw (role, one_way, nonce) refl
+pub transport-opens : {T : Type 0} (t u : TransportValue) (h next : HalfValue) (message : List ℕ) (r : Result T OpenFault) (payload_in : T → List ℕ) → t ≡ u
+    → h ≡ receiving_half t → ReceiverOpens h next message r payload_in → TransportOpens u (after_opening t next) message r payload_in
+transport-opens t u h next message r payload_in viewed is o =
+    let of : ReceiverOpens (receiving_half t) next message r payload_in =
+    subst (λ (z : HalfValue). ReceiverOpens z next message r payload_in) is o in
+    let same : next ≡ receiving_half (after_opening t next) = key-and-nonce r (receiving_half t) next of.counted of.unchanged in
+    subst (λ (z : TransportValue). TransportOpens z (after_opening t next) message r payload_in) viewed (record {
+      half = subst (λ (z : HalfValue). ReceiverOpens (receiving_half t) z message r payload_in) same of;
+      others = refl;
+      unchanged = opened-unchanged r t next of.unchanged;
+      matches = λ v s. opened-matches r t next v _ _ s (of.opens v s.receiver);
+    })
+
+-- the payload, where it was copied to the front
+pub copied-there : (payload copied out : List ℕ) → copied ≡ payload → take (length payload) (copied ++ drop (length payload) out) ≡ payload
+copied-there payload copied out same = take_at copied (drop (length payload) out) (length payload) (ap length same) ∙ same
+
+pub seals-of : (h next : HalfValue) (n : ℕ) (p q out after : List ℕ) (r : Result ℕ SendFault) → p ≡ q → SenderSeals h next n p out after r → SenderSeals h next n q out after r
+seals-of h next n p q out after r is s = subst (λ (x : List ℕ). SenderSeals h next n x out after r) is s
 
 -- what is after the message, where the payload was copied to the front
 pub after-copy : (r : Result ℕ SendFault) (payload copied out new : List ℕ) → copied ≡ payload

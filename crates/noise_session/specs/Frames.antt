@@ -6,7 +6,7 @@ use Rattle.byteorder.specs.Endian.{big_bytes, big_number}
 abbrev pub frame : List ℕ → List ℕ
 frame message = big_bytes 2 (length message) ++ message
 
--- how long the frame is that begins with these bytes, as far as they tell: at least the 2 of its length
+-- how long the frame is that begins with these bytes, as far as they show: at least the 2 of its length
 abbrev pub frame_length : List ℕ → ℕ
 frame_length bytes = if nat_lt (length bytes) 2 then 2 else 2 + big_number 2 bytes
 

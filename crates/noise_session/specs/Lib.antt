@@ -3,7 +3,7 @@ pub mod Framing
 pub mod Transport
 pub mod Renewing
 pub mod Halves
-pub mod HeldTransport
+pub mod TransportValue
 pub mod HalfCalls
 pub mod Counting
 pub mod Faults
@@ -15,10 +15,11 @@ pub mod Taking
 pub mod Sending
 pub mod Outputs
 pub mod Inputs
+pub mod Lending
 pub mod inner
 pub mod Windows
 pub mod Datagrams
-pub mod DatagramHalves
+pub mod DatagramCalls
 pub mod EndDatagrams
 pub mod Parts
 pub mod Exactly

@@ -5,13 +5,12 @@ use Rattle.noise_session.specs.declared.parts.HalfParts.{HalfParts}
 use Rattle.noise_session.specs.declared.parts.DatagramParts.{DatagramParts}
 use Rattle.noise_session.specs.declared.parts.DatagramSenderParts.{DatagramSenderParts}
 use Rattle.noise_session.specs.declared.parts.DatagramReceiverParts.{DatagramReceiverParts}
-use Rattle.noise_session.specs.Halves.{HeldHalf}
-use Rattle.noise_session.specs.HeldTransport.{HeldTransport}
-use Rattle.noise_session.specs.Datagrams.{HeldDatagrams}
-use Rattle.noise_session.specs.DatagramHalves.{HeldDatagramSender, HeldDatagramReceiver}
+use Rattle.noise_session.specs.Halves.{HalfValue}
+use Rattle.noise_session.specs.TransportValue.{TransportValue}
+use Rattle.noise_session.specs.Datagrams.{DatagramsValue, DatagramSenderValue, DatagramReceiverValue}
 
 -- what these parts hold
-abbrev pub transport_in : TransportParts → HeldTransport
+abbrev pub transport_in : TransportParts → TransportValue
 transport_in p = record {
   role = p.role;
   one_way = p.one_way;
@@ -24,10 +23,10 @@ transport_in p = record {
   receive_nonce = p.receive_nonce;
 }
 
-abbrev pub half_in : HalfParts → HeldHalf
+abbrev pub half_in : HalfParts → HalfValue
 half_in p = record { role = p.role; one_way = p.one_way; interval = p.interval; key = Some p.key; nonce = p.nonce }
 
-abbrev pub datagrams_in : DatagramParts → HeldDatagrams
+abbrev pub datagrams_in : DatagramParts → DatagramsValue
 datagrams_in p = record {
   role = p.role;
   one_way = p.one_way;
@@ -37,10 +36,10 @@ datagrams_in p = record {
   recent = record { window = p.window; greatest = p.greatest; words = p.words };
 }
 
-abbrev pub datagram_sender_in : DatagramSenderParts → HeldDatagramSender
+abbrev pub datagram_sender_in : DatagramSenderParts → DatagramSenderValue
 datagram_sender_in p = record { role = p.role; one_way = p.one_way; key = Some p.key; nonce = p.nonce }
 
-abbrev pub datagram_receiver_in : DatagramReceiverParts → HeldDatagramReceiver
+abbrev pub datagram_receiver_in : DatagramReceiverParts → DatagramReceiverValue
 datagram_receiver_in p = record {
   role = p.role;
   one_way = p.one_way;

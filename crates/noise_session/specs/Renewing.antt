@@ -20,8 +20,8 @@ turned i a b r e small =
       | inr less ↦ absurd (omega (arith, mul-le-mul_left i less))
     ]
 
-kept : (i a b r s : ℕ) → i * b + s ≡ i * a + (r + 1) → r < i → s < i → 0 < s → b ≡ a
-kept i a b r s e small below some =
+unchanged : (i a b r s : ℕ) → i * b + s ≡ i * a + (r + 1) → r < i → s < i → 0 < s → b ≡ a
+unchanged i a b r s e small below some =
     elim (cases_lt a b) [
       | inl more ↦ absurd (omega (arith, apart i a b more))
       | inr le ↦ elim (cases_lt b a) [
@@ -34,9 +34,9 @@ pub quotient-turned : (i n : ℕ) → 0 < i → (n + 1) % i ≡ 0 → (n + 1) / 
 quotient-turned i n some none =
     turned i (n / i) ((n + 1) / i) (n % i) (omega (arith, div-add-mod n i, div-add-mod (n + 1) i)) (omega arith)
 
-pub quotient-kept : (i n : ℕ) → 0 < i → 0 < (n + 1) % i → (n + 1) / i ≡ n / i
-quotient-kept i n some more =
-    kept i (n / i) ((n + 1) / i) (n % i) ((n + 1) % i) (omega (arith, div-add-mod n i, div-add-mod (n + 1) i))
+pub quotient-unchanged : (i n : ℕ) → 0 < i → 0 < (n + 1) % i → (n + 1) / i ≡ n / i
+quotient-unchanged i n some more =
+    unchanged i (n / i) ((n + 1) / i) (n % i) ((n + 1) % i) (omega (arith, div-add-mod n i, div-add-mod (n + 1) i))
     (omega arith) (omega arith) more
 
 pub renewals-turned : (i n : ℕ) → i ≢ 0 → (n + 1) % i ≡ 0 → renewals i (n + 1) ≡ suc (renewals i n)
@@ -44,9 +44,9 @@ renewals-turned i n some none =
     let e = quotient-turned i n (omega arith) none in
     grind (arith, nat_tests)
 
-pub renewals-kept : (i n : ℕ) → i ≢ 0 → (n + 1) % i ≢ 0 → renewals i (n + 1) ≡ renewals i n
-renewals-kept i n some more =
-    let e = quotient-kept i n (omega arith) (omega arith) in
+pub renewals-unchanged : (i n : ℕ) → i ≢ 0 → (n + 1) % i ≢ 0 → renewals i (n + 1) ≡ renewals i n
+renewals-unchanged i n some more =
+    let e = quotient-unchanged i n (omega arith) (omega arith) in
     grind (arith, nat_tests)
 
 pub renewals-never : (i n : ℕ) → i ≡ 0 → renewals i (n + 1) ≡ renewals i n

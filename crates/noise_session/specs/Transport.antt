@@ -19,8 +19,8 @@ abbrev pub transport_key : History → Role → ℕ → ℕ → List ℕ
 transport_key r writer interval n = rekeyed_times (renewals interval n) (split_key r writer)
 
 -- transport message n of a writer
-abbrev pub packet : History → Role → ℕ → ℕ → List ℕ → List ℕ
-packet r writer interval n payload = sealed (transport_key r writer interval n) (nonce_of n) [] payload
+abbrev pub transport_message : History → Role → ℕ → ℕ → List ℕ → List ℕ
+transport_message r writer interval n payload = sealed (transport_key r writer interval n) (nonce_of n) [] payload
 
 -- the nonce that no message has
 abbrev pub last_nonce : ℕ

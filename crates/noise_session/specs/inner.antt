@@ -1,6 +1,6 @@
 -- What only private functions and proofs of this crate need: no public clause names any of it.
 pub mod Filling
-pub mod Incoming
-pub mod Outcomes
+pub mod Partial
+pub mod Places
 pub mod Phases
 pub mod States

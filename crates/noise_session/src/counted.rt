@@ -1,10 +1,12 @@
-//! Readers and writers that count their failed calls.
+//! Readers and writers that count their failed calls, and calls that fill a buffer or write all of one.
 #![tactic(auto)]
 
-ghost use Rattle.std.specs.Prelude.{◌≡◌};
+ghost use Rattle.std.specs.Prelude.{◌≡◌, ◌≤◌, ◌<◌, ◌↔◌, length, take, MatchResult};
 ghost use Rattle.std.specs.Io.{ReadsAtMost, WritesAtMost};
-ghost use Rattle.std.specs.Io.KnownBytes.{Keeps, ReadConsumes, WriteAppends};
+ghost use Rattle.std.specs.Io.KnownBytes.{Appends, Consumes, IsAtEnd, Keeps, ReadConsumes, WriteAppends};
 ghost use Rattle.noise_session.specs.Counting.{inner_of, failures_of, after_call, after_writing};
+ghost use Rattle.noise_session.specs.inner.Filling.{after_filling};
+ghost use Rattle.noise_session.specs.declared.counted.Filling.TheVariants.{Filled, End};
 
 use std::io::{self, Read, Write};
 
@@ -83,4 +85,52 @@ impl<W: Write> Write for Counted<W> {
     {
         self.inner.flush()
     }
+}
+
+// How the filling of a buffer came to its end.
+#[derive(Clone, Copy)]
+pub(crate) enum Filling {
+    Filled,
+    End, // of the input
+    Failed,
+}
+
+// Reads bytes until the buffer is full, and returns how many. Each read asks for all that is missing and no more.
+pub(crate) fn fill_from<R: Read>(from: &mut Counted<R>, buffer: &mut [u8]) -> (usize, Filling)
+    ensures within { result.0 ≤ length buffer.new }
+    ensures filled { (result.1 ≡ Filled) ↔ (result.0 ≡ length buffer.new) }
+    ensures bytes { Consumes (R.remaining (inner_of from.old)) (R.remaining (inner_of from.new))
+        (take result.0 buffer.new) }
+    ensures end { result.1 ≡ End → IsAtEnd (R.remaining (inner_of from.new)) }
+    ensures failures { failures_of from.new ≡ after_filling (failures_of from.old) result.1 }
+{
+    let mut at = 0;
+    while at < buffer.len() {
+        match from.read(&mut buffer[at..]) {
+            Ok(0) => return (at, Filling::End),
+            Ok(count) => at += count,
+            Err(_) => return (at, Filling::Failed),
+        }
+    }
+    (at, Filling::Filled)
+}
+
+// Writes all bytes; where a write fails, it reports how many were written before. It doesn't flush, and tries no write
+// again.
+pub(crate) fn write_out<W: Write>(out: &mut Counted<W>, bytes: &[u8]) -> Result<(), usize>
+    ensures written { MatchResult result
+        (λ _. Appends (W.contents (inner_of out.old)) (W.contents (inner_of out.new)) bytes.now)
+        (λ n. (n < length bytes.now)
+        × Appends (W.contents (inner_of out.old)) (W.contents (inner_of out.new)) (take n bytes.now)) }
+    ensures failures { failures_of out.new ≡ after_call (failures_of out.old) result }
+{
+    let mut at = 0;
+    while at < bytes.len() {
+        match out.write(&bytes[at..]) {
+            Ok(0) => return Err(at),
+            Ok(count) => at += count,
+            Err(_) => return Err(at),
+        }
+    }
+    Ok(())
 }

@@ -1,16 +1,16 @@
 //! The receiving half of datagrams (Noise, 11.4).
 #![tactic(auto)]
 
-ghost use Rattle.std.specs.Prelude.{◌≡◌, ◌≢◌, ◌≤◌, ◌<◌, ◌+◌, length, take, drop, is_some, true, Ok, Err, IsSome, IfSome, IfOk, IfNone, OnErr, MatchResult};
+ghost use Rattle.std.specs.Prelude.{◌≡◌, ◌≢◌, ◌≤◌, ◌<◌, ◌+◌, length, take, drop, is_some, true, IsSome, IfSome, IfOk, IfNone};
 ghost use Rattle.noise_state.specs.Cipher.{key_in};
 ghost use Rattle.noise_events.specs.Windows.{width_of};
 ghost use Rattle.noise_session.specs.Transport.{last_nonce};
 ghost use Rattle.noise_session.specs.Windows.{is_ring};
-ghost use Rattle.noise_session.specs.Datagrams.{DatagramView, Opens, nonce_named, accepting, datagram_fault};
-ghost use Rattle.noise_session.specs.DatagramHalves.{DatagramReceiverStands};
+ghost use Rattle.noise_session.specs.Datagrams.{DatagramState, DatagramReceiverMatches, nonce_named, datagram_fault};
+ghost use Rattle.noise_session.specs.DatagramCalls.{DatagramReceiverOpens, OpensAfterNonce};
 ghost use Rattle.noise_session.specs.Parts.{datagram_receiver_in};
 
-use crate::limits::{DATAGRAM_MAX, LAST_NONCE, NONCE_LEN, OVERHEAD};
+use crate::limits::{DATAGRAM_MAX, DATAGRAM_OVERHEAD, LAST_NONCE, NONCE_LEN};
 use crate::one_way::hears_nothing;
 use crate::parts::key_and_nonce;
 use crate::window::Ring;
@@ -22,7 +22,7 @@ use std::marker::Model;
 /// The receiving half of datagrams: it opens those of the other party, each nonce at most once, as the whole
 /// `Datagrams` does.
 ///
-/// `Datagrams::split` makes it, for a thread of its own. That of the initiator of a one-way session answers OneWay to
+/// `Datagrams::split` makes it, for a thread of its own. That of the initiator of a one-way session returns OneWay for
 /// every datagram. No call takes memory, and a fault changes nothing.
 #[derive(Drop)]
 pub struct DatagramReceiver {
@@ -36,9 +36,9 @@ impl Model for DatagramReceiver {
     ghost use Rattle.std.specs.Prelude.{◌≡◌, IsSome, true};
     ghost use Rattle.noise_state.specs.Cipher.{key_in};
     ghost use Rattle.noise_session.specs.Windows.{is_ring};
-    ghost use Rattle.noise_session.specs.DatagramHalves.{HeldDatagramReceiver};
+    ghost use Rattle.noise_session.specs.Datagrams.{DatagramReceiverValue};
 
-    ghost Value = { HeldDatagramReceiver };
+    ghost Value = { DatagramReceiverValue };
 
     ghost view = { λ r. record {
       role = r.role;
@@ -76,7 +76,7 @@ impl DatagramReceiver {
 
     /// What it holds, for a caller that keeps it itself until the next datagram.
     pub fn into_parts(self) -> DatagramReceiverParts
-        ensures same { datagram_receiver_in result ≡ self }
+        ensures value { datagram_receiver_in result ≡ self }
         ensures whole { is_ring (datagram_receiver_in result).recent ≡ true }
     {
         let (key, _) = key_and_nonce(self.cipher);
@@ -97,7 +97,7 @@ impl DatagramReceiver {
     /// Every half that was taken apart comes back. A key doesn't show of which half it is.
     pub fn from_parts(parts: DatagramReceiverParts) -> Option<DatagramReceiver>
         ensures whole { is_some result ≡ is_ring (datagram_receiver_in parts).recent }
-        ensures same { IfSome result (λ receiver. receiver ≡ datagram_receiver_in parts) }
+        ensures value { IfSome result (λ receiver. receiver ≡ datagram_receiver_in parts) }
     {
         let words = parts.words;
         let recent = Ring::from_parts(parts.window, parts.greatest, words)?;
@@ -115,12 +115,13 @@ impl DatagramReceiver {
             × (nonce_named datagram.now ≢ last_nonce)) }
         ensures young { IfNone result
             (self.now.recent.greatest < nonce_named datagram.now + width_of self.now.recent.window) }
-        ensures told { (v : DatagramView) → DatagramReceiverStands self.now v → result ≡ datagram_fault v datagram.now }
+        ensures reported { (v : DatagramState) → DatagramReceiverMatches self.now v
+            → result ≡ datagram_fault v datagram.now }
     {
         if hears_nothing(self.one_way, self.role) {
             return Some(DatagramFault::OneWay);
         }
-        if datagram.len() < OVERHEAD {
+        if datagram.len() < DATAGRAM_OVERHEAD {
             return Some(DatagramFault::Short);
         }
         if datagram.len() > DATAGRAM_MAX {
@@ -138,16 +139,9 @@ impl DatagramReceiver {
     ///
     /// At an `Err` its bytes are unchanged.
     pub fn open_within(&mut self, datagram: &mut [u8]) -> Result<usize, DatagramFault>
-        ensures len { IfOk result (λ n. n + 24 ≡ length datagram.new) }
-        ensures beyond { IfOk result
-            (λ n. (take 8 datagram.new ≡ take 8 datagram.old)
-            × (drop (8 + n) datagram.new ≡ drop (8 + n) datagram.old)) }
-        ensures same { self.new ≡ record self.old { recent = self.new.recent } }
-        ensures unchanged { OnErr result ((self.new ≡ self.old) × (datagram.new ≡ datagram.old)) }
-        ensures opens { (v : DatagramView) → DatagramReceiverStands self.old v → MatchResult result
-            (λ n. Opens v datagram.old (Ok (take n (drop 8 datagram.new))) (accepting v (nonce_named datagram.old))
-            × DatagramReceiverStands self.new (accepting v (nonce_named datagram.old)))
-            (λ fault. Opens v datagram.old (Err fault) v) }
+        ensures opens { DatagramReceiverOpens self.old self.new datagram.old result
+            (λ n. take n (drop 8 datagram.new)) }
+        ensures place { OpensAfterNonce datagram.old datagram.new result }
     {
         if let Some(fault) = self.refusal(datagram) {
             return Err(fault);
@@ -167,15 +161,10 @@ impl DatagramReceiver {
     ///
     /// At an `Err` its bytes are unchanged.
     pub fn open<'a>(&mut self, datagram: &'a mut [u8]) -> Result<&'a mut [u8], DatagramFault>
+        ensures opens { DatagramReceiverOpens self.old self.new datagram.old result (λ payload. payload.now) }
         ensures part { IfOk result (λ payload.
             (payload.ref_ptr ≡ (datagram.entry.ref_ptr.0, datagram.entry.ref_ptr.1 + 8))
             × (length payload.now + 24 ≡ length datagram.old)) }
-        ensures same { self.new ≡ record self.old { recent = self.new.recent } }
-        ensures unchanged { OnErr result (self.new ≡ self.old) }
-        ensures opens { (v : DatagramView) → DatagramReceiverStands self.old v → MatchResult result
-            (λ payload. Opens v datagram.old (Ok payload.now) (accepting v (nonce_named datagram.old))
-            × DatagramReceiverStands self.new (accepting v (nonce_named datagram.old)))
-            (λ fault. Opens v datagram.old (Err fault) v) }
     {
         let len = self.open_within(datagram)?;
         Ok(&mut datagram[NONCE_LEN..NONCE_LEN + len])

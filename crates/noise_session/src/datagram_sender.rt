@@ -1,15 +1,15 @@
 //! The sending half of datagrams (Noise, 11.4).
 #![tactic(auto)]
 
-ghost use Rattle.std.specs.Prelude.{◌≡◌, ◌≢◌, ◌≤◌, ◌+◌, [], length, take, drop, None, Err, IsOk, IsSome, IfOk, OnOk, OnErr, MatchOption};
+ghost use Rattle.std.specs.Prelude.{◌≡◌, ◌≢◌, ◌≤◌, ◌+◌, [], length, take, drop, None, IsSome};
 ghost use Rattle.noise_state.specs.Cipher.{key_in, nonce_in};
 ghost use Rattle.noise_state.specs.History.{ciphertext_under};
 ghost use Rattle.noise_session.specs.Transport.{last_nonce};
-ghost use Rattle.noise_session.specs.Datagrams.{DatagramView, datagram, unsealed};
-ghost use Rattle.noise_session.specs.DatagramHalves.{DatagramSenderStands, IsDatagram};
+ghost use Rattle.noise_session.specs.Datagrams.{unsealed};
+ghost use Rattle.noise_session.specs.DatagramCalls.{DatagramSenderSeals};
 ghost use Rattle.noise_session.specs.Parts.{datagram_sender_in};
 
-use crate::limits::{DATAGRAM_MAX, LAST_NONCE, NONCE_LEN, OVERHEAD};
+use crate::limits::{DATAGRAM_MAX, DATAGRAM_OVERHEAD, LAST_NONCE, NONCE_LEN};
 use crate::one_way::writes_nothing;
 use crate::parts::key_and_nonce;
 use crate::{DatagramSenderParts, SendFault};
@@ -19,7 +19,7 @@ use std::marker::Model;
 
 /// The sending half of datagrams: it seals this party's payloads, as the whole `Datagrams` does.
 ///
-/// `Datagrams::split` makes it, for a thread of its own. That of the responder of a one-way session answers OneWay to
+/// `Datagrams::split` makes it, for a thread of its own. That of the responder of a one-way session returns OneWay for
 /// every payload. No call takes memory, and a fault changes nothing.
 #[derive(Drop)]
 pub struct DatagramSender {
@@ -31,9 +31,9 @@ pub struct DatagramSender {
 impl Model for DatagramSender {
     ghost use Rattle.std.specs.Prelude.{IsSome};
     ghost use Rattle.noise_state.specs.Cipher.{key_in, nonce_in};
-    ghost use Rattle.noise_session.specs.DatagramHalves.{HeldDatagramSender};
+    ghost use Rattle.noise_session.specs.Datagrams.{DatagramSenderValue};
 
-    ghost Value = { HeldDatagramSender };
+    ghost Value = { DatagramSenderValue };
 
     ghost view = { λ s. record {
       role = s.role;
@@ -99,7 +99,7 @@ impl DatagramSender {
         if writes_nothing(self.one_way, self.role) {
             return Some(SendFault::OneWay);
         }
-        if payload_len > DATAGRAM_MAX - OVERHEAD {
+        if payload_len > DATAGRAM_MAX - DATAGRAM_OVERHEAD {
             return Some(SendFault::TooLong);
         }
         if self.cipher.nonce() == LAST_NONCE {
@@ -115,16 +115,7 @@ impl DatagramSender {
     pub fn seal(&mut self, payload: &[u8], out: &mut [u8]) -> Result<usize, SendFault>
         requires { unsealed self.old.role self.old.one_way self.old.nonce (length payload.now) ≡ None
             → length payload.now + 24 ≤ length out.old }
-        ensures fault { MatchOption (unsealed self.old.role self.old.one_way self.old.nonce (length payload.now))
-            (IsOk result) (λ fault. result ≡ Err fault) }
-        ensures len { IfOk result (λ n. (n ≡ length payload.now + 24) × (n ≤ length out.new)) }
-        ensures rest { IfOk result (λ n. drop n out.new ≡ drop n out.old) }
-        ensures counted { OnOk result (self.new ≡ record self.old { nonce = self.old.nonce + 1 }) }
-        ensures unchanged { OnErr result ((self.new ≡ self.old) × (out.new ≡ out.old)) }
-        ensures sealed { IfOk result (λ n. IsDatagram self.old payload.now (take n out.new)) }
-        ensures seals { (v : DatagramView) → DatagramSenderStands self.old v → IfOk result (λ n.
-            (take n out.new ≡ datagram v.history v.role v.sent payload.now)
-            × DatagramSenderStands self.new (record v { sent = v.sent + 1 })) }
+        ensures { DatagramSenderSeals self.old self.new (length payload.now) payload.now out.old out.new result }
     {
         if let Some(fault) = self.refusal(payload.len()) {
             return Err(fault);
@@ -134,7 +125,7 @@ impl DatagramSender {
     }
 
     /// Seals the payload that is in `payload_len` bytes of `buffer`, from the ninth byte on, in place: the datagram is
-    /// in the first bytes, 24 more, and it tells how many.
+    /// in the first bytes, 24 more, and it reports how many.
     ///
     /// `buffer` holds them where the payload has at most 65519 bytes. The faults are those of `seal`.
     pub fn seal_in_place(
@@ -144,17 +135,8 @@ impl DatagramSender {
     ) -> Result<usize, SendFault>
         requires { unsealed self.old.role self.old.one_way self.old.nonce payload_len ≡ None
             → payload_len + 24 ≤ length buffer.old }
-        ensures fault { MatchOption (unsealed self.old.role self.old.one_way self.old.nonce payload_len)
-            (IsOk result) (λ fault. result ≡ Err fault) }
-        ensures len { IfOk result (λ n. (n ≡ payload_len + 24) × (n ≤ length buffer.new)) }
-        ensures rest { IfOk result (λ n. drop n buffer.new ≡ drop n buffer.old) }
-        ensures counted { OnOk result (self.new ≡ record self.old { nonce = self.old.nonce + 1 }) }
-        ensures unchanged { OnErr result ((self.new ≡ self.old) × (buffer.new ≡ buffer.old)) }
-        ensures sealed { IfOk result
-            (λ n. IsDatagram self.old (take payload_len (drop 8 buffer.old)) (take n buffer.new)) }
-        ensures seals { (v : DatagramView) → DatagramSenderStands self.old v → IfOk result (λ n.
-            (take n buffer.new ≡ datagram v.history v.role v.sent (take payload_len (drop 8 buffer.old)))
-            × DatagramSenderStands self.new (record v { sent = v.sent + 1 })) }
+        ensures { DatagramSenderSeals self.old self.new payload_len (take payload_len (drop 8 buffer.old))
+            buffer.old buffer.new result }
     {
         if let Some(fault) = self.refusal(payload_len) {
             return Err(fault);
@@ -176,7 +158,7 @@ fn encrypt(cipher: &mut CipherState, message: &mut [u8], payload_len: usize) -> 
     ensures len { (result ≡ payload_len + 16) × (result ≤ length message.new) }
     ensures sealed { take result message.new
         ≡ ciphertext_under (key_in cipher.old) (nonce_in cipher.old) [] (take payload_len message.old) }
-    ensures rest { drop result message.new ≡ drop result message.old }
+    ensures beyond { drop result message.new ≡ drop result message.old }
     ensures key { key_in cipher.new ≡ key_in cipher.old }
     ensures counted { nonce_in cipher.new ≡ nonce_in cipher.old + 1 }
 {

@@ -1,16 +1,16 @@
 //! Datagrams of one party (Noise, 11.4).
 #![tactic(auto)]
 
-ghost use Rattle.std.specs.Prelude.{◌≡◌, ◌≤◌, ◌+◌, length, take, drop, is_some, true};
-ghost use Rattle.std.specs.Prelude.{None, Ok, Err, IsOk, IfOk, IfSome, OnOk, OnErr, MatchOption, MatchResult};
-ghost use Rattle.noise_handshake.specs.View.{View};
-ghost use Rattle.noise_handshake.specs.Opening.{Opens as HandshakeOpens};
-ghost use Rattle.noise_session.specs.HeldTransport.{TransportView, TransportStands};
+ghost use Rattle.std.specs.Prelude.{◌≡◌, ◌≤◌, ◌+◌, length, take, drop, is_some, true, None, IfOk, IfSome};
+ghost use Rattle.noise_handshake.specs.Party.{Party};
+ghost use Rattle.noise_handshake.specs.Opening.{Opens};
+ghost use Rattle.noise_session.specs.TransportValue.{TransportState, TransportMatches};
 ghost use Rattle.noise_session.specs.EndDatagrams.{datagrams_after};
 ghost use Rattle.noise_session.specs.Windows.{is_ring};
 ghost use Rattle.noise_session.specs.Parts.{datagrams_in};
-ghost use Rattle.noise_session.specs.Datagrams.{DatagramView, DatagramsStand, Opens, datagram, datagrams_of, nonce_named, accepting, unsealed};
-ghost use Rattle.noise_session.specs.DatagramHalves.{DatagramSenderStands, DatagramReceiverStands, IsDatagram, datagram_sending_half, datagram_receiving_half};
+ghost use Rattle.noise_session.specs.Datagrams.{DatagramState, DatagramsMatch, DatagramSenderMatches, DatagramReceiverMatches, datagrams_of, unsealed};
+ghost use Rattle.noise_session.specs.Datagrams.{datagram_sending_half, datagram_receiving_half};
+ghost use Rattle.noise_session.specs.DatagramCalls.{DatagramsOpen, DatagramsSeal, OpensAfterNonce};
 
 use crate::limits::NONCE_LEN;
 use crate::window::Ring;
@@ -34,9 +34,9 @@ pub struct Datagrams {
 
 impl Model for Datagrams {
     ghost use Rattle.std.specs.Prelude.{◌≡◌};
-    ghost use Rattle.noise_session.specs.Datagrams.{HeldDatagrams};
+    ghost use Rattle.noise_session.specs.Datagrams.{DatagramsValue};
 
-    ghost Value = { HeldDatagrams };
+    ghost Value = { DatagramsValue };
 
     ghost view = { λ d. record {
       role = d.sender.role;
@@ -57,14 +57,14 @@ impl Model for Datagrams {
 impl Datagrams {
     /// The datagrams after a handshake, with a window of 64 nonces: none is sealed or opened yet.
     pub fn new(opened: Opened) -> Datagrams
-        ensures { (v : View) → HandshakeOpens opened v → DatagramsStand result (datagrams_of v Window.W64) }
+        ensures { (v : Party) → Opens opened v → DatagramsMatch result (datagrams_of v Window.W64) }
     {
         Datagrams::with_window(opened, Window::W64)
     }
 
     /// The datagrams after a handshake, with this window: none is sealed or opened yet.
     pub fn with_window(opened: Opened, window: Window) -> Datagrams
-        ensures { (v : View) → HandshakeOpens opened v → DatagramsStand result (datagrams_of v window) }
+        ensures { (v : Party) → Opens opened v → DatagramsMatch result (datagrams_of v window) }
     {
         Datagrams::after(Transport::new(opened, 0), window)
     }
@@ -72,7 +72,8 @@ impl Datagrams {
     // The datagrams of a transport that has sealed and opened nothing.
     pub(crate) fn after(transport: Transport, window: Window) -> Datagrams
         requires { (transport.send_nonce ≡ 0) × (transport.receive_nonce ≡ 0) }
-        ensures { (v : TransportView) → TransportStands transport v → DatagramsStand result (datagrams_after v window) }
+        ensures { (v : TransportState) → TransportMatches transport v
+            → DatagramsMatch result (datagrams_after v window) }
     {
         let role = transport.role();
         let one_way = transport.one_way();
@@ -85,7 +86,7 @@ impl Datagrams {
 
     /// What they hold, for a caller that keeps it itself until the next datagram.
     pub fn into_parts(self) -> DatagramParts
-        ensures same { datagrams_in result ≡ self }
+        ensures value { datagrams_in result ≡ self }
         ensures whole { is_ring (datagrams_in result).recent ≡ true }
     {
         let sender = self.sender.into_parts();
@@ -105,13 +106,13 @@ impl Datagrams {
         }
     }
 
-    /// The datagrams that hold these parts: they stand for what those stood for that were taken apart. None where no
+    /// The datagrams that hold these parts: they match what those stood for that were taken apart. None where no
     /// opened nonces leave the window's words so: the greatest nonce has its bit, and none above it has one.
     ///
     /// Datagrams that were taken apart are put together once: two of them would seal at the same nonce.
     pub fn from_parts(parts: DatagramParts) -> Option<Datagrams>
         ensures whole { is_some result ≡ is_ring (datagrams_in parts).recent }
-        ensures same { IfSome result (λ datagrams. datagrams ≡ datagrams_in parts) }
+        ensures value { IfSome result (λ datagrams. datagrams ≡ datagrams_in parts) }
     {
         let words = parts.words;
         let recent = Ring::from_parts(parts.window, parts.greatest, words)?;
@@ -128,8 +129,8 @@ impl Datagrams {
     pub fn split(self) -> (DatagramSender, DatagramReceiver)
         ensures sender { result.0 ≡ datagram_sending_half self }
         ensures receiver { result.1 ≡ datagram_receiving_half self }
-        ensures stands { (v : DatagramView) → DatagramsStand self v → DatagramSenderStands result.0 v
-            × DatagramReceiverStands result.1 v }
+        ensures matches { (v : DatagramState) → DatagramsMatch self v → DatagramSenderMatches result.0 v
+            × DatagramReceiverMatches result.1 v }
     {
         (self.sender, self.receiver)
     }
@@ -148,22 +149,13 @@ impl Datagrams {
     pub fn seal(&mut self, payload: &[u8], out: &mut [u8]) -> Result<usize, SendFault>
         requires { unsealed self.old.role self.old.one_way self.old.send_nonce (length payload.now) ≡ None
             → length payload.now + 24 ≤ length out.old }
-        ensures fault { MatchOption (unsealed self.old.role self.old.one_way self.old.send_nonce (length payload.now))
-            (IsOk result) (λ fault. result ≡ Err fault) }
-        ensures len { IfOk result (λ n. (n ≡ length payload.now + 24) × (n ≤ length out.new)) }
-        ensures rest { IfOk result (λ n. drop n out.new ≡ drop n out.old) }
-        ensures counted { OnOk result (self.new ≡ record self.old { send_nonce = self.old.send_nonce + 1 }) }
-        ensures unchanged { OnErr result ((self.new ≡ self.old) × (out.new ≡ out.old)) }
-        ensures sealed { IfOk result (λ n. IsDatagram (datagram_sending_half self.old) payload.now (take n out.new)) }
-        ensures seals { (v : DatagramView) → DatagramsStand self.old v → IfOk result (λ n.
-            (take n out.new ≡ datagram v.history v.role v.sent payload.now)
-            × DatagramsStand self.new (record v { sent = v.sent + 1 })) }
+        ensures { DatagramsSeal self.old self.new (length payload.now) payload.now out.old out.new result }
     {
         self.sender.seal(payload, out)
     }
 
     /// Seals the payload that is in `payload_len` bytes of `buffer`, from the ninth byte on, in place: the datagram is
-    /// in the first bytes, 24 more, and it tells how many.
+    /// in the first bytes, 24 more, and it reports how many.
     ///
     /// `buffer` holds them where the payload has at most 65519 bytes. The faults are those of `seal`.
     pub fn seal_in_place(
@@ -173,17 +165,8 @@ impl Datagrams {
     ) -> Result<usize, SendFault>
         requires { unsealed self.old.role self.old.one_way self.old.send_nonce payload_len ≡ None
             → payload_len + 24 ≤ length buffer.old }
-        ensures fault { MatchOption (unsealed self.old.role self.old.one_way self.old.send_nonce payload_len)
-            (IsOk result) (λ fault. result ≡ Err fault) }
-        ensures len { IfOk result (λ n. (n ≡ payload_len + 24) × (n ≤ length buffer.new)) }
-        ensures rest { IfOk result (λ n. drop n buffer.new ≡ drop n buffer.old) }
-        ensures counted { OnOk result (self.new ≡ record self.old { send_nonce = self.old.send_nonce + 1 }) }
-        ensures unchanged { OnErr result ((self.new ≡ self.old) × (buffer.new ≡ buffer.old)) }
-        ensures sealed { IfOk result (λ n.
-            IsDatagram (datagram_sending_half self.old) (take payload_len (drop 8 buffer.old)) (take n buffer.new)) }
-        ensures seals { (v : DatagramView) → DatagramsStand self.old v → IfOk result (λ n.
-            (take n buffer.new ≡ datagram v.history v.role v.sent (take payload_len (drop 8 buffer.old)))
-            × DatagramsStand self.new (record v { sent = v.sent + 1 })) }
+        ensures { DatagramsSeal self.old self.new payload_len (take payload_len (drop 8 buffer.old))
+            buffer.old buffer.new result }
     {
         self.sender.seal_in_place(buffer, payload_len)
     }
@@ -193,16 +176,8 @@ impl Datagrams {
     ///
     /// At an `Err` its bytes are unchanged.
     pub fn open_within(&mut self, datagram: &mut [u8]) -> Result<usize, DatagramFault>
-        ensures len { IfOk result (λ n. n + 24 ≡ length datagram.new) }
-        ensures beyond { IfOk result
-            (λ n. (take 8 datagram.new ≡ take 8 datagram.old)
-            × (drop (8 + n) datagram.new ≡ drop (8 + n) datagram.old)) }
-        ensures same { self.new ≡ record self.old { recent = self.new.recent } }
-        ensures unchanged { OnErr result ((self.new ≡ self.old) × (datagram.new ≡ datagram.old)) }
-        ensures opens { (v : DatagramView) → DatagramsStand self.old v → MatchResult result
-            (λ n. Opens v datagram.old (Ok (take n (drop 8 datagram.new))) (accepting v (nonce_named datagram.old))
-            × DatagramsStand self.new (accepting v (nonce_named datagram.old)))
-            (λ fault. Opens v datagram.old (Err fault) v) }
+        ensures opens { DatagramsOpen self.old self.new datagram.old result (λ n. take n (drop 8 datagram.new)) }
+        ensures place { OpensAfterNonce datagram.old datagram.new result }
     {
         self.receiver.open_within(datagram)
     }
@@ -211,15 +186,10 @@ impl Datagrams {
     ///
     /// At an `Err` its bytes are unchanged.
     pub fn open<'a>(&mut self, datagram: &'a mut [u8]) -> Result<&'a mut [u8], DatagramFault>
+        ensures opens { DatagramsOpen self.old self.new datagram.old result (λ payload. payload.now) }
         ensures part { IfOk result (λ payload.
             (payload.ref_ptr ≡ (datagram.entry.ref_ptr.0, datagram.entry.ref_ptr.1 + 8))
             × (length payload.now + 24 ≡ length datagram.old)) }
-        ensures same { self.new ≡ record self.old { recent = self.new.recent } }
-        ensures unchanged { OnErr result (self.new ≡ self.old) }
-        ensures opens { (v : DatagramView) → DatagramsStand self.old v → MatchResult result
-            (λ payload. Opens v datagram.old (Ok payload.now) (accepting v (nonce_named datagram.old))
-            × DatagramsStand self.new (accepting v (nonce_named datagram.old)))
-            (λ fault. Opens v datagram.old (Err fault) v) }
     {
         let len = self.open_within(datagram)?;
         Ok(&mut datagram[NONCE_LEN..NONCE_LEN + len])

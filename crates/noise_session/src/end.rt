@@ -1,21 +1,21 @@
 //! One end of a session.
 #![tactic(auto)]
 
-ghost use Rattle.std.specs.Prelude.{◌≡◌, ◌≤◌, ◌+◌, ℕ, List, [], ⊤, length, take, drop, true, false, Some, None, Ok, Err, IsTrue, IsSome, IfOk, IfErr};
-ghost use Rattle.std.specs.Prelude.{IfSome, MatchOption};
+ghost use Rattle.std.specs.Prelude.{◌≡◌, ◌≤◌, [], length, true, false, IsSome, IfOk, IfSome};
 ghost use Rattle.std.specs.Option.{ForSome};
-ghost use Rattle.noise_handshake.specs.View.{View};
-ghost use Rattle.noise_handshake.specs.Party.{Stands};
+ghost use Rattle.noise_handshake.specs.Party.{Party};
+ghost use Rattle.noise_handshake.specs.Matching.{Matches};
 ghost use Rattle.noise_session.specs.Frames.{IsPartial};
-ghost use Rattle.noise_session.specs.Progress.{role_of, stage_of, idle_step, refusal, frame_len_of};
-ghost use Rattle.noise_session.specs.Steps.{told, told_of};
+ghost use Rattle.noise_session.specs.Progress.{role_of, stage_of, idle_step, frame_len_of};
+ghost use Rattle.noise_session.specs.Steps.{step_value, step_value_of};
 ghost use Rattle.noise_session.specs.Counting.{inner_of, failures_of};
-ghost use Rattle.std.specs.Io.KnownBytes.{Appends, Consumes, IsAtEnd};
+ghost use Rattle.std.specs.Io.KnownBytes.{IsAtEnd};
 
-use crate::draining::write_out;
-use crate::incoming::zeros;
-use crate::phase::Phase;
+use crate::counted::write_out;
+use crate::frame::zeros;
+use crate::phase::{DuePhase, Phase};
 use crate::state::State;
+use crate::step::step_in;
 use crate::{Counted, Datagrams, ReceiveFault, SendFault, Stage, Step, Transport, Window};
 use noise_handshake::{Handshake, Keys};
 use noise_names::Role;
@@ -35,10 +35,10 @@ pub struct End<K: Keys> {
 
 impl<K: Keys> Model for End<K> {
     ghost use Rattle.std.specs.Prelude.{◌≡◌, length, vec_capacity};
-    ghost use Rattle.noise_session.specs.Ends.{HeldEnd};
+    ghost use Rattle.noise_session.specs.Ends.{EndValue};
     ghost use Rattle.noise_session.specs.inner.States.{end_in};
 
-    ghost Value = { HeldEnd K };
+    ghost Value = { EndValue K };
 
     ghost view = { λ e. end_in e.state };
 
@@ -49,17 +49,15 @@ impl<K: Keys> Model for End<K> {
 }
 
 impl<K: Keys> End<K> {
-    ghost use Rattle.std.specs.Borrow.{sem, follows_so};
-    ghost use mathlib.Core.Option.{none};
-    ghost use Rattle.noise_session.specs.contracts.end.End.{the_row};
-    ghost use Rattle.noise_session.specs.Ends.{EndView, EndStands, end_of, progress, hash_in, remote_static_in, is_over};
+    ghost use Rattle.std.specs.Borrow.{sem};
+    ghost use Rattle.noise_session.specs.Ends.{EndState, EndMatches, end_of, progress, hash_in, remote_static_in, is_ended};
     ghost use Rattle.noise_session.specs.declared.phase.Phase.TheVariants as phases;
-    ghost use Rattle.noise_session.specs.inner.Phases.{is_due};
-    ghost use Rattle.noise_session.specs.Taking.{Takes};
-    ghost use Rattle.noise_session.specs.Sending.{Sends, after_fault};
-    ghost use Rattle.noise_session.specs.Inputs.{Receives, is_end, after_receiving};
-    ghost use Rattle.noise_session.specs.Outputs.{Puts, after_output};
-    ghost use Rattle.noise_session.specs.Datagrams.{DatagramsStand, datagrams_of};
+    ghost use Rattle.noise_session.specs.Lending.{Lends};
+    ghost use Rattle.noise_session.specs.Taking.{EndTakes};
+    ghost use Rattle.noise_session.specs.Sending.{WritesInto};
+    ghost use Rattle.noise_session.specs.Inputs.{EndReceives, is_end, after_receiving};
+    ghost use Rattle.noise_session.specs.Outputs.{EndPuts, after_output};
+    ghost use Rattle.noise_session.specs.Datagrams.{DatagramsMatch, datagrams_of};
     ghost use Rattle.noise_session.specs.EndDatagrams.{is_datagram_ready};
 
     /// An end of a session that begins with this handshake, which hasn't ended; it is open at once where all its
@@ -69,27 +67,28 @@ impl<K: Keys> End<K> {
     /// It reserves two buffers of 65537 bytes, which no later call grows. At Err the handshake is gone.
     pub fn new(alloc: Global, handshake: Handshake<K>, interval: u64) -> Result<End<K>, AllocError>
         requires { handshake.ended ≡ false }
-        ensures { (v : View) → Stands K.public_of K.agreement handshake v
-            → IfOk result (λ end. EndStands K.public_of K.agreement end (end_of v interval)) }
+        ensures { (v : Party) → Matches K.public_of K.agreement handshake v
+            → IfOk result (λ end. EndMatches K.public_of K.agreement end (end_of v interval)) }
     {
-        End::begin(alloc, Phase::after(handshake, interval))
+        let phase = Phase::after(handshake, interval);
+        End::begin(alloc, DuePhase { phase })
     }
 
     /// An end of a session that is open with this transport.
     ///
     /// It reserves two buffers of 65537 bytes, which no later call grows. At Err the transport is gone.
     pub fn from_transport(alloc: Global, transport: Transport) -> Result<End<K>, AllocError>
-        ensures { IfOk result (λ end. end ≡ record { phase = phases.Open transport; held = [] }) }
+        ensures { IfOk result (λ end. end ≡ record { phase = phases.Open transport; partial = [] }) }
     {
-        End::begin(alloc, Phase::Open(transport))
+        let phase = Phase::Open(transport);
+        End::begin(alloc, DuePhase { phase })
     }
 
-    // A new end in this phase.
-    fn begin(alloc: Global, phase: Phase<K>) -> Result<End<K>, AllocError>
-        requires { IsTrue (is_due phase) }
-        ensures { IfOk result (λ end. end ≡ record { phase = phase; held = [] }) }
+    // A new end of this party.
+    fn begin(alloc: Global, party: DuePhase<K>) -> Result<End<K>, AllocError>
+        ensures { IfOk result (λ end. end ≡ record { phase = party.phase; partial = [] }) }
     {
-        let state = State::new(alloc, phase)?;
+        let state = State::new(alloc, party)?;
         let outgoing = zeros(alloc)?;
         Ok(End { state, outgoing })
     }
@@ -98,39 +97,39 @@ impl<K: Keys> End<K> {
     pub fn role(&self) -> Role
         ensures { result ≡ role_of (progress self.now) }
     {
-        self.state.phase.role()
+        self.state.party.phase.role()
     }
 
     /// Where the session stands.
     pub fn stage(&self) -> Stage
         ensures { result ≡ stage_of (progress self.now) }
     {
-        self.state.phase.stage()
+        self.state.party.phase.stage()
     }
 
     /// The hash of the whole handshake (Noise, 11.2), 32 bytes, once the session has opened, also after its end.
     pub fn hash(&self) -> Option<[u8; 32]>
         ensures { result ≡ hash_in self.now.phase }
     {
-        self.state.phase.hash()
+        self.state.party.phase.hash()
     }
 
-    /// The other party's static public key, 32 bytes, as far as its pre-message and the messages that passed tell it;
+    /// The other party's static public key, 32 bytes, as far as its pre-message and the messages that passed show it;
     /// none after the session's end.
     pub fn remote_static(&self) -> Option<[u8; 32]>
         ensures { result ≡ remote_static_in self.now.phase }
     {
-        self.state.phase.remote_static()
+        self.state.party.phase.remote_static()
     }
 
     /// How many bytes of an unfinished frame it holds: at most 65536, and none after the session's end.
     pub fn held(&self) -> usize
-        ensures count { result ≡ length self.now.held }
-        ensures partial { IsPartial self.now.held }
+        ensures count { result ≡ length self.now.partial }
+        ensures partial { IsPartial self.now.partial }
         ensures most { result ≤ 65536 }
-        ensures over { is_over self.now.phase ≡ true → result ≡ 0 }
+        ensures ended { is_ended self.now.phase ≡ true → result ≡ 0 }
     {
-        self.state.held()
+        self.state.incoming.held()
     }
 
     /// Takes bytes of at most one frame, and returns how many and what they came to.
@@ -139,14 +138,11 @@ impl<K: Keys> End<K> {
     /// difference.
     pub fn take<'a>(&'a mut self, piece: &[u8]) -> (usize, Step<'a>)
         ensures count { result.0 ≤ length piece.now }
-        ensures* takes { sem 𝓛 (follows_so (the_row K.row K.Keys) (the_row K.row K.Keys) self.entry.ghost_name none
-            (λ _ _. ⊤)
-            (λ n. (v : EndView) → EndStands K.public_of K.agreement self.old v
-            → (next : EndView) × Takes v piece.now result.0 (told result.1) next
-            × EndStands K.public_of K.agreement n next)) }
+        ensures* takes { sem 𝓛 (Lends K.row K.Keys self.entry (λ next.
+            EndTakes K.public_of K.agreement self.old piece.now result.0 (step_value result.1) next)) }
     {
         let (count, outcome) = self.state.take(piece);
-        (count, outcome.step(self.state.message()))
+        (count, step_in(self.state.incoming.message(), outcome))
     }
 
     /// Reads the missing bytes of one frame from a reader, and no more, and returns what the frame came to. Where this
@@ -160,16 +156,13 @@ impl<K: Keys> End<K> {
         ensures unread { IsSome (idle_step (progress self.old)) → from.new ≡ from.old }
         ensures end { is_end result ≡ true → IsAtEnd (R.remaining (inner_of from.new)) }
         ensures failures { failures_of from.new ≡ after_receiving (failures_of from.old) result }
-        ensures* receives { sem 𝓛 (follows_so (the_row K.row K.Keys) (the_row K.row K.Keys) self.entry.ghost_name none
-            (λ _ _. ⊤)
-            (λ n. (v : EndView) → EndStands K.public_of K.agreement self.old v
-            → (bytes : List ℕ) × (next : EndView) × Receives v bytes (told_of result) next
-            × Consumes (R.remaining (inner_of from.old)) (R.remaining (inner_of from.new)) bytes
-            × EndStands K.public_of K.agreement n next)) }
+        ensures* receives { sem 𝓛 (Lends K.row K.Keys self.entry (λ next.
+            EndReceives K.public_of K.agreement self.old (R.remaining (inner_of from.old)) (step_value_of result)
+            (R.remaining (inner_of from.new)) next)) }
     {
         match self.state.receive(from)? {
             None => Ok(None),
-            Some(outcome) => Ok(Some(outcome.step(self.state.message()))),
+            Some(outcome) => Ok(Some(step_in(self.state.incoming.message(), outcome))),
         }
     }
 
@@ -178,26 +171,16 @@ impl<K: Keys> End<K> {
         ensures value { result ≡ frame_len_of (progress self.now) payload_len }
         ensures most { IfSome result (λ n. n ≤ 65537) }
     {
-        self.state.phase.frame_len(payload_len)
+        self.state.party.frame_len(payload_len)
     }
 
     /// Writes a payload as a frame, into the first bytes of `out`, and returns how many.
     ///
-    /// Where `frame_len` gives a length, `out` holds it. A DH of the handshake without an answer ends the session, and
-    /// leaves open what `out` holds; an exhausted nonce ends the session; the other faults change nothing.
+    /// Where `frame_len` gives a length, `out` holds it. A DH of the handshake without a DH result ends the session,
+    /// and leaves open what `out` holds; an exhausted nonce ends the session; the other faults change nothing.
     pub fn write_into(&mut self, payload: &[u8], out: &mut [u8]) -> Result<usize, SendFault>
         requires { ForSome (frame_len_of (progress self.old) (length payload.now)) (λ n. n ≤ length out.old) }
-        ensures len { IfOk result
-            (λ n. (frame_len_of (progress self.old) (length payload.now) ≡ Some n) × (n ≤ length out.new)) }
-        ensures rest { IfOk result (λ n. drop n out.new ≡ drop n out.old) }
-        ensures refused { MatchOption (refusal (progress self.old) (length payload.now)) ⊤
-            (λ fault. (result ≡ Err fault) × (out.new ≡ out.old)) }
-        ensures ok { (v : EndView) → EndStands K.public_of K.agreement self.old v → IfOk result (λ n.
-            (next : EndView) × Sends v payload.now (Ok (take n out.new)) next
-            × EndStands K.public_of K.agreement self.new next) }
-        ensures err { (v : EndView) → EndStands K.public_of K.agreement self.old v → IfErr result (λ fault.
-            Sends v payload.now (Err fault) (after_fault v fault)
-            × EndStands K.public_of K.agreement self.new (after_fault v fault)) }
+        ensures { WritesInto K.public_of K.agreement self.old payload.now out.old result out.new self.new }
     {
         self.state.send(payload, out)
     }
@@ -206,17 +189,15 @@ impl<K: Keys> End<K> {
     /// doesn't flush.
     ///
     /// Where a write fails, or takes none of the bytes that are left, the session has ended; so it has after a DH of
-    /// the handshake without an answer, and an exhausted nonce. The other faults change nothing.
+    /// the handshake without a DH result, and an exhausted nonce. The other faults change nothing.
     pub fn write_to<W: Write>(
         &mut self,
         payload: &[u8],
         out: &mut Counted<W>,
     ) -> Result<usize, SendFault>
         ensures failures { failures_of out.new ≡ after_output (failures_of out.old) result }
-        ensures puts { (v : EndView) → EndStands K.public_of K.agreement self.old v → (bytes : List ℕ)
-            × (next : EndView) × Puts v payload.now result bytes next
-            × Appends (W.contents (inner_of out.old)) (W.contents (inner_of out.new)) bytes
-            × EndStands K.public_of K.agreement self.new next }
+        ensures puts { EndPuts K.public_of K.agreement self.old payload.now (W.contents (inner_of out.old)) result
+            (W.contents (inner_of out.new)) self.new }
     {
         let len = self.state.send(payload, &mut self.outgoing)?;
         match write_out(out, &self.outgoing[..len]) {
@@ -233,10 +214,10 @@ impl<K: Keys> End<K> {
     pub fn datagram_ready(&self) -> bool
         ensures { result ≡ is_datagram_ready self.now }
     {
-        match &self.state.phase {
+        match &self.state.party.phase {
             Phase::Open(transport) => {
                 let untouched = transport.send_nonce() == 0 && transport.receive_nonce() == 0;
-                untouched && self.state.held() == 0
+                untouched && self.state.incoming.held() == 0
             }
             _ => false,
         }
@@ -246,10 +227,13 @@ impl<K: Keys> End<K> {
     /// renewed, whatever its interval is.
     pub fn into_datagrams(self, window: Window) -> Datagrams
         requires { is_datagram_ready self ≡ true }
-        ensures { (v : EndView) → EndStands K.public_of K.agreement self v
-            → DatagramsStand result (datagrams_of v.party window) }
+        ensures { (v : EndState) → EndMatches K.public_of K.agreement self v
+            → DatagramsMatch result (datagrams_of v.party window) }
     {
-        match self.state.into_phase() {
+        let state = self.state;
+        let party = state.party;
+        let phase = party.phase;
+        match phase {
             Phase::Open(transport) => Datagrams::after(transport, window),
             _ => unreachable!(),
         }

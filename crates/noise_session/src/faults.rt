@@ -9,7 +9,7 @@ pub enum SendFault {
     NotYourTurn,
     /// The message would have more than 65535 bytes.
     TooLong,
-    /// The keys give no answer at this DH token of the handshake message, counted from 0. The session has ended.
+    /// The keys give no DH result at this DH token of the handshake message, counted from 0. The session has ended.
     Agreement { token: u8 },
     /// The session has ended.
     Ended,
@@ -19,21 +19,6 @@ pub enum SendFault {
     Exhausted,
     /// A write to the output failed after so many first bytes of the frame. The session has ended.
     Output { written: usize },
-}
-
-impl SendFault {
-    ghost use Rattle.std.specs.Prelude.{◌≡◌};
-    ghost use Rattle.noise_session.specs.Faults.{ends};
-
-    // Whether it ends the session.
-    pub(crate) fn ends(self) -> bool
-        ensures { result ≡ ends self }
-    {
-        matches!(
-            self,
-            SendFault::Agreement { .. } | SendFault::Exhausted | SendFault::Output { .. }
-        )
-    }
 }
 
 /// Why a transport message isn't opened. Looked for in the order OneWay, Exhausted, Short, Tag.

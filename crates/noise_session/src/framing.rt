@@ -15,7 +15,7 @@ pub fn frame_message(out: &mut [u8], len: usize) -> usize
     requires room { len + 2 ≤ length out.old }
     ensures len { (result ≡ len + 2) × (result ≤ length out.new) }
     ensures frame { take result out.new ≡ frame (take len (drop 2 out.old)) }
-    ensures rest { drop 2 out.new ≡ drop 2 out.old }
+    ensures beyond { drop 2 out.new ≡ drop 2 out.old }
 {
     BigEndian::write_u16(out, len as u16);
     len + 2

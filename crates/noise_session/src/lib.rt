@@ -6,16 +6,13 @@ mod datagram_fault;
 mod datagram_receiver;
 mod datagram_sender;
 mod datagrams;
-mod draining;
 mod end;
 mod faults;
-mod filling;
+mod frame;
 mod framing;
-mod incoming;
 pub mod laws;
-mod limits;
+pub mod limits;
 mod one_way;
-mod outcome;
 mod parts;
 mod phase;
 mod receiver;
@@ -36,8 +33,8 @@ pub use end::End;
 pub use faults::{OpenFault, ReceiveFault, SendFault};
 pub use framing::frame_message;
 pub use laws::{
-    accepted_exactly, cuts_alike, end_is_told, opened_once, packet_is_due, packet_same,
-    sealed_is_opened, sent_once, taken_once, written_is_taken,
+    accepted_exactly, cuts_alike, end_is_reported, message_is_due, opened_once, sealed_is_opened,
+    sent_once, taken_once, transport_message_same, written_is_taken,
 };
 pub use noise_events::Window;
 pub use parts::{

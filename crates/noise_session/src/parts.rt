@@ -16,7 +16,7 @@ pub struct TransportParts {
     pub one_way: bool,
     /// The hash of the whole handshake (Noise, 11.2).
     pub hash: [u8; 32],
-    /// The other party's static public key, where the handshake told it.
+    /// The other party's static public key, where the handshake showed it.
     pub remote_static: Option<[u8; 32]>,
     /// After how many messages of a direction its key is renewed; 0 for never.
     pub interval: u64,

@@ -1,20 +1,15 @@
 //! What an end goes through: its handshake, its transport, and the end of the session.
 #![tactic(auto)]
 
-ghost use Rattle.std.specs.Prelude.{◌≡◌, ◌≤◌, ◌+◌, ℕ, List, [], ⊤, length, take, drop, false, Some, None, Ok, Err, IsTrue};
-ghost use Rattle.std.specs.Prelude.{IfOk, IfErr, IfSome, MatchOption};
-ghost use Rattle.std.specs.Option.{ForSome};
-ghost use Rattle.noise_session.specs.Faults.{ends};
-ghost use Rattle.noise_session.specs.Frames.{frame};
-ghost use Rattle.noise_session.specs.HeldTransport.{seal_fault};
-ghost use Rattle.noise_session.specs.Progress.{length_unless};
+ghost use Rattle.std.specs.Prelude.{◌≡◌, ◌≤◌, ◌+◌, ℕ, List, [], length, false, Some, None, IsTrue, MatchOption, is_none, if◌then◌else◌};
+ghost use Rattle.noise_session.specs.TransportValue.{seal_fault};
+ghost use Rattle.noise_session.specs.inner.Phases.{is_due};
 
-use crate::framing::frame_message;
 use crate::limits::{LAST_NONCE, PAYLOAD_MAX};
 use crate::one_way::{hears_nothing, writes_nothing};
-use crate::outcome::Outcome;
-use crate::{OpenFault, SendFault, Stage, Transport};
-use noise_handshake::{Cause, Handshake, Keys, ReadFault, WriteFault};
+use crate::step::Outcome;
+use crate::{OpenFault, Stage, Step, Transport};
+use noise_handshake::{Cause, Handshake, Keys, ReadFault};
 use noise_names::Role;
 use std::mem;
 
@@ -33,24 +28,20 @@ pub(crate) enum Phase<K: Keys> {
 }
 
 impl<K: Keys> Phase<K> {
-    ghost use Rattle.noise_handshake.specs.Party.{Stands};
-    ghost use Rattle.noise_session.specs.Progress.{role_of, stage_of, idle_step, frame_len_of};
-    ghost use Rattle.noise_session.specs.Ends.{EndView, PhaseStands, progress_in, hash_in, remote_static_in, is_over};
-    ghost use Rattle.noise_session.specs.inner.Phases.{IsHandshake, GoesOnAs, is_due, over_in};
-    ghost use Rattle.noise_session.specs.inner.Outcomes.{tells, StandsIn};
-    ghost use Rattle.noise_session.specs.Outputs.{after_output};
-    ghost use Rattle.noise_session.specs.Progress.{refusal, message_length};
-    ghost use Rattle.noise_session.specs.Sending.{Sends, after_fault};
-    ghost use Rattle.noise_session.specs.Taking.{Judges};
+    ghost use Rattle.noise_handshake.specs.Matching.{Matches};
+    ghost use Rattle.noise_session.specs.Progress.{role_of, stage_of, idle_step};
+    ghost use Rattle.noise_session.specs.Ends.{EndState, PhaseMatches, progress_in, hash_in, remote_static_in, is_ended};
+    ghost use Rattle.noise_session.specs.Steps.{step_value};
+    ghost use Rattle.noise_session.specs.inner.Phases.{IsHandshake, GoesOnAs, ended_in};
 
     // The phase after messages of a handshake: its transport, once all of them have passed.
     pub(crate) fn after(handshake: Handshake<K>, interval: u64) -> Phase<K>
         requires { handshake.ended ≡ false }
         ensures due { IsTrue (is_due result) }
-        ensures going { is_over result ≡ false }
-        ensures stands { (v : EndView) → Stands K.public_of K.agreement handshake v.party → interval ≡ v.interval
+        ensures going { is_ended result ≡ false }
+        ensures matches { (v : EndState) → Matches K.public_of K.agreement handshake v.party → interval ≡ v.interval
             → v.sent ≡ 0 → v.received ≡ 0
-            → PhaseStands K.public_of K.agreement result v }
+            → PhaseMatches K.public_of K.agreement result v }
     {
         match handshake.finish() {
             Ok(opened) => Phase::Open(Transport::new(opened, interval)),
@@ -65,11 +56,11 @@ impl<K: Keys> Phase<K> {
     pub(crate) fn settle(&mut self)
         requires { IsHandshake self.old }
         ensures due { IsTrue (is_due self.new) }
-        ensures going { is_over self.new ≡ false }
-        ensures stands { (v : EndView) → GoesOnAs K.public_of K.agreement self.old v
-            → PhaseStands K.public_of K.agreement self.new v }
+        ensures going { is_ended self.new ≡ false }
+        ensures matches { (v : EndState) → GoesOnAs K.public_of K.agreement self.old v
+            → PhaseMatches K.public_of K.agreement self.new v }
     {
-        let ended = self.over();
+        let ended = self.ended();
         match mem::replace(self, ended) {
             Phase::Handshaking {
                 handshake,
@@ -80,8 +71,8 @@ impl<K: Keys> Phase<K> {
     }
 
     // What is left of it where the session ends.
-    fn over(&self) -> Phase<K>
-        ensures { result ≡ over_in self.now }
+    fn ended(&self) -> Phase<K>
+        ensures { result ≡ ended_in self.now }
     {
         Phase::Ended {
             role: self.role(),
@@ -91,9 +82,9 @@ impl<K: Keys> Phase<K> {
 
     // Ends the session.
     pub(crate) fn end(&mut self)
-        ensures { self.new ≡ over_in self.old }
+        ensures { self.new ≡ ended_in self.old }
     {
-        *self = self.over();
+        *self = self.ended();
     }
 
     pub(crate) fn role(&self) -> Role
@@ -142,139 +133,75 @@ impl<K: Keys> Phase<K> {
         }
     }
 
-    // What it tells without taking a byte; None where it listens.
-    pub(crate) fn idle(&self) -> Option<Outcome>
-        ensures step { MatchOption result (idle_step (progress_in self.now) ≡ None)
-            (λ outcome. (message : List ℕ) → idle_step (progress_in self.now) ≡ Some (tells message outcome)) }
-        ensures place { IfSome result (λ outcome. (message : List ℕ) → StandsIn message outcome) }
+    // The step of an end that takes no bytes now; None where it listens.
+    pub(crate) fn idle(&self) -> Option<Step<'static>>
+        ensures { MatchOption result (idle_step (progress_in self.now) ≡ None)
+            (λ step. idle_step (progress_in self.now) ≡ Some (step_value step)) }
     {
         match self {
             Phase::Handshaking { handshake, .. } => {
-                handshake.writes_next().then_some(Outcome::YourTurn)
+                handshake.writes_next().then_some(Step::YourTurn)
             }
             Phase::Open(transport) => {
-                hears_nothing(transport.one_way(), transport.role()).then_some(Outcome::Silent)
+                hears_nothing(transport.one_way(), transport.role()).then_some(Step::Silent)
             }
-            Phase::Ended { .. } => Some(Outcome::Ended),
+            Phase::Ended { .. } => Some(Step::Ended),
         }
     }
+}
+
+// The party of an end, in its phase.
+#[derive(Drop)]
+pub(crate) struct DuePhase<K: Keys> {
+    pub(crate) phase: Phase<K>,
+    ghost due: { IsTrue (is_due phase) },
+}
+
+impl<K: Keys> DuePhase<K> {
+    ghost use Rattle.noise_session.specs.Progress.{idle_step, frame_len_of};
+    ghost use Rattle.noise_session.specs.Ends.{EndState, PhaseMatches, progress_in};
+    ghost use Rattle.noise_session.specs.Taking.{Judges};
+    ghost use Rattle.noise_session.specs.inner.Places.{reported_in, MatchesIn};
 
     // The length of the frame that would be written now.
     pub(crate) fn frame_len(&self, payload_len: usize) -> Option<usize>
-        requires { IsTrue (is_due self.now) }
-        ensures { result ≡ frame_len_of (progress_in self.now) payload_len }
+        ensures { result ≡ frame_len_of (progress_in self.now.phase) payload_len }
     {
-        match self {
+        match &self.phase {
             Phase::Handshaking { handshake, .. } => Some(2 + handshake.message_len(payload_len)?),
-            Phase::Open(transport) => Some(2 + packet_len(transport, payload_len)?),
+            Phase::Open(transport) => Some(2 + message_len(transport, payload_len)?),
             Phase::Ended { .. } => None,
         }
     }
 
-    // Writes a payload as a message into the first bytes of `out`, and returns how many.
-    fn write(&mut self, payload: &[u8], out: &mut [u8]) -> Result<usize, SendFault>
-        requires due { IsTrue (is_due self.old) }
-        requires room { refusal (progress_in self.old) (length payload.now) ≡ None
-            → message_length (progress_in self.old) (length payload.now) ≤ length out.old }
-        ensures due { IsTrue (is_due self.new) }
-        ensures len { IfOk result (λ n. (refusal (progress_in self.old) (length payload.now) ≡ None)
-            × (n ≡ message_length (progress_in self.old) (length payload.now)) × (n ≤ length out.new) × (n ≤ 65535)) }
-        ensures rest { IfOk result (λ n. drop n out.new ≡ drop n out.old) }
-        ensures refused { MatchOption (refusal (progress_in self.old) (length payload.now)) ⊤
-            (λ fault. (result ≡ Err fault) × (out.new ≡ out.old)) }
-        ensures going { IfOk result (λ _. is_over self.new ≡ false) }
-        ensures kept { IfErr result (λ fault. ends fault ≡ false → self.new ≡ self.old) }
-        ensures inner { IfErr result (λ fault. (failures : ℕ) → after_output failures (Err fault) ≡ failures) }
-        ensures ok { (v : EndView) → PhaseStands K.public_of K.agreement self.old v → IfOk result (λ n.
-            (next : EndView) × Sends v payload.now (Ok (frame (take n out.new))) next
-            × PhaseStands K.public_of K.agreement self.new next × (next.held ≡ v.held)) }
-        ensures err { (v : EndView) → PhaseStands K.public_of K.agreement self.old v → IfErr result (λ fault.
-            Sends v payload.now (Err fault) (after_fault v fault)
-            × PhaseStands K.public_of K.agreement self.new (after_fault v fault)) }
-    {
-        match self {
-            Phase::Handshaking { handshake, .. } => match handshake.write(payload, out) {
-                Ok(len) => {
-                    self.settle();
-                    Ok(len)
-                }
-                Err(WriteFault::NotYourTurn) => Err(SendFault::NotYourTurn),
-                Err(WriteFault::TooLong) => Err(SendFault::TooLong),
-                Err(WriteFault::Agreement { token }) => {
-                    self.end();
-                    Err(SendFault::Agreement { token })
-                }
-                Err(_) => unreachable!(),
-            },
-            Phase::Open(transport) => match transport.seal(payload, out) {
-                Ok(len) => Ok(len),
-                Err(SendFault::Exhausted) => {
-                    self.end();
-                    Err(SendFault::Exhausted)
-                }
-                Err(SendFault::OneWay) => Err(SendFault::OneWay),
-                Err(SendFault::TooLong) => Err(SendFault::TooLong),
-                Err(_) => unreachable!(),
-            },
-            Phase::Ended { .. } => Err(SendFault::Ended),
-        }
-    }
-
-    // Writes a payload as a frame into the first bytes of `out`, and returns how many.
-    pub(crate) fn write_frame(&mut self, payload: &[u8], out: &mut [u8]) -> Result<usize, SendFault>
-        requires due { IsTrue (is_due self.old) }
-        requires room { ForSome (frame_len_of (progress_in self.old) (length payload.now)) (λ n. n ≤ length out.old) }
-        ensures due { IsTrue (is_due self.new) }
-        ensures len { IfOk result
-            (λ n. (frame_len_of (progress_in self.old) (length payload.now) ≡ Some n) × (n ≤ length out.new)) }
-        ensures rest { IfOk result (λ n. drop n out.new ≡ drop n out.old) }
-        ensures refused { MatchOption (refusal (progress_in self.old) (length payload.now)) ⊤
-            (λ fault. (result ≡ Err fault) × (out.new ≡ out.old)) }
-        ensures going { IfOk result (λ _. is_over self.new ≡ false) }
-        ensures kept { IfErr result (λ fault. ends fault ≡ false → self.new ≡ self.old) }
-        ensures inner { IfErr result (λ fault. (failures : ℕ) → after_output failures (Err fault) ≡ failures) }
-        ensures ok { (v : EndView) → PhaseStands K.public_of K.agreement self.old v → IfOk result (λ n.
-            (next : EndView) × Sends v payload.now (Ok (take n out.new)) next
-            × PhaseStands K.public_of K.agreement self.new next × (next.held ≡ v.held)) }
-        ensures err { (v : EndView) → PhaseStands K.public_of K.agreement self.old v → IfErr result (λ fault.
-            Sends v payload.now (Err fault) (after_fault v fault)
-            × PhaseStands K.public_of K.agreement self.new (after_fault v fault)) }
-    {
-        let start = out.len().min(2);
-        let len = self.write(payload, &mut out[start..])?;
-        Ok(frame_message(out, len))
-    }
-
     // Reads a message in place, in a phase that listens.
     pub(crate) fn read(&mut self, message: &mut [u8]) -> Outcome
-        requires due { IsTrue (is_due self.old) }
-        requires listens { idle_step (progress_in self.old) ≡ None }
+        requires listens { idle_step (progress_in self.old.phase) ≡ None }
         requires short { length message.old ≤ 65535 }
-        ensures due { IsTrue (is_due self.new) }
-        ensures place { StandsIn message.new result }
-        ensures judges { (v : EndView) → PhaseStands K.public_of K.agreement self.old v
-            → (next : EndView) × Judges v message.old (tells message.new result) next
-            × PhaseStands K.public_of K.agreement self.new next × (next.held ≡ []) }
+        ensures place { MatchesIn message.new result }
+        ensures judges { (v : EndState) → PhaseMatches K.public_of K.agreement self.old.phase v
+            → (next : EndState) × Judges v message.old (reported_in message.new result) next
+            × PhaseMatches K.public_of K.agreement self.new.phase next × (next.partial ≡ []) }
     {
-        match self {
+        match &mut self.phase {
             Phase::Handshaking { handshake, .. } => match handshake.read_within(message) {
-                Ok((from, to)) => {
-                    self.settle();
-                    Outcome::Payload { from, to }
+                Ok(place) => {
+                    self.phase.settle();
+                    Ok(place)
                 }
                 Err(ReadFault::Refused { token, cause }) => {
-                    self.end();
-                    Outcome::Refused { token, cause }
+                    self.phase.end();
+                    Err(Step::Refused { token, cause })
                 }
                 Err(_) => unreachable!(),
             },
             Phase::Open(transport) => match transport.open_within(message) {
-                Ok(to) => Outcome::Payload { from: 0, to },
-                Err(OpenFault::Short) => Outcome::Dropped(Cause::Short),
-                Err(OpenFault::Tag) => Outcome::Dropped(Cause::Tag),
+                Ok(to) => Ok((0, to)),
+                Err(OpenFault::Short) => Err(Step::Dropped(Cause::Short)),
+                Err(OpenFault::Tag) => Err(Step::Dropped(Cause::Tag)),
                 Err(OpenFault::Exhausted) => {
-                    self.end();
-                    Outcome::Exhausted
+                    self.phase.end();
+                    Err(Step::Exhausted)
                 }
                 Err(OpenFault::OneWay) => unreachable!(),
             },
@@ -284,8 +211,8 @@ impl<K: Keys> Phase<K> {
 }
 
 // The length of the message that a transport would seal now.
-fn packet_len(transport: &Transport, payload_len: usize) -> Option<usize>
-    ensures { result ≡ length_unless (seal_fault transport.now payload_len) (payload_len + 16) }
+fn message_len(transport: &Transport, payload_len: usize) -> Option<usize>
+    ensures { result ≡ (if is_none (seal_fault transport.now payload_len) then Some (payload_len + 16) else None) }
 {
     let refused = writes_nothing(transport.one_way(), transport.role());
     if refused || payload_len > PAYLOAD_MAX || transport.send_nonce() == LAST_NONCE {

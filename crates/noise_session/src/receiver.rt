@@ -1,12 +1,10 @@
 //! The receiving half of a transport (Noise, 5.2 and 11.3).
 #![tactic(auto)]
 
-ghost use Rattle.std.specs.Prelude.{◌≡◌, ◌≤◌, ◌+◌, [], length, take, drop, None, Err, IsSome, IfOk, OnOk, OnErr};
-ghost use Rattle.std.specs.Prelude.{MatchResult};
+ghost use Rattle.std.specs.Prelude.{◌≡◌, ◌≤◌, ◌+◌, length, take, IsSome, IfOk};
 ghost use Rattle.noise_state.specs.Cipher.{key_in, nonce_in};
-ghost use Rattle.noise_session.specs.Halves.{receiver_fault};
-ghost use Rattle.noise_session.specs.HeldTransport.{TransportView, ReceiverStands, due_packet};
-ghost use Rattle.noise_session.specs.HalfCalls.{OpensUnless, IsMessage, IsNoMessage, IsNoPacket, IsCounted, IsRenewed, one_received};
+ghost use Rattle.noise_session.specs.Halves.{hears_nothing};
+ghost use Rattle.noise_session.specs.HalfCalls.{OpensInPlace, ReceiverOpens};
 ghost use Rattle.noise_session.specs.Parts.{half_in};
 
 use crate::one_way::hears_nothing;
@@ -19,7 +17,7 @@ use std::marker::Model;
 
 /// The receiving half of a transport: it opens the messages of the other party, as the whole transport does.
 ///
-/// `Transport::split` makes it, for a thread of its own. That of the initiator of a one-way session answers OneWay to
+/// `Transport::split` makes it, for a thread of its own. That of the initiator of a one-way session returns OneWay for
 /// every message. No call takes memory, and a fault changes nothing.
 #[derive(Drop)]
 pub struct Receiver {
@@ -32,9 +30,9 @@ pub struct Receiver {
 impl Model for Receiver {
     ghost use Rattle.std.specs.Prelude.{IsSome};
     ghost use Rattle.noise_state.specs.Cipher.{key_in, nonce_in};
-    ghost use Rattle.noise_session.specs.Halves.{HeldHalf};
+    ghost use Rattle.noise_session.specs.Halves.{HalfValue};
 
-    ghost Value = { HeldHalf };
+    ghost Value = { HalfValue };
 
     ghost view = { λ r. record {
       role = r.role;
@@ -122,6 +120,13 @@ impl Receiver {
         self.cipher.nonce()
     }
 
+    /// Whether nothing comes in its direction: that of the initiator of a one-way session (Noise, 7.4).
+    pub fn hears_nothing(&self) -> bool
+        ensures { result ≡ hears_nothing self.now }
+    {
+        hears_nothing(self.one_way, self.role)
+    }
+
     // Sets the nonce of the next message.
     pub(crate) fn set_nonce(&mut self, nonce: u64)
         ensures { self.new ≡ record self.old { nonce = nonce } }
@@ -135,17 +140,8 @@ impl Receiver {
     /// The message has at most 65535 bytes. At an `Err` its bytes are unchanged.
     pub fn open_within(&mut self, message: &mut [u8]) -> Result<usize, OpenFault>
         requires { length message.old ≤ 65535 }
-        ensures fault { OpensUnless (receiver_fault self.old) message.old result }
-        ensures len { IfOk result (λ n. n + 16 ≡ length message.new) }
-        ensures beyond { IfOk result (λ n. drop n message.new ≡ drop n message.old) }
-        ensures counted { OnOk result (IsCounted self.old self.new) }
-        ensures unchanged { OnErr result ((self.new ≡ self.old) × (message.new ≡ message.old)) }
-        ensures opened { MatchResult result (λ n. IsMessage self.old (take n message.new) message.old)
-            (λ _. IsNoMessage self.old message.old) }
-        ensures renewed { OnOk result (IsRenewed self.old self.new) }
-        ensures opens { (v : TransportView) → ReceiverStands self.old v → MatchResult result
-            (λ n. (message.old ≡ due_packet v (take n message.new)) × ReceiverStands self.new (one_received v))
-            (λ _. receiver_fault self.old ≡ None → IsNoPacket v message.old) }
+        ensures opens { ReceiverOpens self.old self.new message.old result (λ n. take n message.new) }
+        ensures place { OpensInPlace message.old message.new result }
     {
         if hears_nothing(self.one_way, self.role) {
             return Err(OpenFault::OneWay);
@@ -167,17 +163,9 @@ impl Receiver {
     /// The message has at most 65535 bytes. At an `Err` its bytes are unchanged.
     pub fn open<'a>(&mut self, message: &'a mut [u8]) -> Result<&'a mut [u8], OpenFault>
         requires { length message.old ≤ 65535 }
-        ensures fault { OpensUnless (receiver_fault self.old) message.old result }
+        ensures opens { ReceiverOpens self.old self.new message.old result (λ payload. payload.now) }
         ensures part { IfOk result
             (λ payload. (payload.ref_ptr ≡ message.entry.ref_ptr) × (length payload.now + 16 ≡ length message.old)) }
-        ensures counted { OnOk result (IsCounted self.old self.new) }
-        ensures unchanged { OnErr result (self.new ≡ self.old) }
-        ensures opened { MatchResult result (λ payload. IsMessage self.old payload.now message.old)
-            (λ _. IsNoMessage self.old message.old) }
-        ensures renewed { OnOk result (IsRenewed self.old self.new) }
-        ensures opens { (v : TransportView) → ReceiverStands self.old v → MatchResult result
-            (λ payload. (message.old ≡ due_packet v payload.now) × ReceiverStands self.new (one_received v))
-            (λ _. receiver_fault self.old ≡ None → IsNoPacket v message.old) }
     {
         let len = self.open_within(message)?;
         Ok(&mut message[..len])

@@ -5,7 +5,7 @@ ghost use Rattle.std.specs.Prelude.{◌≡◌, ◌+◌, ℕ, List, Some, IsSome}
 ghost use Rattle.noise_state.specs.Cipher.{key_in, nonce_in};
 ghost use Rattle.noise_state.specs.History.{rekeyed_times};
 ghost use Rattle.noise_session.specs.Transport.{renewals};
-ghost use Rattle.noise_session.specs.HeldTransport.{renewed_key};
+ghost use Rattle.noise_session.specs.TransportValue.{renewed_key};
 
 use noise_state::CipherState;
 

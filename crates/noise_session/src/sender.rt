@@ -1,13 +1,10 @@
 //! The sending half of a transport (Noise, 5.2 and 11.3).
 #![tactic(auto)]
 
-ghost use Rattle.std.specs.Prelude.{◌≡◌, ◌≤◌, ◌<◌, ◌+◌, [], length, take, drop, None, Err, IsSome, IfOk, OnOk, OnErr};
+ghost use Rattle.std.specs.Prelude.{◌≡◌, ◌≤◌, ◌<◌, ◌+◌, length, take, None, IsSome};
 ghost use Rattle.noise_state.specs.Cipher.{key_in, nonce_in};
-ghost use Rattle.noise_state.specs.History.{ciphertext_under};
-ghost use Rattle.noise_session.specs.Frames.{frame};
-ghost use Rattle.noise_session.specs.Halves.{sender_fault};
-ghost use Rattle.noise_session.specs.HeldTransport.{TransportView, SenderStands, next_packet};
-ghost use Rattle.noise_session.specs.HalfCalls.{SucceedsUnless, IsMessage, IsCounted, IsRenewed, one_sent};
+ghost use Rattle.noise_session.specs.Halves.{sender_fault, writes_nothing};
+ghost use Rattle.noise_session.specs.HalfCalls.{SenderSeals, SenderSealsFrame};
 ghost use Rattle.noise_session.specs.Parts.{half_in};
 ghost use Rattle.noise_session.specs.Transport.{last_nonce};
 
@@ -23,7 +20,7 @@ use std::marker::Model;
 
 /// The sending half of a transport: it seals this party's payloads, as the whole transport does.
 ///
-/// `Transport::split` makes it, for a thread of its own. That of the responder of a one-way session answers OneWay to
+/// `Transport::split` makes it, for a thread of its own. That of the responder of a one-way session returns OneWay for
 /// every payload. No call takes memory, and a fault changes nothing.
 #[derive(Drop)]
 pub struct Sender {
@@ -36,9 +33,9 @@ pub struct Sender {
 impl Model for Sender {
     ghost use Rattle.std.specs.Prelude.{IsSome};
     ghost use Rattle.noise_state.specs.Cipher.{key_in, nonce_in};
-    ghost use Rattle.noise_session.specs.Halves.{HeldHalf};
+    ghost use Rattle.noise_session.specs.Halves.{HalfValue};
 
-    ghost Value = { HeldHalf };
+    ghost Value = { HalfValue };
 
     ghost view = { λ s. record {
       role = s.role;
@@ -134,6 +131,13 @@ impl Sender {
         self.cipher.nonce()
     }
 
+    /// Whether nothing is written in its direction: the responder of a one-way session writes nothing (Noise, 7.4).
+    pub fn writes_nothing(&self) -> bool
+        ensures { result ≡ writes_nothing self.now }
+    {
+        writes_nothing(self.one_way, self.role)
+    }
+
     // Sets the nonce of the next message.
     pub(crate) fn set_nonce(&mut self, nonce: u64)
         ensures { self.new ≡ record self.old { nonce = nonce } }
@@ -164,16 +168,7 @@ impl Sender {
     /// for in this order.
     pub fn seal(&mut self, payload: &[u8], out: &mut [u8]) -> Result<usize, SendFault>
         requires { sender_fault self.old (length payload.now) ≡ None → length payload.now + 16 ≤ length out.old }
-        ensures fault { SucceedsUnless (sender_fault self.old (length payload.now)) result }
-        ensures below { OnOk result (self.old.nonce < last_nonce) }
-        ensures len { IfOk result (λ n. (n ≡ length payload.now + 16) × (n ≤ length out.new)) }
-        ensures rest { IfOk result (λ n. drop n out.new ≡ drop n out.old) }
-        ensures counted { OnOk result (IsCounted self.old self.new) }
-        ensures unchanged { OnErr result ((self.new ≡ self.old) × (out.new ≡ out.old)) }
-        ensures sealed { IfOk result (λ n. IsMessage self.old payload.now (take n out.new)) }
-        ensures renewed { OnOk result (IsRenewed self.old self.new) }
-        ensures seals { (v : TransportView) → SenderStands self.old v → IfOk result
-            (λ n. (take n out.new ≡ next_packet v payload.now) × SenderStands self.new (one_sent v)) }
+        ensures { SenderSeals self.old self.new (length payload.now) payload.now out.old out.new result }
     {
         if let Some(fault) = self.refusal(payload.len()) {
             return Err(fault);
@@ -183,7 +178,7 @@ impl Sender {
     }
 
     /// Seals the payload in the first `payload_len` bytes of `buffer` in place: the message is in the first bytes, 16
-    /// more, and it tells how many.
+    /// more, and it reports how many.
     ///
     /// `buffer` holds them where the payload has at most 65519 bytes. The faults are those of `seal`.
     pub fn seal_in_place(
@@ -192,17 +187,7 @@ impl Sender {
         payload_len: usize,
     ) -> Result<usize, SendFault>
         requires { sender_fault self.old payload_len ≡ None → payload_len + 16 ≤ length buffer.old }
-        ensures fault { SucceedsUnless (sender_fault self.old payload_len) result }
-        ensures below { OnOk result (self.old.nonce < last_nonce) }
-        ensures len { IfOk result (λ n. (n ≡ payload_len + 16) × (n ≤ length buffer.new)) }
-        ensures rest { IfOk result (λ n. drop n buffer.new ≡ drop n buffer.old) }
-        ensures counted { OnOk result (IsCounted self.old self.new) }
-        ensures unchanged { OnErr result ((self.new ≡ self.old) × (buffer.new ≡ buffer.old)) }
-        ensures sealed { IfOk result (λ n. IsMessage self.old (take payload_len buffer.old) (take n buffer.new)) }
-        ensures renewed { OnOk result (IsRenewed self.old self.new) }
-        ensures seals { (v : TransportView) → SenderStands self.old v → IfOk result
-            (λ n. (take n buffer.new ≡ next_packet v (take payload_len buffer.old))
-            × SenderStands self.new (one_sent v)) }
+        ensures { SenderSeals self.old self.new payload_len (take payload_len buffer.old) buffer.old buffer.new result }
     {
         if let Some(fault) = self.refusal(payload_len) {
             return Err(fault);
@@ -222,17 +207,7 @@ impl Sender {
     /// `out` holds them where the payload has at most 65519 bytes. The faults are those of `seal`.
     pub fn seal_frame(&mut self, payload: &[u8], out: &mut [u8]) -> Result<usize, SendFault>
         requires { sender_fault self.old (length payload.now) ≡ None → length payload.now + 18 ≤ length out.old }
-        ensures fault { SucceedsUnless (sender_fault self.old (length payload.now)) result }
-        ensures below { OnOk result (self.old.nonce < last_nonce) }
-        ensures len { IfOk result (λ n. (n ≡ length payload.now + 18) × (n ≤ length out.new)) }
-        ensures rest { IfOk result (λ n. drop n out.new ≡ drop n out.old) }
-        ensures counted { OnOk result (IsCounted self.old self.new) }
-        ensures unchanged { OnErr result ((self.new ≡ self.old) × (out.new ≡ out.old)) }
-        ensures sealed { IfOk result
-            (λ n. take n out.new ≡ frame (ciphertext_under self.old.key self.old.nonce [] payload.now)) }
-        ensures renewed { OnOk result (IsRenewed self.old self.new) }
-        ensures seals { (v : TransportView) → SenderStands self.old v → IfOk result
-            (λ n. (take n out.new ≡ frame (next_packet v payload.now)) × SenderStands self.new (one_sent v)) }
+        ensures { SenderSealsFrame self.old self.new (length payload.now) payload.now out.old out.new result }
     {
         if let Some(fault) = self.refusal(payload.len()) {
             return Err(fault);

@@ -1,99 +1,74 @@
-//! The state of an end: its phase, and what has come of the next frame.
+//! The state of an end: its party, and what has come of the next frame.
 #![tactic(auto)]
 
-ghost use Rattle.std.specs.Prelude.{◌≡◌, ◌≤◌, ℕ, List, [], ⊤, length, take, drop, true, Some, None, Ok, Err, IsTrue, IsSome};
-ghost use Rattle.std.specs.Prelude.{IfOk, IfErr, IfSome, MatchOption};
+ghost use Rattle.std.specs.Prelude.{◌≡◌, ◌≤◌, ℕ, List, [], length, drop, true, None, Err, IsTrue, IsSome};
+ghost use Rattle.std.specs.Prelude.{IfOk, IfErr, IfSome};
 ghost use Rattle.std.specs.Option.{ForSome};
-ghost use Rattle.std.specs.Io.KnownBytes.{Consumes, IsAtEnd};
+ghost use Rattle.std.specs.Io.KnownBytes.{IsAtEnd};
 ghost use Rattle.noise_session.specs.Counting.{inner_of, failures_of};
-ghost use Rattle.noise_session.specs.Ends.{EndView, EndStands, PhaseStands, progress_in, is_over};
+ghost use Rattle.noise_session.specs.Ends.{EndState, PhaseMatches, progress_in, is_ended};
 ghost use Rattle.noise_session.specs.Frames.{IsPartial, IsWhole, frame};
-ghost use Rattle.noise_session.specs.Inputs.{Receives, is_end, after_receiving};
+ghost use Rattle.noise_session.specs.Inputs.{EndReceives, is_end, after_receiving};
 ghost use Rattle.noise_session.specs.Outputs.{after_output};
-ghost use Rattle.noise_session.specs.Progress.{idle_step, refusal, frame_len_of};
-ghost use Rattle.noise_session.specs.Sending.{Sends, after_fault};
-ghost use Rattle.noise_session.specs.Taking.{Takes, Judges};
-ghost use Rattle.noise_session.specs.inner.Incoming.{bytes_of};
-ghost use Rattle.noise_session.specs.inner.Outcomes.{tells, received, StandsIn};
-ghost use Rattle.noise_session.specs.inner.Phases.{is_due, over_in};
+ghost use Rattle.noise_session.specs.Progress.{idle_step, refusal, message_length, frame_len_of};
+ghost use Rattle.noise_session.specs.Sending.{EndSends, WritesInto, IsRefused};
+ghost use Rattle.noise_session.specs.Taking.{EndTakes, Judges};
+ghost use Rattle.noise_session.specs.inner.Partial.{bytes_of};
+ghost use Rattle.noise_session.specs.inner.Places.{reported_in, received_in, MatchesIn};
+ghost use Rattle.noise_session.specs.inner.Phases.{ended_in};
 
-use crate::filling::Filling;
-use crate::incoming::Incoming;
-use crate::outcome::Outcome;
-use crate::phase::Phase;
-use crate::{Counted, ReceiveFault, SendFault};
-use noise_handshake::Keys;
+use crate::counted::Filling;
+use crate::frame::Frame;
+use crate::framing::frame_message;
+use crate::phase::{DuePhase, Phase};
+use crate::step::Outcome;
+use crate::{Counted, ReceiveFault, SendFault, Step};
+use noise_handshake::{Keys, WriteFault};
 use std::alloc::{AllocError, Global};
 use std::io::Read;
 
-// The phase of an end, and what has come of the next frame: less than a whole one, and nothing once the session has
+// The party of an end, and what has come of the next frame: less than a whole one, and nothing once the session has
 // ended.
 #[derive(Drop)]
 pub(crate) struct State<K: Keys> {
-    pub(crate) phase: Phase<K>,
-    pub(crate) incoming: Incoming,
-    ghost due: { IsTrue (is_due phase) },
+    pub(crate) party: DuePhase<K>,
+    pub(crate) incoming: Frame,
     ghost partial: { IsPartial (bytes_of incoming) },
-    ghost closed: { is_over phase ≡ true → bytes_of incoming ≡ [] },
+    ghost ended: { is_ended party.phase ≡ true → bytes_of incoming ≡ [] },
 }
 
 impl<K: Keys> State<K> {
-    ghost use Rattle.noise_session.specs.inner.States.{end_in, message_in};
+    ghost use Rattle.noise_session.specs.inner.States.{end_in, message_in, framed_in};
 
-    // That of a new end in this phase.
-    pub(crate) fn new(alloc: Global, phase: Phase<K>) -> Result<State<K>, AllocError>
-        requires { IsTrue (is_due phase) }
-        ensures { IfOk result (λ state. end_in state ≡ record { phase = phase; held = [] }) }
+    // That of a new end of this party.
+    pub(crate) fn new(alloc: Global, party: DuePhase<K>) -> Result<State<K>, AllocError>
+        ensures { IfOk result (λ state. end_in state ≡ record { phase = party.phase; partial = [] }) }
     {
-        let incoming = Incoming::new(alloc)?;
-        Ok(State { phase, incoming })
-    }
-
-    pub(crate) fn into_phase(self) -> Phase<K>
-        ensures { result ≡ self.phase }
-    {
-        self.phase
-    }
-
-    // How many bytes of an unfinished frame have come.
-    pub(crate) fn held(&self) -> usize
-        ensures count { result ≡ length (bytes_of self.now.incoming) }
-        ensures partial { IsPartial (bytes_of self.now.incoming) }
-        ensures most { result ≤ 65536 }
-        ensures over { is_over self.now.phase ≡ true → result ≡ 0 }
-    {
-        self.incoming.held()
-    }
-
-    // The message of the last frame, with what the buffer holds after it.
-    pub(crate) fn message(&self) -> &[u8]
-        ensures { result.now ≡ message_in self.now }
-    {
-        self.incoming.message()
+        let incoming = Frame::new(alloc)?;
+        Ok(State { party, incoming })
     }
 
     // Ends the session.
     pub(crate) fn end(&mut self)
-        ensures { end_in self.new ≡ record { phase = over_in self.old.phase; held = [] } }
+        ensures { end_in self.new ≡ record { phase = ended_in self.old.party.phase; partial = [] } }
     {
-        self.phase.end();
+        self.party.phase.end();
         self.incoming.clear();
     }
 
     // Takes bytes of a piece, and reads the message of a frame that is whole with them.
     pub(crate) fn take(&mut self, piece: &[u8]) -> (usize, Outcome)
         ensures count { result.0 ≤ length piece.now }
-        ensures place { StandsIn (message_in self.new) result.1 }
-        ensures takes { (v : EndView) → EndStands K.public_of K.agreement (end_in self.old) v
-            → (next : EndView) × Takes v piece.now result.0 (tells (message_in self.new) result.1) next
-            × EndStands K.public_of K.agreement (end_in self.new) next }
+        ensures place { MatchesIn (message_in self.new) result.1 }
+        ensures takes { EndTakes K.public_of K.agreement (end_in self.old) piece.now result.0
+            (reported_in (message_in self.new) result.1) (end_in self.new) }
     {
-        if let Some(outcome) = self.phase.idle() {
-            return (0, outcome);
+        if let Some(step) = self.party.phase.idle() {
+            return (0, Err(step));
         }
         match self.incoming.fill(piece) {
-            None => (piece.len(), Outcome::More),
-            Some(count) => (count, judge(&mut self.phase, &mut self.incoming)),
+            None => (piece.len(), Err(Step::More)),
+            Some(count) => (count, read(&mut self.party, &mut self.incoming)),
         }
     }
 
@@ -102,20 +77,18 @@ impl<K: Keys> State<K> {
         &mut self,
         from: &mut Counted<R>,
     ) -> Result<Option<Outcome>, ReceiveFault>
-        ensures place { IfOk result (λ o. IfSome o (λ outcome. StandsIn (message_in self.new) outcome)) }
-        ensures unread { IsSome (idle_step (progress_in self.old.phase)) → from.new ≡ from.old }
+        ensures place { IfOk result (λ o. IfSome o (λ outcome. MatchesIn (message_in self.new) outcome)) }
+        ensures unread { IsSome (idle_step (progress_in self.old.party.phase)) → from.new ≡ from.old }
         ensures end { is_end result ≡ true → IsAtEnd (R.remaining (inner_of from.new)) }
         ensures failures { failures_of from.new ≡ after_receiving (failures_of from.old) result }
-        ensures receives { (v : EndView) → EndStands K.public_of K.agreement (end_in self.old) v
-            → (bytes : List ℕ) × (next : EndView) × Receives v bytes (received (message_in self.new) result) next
-            × Consumes (R.remaining (inner_of from.old)) (R.remaining (inner_of from.new)) bytes
-            × EndStands K.public_of K.agreement (end_in self.new) next }
+        ensures receives { EndReceives K.public_of K.agreement (end_in self.old) (R.remaining (inner_of from.old))
+            (received_in (message_in self.new) result) (R.remaining (inner_of from.new)) (end_in self.new) }
     {
-        if let Some(outcome) = self.phase.idle() {
-            return Ok(Some(outcome));
+        if let Some(step) = self.party.phase.idle() {
+            return Ok(Some(Err(step)));
         }
         match self.incoming.fill_from(from) {
-            Filling::Filled => Ok(Some(judge(&mut self.phase, &mut self.incoming))),
+            Filling::Filled => Ok(Some(read(&mut self.party, &mut self.incoming))),
             Filling::End => {
                 if self.incoming.held() == 0 {
                     Ok(None)
@@ -127,49 +100,77 @@ impl<K: Keys> State<K> {
         }
     }
 
-    // Writes a payload as a frame into the first bytes of `out`, and returns how many. Nothing is held where that ends
-    // the session.
-    pub(crate) fn send(&mut self, payload: &[u8], out: &mut [u8]) -> Result<usize, SendFault>
-        requires { ForSome (frame_len_of (progress_in self.old.phase) (length payload.now)) (λ n. n ≤ length out.old) }
-        ensures len { IfOk result (λ n. (frame_len_of (progress_in self.old.phase) (length payload.now) ≡ Some n)
-            × (n ≤ length out.new)) }
-        ensures rest { IfOk result (λ n. drop n out.new ≡ drop n out.old) }
-        ensures refused { MatchOption (refusal (progress_in self.old.phase) (length payload.now)) ⊤
-            (λ fault. (result ≡ Err fault) × (out.new ≡ out.old)) }
-        ensures inner { IfErr result (λ fault. (failures : ℕ) → after_output failures (Err fault) ≡ failures) }
-        ensures ok { (v : EndView) → EndStands K.public_of K.agreement (end_in self.old) v → IfOk result (λ n.
-            (next : EndView) × Sends v payload.now (Ok (take n out.new)) next
-            × EndStands K.public_of K.agreement (end_in self.new) next) }
-        ensures err { (v : EndView) → EndStands K.public_of K.agreement (end_in self.old) v → IfErr result (λ fault.
-            Sends v payload.now (Err fault) (after_fault v fault)
-            × EndStands K.public_of K.agreement (end_in self.new) (after_fault v fault)) }
+    // Writes a payload as a message into the first bytes of `out`, and returns how many.
+    fn write(&mut self, payload: &[u8], out: &mut [u8]) -> Result<usize, SendFault>
+        requires { refusal (progress_in self.old.party.phase) (length payload.now) ≡ None
+            → message_length (progress_in self.old.party.phase) (length payload.now) ≤ length out.old }
+        ensures len { IfOk result (λ n. (refusal (progress_in self.old.party.phase) (length payload.now) ≡ None)
+            × (n ≡ message_length (progress_in self.old.party.phase) (length payload.now))
+            × (n ≤ length out.new) × (n ≤ 65535)) }
+        ensures beyond { IfOk result (λ n. drop n out.new ≡ drop n out.old) }
+        ensures refused { IsRefused (progress_in self.old.party.phase) payload.now out.old result out.new }
+        ensures failures { IfErr result (λ fault. (failures : ℕ) → after_output failures (Err fault) ≡ failures) }
+        ensures sends { EndSends K.public_of K.agreement (end_in self.old) payload.now (framed_in out.new result)
+            (end_in self.new) }
     {
-        match self.phase.write_frame(payload, out) {
-            Ok(len) => Ok(len),
-            Err(fault) => {
-                if fault.ends() {
-                    self.incoming.clear();
+        let party = &mut self.party;
+        match &mut party.phase {
+            Phase::Handshaking { handshake, .. } => match handshake.write(payload, out) {
+                Ok(len) => {
+                    party.phase.settle();
+                    Ok(len)
                 }
-                Err(fault)
-            }
+                Err(WriteFault::NotYourTurn) => Err(SendFault::NotYourTurn),
+                Err(WriteFault::TooLong) => Err(SendFault::TooLong),
+                Err(WriteFault::Agreement { token }) => {
+                    party.phase.end();
+                    self.incoming.clear();
+                    Err(SendFault::Agreement { token })
+                }
+                Err(_) => unreachable!(),
+            },
+            Phase::Open(transport) => match transport.seal(payload, out) {
+                Ok(len) => Ok(len),
+                Err(SendFault::Exhausted) => {
+                    self.end();
+                    Err(SendFault::Exhausted)
+                }
+                Err(SendFault::OneWay) => Err(SendFault::OneWay),
+                Err(SendFault::TooLong) => Err(SendFault::TooLong),
+                Err(_) => unreachable!(),
+            },
+            Phase::Ended { .. } => Err(SendFault::Ended),
+        }
+    }
+
+    // Writes a payload as a frame into the first bytes of `out`, and returns how many.
+    pub(crate) fn send(&mut self, payload: &[u8], out: &mut [u8]) -> Result<usize, SendFault>
+        requires { ForSome (frame_len_of (progress_in self.old.party.phase) (length payload.now))
+            (λ n. n ≤ length out.old) }
+        ensures failures { IfErr result (λ fault. (failures : ℕ) → after_output failures (Err fault) ≡ failures) }
+        ensures writes { WritesInto K.public_of K.agreement (end_in self.old) payload.now out.old result out.new
+            (end_in self.new) }
+    {
+        let start = out.len().min(2);
+        match self.write(payload, &mut out[start..]) {
+            Ok(len) => Ok(frame_message(out, len)),
+            Err(fault) => Err(fault),
         }
     }
 }
 
 // Reads the message of a whole frame. Nothing is held after it.
-fn judge<K: Keys>(phase: &mut Phase<K>, incoming: &mut Incoming) -> Outcome
-    requires due { IsTrue (is_due phase.old) }
-    requires listens { idle_step (progress_in phase.old) ≡ None }
+fn read<K: Keys>(party: &mut DuePhase<K>, incoming: &mut Frame) -> Outcome
+    requires listens { idle_step (progress_in party.old.phase) ≡ None }
     requires whole { IsWhole (bytes_of incoming.old) }
-    ensures due { IsTrue (is_due phase.new) }
     ensures empty { bytes_of incoming.new ≡ [] }
-    ensures place { StandsIn (drop 2 incoming.new.buffer.items) result }
+    ensures place { MatchesIn (drop 2 incoming.new.buffer.items) result }
     ensures spelled { bytes_of incoming.old ≡ frame (drop 2 (bytes_of incoming.old)) }
     ensures short { length (drop 2 (bytes_of incoming.old)) ≤ 65535 }
-    ensures judges { (v : EndView) → PhaseStands K.public_of K.agreement phase.old v → (next : EndView)
-        × Judges v (drop 2 (bytes_of incoming.old)) (tells (drop 2 incoming.new.buffer.items) result) next
-        × PhaseStands K.public_of K.agreement phase.new next × (next.held ≡ []) }
+    ensures judges { (v : EndState) → PhaseMatches K.public_of K.agreement party.old.phase v → (next : EndState)
+        × Judges v (drop 2 (bytes_of incoming.old)) (reported_in (drop 2 incoming.new.buffer.items) result) next
+        × PhaseMatches K.public_of K.agreement party.new.phase next × (next.partial ≡ []) }
 {
     let end = incoming.clear();
-    phase.read(&mut incoming.buffer[2..end])
+    party.read(&mut incoming.buffer[2..end])
 }

@@ -1,9 +1,13 @@
 //! What bytes came to.
 #![tactic(auto)]
 
+ghost use Rattle.std.specs.Prelude.{◌≡◌};
+ghost use Rattle.noise_session.specs.Steps.{step_value};
+ghost use Rattle.noise_session.specs.inner.Places.{reported_in, MatchesIn};
+
 use noise_handshake::Cause;
 
-/// What an end tells of the bytes that it was handed.
+/// What an end reports of the bytes that it was handed.
 #[derive(Clone, Copy, Debug, PartialEq, Eq)]
 pub enum Step<'a> {
     /// The session has ended; no byte was taken.
@@ -24,4 +28,18 @@ pub enum Step<'a> {
     /// A transport frame came at nonce 2^64 - 1, which no message has. The session has ended; the bytes up to the
     /// frame's end were taken.
     Exhausted,
+}
+
+// What bytes came to: the places of a payload in the message of the last frame, or another step.
+pub(crate) type Outcome = Result<(usize, usize), Step<'static>>;
+
+// The step, with the payload's bytes from the message.
+pub(crate) fn step_in(message: &[u8], outcome: Outcome) -> Step<'_>
+    requires { MatchesIn message.now outcome }
+    ensures { step_value result ≡ reported_in message.now outcome.entry }
+{
+    match outcome {
+        Ok((from, to)) => Step::Payload(&message[from..to]),
+        Err(step) => step,
+    }
 }

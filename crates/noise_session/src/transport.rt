@@ -1,15 +1,13 @@
 //! Transport messages of one party (Noise, 5.2 and 11.3).
 #![tactic(auto)]
 
-ghost use Rattle.std.specs.Prelude.{◌≡◌, ◌≤◌, ◌+◌, length, take, drop, Option, Some, None, IsSome, IfOk, OnOk, OnErr};
-ghost use Rattle.std.specs.Prelude.{MatchResult};
+ghost use Rattle.std.specs.Prelude.{◌≡◌, ◌≤◌, ◌+◌, length, take, None, IsSome, IfOk};
 ghost use Rattle.noise_state.specs.Cipher.{key_in, nonce_in};
-ghost use Rattle.noise_handshake.specs.View.{View};
+ghost use Rattle.noise_handshake.specs.Party.{Party};
 ghost use Rattle.noise_handshake.specs.Opening.{Opens};
-ghost use Rattle.noise_session.specs.HalfCalls.{SucceedsUnless, OpensUnless, IsMessage, IsNoMessage, IsNoPacket, IsRenewed, IsSent, IsReceived, one_sent, one_received};
+ghost use Rattle.noise_session.specs.HalfCalls.{OpensInPlace, TransportOpens, TransportSeals};
 ghost use Rattle.noise_session.specs.Parts.{transport_in};
-ghost use Rattle.noise_session.specs.HeldTransport.{TransportView, TransportStands, SenderStands, ReceiverStands, transport_of, next_packet, due_packet};
-ghost use Rattle.noise_session.specs.HeldTransport.{sending_half, receiving_half, seal_fault, open_fault};
+ghost use Rattle.noise_session.specs.TransportValue.{TransportState, TransportMatches, SenderMatches, ReceiverMatches, transport_of, sending_half, receiving_half, seal_fault};
 
 use crate::{OpenFault, Receiver, SendFault, Sender, TransportParts};
 use noise_handshake::Opened;
@@ -31,9 +29,9 @@ pub struct Transport {
 
 impl Model for Transport {
     ghost use Rattle.std.specs.Prelude.{◌≡◌};
-    ghost use Rattle.noise_session.specs.HeldTransport.{HeldTransport};
+    ghost use Rattle.noise_session.specs.TransportValue.{TransportValue};
 
-    ghost Value = { HeldTransport };
+    ghost Value = { TransportValue };
 
     ghost view = { λ t. record {
       role = t.sender.role;
@@ -61,7 +59,7 @@ impl Transport {
         ensures parts { (result.role ≡ opened.role) × (result.one_way ≡ opened.one_way) × (result.hash ≡ opened.hash)
             × (result.remote_static ≡ opened.remote_static) × (result.interval ≡ interval) × (result.send_nonce ≡ 0)
             × (result.receive_nonce ≡ 0) }
-        ensures stands { (v : View) → Opens opened v → TransportStands result (transport_of v interval) }
+        ensures matches { (v : Party) → Opens opened v → TransportMatches result (transport_of v interval) }
     {
         let role = opened.role();
         let one_way = opened.one_way();
@@ -102,7 +100,7 @@ impl Transport {
         }
     }
 
-    /// The transport that holds these parts: it stands for what the transport stood for that was taken apart. Any parts
+    /// The transport that holds these parts: it matches what the transport stood for that was taken apart. Any parts
     /// make one: a key and a nonce don't show of which handshake they are.
     ///
     /// A transport that was taken apart is put together once: two of them would seal at the same nonce.
@@ -125,8 +123,8 @@ impl Transport {
     pub fn split(self) -> (Sender, Receiver)
         ensures sender { result.0 ≡ sending_half self }
         ensures receiver { result.1 ≡ receiving_half self }
-        ensures stands { (v : TransportView) → TransportStands self v → SenderStands result.0 v
-            × ReceiverStands result.1 v }
+        ensures matches { (v : TransportState) → TransportMatches self v → SenderMatches result.0 v
+            × ReceiverMatches result.1 v }
     {
         (self.sender, self.receiver)
     }
@@ -152,7 +150,7 @@ impl Transport {
         self.hash
     }
 
-    /// The other party's static public key, 32 bytes, where the handshake told it.
+    /// The other party's static public key, 32 bytes, where the handshake showed it.
     pub fn remote_static(&self) -> Option<[u8; 32]>
         ensures { result ≡ self.now.remote_static }
     {
@@ -196,8 +194,8 @@ impl Transport {
     pub fn set_nonces(&mut self, send: u64, receive: u64)
         requires { self.old.interval ≡ 0 }
         ensures alone { self.new ≡ record self.old { send_nonce = send; receive_nonce = receive } }
-        ensures stands { (v : TransportView) → TransportStands self.old v
-            → TransportStands self.new (record v { sent = send; received = receive }) }
+        ensures matches { (v : TransportState) → TransportMatches self.old v
+            → TransportMatches self.new (record v { sent = send; received = receive }) }
     {
         self.sender.set_nonce(send);
         self.receiver.set_nonce(receive);
@@ -209,21 +207,13 @@ impl Transport {
     /// for in this order.
     pub fn seal(&mut self, payload: &[u8], out: &mut [u8]) -> Result<usize, SendFault>
         requires { seal_fault self.old (length payload.now) ≡ None → length payload.now + 16 ≤ length out.old }
-        ensures fault { SucceedsUnless (seal_fault self.old (length payload.now)) result }
-        ensures len { IfOk result (λ n. (n ≡ length payload.now + 16) × (n ≤ length out.new)) }
-        ensures rest { IfOk result (λ n. drop n out.new ≡ drop n out.old) }
-        ensures counted { OnOk result (IsSent self.old self.new) }
-        ensures unchanged { OnErr result ((self.new ≡ self.old) × (out.new ≡ out.old)) }
-        ensures sealed { IfOk result (λ n. IsMessage (sending_half self.old) payload.now (take n out.new)) }
-        ensures renewed { OnOk result (IsRenewed (sending_half self.old) (sending_half self.new)) }
-        ensures seals { (v : TransportView) → TransportStands self.old v → IfOk result
-            (λ n. (take n out.new ≡ next_packet v payload.now) × TransportStands self.new (one_sent v)) }
+        ensures { TransportSeals self.old self.new (length payload.now) payload.now out.old out.new result }
     {
         self.sender.seal(payload, out)
     }
 
     /// Seals the payload in the first `payload_len` bytes of `buffer` in place: the message is in the first bytes, 16
-    /// more, and it tells how many.
+    /// more, and it reports how many.
     ///
     /// `buffer` holds them where the payload has at most 65519 bytes. The faults are those of `seal`.
     pub fn seal_in_place(
@@ -232,17 +222,8 @@ impl Transport {
         payload_len: usize,
     ) -> Result<usize, SendFault>
         requires { seal_fault self.old payload_len ≡ None → payload_len + 16 ≤ length buffer.old }
-        ensures fault { SucceedsUnless (seal_fault self.old payload_len) result }
-        ensures len { IfOk result (λ n. (n ≡ payload_len + 16) × (n ≤ length buffer.new)) }
-        ensures rest { IfOk result (λ n. drop n buffer.new ≡ drop n buffer.old) }
-        ensures counted { OnOk result (IsSent self.old self.new) }
-        ensures unchanged { OnErr result ((self.new ≡ self.old) × (buffer.new ≡ buffer.old)) }
-        ensures sealed { IfOk result
-            (λ n. IsMessage (sending_half self.old) (take payload_len buffer.old) (take n buffer.new)) }
-        ensures renewed { OnOk result (IsRenewed (sending_half self.old) (sending_half self.new)) }
-        ensures seals { (v : TransportView) → TransportStands self.old v → IfOk result
-            (λ n. (take n buffer.new ≡ next_packet v (take payload_len buffer.old))
-            × TransportStands self.new (one_sent v)) }
+        ensures { TransportSeals self.old self.new payload_len (take payload_len buffer.old)
+            buffer.old buffer.new result }
     {
         self.sender.seal_in_place(buffer, payload_len)
     }
@@ -253,17 +234,8 @@ impl Transport {
     /// The message has at most 65535 bytes. At an `Err` its bytes are unchanged.
     pub fn open_within(&mut self, message: &mut [u8]) -> Result<usize, OpenFault>
         requires { length message.old ≤ 65535 }
-        ensures fault { OpensUnless (open_fault self.old) message.old result }
-        ensures len { IfOk result (λ n. n + 16 ≡ length message.new) }
-        ensures beyond { IfOk result (λ n. drop n message.new ≡ drop n message.old) }
-        ensures counted { OnOk result (IsReceived self.old self.new) }
-        ensures unchanged { OnErr result ((self.new ≡ self.old) × (message.new ≡ message.old)) }
-        ensures opened { MatchResult result (λ n. IsMessage (receiving_half self.old) (take n message.new) message.old)
-            (λ _. IsNoMessage (receiving_half self.old) message.old) }
-        ensures renewed { OnOk result (IsRenewed (receiving_half self.old) (receiving_half self.new)) }
-        ensures opens { (v : TransportView) → TransportStands self.old v → MatchResult result
-            (λ n. (message.old ≡ due_packet v (take n message.new)) × TransportStands self.new (one_received v))
-            (λ _. open_fault self.old ≡ None → IsNoPacket v message.old) }
+        ensures opens { TransportOpens self.old self.new message.old result (λ n. take n message.new) }
+        ensures place { OpensInPlace message.old message.new result }
     {
         self.receiver.open_within(message)
     }
@@ -273,17 +245,9 @@ impl Transport {
     /// The message has at most 65535 bytes. At an `Err` its bytes are unchanged.
     pub fn open<'a>(&mut self, message: &'a mut [u8]) -> Result<&'a mut [u8], OpenFault>
         requires { length message.old ≤ 65535 }
-        ensures fault { OpensUnless (open_fault self.old) message.old result }
+        ensures opens { TransportOpens self.old self.new message.old result (λ payload. payload.now) }
         ensures part { IfOk result
             (λ payload. (payload.ref_ptr ≡ message.entry.ref_ptr) × (length payload.now + 16 ≡ length message.old)) }
-        ensures counted { OnOk result (IsReceived self.old self.new) }
-        ensures unchanged { OnErr result (self.new ≡ self.old) }
-        ensures opened { MatchResult result (λ payload. IsMessage (receiving_half self.old) payload.now message.old)
-            (λ _. IsNoMessage (receiving_half self.old) message.old) }
-        ensures renewed { OnOk result (IsRenewed (receiving_half self.old) (receiving_half self.new)) }
-        ensures opens { (v : TransportView) → TransportStands self.old v → MatchResult result
-            (λ payload. (message.old ≡ due_packet v payload.now) × TransportStands self.new (one_received v))
-            (λ _. open_fault self.old ≡ None → IsNoPacket v message.old) }
     {
         let len = self.open_within(message)?;
         Ok(&mut message[..len])

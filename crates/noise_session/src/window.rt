@@ -62,7 +62,7 @@ impl Ring {
         words: [u64; MOST_WORDS],
     ) -> Option<Ring>
         ensures known { is_some result ≡ is_ring (record { window = window; greatest = greatest; words = words }) }
-        ensures same { IfSome result (λ ring. ring ≡ record { window = window; greatest = greatest; words = words }) }
+        ensures value { IfSome result (λ ring. ring ≡ record { window = window; greatest = greatest; words = words }) }
     {
         let ring = Ring {
             window,
@@ -100,7 +100,7 @@ impl Ring {
     // Why no datagram of this nonce is opened.
     pub(crate) fn refusal(&self, nonce: u64) -> Option<DatagramFault>
         ensures young { IfNone result (self.now.greatest < nonce + width_of self.now.window) }
-        ensures told { (accepted : List ℕ) → Recalls self.now accepted
+        ensures reported { (accepted : List ℕ) → Recalls self.now accepted
             → result ≡ window_fault (width_of self.now.window) accepted nonce }
     {
         if self.is_old(nonce) {
@@ -115,7 +115,7 @@ impl Ring {
     // Whether some accepted nonce is at least the width above this one.
     fn is_old(&self, nonce: u64) -> bool
         ensures young { result ≡ false → self.now.greatest < nonce + width_of self.now.window }
-        ensures told { (accepted : List ℕ) → Recalls self.now accepted
+        ensures reported { (accepted : List ℕ) → Recalls self.now accepted
             → result ≡ is_old (width_of self.now.window) accepted nonce }
     {
         self.greatest.saturating_sub(nonce) >= self.window.width()
@@ -181,7 +181,7 @@ fn clear(window: Window, words: &mut [u64; MOST_WORDS], top: u64, block: u64)
     requires { top ≤ block }
     ensures fresh { (b : ℕ) → top < b → b ≤ block → block < b + words_of window
         → slice_index words.new (b % words_of window) ≡ 0 }
-    ensures kept { (b : ℕ) → b ≤ top → block < b + words_of window
+    ensures unchanged { (b : ℕ) → b ≤ top → block < b + words_of window
         → slice_index words.new (b % words_of window) ≡ slice_index words.old (b % words_of window) }
     ensures beyond { drop (min (words_of window) (block + 1)) words.new
         ≡ drop (min (words_of window) (block + 1)) words.old }

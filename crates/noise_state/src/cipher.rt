@@ -6,13 +6,8 @@ ghost use Rattle.std.specs.Option.{option_map};
 ghost use Rattle.noise_aead.specs.Sealing.{sealed, nonce_of, rekeyed};
 ghost use Rattle.noise_state.specs.History.{ciphertext_under};
 
+use crate::limits::{MAX_LEN, RESERVED_NONCE, TAG_LEN};
 use noise_aead::{nonce, open_in_place, rekey, seal_in_place};
-
-const MAX_LEN: usize = 65535;
-
-const TAG_LEN: usize = 16;
-
-const RESERVED_NONCE: u64 = u64::MAX;
 
 /// Why nothing was encrypted or decrypted. If several hold, the first in the order Exhausted,
 /// TooLong, Short, Tag is reported.
@@ -126,7 +121,7 @@ impl CipherState {
     }
 
     /// Encrypts the text in the first `len` bytes of `buf` in place (EncryptWithAd). With a key its
-    /// tag of 16 bytes follows it, and the nonce rises by one. The answer is the length of both.
+    /// tag of 16 bytes follows it, and the nonce rises by one. It returns the length of both.
     ///
     /// `buf` has to hold them where they are at most 65535 bytes. `ad` has at most 65535 bytes. At
     /// an `Err` nothing has changed.
@@ -147,7 +142,7 @@ impl CipherState {
         ensures counted { OnOk result (
             nonce_in self.new ≡ next_nonce (keyed_in self.old) (nonce_in self.old)) }
         ensures unchanged { OnErr result (buf.new ≡ buf.old) }
-        ensures same { OnErr result (self.new ≡ self.old) }
+        ensures state { OnErr result (self.new ≡ self.old) }
     {
         let Some(key) = self.key else {
             return if len > MAX_LEN {
@@ -186,7 +181,7 @@ impl CipherState {
     }
 
     /// Decrypts `buf` in place (DecryptWithAd). With a key its last 16 bytes are the tag, which
-    /// stay as they are, and the nonce rises by one. The answer is the length of the text, which
+    /// stay as they are, and the nonce rises by one. It returns the length of the text, which
     /// is at the front.
     ///
     /// `ad` has at most 65535 bytes. The tag is checked before a byte is changed: at an `Err`
@@ -207,7 +202,7 @@ impl CipherState {
         ensures counted { OnOk result (
             nonce_in self.new ≡ next_nonce (keyed_in self.old) (nonce_in self.old)) }
         ensures unchanged { OnErr result (buf.new ≡ buf.old) }
-        ensures same { OnErr result (self.new ≡ self.old) }
+        ensures state { OnErr result (self.new ≡ self.old) }
     {
         if let Some(fault) = self.decrypt_fault(buf.len()) {
             return Err(fault);

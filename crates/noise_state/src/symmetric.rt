@@ -45,7 +45,7 @@ pub struct StateParts {
     pub nonce: u64,
 }
 
-/// The state of a handshake's key schedule (Noise 5.2). It stands for a history: the protocol name,
+/// The state of a handshake's key schedule (Noise 5.2). It matches a history: the protocol name,
 /// and what was mixed and encrypted since.
 ///
 /// It can't be copied, but for the trial of a message (`for_trial`).
@@ -57,12 +57,12 @@ pub struct SymmetricState {
 }
 
 impl SymmetricState {
-    ghost use Rattle.noise_state.specs.Standing.{StateStands, keyed, key_now, nonce_now, hash_now, state_of};
+    ghost use Rattle.noise_state.specs.Standing.{StateMatches, keyed, key_now, nonce_now, hash_now, state_of};
     ghost use Rattle.noise_state.specs.Cipher.{key_in, nonce_in, sealed_len, next_nonce, HasNonce, EncryptRefused, DecryptRefused};
 
     /// The state of a protocol name, with nothing mixed and no key (InitializeSymmetric).
     pub fn new(name: &[u8]) -> SymmetricState
-        ensures stands { StateStands result (record { name = name.now; entries = [] }) }
+        ensures matches { StateMatches result (record { name = name.now; entries = [] }) }
         ensures key { keyed result ≡ false }
         ensures nonce { nonce_now result ≡ 0 }
     {
@@ -107,7 +107,7 @@ impl SymmetricState {
         }
     }
 
-    /// The state of these parts: it stands for what the state stood for that was taken apart.
+    /// The state of these parts: it matches what the state stood for that was taken apart.
     pub fn from_parts(parts: StateParts) -> SymmetricState
         ensures { result ≡ state_of parts }
     {
@@ -124,10 +124,10 @@ impl SymmetricState {
         }
     }
 
-    /// Mixes a key input, as a DH answer, into the chaining key, and takes a new key (MixKey).
+    /// Mixes a key input, as a DH result, into the chaining key, and takes a new key (MixKey).
     pub fn mix_key(&mut self, input: &[u8; 32])
-        ensures stands { (r : History) → StateStands self.old r
-            → StateStands self.new (and_then r (MixKey input.now)) }
+        ensures matches { (r : History) → StateMatches self.old r
+            → StateMatches self.new (and_then r (MixKey input.now)) }
         ensures key { keyed self.new ≡ true }
         ensures nonce { nonce_now self.new ≡ 0 }
     {
@@ -138,19 +138,19 @@ impl SymmetricState {
 
     /// Mixes a text into the hash (MixHash).
     pub fn mix_hash(&mut self, text: &[u8])
-        ensures stands { (r : History) → StateStands self.old r
-            → StateStands self.new (and_then r (MixHash text.now)) }
+        ensures matches { (r : History) → StateMatches self.old r
+            → StateMatches self.new (and_then r (MixHash text.now)) }
         ensures key { keyed self.new ≡ keyed self.old }
         ensures nonce { nonce_now self.new ≡ nonce_now self.old }
     {
         self.hash = hash_of_both(&self.hash, text);
     }
 
-    /// Mixes a key input, as a pre-shared secret, into the chaining key and the hash, and takes a
+    /// Mixes a key input, as a pre-shared key, into the chaining key and the hash, and takes a
     /// new key (MixKeyAndHash).
     pub fn mix_key_and_hash(&mut self, input: &[u8; 32])
-        ensures stands { (r : History) → StateStands self.old r
-            → StateStands self.new (and_then r (MixKeyAndHash input.now)) }
+        ensures matches { (r : History) → StateMatches self.old r
+            → StateMatches self.new (and_then r (MixKeyAndHash input.now)) }
         ensures key { keyed self.new ≡ true }
         ensures nonce { nonce_now self.new ≡ 0 }
     {
@@ -162,7 +162,7 @@ impl SymmetricState {
 
     /// Encrypts the text in the first `len` bytes of `buf` in place under the hash, and mixes what
     /// is sent into the hash (EncryptAndHash). With a key a tag of 16 bytes follows the text. The
-    /// answer is the length of both.
+    /// result is the length of both.
     ///
     /// `buf` has to hold them where they are at most 65535 bytes. At an `Err`, which is Exhausted
     /// or TooLong, nothing has changed.
@@ -175,12 +175,12 @@ impl SymmetricState {
             EncryptRefused (keyed self.old) (nonce_now self.old) len fault) }
         ensures range { IfOk result (λ n.
             (n ≡ sealed_len (keyed self.old) len) × (n ≤ length buf.new)) }
-        ensures ok { (r : History) → StateStands self.old r → IfOk result (λ n.
+        ensures ok { (r : History) → StateMatches self.old r → IfOk result (λ n.
             (take n buf.new ≡ ciphertext r (take len buf.old))
-            × StateStands self.new (and_then r (Ciphertext (ciphertext r (take len buf.old))))) }
+            × StateMatches self.new (and_then r (Ciphertext (ciphertext r (take len buf.old))))) }
         ensures beyond { IfOk result (λ n. drop n buf.new ≡ drop n buf.old) }
         ensures unchanged { OnErr result (buf.new ≡ buf.old) }
-        ensures same { OnErr result (self.new ≡ self.old) }
+        ensures state { OnErr result (self.new ≡ self.old) }
         ensures key { keyed self.new ≡ keyed self.old }
         ensures counted { OnOk result (
             nonce_now self.new ≡ next_nonce (keyed self.old) (nonce_now self.old)) }
@@ -192,24 +192,24 @@ impl SymmetricState {
 
     /// Decrypts `buf` in place under the hash, and mixes it as it was received into the hash
     /// (DecryptAndHash). With a key its last 16 bytes are the tag, which stay as they are. The
-    /// answer is the length of the text, which is at the front.
+    /// result is the length of the text, which is at the front.
     ///
     /// At an `Err` nothing has changed.
     pub fn decrypt_and_hash(&mut self, buf: &mut [u8]) -> Result<usize, CipherFault>
         ensures success { IsOk result ↔ (HasNonce (keyed self.old) (nonce_now self.old)
             × (length buf.old ≤ 65535) × ((plain : List ℕ)
             × (buf.old ≡ ciphertext_under (key_now self.old) (nonce_now self.old) (hash_now self.old) plain))) }
-        ensures accepts { (r : History) → StateStands self.old r → IsOk result ↔ (
+        ensures accepts { (r : History) → StateMatches self.old r → IsOk result ↔ (
             (nonce r < 2 ^ 64 - 1) × (length buf.old ≤ 65535)
             × ((plain : List ℕ) × (buf.old ≡ ciphertext r plain))) }
         ensures refused { IfErr result (λ fault.
             DecryptRefused (keyed self.old) (nonce_now self.old) (length buf.old) fault) }
         ensures text { IfOk result (λ n. sealed_len (keyed self.old) n ≡ length buf.old) }
-        ensures ok { (r : History) → StateStands self.old r → IfOk result (λ n.
-            (buf.old ≡ ciphertext r (take n buf.new)) × StateStands self.new (and_then r (Ciphertext buf.old))) }
+        ensures ok { (r : History) → StateMatches self.old r → IfOk result (λ n.
+            (buf.old ≡ ciphertext r (take n buf.new)) × StateMatches self.new (and_then r (Ciphertext buf.old))) }
         ensures beyond { IfOk result (λ n. drop n buf.new ≡ drop n buf.old) }
         ensures unchanged { OnErr result (buf.new ≡ buf.old) }
-        ensures same { OnErr result (self.new ≡ self.old) }
+        ensures state { OnErr result (self.new ≡ self.old) }
         ensures key { keyed self.new ≡ keyed self.old }
         ensures counted { OnOk result (
             nonce_now self.new ≡ next_nonce (keyed self.old) (nonce_now self.old)) }
@@ -226,7 +226,7 @@ impl SymmetricState {
     /// Whether its cipher state has a key (HasKey, Noise 5.1), as it has once a key input was mixed
     /// (5.2).
     pub fn has_key(&self) -> bool
-        ensures stands { (r : History) → StateStands self.now r
+        ensures matches { (r : History) → StateMatches self.now r
             → result ≡ is_some (cipher_key r) }
         ensures key { result ≡ keyed self.now }
     {
@@ -235,7 +235,7 @@ impl SymmetricState {
 
     /// The handshake hash (GetHandshakeHash, Noise 11.2).
     pub fn hash(&self) -> [u8; 32]
-        ensures { (r : History) → StateStands self.now r → result ≡ hash r }
+        ensures { (r : History) → StateMatches self.now r → result ≡ hash r }
     {
         self.hash
     }
@@ -244,9 +244,9 @@ impl SymmetricState {
     /// a key at nonce 0 (Split). The symmetric state is gone then: a second pair would have the same
     /// keys, and encrypt at the same nonces.
     pub fn split(self) -> (CipherState, CipherState)
-        ensures initiator { (r : History) → StateStands self r
+        ensures initiator { (r : History) → StateMatches self r
             → key_in result.0 ≡ Some (initiator_key r) }
-        ensures responder { (r : History) → StateStands self r
+        ensures responder { (r : History) → StateMatches self r
             → key_in result.1 ≡ Some (responder_key r) }
         ensures keys { IsSome (key_in result.0) × IsSome (key_in result.1) }
         ensures nonces { (nonce_in result.0 ≡ 0) × (nonce_in result.1 ≡ 0) }

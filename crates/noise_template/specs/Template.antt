@@ -140,7 +140,8 @@ pub record IsTemplateText (p : Plan) (text : List ℕ) : Type 0 where
 
 -- the lines before the psks
 abbrev pub head_text : Plan → List ℕ
-head_text p = codes "vector 1\nprotocol " ++ name_bytes (name_of p) ++ codes "\n" ++ block_text (unless_known (fundamental_of p.base) p) []
+head_text p = codes "vector 1\nprotocol " ++ name_bytes (name_of p) ++ codes "\n"
+    ++ block_text (unless_known (fundamental_of p.base) p) []
     ++ codes "prologue -\ninterval 0\n"
 
 abbrev pub psks_text : List ℕ → List ℕ
@@ -155,7 +156,9 @@ keys_text p role = party_text role (Table (keys_in p role)) []
 
 -- the line of a party's keys
 abbrev pub keys_line : Plan → Role → List ℕ
-keys_line p role = role_word role ++ (codes " table " ++ key_words (key_in p role Ephemeral) (key_in p role Static)) ++ 10 ∷ []
+keys_line p role =
+    role_word role ++ (codes " table " ++ key_words (key_in p role Ephemeral) (key_in p role Static)) ++ 10 ∷ []
 
 abbrev pub template_text : Plan → List ℕ
-template_text p = head_text p ++ psks_text p.places ++ keys_text p Initiator ++ keys_text p Responder ++ lines_of say_words (speakers p.messages) []
+template_text p = head_text p ++ psks_text p.places ++ keys_text p Initiator ++ keys_text p Responder
+    ++ lines_of say_words (speakers p.messages) []

@@ -8,8 +8,7 @@ ghost use Rattle.noise_names.specs.Validity.{IsValid};
 ghost use Rattle.noise_template.specs.Template.{IsTemplateText, names_protocol};
 
 use crate::text::template;
-use noise_lines::{Fault, named_pattern};
-use noise_names::{Pattern, ProtocolName, ValidPattern};
+use noise_lines::{Fault, named_valid_pattern, spelled_valid_pattern};
 use std::alloc::Global;
 
 /// Whether a word of the command line is a protocol name, and no file's.
@@ -21,42 +20,20 @@ pub fn names_protocol(word: &str) -> bool
 
 /// The template of the pattern that has this protocol name. The faults are those of `show`, in its order.
 pub fn named_template(alloc: Global, name: &[u8]) -> Result<Vec<u8>, Fault>
-    ensures made { IfOk result (λ text. (p : Plan) × NamesPattern name.now p × IsValid p × IsTemplateText p text.items) }
+    ensures made { IfOk result (λ text. (p : Plan) × NamesPattern name.now p × IsValid p
+        × IsTemplateText p text.items) }
     ensures fault { IfErr result (λ fault. IsShowFault name.now fault) }
 {
-    let valid = pattern_named(name)?;
+    let valid = named_valid_pattern(name)?;
     Ok(template(alloc, valid.pattern())?)
 }
 
 /// The template of the pattern that the text spells. The faults are those of `check`.
 pub fn spelled_template(alloc: Global, text: &[u8]) -> Result<Vec<u8>, Fault>
-    ensures made { IfOk result (λ told. (p : Plan) × Spells text.now p × IsValid p × IsTemplateText p told.items) }
+    ensures made { IfOk result (λ reported. (p : Plan) × Spells text.now p × IsValid p
+        × IsTemplateText p reported.items) }
     ensures fault { IfErr result (λ fault. IsCheckFault text.now fault) }
 {
-    let valid = pattern_in(text)?;
+    let valid = spelled_valid_pattern(text)?;
     Ok(template(alloc, valid.pattern())?)
-}
-
-// The pattern that has this protocol name.
-fn pattern_named(name: &[u8]) -> Result<ValidPattern, Fault>
-    ensures named { IfOk result (λ pattern. NamesPattern name.now pattern) }
-    ensures fault { IfErr result (λ fault. IsShowFault name.now fault) }
-{
-    let name = ProtocolName::parse(name).map_err(Fault::Name)?;
-    named_pattern(&name)?.check().map_err(Fault::Rule)
-}
-
-// The valid pattern that a text spells.
-fn pattern_in(text: &[u8]) -> Result<ValidPattern, Fault>
-    ensures valid { IfOk result (λ p. Spells text.now p × IsValid p) }
-    ensures fault { IfErr result (λ fault. IsCheckFault text.now fault) }
-{
-    let pattern = match Pattern::parse_text(text) {
-        Ok(pattern) => pattern,
-        Err(fault) => return Err(Fault::Text(fault)),
-    };
-    match pattern.check() {
-        Ok(valid) => Ok(valid),
-        Err(fault) => Err(Fault::Rule(fault)),
-    }
 }

@@ -82,7 +82,8 @@ fn push_answer(
     dh: Token,
     text: &mut Vec<u8>,
 ) -> Result<(), AllocError>
-    ensures { OnOk result (text.new.items ≡ text.old.items ++ lines_of answer_words (entries_for pattern.now role dh) []) }
+    ensures { OnOk result (text.new.items ≡ text.old.items
+        ++ lines_of answer_words (entries_for pattern.now role dh) []) }
 {
     if mixes(pattern.messages(), dh) {
         return push_entry(role, dh, text);

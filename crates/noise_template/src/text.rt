@@ -10,9 +10,10 @@ use noise_lines::role_word;
 use noise_names::{Message, Pattern, Role, fundamental};
 use std::alloc::{AllocError, Global};
 
-/// The text of a vector file for a handshake of this pattern, and a transport message of each party that may send one. Each key is a placeholder, of one
-/// byte: of the initiator `e1` the ephemeral and `51` the static key, of the responder `e2` and `52`; `ee`, `e5`, `5e` and `55` the DH results of `ee`,
-/// `es`, `se` and `ss`; `a0` to `a8` the psk of that place.
+/// The text of a vector file for a handshake of this pattern, and a transport message of each party that may send one.
+/// Each key is a placeholder, of one byte: of the initiator `e1` the ephemeral and `51` the static key, of the
+/// responder `e2` and `52`; `ee`, `e5`, `5e` and `55` the DH results of `ee`, `es`, `se` and `ss`; `a0` to `a8` the psk
+/// of that place.
 pub fn template(alloc: Global, pattern: &Pattern) -> Result<Vec<u8>, AllocError>
     ensures text { IfOk result (λ text. text.items ≡ template_text pattern.now) }
     ensures file { IfOk result (λ text. IsTemplateText pattern.now text.items) }

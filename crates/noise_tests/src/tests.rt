@@ -1,5 +1,5 @@
-//! What no contract says: published values, printed faults, worked frames and packets, the results with readers and
-//! writers that fail, and that each call can succeed.
+//! What no contract says: published values, printed faults, worked frames and transport messages, the results with
+//! readers and writers that fail, and that each call can succeed.
 
 mod aead;
 mod channel;

@@ -3,7 +3,7 @@ use Rattle.std.proofs.Common.{◌≡◌, sym, subst, ℕ, List, Option}
 use Rattle.std.specs.Prelude.{IfSome}
 use Rattle.noise_lines.specs.Faults.{status_of}
 use Rattle.noise_lines.specs.Prefixes.{AppendsPrefix}
-use Rattle.noise_lines.specs.Told.{LeavesOutput}
+use Rattle.noise_lines.specs.Reported.{LeavesOutput}
 use Rattle.noise_lines.specs.declared.faults.Fault.{Fault}
 use Rattle.noise_compare.specs.declared.comparing.LogReport.{LogReport}
 use Rattle.noise_tool.specs.Comparing.{Compares, ComparesPrefix}

@@ -8,10 +8,10 @@ use Rattle.noise_names.specs.Plan.{Plan, is_one_way}
 use Rattle.noise_names.specs.Validity.{IsValid}
 use Rattle.noise_handshake.specs.declared.remote.Remote.{Remote}
 use Rattle.noise_keys.specs.declared.faults.SetupFault.{SetupFault}
-use Rattle.noise_handshake.specs.Setup.{begun, setup_fault}
-use Rattle.noise_session.specs.Ends.{EndView, HeldEnd, IsToldBy, progress}
+use Rattle.noise_handshake.specs.Setup.{party_at_start, setup_fault}
+use Rattle.noise_session.specs.Ends.{EndState, EndValue, IsReportedBy, progress}
 use Rattle.noise_session.specs.Progress.{role_of}
-use Rattle.noise_session.specs.Progress.Progress.{Handshaking, Open, Closed}
+use Rattle.noise_session.specs.Progress.Progress.{Handshaking, Open, HasEnded}
 use Rattle.noise_lines.specs.declared.faults.Fault.{Fault}
 use Rattle.noise_lines.specs.declared.faults.Fault.TheVariants.{Setup}
 use Rattle.noise_vectors.specs.declared.file_keys.FileKeys.{FileKeys}
@@ -19,47 +19,47 @@ use Rattle.noise_vectors.specs.declared.vector.VectorFile.{VectorFile}
 use Rattle.noise_vectors.specs.FileKeys.{public_of, agreement_of}
 use Rattle.noise_vectors.specs.SameFile.{SaySame}
 use Rattle.noise_tool.specs.Ends.{IsPatternOf, IsStartFault, known_before, setup_of}
-use Rattle.noise_tool.specs.Kept.{heading_lines}
+use Rattle.noise_tool.specs.Selection.{heading_lines}
 use Rattle.noise_tool.specs.Tracing.{start_lines_of, start_traces}
-use Rattle.noise_tool.specs.declared.moment_lines.Kept.{Kept}
+use Rattle.noise_tool.specs.declared.key_use_lines.Selection.{Selection}
 
 -- the same start in other words
-pub begun-same : (role : Role) (keys : FileKeys) (plan other : Plan) (prologue text : List ℕ) (remote known : Remote) (secrets psks : List (List ℕ))
-    → plan ≡ other → prologue ≡ text → remote ≡ known → secrets ≡ psks
-    → begun plan role prologue (public_of keys) (agreement_of keys) remote secrets ≡ begun other role text (public_of keys) (agreement_of keys) known psks
-begun-same role keys plan other prologue text remote known secrets psks a b c d =
-    ap (λ (p : Plan). begun p role prologue (public_of keys) (agreement_of keys) remote secrets) a
-    ∙ ap (λ (t : List ℕ). begun other role t (public_of keys) (agreement_of keys) remote secrets) b
-    ∙ ap (λ (r : Remote). begun other role text (public_of keys) (agreement_of keys) r secrets) c
-    ∙ ap (λ (s : List (List ℕ)). begun other role text (public_of keys) (agreement_of keys) known s) d
+pub begun-same : (role : Role) (keys : FileKeys) (plan other : Plan) (prologue text : List ℕ) (remote known : Remote) (psks same_psks : List (List ℕ))
+    → plan ≡ other → prologue ≡ text → remote ≡ known → psks ≡ same_psks
+    → party_at_start plan role prologue (public_of keys) (agreement_of keys) remote psks ≡ party_at_start other role text (public_of keys) (agreement_of keys) known same_psks
+begun-same role keys plan other prologue text remote known psks same_psks a b c d =
+    ap (λ (p : Plan). party_at_start p role prologue (public_of keys) (agreement_of keys) remote psks) a
+    ∙ ap (λ (t : List ℕ). party_at_start other role t (public_of keys) (agreement_of keys) remote psks) b
+    ∙ ap (λ (r : Remote). party_at_start other role text (public_of keys) (agreement_of keys) r psks) c
+    ∙ ap (λ (s : List (List ℕ)). party_at_start other role text (public_of keys) (agreement_of keys) known s) d
 
-pub setup-same : (role : Role) (keys : FileKeys) (plan other : Plan) (remote known : Remote) (secrets psks : List (List ℕ))
-    → plan ≡ other → remote ≡ known → secrets ≡ psks
-    → setup_fault plan role (public_of keys) remote (length secrets) ≡ setup_fault other role (public_of keys) known (length psks)
-setup-same role keys plan other remote known secrets psks a c d =
-    ap (λ (p : Plan). setup_fault p role (public_of keys) remote (length secrets)) a
-    ∙ ap (λ (r : Remote). setup_fault other role (public_of keys) r (length secrets)) c
+pub setup-same : (role : Role) (keys : FileKeys) (plan other : Plan) (remote known : Remote) (psks same_psks : List (List ℕ))
+    → plan ≡ other → remote ≡ known → psks ≡ same_psks
+    → setup_fault plan role (public_of keys) remote (length psks) ≡ setup_fault other role (public_of keys) known (length same_psks)
+setup-same role keys plan other remote known psks same_psks a c d =
+    ap (λ (p : Plan). setup_fault p role (public_of keys) remote (length psks)) a
+    ∙ ap (λ (r : Remote). setup_fault other role (public_of keys) r (length psks)) c
     ∙ ap (λ (s : List (List ℕ)). setup_fault other role (public_of keys) known (length s)) d
 
 -- no fault is reported where nothing is wrong
-pub none-told : (role : Role) (found : Option SetupFault) → None ≡ option_map (λ (why : SetupFault). Setup role why) found → found ≡ None
-none-told role None e = refl
-none-told role (Some why) e = absurd (cc)
+pub none-reported : (role : Role) (found : Option SetupFault) → None ≡ option_map (λ (why : SetupFault). Setup role why) found → found ≡ None
+none-reported role None e = refl
+none-reported role (Some why) e = absurd (cc)
 
 -- the initiator's fault
-pub told-first : (file : VectorFile) (plan : Plan) (fault : Fault) (found : Option SetupFault) → IsPatternOf file.block file.protocol plan → IsValid plan
+pub reported-first : (file : VectorFile) (plan : Plan) (fault : Fault) (found : Option SetupFault) → IsPatternOf file.block file.protocol plan → IsValid plan
     → found ≡ setup_of file plan Initiator → Some fault ≡ option_map (λ (why : SetupFault). Setup Initiator why) found → IsStartFault file fault
-told-first file plan fault None named valid e f = absurd (cc)
-told-first file plan fault (Some why) named valid e f =
+reported-first file plan fault None named valid e f = absurd (cc)
+reported-first file plan fault (Some why) named valid e f =
     let same : Setup Initiator why ≡ fault = cc in
     subst (λ (z : Fault). IsStartFault file z) same (plan, named, valid, sym e)
 
 -- the responder's, where nothing is wrong with the initiator's setup
-pub told-second : (file : VectorFile) (plan : Plan) (fault : Fault) (found : Option SetupFault) → IsPatternOf file.block file.protocol plan → IsValid plan
+pub reported-second : (file : VectorFile) (plan : Plan) (fault : Fault) (found : Option SetupFault) → IsPatternOf file.block file.protocol plan → IsValid plan
     → setup_of file plan Initiator ≡ None → found ≡ setup_of file plan Responder
     → Some fault ≡ option_map (λ (why : SetupFault). Setup Responder why) found → IsStartFault file fault
-told-second file plan fault None named valid none e f = absurd (cc)
-told-second file plan fault (Some why) named valid none e f =
+reported-second file plan fault None named valid none e f = absurd (cc)
+reported-second file plan fault (Some why) named valid none e f =
     let same : Setup Responder why ≡ fault = cc in
     subst (λ (z : Fault). IsStartFault file z) same (plan, named, valid, (none, sym e))
 
@@ -75,26 +75,26 @@ pub same-setup : (f g : VectorFile) (plan : Plan) (role : Role) → SaySame f g 
 same-setup f g plan Initiator s = rw (s.initiator, s.responder, s.psks) refl
 same-setup f g plan Responder s = rw (s.initiator, s.responder, s.psks) refl
 
-pub same-start : (kept : Kept) (f g : VectorFile) (plan : Plan) → SaySame f g → start_traces kept g plan ≡ start_traces kept f plan
-same-start kept f g plan s =
+pub same-start : (selection : Selection) (f g : VectorFile) (plan : Plan) → SaySame f g → start_traces selection g plan ≡ start_traces selection f plan
+same-start selection f g plan s =
     ap (λ (t : List ℕ). lines t g.initiator g.responder) (sym s.prologue) ∙ ap (λ (k : FileKeys). lines f.prologue.items k g.responder) (sym s.initiator)
     ∙ ap (λ (k : FileKeys). lines f.prologue.items f.initiator k) (sym s.responder) where
       lines : List ℕ → FileKeys → FileKeys → List (List ℕ)
       lines text first second =
-          heading_lines kept ++ start_lines_of kept Initiator plan text first (known_before plan Responder (public_of second))
-          ++ start_lines_of kept Responder plan text second (known_before plan Initiator (public_of first))
+          heading_lines selection ++ start_lines_of selection Initiator plan text first (known_before plan Responder (public_of second))
+          ++ start_lines_of selection Responder plan text second (known_before plan Initiator (public_of first))
 
 -- ---- the role of an end
 
 role-in : (ended passed : Bool) (plan : Plan) (role : Role) (n : ℕ) (one_way : Bool) (sent received : ℕ)
-    → role_of (if ended then Closed role else if passed then Open role one_way sent received else Handshaking plan role n) ≡ role
+    → role_of (if ended then HasEnded role else if passed then Open role one_way sent received else Handshaking plan role n) ≡ role
 role-in true passed plan role n one_way sent received = refl
 role-in false true plan role n one_way sent received = refl
 role-in false false plan role n one_way sent received = refl
 
--- an end that tells what a view says is of its party's role
-pub role-told : (e : HeldEnd FileKeys) (v : EndView) → IsToldBy v e → role_of (progress e) ≡ v.party.role
-role-told e v told =
-    ap role_of told.progress
+-- an end that reports what a state says is of its party's role
+pub role-reported : (e : EndValue FileKeys) (v : EndState) → IsReportedBy v e → role_of (progress e) ≡ v.party.role
+role-reported e v reported =
+    ap role_of reported.progress
     ∙ role-in v.party.ended (v.party.passed == length v.party.pattern.messages) v.party.pattern v.party.role v.party.passed
     (is_one_way v.party.pattern) v.sent v.received

@@ -18,7 +18,7 @@ use Rattle.noise_duel.specs.Sides.{Side, Sides, side, with_side}
 use Rattle.noise_tool.specs.Printed.{frame_at}
 use Rattle.noise_tool.specs.TracedEnds.{EndsTraced, entry_frame}
 use Rattle.noise_tool.specs.Tracing.{came_traces, happened_traces, written_frame, written_trace}
-use Rattle.noise_tool.specs.declared.moment_lines.Kept.{Kept}
+use Rattle.noise_tool.specs.declared.key_use_lines.Selection.{Selection}
 use Rattle.noise_tool.specs.declared.traced_ends.TracedEnds.{TracedEnds}
 use Rattle.noise_tool.proofs.RunningLemmas.{on_ok}
 use Rattle.std.proofs.lemmas.Option.{same_Some}
@@ -28,24 +28,24 @@ abbrev pub Traces : Type 0
 Traces = List (List (List ℕ))
 
 -- the lines of an event that is the same
-pub event-same : (kept : Kept) (d next : Sides) (notes : List (Role × Note)) (e f : Event) → e ≡ f → (P : Traces → Type 0)
-    → ((h : Happens d f notes next) → P (happened_traces kept d next f notes h)) → (h : Happens d e notes next) → P (happened_traces kept d next e notes h)
-event-same kept d next notes e f same P at =
-    subst (λ (z : Event). (h : Happens d z notes next) → P (happened_traces kept d next z notes h)) (sym same) at
+pub event-same : (selection : Selection) (d next : Sides) (notes : List (Role × Note)) (e f : Event) → e ≡ f → (P : Traces → Type 0)
+    → ((h : Happens d f notes next) → P (happened_traces selection d next f notes h)) → (h : Happens d e notes next) → P (happened_traces selection d next e notes h)
+event-same selection d next notes e f same P at =
+    subst (λ (z : Event). (h : Happens d z notes next) → P (happened_traces selection d next z notes h)) (sym same) at
 
 -- ---- a write
 
-pub record Wrote-only (kept : Kept) (d next : Sides) (role : Role) (payload : List ℕ) (notes : List (Role × Note)) (traces : Traces) : Type 0 where
+pub record Wrote-only (selection : Selection) (d next : Sides) (role : Role) (payload : List ℕ) (notes : List (Role × Note)) (traces : Traces) : Type 0 where
   pub note : Note
   pub after : Side
   pub w : SideWrites (side d role) payload note after
   pub notes_are : notes ≡ (role, note) ∷ []
   pub next_is : next ≡ with_side d role after
-  pub traces_are : traces ≡ written_trace kept role (side d role) after payload note w ∷ []
+  pub traces_are : traces ≡ written_trace selection role (side d role) after payload note w ∷ []
 
-pub of-write : (kept : Kept) (d next : Sides) (role : Role) (payload : List ℕ) (notes : List (Role × Note)) (h : Happens d (Write role payload) notes next)
-    → Wrote-only kept d next role payload notes (happened_traces kept d next (Write role payload) notes h)
-of-write kept d next role payload notes (writes _ _ _ note after w) = record {
+pub of-write : (selection : Selection) (d next : Sides) (role : Role) (payload : List ℕ) (notes : List (Role × Note)) (h : Happens d (Write role payload) notes next)
+    → Wrote-only selection d next role payload notes (happened_traces selection d next (Write role payload) notes h)
+of-write selection d next role payload notes (writes _ _ _ note after w) = record {
   note = note;
   after = after;
   w = w;
@@ -73,7 +73,7 @@ reader-kept d Responder s = refl
 
 -- ---- a payload that is said
 
-pub record Said-all (kept : Kept) (d next : Sides) (role : Role) (payload : List ℕ) (notes : List (Role × Note)) (traces : Traces) : Type 0 where
+pub record Said-all (selection : Selection) (d next : Sides) (role : Role) (payload : List ℕ) (notes : List (Role × Note)) (traces : Traces) : Type 0 where
   pub number : ℕ
   pub bytes : List ℕ
   pub heard : List Note
@@ -82,23 +82,23 @@ pub record Said-all (kept : Kept) (d next : Sides) (role : Role) (payload : List
   pub w : SideWrites (side d role) payload (Wrote number) after
   pub got : slice_get after.frames number ≡ Some bytes
   pub x : SideReceives (side d (other role)) bytes heard reader
-  pub notes_are : notes ≡ (role, Wrote number) ∷ noted_by (other role) (heard ++ held_note (length reader.view.held))
+  pub notes_are : notes ≡ (role, Wrote number) ∷ noted_by (other role) (heard ++ held_note (length reader.state.partial))
   pub next_is : next ≡ with_side (with_side d role after) (other role) reader
-  pub traces_are : traces ≡ written_trace kept role (side d role) after payload (Wrote number) w
-      ∷ came_traces kept (other role) (side d (other role)) reader bytes heard x
+  pub traces_are : traces ≡ written_trace selection role (side d role) after payload (Wrote number) w
+      ∷ came_traces selection (other role) (side d (other role)) reader bytes heard x
 
-pub record Said-none (kept : Kept) (d next : Sides) (role : Role) (payload : List ℕ) (notes : List (Role × Note)) (traces : Traces) : Type 0 where
+pub record Said-none (selection : Selection) (d next : Sides) (role : Role) (payload : List ℕ) (notes : List (Role × Note)) (traces : Traces) : Type 0 where
   pub why : SendFault
   pub after : Side
   pub w : SideWrites (side d role) payload (WriteFault why) after
   pub notes_are : notes ≡ (role, WriteFault why) ∷ []
   pub next_is : next ≡ with_side d role after
-  pub traces_are : traces ≡ written_trace kept role (side d role) after payload (WriteFault why) w ∷ []
+  pub traces_are : traces ≡ written_trace selection role (side d role) after payload (WriteFault why) w ∷ []
 
-pub of-say : (kept : Kept) (d next : Sides) (role : Role) (payload : List ℕ) (notes : List (Role × Note)) (h : Happens d (Say role payload) notes next)
-    → Said-all kept d next role payload notes (happened_traces kept d next (Say role payload) notes h)
-    ⊎ Said-none kept d next role payload notes (happened_traces kept d next (Say role payload) notes h)
-of-say kept d next role payload notes (says_nothing _ _ _ why after w) = inr (record {
+pub of-say : (selection : Selection) (d next : Sides) (role : Role) (payload : List ℕ) (notes : List (Role × Note)) (h : Happens d (Say role payload) notes next)
+    → Said-all selection d next role payload notes (happened_traces selection d next (Say role payload) notes h)
+    ⊎ Said-none selection d next role payload notes (happened_traces selection d next (Say role payload) notes h)
+of-say selection d next role payload notes (says_nothing _ _ _ why after w) = inr (record {
   why = why;
   after = after;
   w = w;
@@ -106,7 +106,7 @@ of-say kept d next role payload notes (says_nothing _ _ _ why after w) = inr (re
   next_is = refl;
   traces_are = refl;
 })
-of-say kept d next role payload notes (says _ _ _ bytes n heard after reader w got x) = inl (record {
+of-say selection d next role payload notes (says _ _ _ bytes n heard after reader w got x) = inl (record {
   number = n;
   bytes = bytes;
   heard = heard;
@@ -122,17 +122,17 @@ of-say kept d next role payload notes (says _ _ _ bytes n heard after reader w g
 
 -- ---- bytes that come
 
-pub record Came (kept : Kept) (d next : Sides) (role : Role) (bytes : List ℕ) (notes : List (Role × Note)) (traces : Traces) : Type 0 where
+pub record Came (selection : Selection) (d next : Sides) (role : Role) (bytes : List ℕ) (notes : List (Role × Note)) (traces : Traces) : Type 0 where
   pub heard : List Note
   pub reader : Side
   pub x : SideReceives (side d role) bytes heard reader
-  pub notes_are : notes ≡ noted_by role (heard ++ held_note (length reader.view.held))
+  pub notes_are : notes ≡ noted_by role (heard ++ held_note (length reader.state.partial))
   pub next_is : next ≡ with_side d role reader
-  pub traces_are : traces ≡ came_traces kept role (side d role) reader bytes heard x
+  pub traces_are : traces ≡ came_traces selection role (side d role) reader bytes heard x
 
-pub of-raw : (kept : Kept) (d next : Sides) (role : Role) (bytes : List ℕ) (notes : List (Role × Note)) (h : Happens d (Raw role bytes) notes next)
-    → Came kept d next role bytes notes (happened_traces kept d next (Raw role bytes) notes h)
-of-raw kept d next role bytes notes (injects _ _ _ heard reader x) = record {
+pub of-raw : (selection : Selection) (d next : Sides) (role : Role) (bytes : List ℕ) (notes : List (Role × Note)) (h : Happens d (Raw role bytes) notes next)
+    → Came selection d next role bytes notes (happened_traces selection d next (Raw role bytes) notes h)
+of-raw selection d next role bytes notes (injects _ _ _ heard reader x) = record {
   heard = heard;
   reader = reader;
   x = x;
@@ -144,14 +144,14 @@ of-raw kept d next role bytes notes (injects _ _ _ heard reader x) = record {
 some-of-none : (o : Option (List ℕ)) (x : List ℕ) → o ≡ Some x → o ≡ None → ⊥
 some-of-none o x e f = cc
 
-pub of-deliver : (kept : Kept) (d next : Sides) (role : Role) (n : ℕ) (notes : List (Role × Note)) (h : Happens d (Deliver role n) notes next)
+pub of-deliver : (selection : Selection) (d next : Sides) (role : Role) (n : ℕ) (notes : List (Role × Note)) (h : Happens d (Deliver role n) notes next)
     → (frame : List ℕ) → slice_get (side next (other role)).frames n ≡ Some frame
-    → Came kept d next role frame notes (happened_traces kept d next (Deliver role n) notes h)
-of-deliver kept d next role n notes (delivers _ _ _ bytes heard reader got x) frame found =
+    → Came selection d next role frame notes (happened_traces selection d next (Deliver role n) notes h)
+of-deliver selection d next role n notes (delivers _ _ _ bytes heard reader got x) frame found =
     let same : bytes ≡ frame = same_Some bytes frame
     (sym got ∙ ap (λ (fs : List (List ℕ)). slice_get fs n) (sym (frames-kept d role reader)) ∙ found) in
-    subst (λ (z : List ℕ). Came kept d (with_side d role reader) role z (noted_by role (heard ++ held_note (length reader.view.held)))
-    (came_traces kept role (side d role) reader bytes heard x)) same (record {
+    subst (λ (z : List ℕ). Came selection d (with_side d role reader) role z (noted_by role (heard ++ held_note (length reader.state.partial)))
+    (came_traces selection role (side d role) reader bytes heard x)) same (record {
       heard = heard;
       reader = reader;
       x = x;
@@ -159,14 +159,14 @@ of-deliver kept d next role n notes (delivers _ _ _ bytes heard reader got x) fr
       next_is = refl;
       traces_are = refl;
     })
-of-deliver kept d next role n notes (misses _ _ _ none) frame found = absurd (some-of-none _ frame found none)
+of-deliver selection d next role n notes (misses _ _ _ none) frame found = absurd (some-of-none _ frame found none)
 
-pub of-missing : (kept : Kept) (d next : Sides) (role : Role) (n : ℕ) (notes : List (Role × Note)) (h : Happens d (Deliver role n) notes next)
+pub of-missing : (selection : Selection) (d next : Sides) (role : Role) (n : ℕ) (notes : List (Role × Note)) (h : Happens d (Deliver role n) notes next)
     → slice_get (side next (other role)).frames n ≡ None
-    → (next ≡ d) × (happened_traces kept d next (Deliver role n) notes h ≡ [] ∷ [])
-of-missing kept d next role n notes (delivers _ _ _ bytes heard reader got x) none =
+    → (next ≡ d) × (happened_traces selection d next (Deliver role n) notes h ≡ [] ∷ [])
+of-missing selection d next role n notes (delivers _ _ _ bytes heard reader got x) none =
     absurd (some-of-none _ bytes got (ap (λ (fs : List (List ℕ)). slice_get fs n) (sym (frames-kept d role reader)) ∙ none))
-of-missing kept d next role n notes (misses _ _ _ gone) none = (refl, refl)
+of-missing selection d next role n notes (misses _ _ _ gone) none = (refl, refl)
 
 -- ---- the frame of a write
 
@@ -186,11 +186,11 @@ pub none-first : (role : Role) (note : Note) (notes : List (Role × Note)) → [
 none-first role note notes e = cc e
 
 -- no entry
-pub say-none : (kept : Kept) (d next : Sides) (role : Role) (payload : List ℕ) (notes : List (Role × Note)) (h : Happens d (Say role payload) notes next)
+pub say-none : (selection : Selection) (d next : Sides) (role : Role) (payload : List ℕ) (notes : List (Role × Note)) (h : Happens d (Say role payload) notes next)
     → [] ≡ notes → ⊥
-say-none kept d next role payload notes h none = at (of-say kept d next role payload notes h) where
-  at : Said-all kept d next role payload notes (happened_traces kept d next (Say role payload) notes h)
-      ⊎ Said-none kept d next role payload notes (happened_traces kept d next (Say role payload) notes h) → ⊥
+say-none selection d next role payload notes h none = at (of-say selection d next role payload notes h) where
+  at : Said-all selection d next role payload notes (happened_traces selection d next (Say role payload) notes h)
+      ⊎ Said-none selection d next role payload notes (happened_traces selection d next (Say role payload) notes h) → ⊥
   at (inl s) = none-first role (Wrote s.number) _ (none ∙ s.notes_are)
   at (inr s) = none-first role (WriteFault s.why) _ (none ∙ s.notes_are)
 
@@ -207,26 +207,26 @@ rest-notes r s m n ms ns e = ap rest-of e where
   rest-of (x ∷ xs) = xs
 
 -- what is known of the write, and of the bytes that come then
-abbrev Writes-on : Kept → Sides → Sides → Role → Note → Traces → Traces → TracedEnds → TracedEnds → Type 0
-Writes-on kept d last role given old one before between = (next : Side) (payload : List ℕ) (note : Note) (w : SideWrites (side d role) payload note next)
+abbrev Writes-on : Selection → Sides → Sides → Role → Note → Traces → Traces → TracedEnds → TracedEnds → Type 0
+Writes-on selection d last role given old one before between = (next : Side) (payload : List ℕ) (note : Note) (w : SideWrites (side d role) payload note next)
     → EndsTraced before d → (side last role).frames ≡ next.frames → given ≡ note
-    → (one ≡ old ++ written_trace kept role (side d role) next payload note w ∷ []) × EndsTraced between (with_side d role next)
+    → (one ≡ old ++ written_trace selection role (side d role) next payload note w ∷ []) × EndsTraced between (with_side d role next)
 
 -- nothing was written
-pub say-fault : (kept : Kept) (d next : Sides) (role by : Role) (payload : List ℕ) (notes more : List (Role × Note))
+pub say-fault : (selection : Selection) (d next : Sides) (role by : Role) (payload : List ℕ) (notes more : List (Role × Note))
     (h : Happens d (Say role payload) notes next) (given : Note) (old one : Traces) (before between : TracedEnds) → EndsTraced before d
-    → (by, given) ∷ more ≡ notes → ((n : ℕ) → given ≢ Wrote n) → Writes-on kept d next role given old one before between
-    → (one ≡ old ++ happened_traces kept d next (Say role payload) notes h) × EndsTraced between next
-say-fault kept d next role by payload notes more h given old one before between traced told no_number on = at (of-say kept d next role payload notes h)
+    → (by, given) ∷ more ≡ notes → ((n : ℕ) → given ≢ Wrote n) → Writes-on selection d next role given old one before between
+    → (one ≡ old ++ happened_traces selection d next (Say role payload) notes h) × EndsTraced between next
+say-fault selection d next role by payload notes more h given old one before between traced reported no_number on = at (of-say selection d next role payload notes h)
   where
-    at : Said-all kept d next role payload notes (happened_traces kept d next (Say role payload) notes h)
-        ⊎ Said-none kept d next role payload notes (happened_traces kept d next (Say role payload) notes h)
-        → (one ≡ old ++ happened_traces kept d next (Say role payload) notes h) × EndsTraced between next
-    at (inl s) = absurd (no_number s.number (head-note by role given (Wrote s.number) more _ (told ∙ s.notes_are)))
+    at : Said-all selection d next role payload notes (happened_traces selection d next (Say role payload) notes h)
+        ⊎ Said-none selection d next role payload notes (happened_traces selection d next (Say role payload) notes h)
+        → (one ≡ old ++ happened_traces selection d next (Say role payload) notes h) × EndsTraced between next
+    at (inl s) = absurd (no_number s.number (head-note by role given (Wrote s.number) more _ (reported ∙ s.notes_are)))
     at (inr s) =
         let done = on s.after payload (WriteFault s.why) s.w traced
         (ap (λ (z : Sides). (side z role).frames) s.next_is ∙ frames-written d role s.after)
-        (head-note by role given (WriteFault s.why) more _ (told ∙ s.notes_are)) in (
+        (head-note by role given (WriteFault s.why) more _ (reported ∙ s.notes_are)) in (
           done.0 ∙ ap (λ (x : Traces). old ++ x) (sym s.traces_are),
           subst (λ (z : Sides). EndsTraced between z) (sym s.next_is) done.1,
         )
@@ -235,26 +235,26 @@ number-same : (m n : ℕ) → Wrote m ≡ Wrote n → m ≡ n
 number-same m n e = cc
 
 -- a frame was written, and came to the other role
-pub say-frame : {E : Type 0} (kept : Kept) (d next : Sides) (role by : Role) (payload : List ℕ) (notes more : List (Role × Note))
+pub say-frame : {E : Type 0} (selection : Selection) (d next : Sides) (role by : Role) (payload : List ℕ) (notes more : List (Role × Note))
     (h : Happens d (Say role payload) notes next) (number : ℕ) (frame : List ℕ) (old one new : Traces) (before between after : TracedEnds)
     (to : Role) (r : Result Unit E) → EndsTraced before d
     → (by, Wrote number) ∷ more ≡ notes → frame ≡ frame_at (side next role) number → to ≡ other role
-    → Writes-on kept d next role (Wrote number) old one before between
+    → Writes-on selection d next role (Wrote number) old one before between
     → ((e : Sides) (reader : Side) (heard : List Note) (x : SideReceives (side e to) frame heard reader) → EndsTraced between e
-    → more ≡ noted_by to (heard ++ held_note (length reader.view.held))
-    → OnOk r ((new ≡ one ++ came_traces kept to (side e to) reader frame heard x) × EndsTraced after (with_side e to reader)))
-    → OnOk r ((new ≡ old ++ happened_traces kept d next (Say role payload) notes h) × EndsTraced after next)
-say-frame {E = E} kept d next role by payload notes more h number frame old one new before between after to r traced told framed to_is on comes =
-    at (of-say kept d next role payload notes h)
+    → more ≡ noted_by to (heard ++ held_note (length reader.state.partial))
+    → OnOk r ((new ≡ one ++ came_traces selection to (side e to) reader frame heard x) × EndsTraced after (with_side e to reader)))
+    → OnOk r ((new ≡ old ++ happened_traces selection d next (Say role payload) notes h) × EndsTraced after next)
+say-frame {E = E} selection d next role by payload notes more h number frame old one new before between after to r traced reported framed to_is on comes =
+    at (of-say selection d next role payload notes h)
   where
-    at : Said-all kept d next role payload notes (happened_traces kept d next (Say role payload) notes h)
-        ⊎ Said-none kept d next role payload notes (happened_traces kept d next (Say role payload) notes h)
-        → OnOk r ((new ≡ old ++ happened_traces kept d next (Say role payload) notes h) × EndsTraced after next)
+    at : Said-all selection d next role payload notes (happened_traces selection d next (Say role payload) notes h)
+        ⊎ Said-none selection d next role payload notes (happened_traces selection d next (Say role payload) notes h)
+        → OnOk r ((new ≡ old ++ happened_traces selection d next (Say role payload) notes h) × EndsTraced after next)
     at (inr s) =
-        let bad : Wrote number ≡ WriteFault s.why = head-note by role (Wrote number) (WriteFault s.why) more _ (told ∙ s.notes_are) in absurd (cc bad)
+        let bad : Wrote number ≡ WriteFault s.why = head-note by role (Wrote number) (WriteFault s.why) more _ (reported ∙ s.notes_are) in absurd (cc bad)
     at (inl s) =
-        let heads : Wrote number ≡ Wrote s.number = head-note by role (Wrote number) (Wrote s.number) more _ (told ∙ s.notes_are) in
-        let tails = rest-notes by role (Wrote number) (Wrote s.number) more _ (told ∙ s.notes_are) in
+        let heads : Wrote number ≡ Wrote s.number = head-note by role (Wrote number) (Wrote s.number) more _ (reported ∙ s.notes_are) in
+        let tails = rest-notes by role (Wrote number) (Wrote s.number) more _ (reported ∙ s.notes_are) in
         let written : (side next role).frames ≡ s.after.frames =
         ap (λ (z : Sides). (side z role).frames) s.next_is ∙ frames-said d role s.after s.reader in
         let done = on s.after payload (Wrote s.number) s.w traced written heads in
@@ -262,27 +262,27 @@ say-frame {E = E} kept d next role by payload notes more h number frame old one 
         framed ∙ ap (λ (k : ℕ). unwrap_or (slice_get (side next role).frames k) []) (number-same number s.number heads)
         ∙ ap (λ (fs : List (List ℕ)). unwrap_or (slice_get fs s.number) []) written ∙ ap (λ (o : Option (List ℕ)). unwrap_or o []) s.got in
         let came = subst (λ (z : Role). (reader : Side) (heard : List Note) (x : SideReceives (side (with_side d role s.after) z) frame heard reader)
-        → more ≡ noted_by z (heard ++ held_note (length reader.view.held))
-        → OnOk r ((new ≡ one ++ came_traces kept z (side (with_side d role s.after) z) reader frame heard x)
+        → more ≡ noted_by z (heard ++ held_note (length reader.state.partial))
+        → OnOk r ((new ≡ one ++ came_traces selection z (side (with_side d role s.after) z) reader frame heard x)
         × EndsTraced after (with_side (with_side d role s.after) z reader))) to_is
         (λ reader heard x noted. comes (with_side d role s.after) reader heard x done.1 noted) in
         let read = subst (λ (z : Side). (reader : Side) (heard : List Note) (x : SideReceives z frame heard reader)
-        → more ≡ noted_by (other role) (heard ++ held_note (length reader.view.held))
-        → OnOk r ((new ≡ one ++ came_traces kept (other role) z reader frame heard x)
+        → more ≡ noted_by (other role) (heard ++ held_note (length reader.state.partial))
+        → OnOk r ((new ≡ one ++ came_traces selection (other role) z reader frame heard x)
         × EndsTraced after (with_side (with_side d role s.after) (other role) reader))) (reader-kept d role s.after) came in
         let last = subst (λ (z : List ℕ). (reader : Side) (heard : List Note) (x : SideReceives (side d (other role)) z heard reader)
-        → more ≡ noted_by (other role) (heard ++ held_note (length reader.view.held))
-        → OnOk r ((new ≡ one ++ came_traces kept (other role) (side d (other role)) reader z heard x)
+        → more ≡ noted_by (other role) (heard ++ held_note (length reader.state.partial))
+        → OnOk r ((new ≡ one ++ came_traces selection (other role) (side d (other role)) reader z heard x)
         × EndsTraced after (with_side (with_side d role s.after) (other role) reader))) text read in
         on_ok r _ _ (λ both. (
-          both.0 ∙ ap (λ (x : Traces). x ++ came_traces kept (other role) (side d (other role)) s.reader s.bytes s.heard s.x) done.0
-              ∙ append_assoc old (written_trace kept role (side d role) s.after payload (Wrote s.number) s.w ∷ [])
-              (came_traces kept (other role) (side d (other role)) s.reader s.bytes s.heard s.x)
+          both.0 ∙ ap (λ (x : Traces). x ++ came_traces selection (other role) (side d (other role)) s.reader s.bytes s.heard s.x) done.0
+              ∙ append_assoc old (written_trace selection role (side d role) s.after payload (Wrote s.number) s.w ∷ [])
+              (came_traces selection (other role) (side d (other role)) s.reader s.bytes s.heard s.x)
               ∙ ap (λ (x : Traces). old ++ x) (sym s.traces_are),
           subst (λ (z : Sides). EndsTraced after z) (sym s.next_is) both.1,
         )) (last s.reader s.heard s.x tails)
 
--- an entry that tells of no frame
+-- an entry that reports of no frame
 pub note-number : (e : Entry) → ((n : ℕ) → e ≡ entry.Wrote n → ⊥) → (n : ℕ) → note_of e ≢ Wrote n
 note-number (entry.Wrote m) none n e = none m refl
 note-number (entry.WriteFault why) none n e = cc e

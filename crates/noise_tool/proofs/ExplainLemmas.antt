@@ -1,20 +1,23 @@
 -- What is said of files that are explained.
 use Rattle.std.proofs.Common.{◌≡◌, ◌∙◌, refl, sym, ap, subst, ◌⊎◌, inl, inr, arith, ◌≤◌, if◌then◌else◌, ℕ, Bool, true, false, nat_le, List, [], ◌∷◌, ◌++◌, Option, String, drop, length, string_bytes, take, append_assoc, append-nil}
-use Rattle.std.specs.Prelude.{map}
+use Rattle.std.specs.Prelude.{IfOk, IsTrue, Result, Ok, Err, map}
 use Rattle.std.specs.Global.{Global}
 use Rattle.std.specs.Io.KnownBytes.{Appends, Keeps}
 use Rattle.std.proofs.KnownBytes.{Appends-nil, Appends-trans}
 use Rattle.std.proofs.lemmas.List.{flat_map_more, map-append, map_push, take_all, take-append-drop}
-use Rattle.std.proofs.lemmas.List.Elements.{All-nil, All-push}
+use Rattle.std.specs.List.{Contains}
+use Rattle.std.proofs.lemmas.List.Elements.{All-nil, All-push, Contains-append_right}
 use Rattle.std.proofs.lemmas.List.Sums.{fold-append}
 use Rattle.noise_explain.specs.declared.explaining.Explained.{Explained}
 use Rattle.noise_lines.specs.Faults.{status_of}
 use Rattle.noise_lines.specs.Prefixes.{AppendsPrefix}
-use Rattle.noise_lines.specs.Told.{LeavesOutput}
+use Rattle.noise_lines.specs.Reported.{IsReportedOf, LeavesOutput, error_text}
 use Rattle.noise_lines.specs.declared.faults.Fault.{Fault}
 use Rattle.noise_lines.specs.declared.faults.Fault.TheVariants as fault
-use Rattle.noise_tool.specs.Explaining.{AreSaid, ExplainsPrefix, HasExplained, IsExplainedFile, Said, said_text, worse}
-use Rattle.noise_tool.proofs.TestingLemmas.{after-prefix, kept-appends, whole-prefix}
+use Rattle.noise_explain.specs.Shown.{unread_head}
+use Rattle.noise_tool.specs.Explaining.{AreSaid, ExplainsPrefix, HasExplained, IsExplainedFile, Said, StopsExplaining, said_text, worse}
+use Rattle.noise_tool.specs.Testing.{EndsTest}
+use Rattle.noise_tool.proofs.TestingLemmas.{after-prefix, kept-appends, reported-ends, reported-left, whole-prefix}
 
 pub none-said : (bytes_at : List ℕ → Option (List ℕ)) (out : Option (List ℕ)) → HasExplained bytes_at [] out out 0
 none-said bytes_at out = record {
@@ -113,10 +116,6 @@ names-cut names i = sym (map-append string_bytes (take i names) (drop i names)) 
 
 -- ---- what is reported where the command ends
 
-pub three-told : (why : Fault) (result : ℕ) → status_of why ≡ 3 → (result ≡ status_of why) ⊎ (result ≡ 3) → result ≡ 3
-three-told why result three (inl is) = is ∙ three
-three-told why result three (inr is) = is
-
 pub left-at-three : {O : Type 0} (contents : O → Option (List ℕ)) (why : Fault) (middle new : O) → status_of why ≡ 3 → LeavesOutput contents why middle new
     → new ≡ middle
 left-at-three contents (fault.Rule f) middle new three h = absurd (cc three)
@@ -132,8 +131,43 @@ left-at-three contents fault.Unreadable middle new three h = h
 left-at-three contents fault.Unwritable middle new three h = h
 left-at-three contents fault.Memory middle new three h = h
 
+-- memory ran out or a write was refused
+pub stops-at : {E : Type 0} (contents : E → Option (List ℕ)) (unreadable : List ℕ → Bool) (names : List (List ℕ)) (why : Fault) (result : ℕ) (old middle new : E)
+    → EndsTest why → middle ≡ old
+    → (reported : Fault) × IsReportedOf why reported × (status_of reported ≡ result) × AppendsPrefix (contents middle) (contents new) (error_text reported)
+    → StopsExplaining unreadable names (contents old) (contents new)
+stops-at {E = E} contents unreadable names why result old middle new ends same reported =
+    let found = reported-ends why result (contents middle) (contents new) ends reported in
+    record {
+      text = error_text found.0;
+      why = inl (found.0, found.1, refl);
+      grown = subst (λ (e : E). AppendsPrefix (contents e) (contents new) (error_text found.0)) same found.2;
+    }
+
+-- a file of these can't be read
+pub stops-in : {E : Type 0} (contents : E → Option (List ℕ)) (unreadable : List ℕ → Bool) (names others all : List (List ℕ)) (name : List ℕ) (old middle new : E)
+    → names ++ name ∷ others ≡ all → IsTrue (unreadable name) → middle ≡ old
+    → AppendsPrefix (contents middle) (contents new) (unread_head name fault.Unreadable)
+    → StopsExplaining unreadable all (contents old) (contents new)
+stops-in {E = E} contents unreadable names others all name old middle new is bad same grown =
+    let here : Contains (names ++ name ∷ others) name = Contains-append_right names (name ∷ others) name (0, omega arith, refl) in
+    record {
+      text = unread_head name fault.Unreadable;
+      why = inr (name, subst (λ (ns : List (List ℕ)). Contains ns name) is here, bad, refl);
+      grown = subst (λ (e : E). AppendsPrefix (contents e) (contents new) (unread_head name fault.Unreadable)) same grown;
+    }
+
+-- of the status of what was written where a file can't be read
+pub three-explained : (r : Result ℕ Fault) (P : ℕ → Type 0) → IfOk r (λ status. status ≡ 3) → IfOk r (λ status. (status ≡ 3) ⊎ P status)
+three-explained (Ok status) P h = inl h
+three-explained (Err why) P h = tt
+
+pub three-stops : (r : Result ℕ Fault) (A B : Type 0) → (A → B) → IfOk r (λ _. A) → IfOk r (λ status. (status ≤ 2) ⊎ B)
+three-stops (Ok status) A B f h = inr (f h)
+three-stops (Err why) A B f h = tt
+
 pub left-begun : {O : Type 0} (contents : O → Option (List ℕ)) (bytes_at : List ℕ → Option (List ℕ)) (names : List (List ℕ)) (a : Option (List ℕ))
-    (why : Fault) (middle new : O) → status_of why ≡ 3 → LeavesOutput contents why middle new → ExplainsPrefix bytes_at names a (contents middle)
+    (why : Fault) (middle new : O) → EndsTest why → LeavesOutput contents why middle new → ExplainsPrefix bytes_at names a (contents middle)
     → ExplainsPrefix bytes_at names a (contents new)
-left-begun {O = O} contents bytes_at names a why middle new three left begun =
-    subst (λ (o : O). ExplainsPrefix bytes_at names a (contents o)) (sym (left-at-three contents why middle new three left)) begun
+left-begun {O = O} contents bytes_at names a why middle new ends left begun =
+    subst (λ (o : O). ExplainsPrefix bytes_at names a (contents o)) (sym (reported-left contents why middle new ends left)) begun

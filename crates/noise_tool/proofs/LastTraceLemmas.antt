@@ -5,53 +5,53 @@ use Rattle.std.proofs.lemmas.Bool.Decides.{nat_tests}
 use Rattle.noise_names.specs.declared.token.Role.{Role}
 use Rattle.noise_names.specs.declared.token.Role.TheVariants.{Initiator, Responder}
 use Rattle.noise_names.specs.Plan.{Plan, is_one_way}
-use Rattle.noise_session.specs.Ends.{EndView, progress_of}
+use Rattle.noise_session.specs.Ends.{EndState, progress_of}
 use Rattle.noise_session.specs.EndDatagrams.{is_untouched}
-use Rattle.noise_session.specs.Progress.Progress.{Handshaking, Open, Closed}
+use Rattle.noise_session.specs.Progress.Progress.{Handshaking, Open, HasEnded}
 use Rattle.noise_duel.specs.Sides.{Sides}
 use Rattle.noise_state.specs.History.{initiator_key, responder_key}
-use Rattle.noise_handshake.specs.View.{View}
-use Rattle.noise_session_trace.specs.Moments.{keys_in}
+use Rattle.noise_handshake.specs.Party.{Party}
+use Rattle.noise_trace.specs.KeyUses.{keys_in}
 use Rattle.noise_vectors.specs.declared.vector.FileDatagrams.{FileDatagrams}
 use Rattle.noise_tool.specs.Running.{AreLast, are_ready, is_ready}
 use Rattle.noise_tool.specs.Running.AreLast.{without, unready, ready}
 use Rattle.noise_tool.specs.TracedEnds.{AreOver}
 use Rattle.noise_tool.specs.Tracing.{datagram_keys_of, last_traces}
-use Rattle.noise_tool.specs.declared.moment_lines.Kept.{Kept}
+use Rattle.noise_tool.specs.declared.key_use_lines.Selection.{Selection}
 use Rattle.std.proofs.lemmas.Bool.{and_parts, eqb-true}
 
-pub last-goes : (kept : Kept) (over : Option FileDatagrams) (d : Sides) (after : List (List ℕ)) (a : AreLast over d after)
+pub last-goes : (selection : Selection) (over : Option FileDatagrams) (d : Sides) (after : List (List ℕ)) (a : AreLast over d after)
     → (is_some over && are_ready d) ≡ true
-    → last_traces kept over d after a ≡ (datagram_keys_of kept Initiator d.initiator.view ++ datagram_keys_of kept Responder d.responder.view) ∷ []
-last-goes kept over d after (without _) e = absurd (cc e)
-last-goes kept over d after (unready _ _ not_ready) e = let bad = sym not_ready ∙ e in absurd (cc bad)
-last-goes kept over d after (ready _ _ notes last are run) e = refl
+    → last_traces selection over d after a ≡ (datagram_keys_of selection Initiator d.initiator.state ++ datagram_keys_of selection Responder d.responder.state) ∷ []
+last-goes selection over d after (without _) e = absurd (cc e)
+last-goes selection over d after (unready _ _ not_ready) e = let bad = sym not_ready ∙ e in absurd (cc bad)
+last-goes selection over d after (ready _ _ notes last are run) e = refl
 
-pub last-stays : (kept : Kept) (over : Option FileDatagrams) (d : Sides) (after : List (List ℕ)) (a : AreLast over d after)
-    → (is_some over && are_ready d) ≡ false → last_traces kept over d after a ≡ []
-last-stays kept over d after (without _) e = refl
-last-stays kept over d after (unready _ _ not_ready) e = refl
-last-stays kept over d after (ready _ _ notes last are run) e = let bad = sym are ∙ e in absurd (cc bad)
+pub last-stays : (selection : Selection) (over : Option FileDatagrams) (d : Sides) (after : List (List ℕ)) (a : AreLast over d after)
+    → (is_some over && are_ready d) ≡ false → last_traces selection over d after a ≡ []
+last-stays selection over d after (without _) e = refl
+last-stays selection over d after (unready _ _ not_ready) e = refl
+last-stays selection over d after (ready _ _ notes last are run) e = let bad = sym are ∙ e in absurd (cc bad)
 
 -- ---- ends that are ready have passed the handshake
 
 passed-test : (ended passed : Bool) (plan : Plan) (role : Role) (n sent received : ℕ) (one_way : Bool)
-    → is_untouched (if ended then Closed role else if passed then Open role one_way sent received else Handshaking plan role n) ≡ true → passed ≡ true
+    → is_untouched (if ended then HasEnded role else if passed then Open role one_way sent received else Handshaking plan role n) ≡ true → passed ≡ true
 passed-test true passed plan role n sent received one_way e = absurd (cc e)
 passed-test false true plan role n sent received one_way e = refl
 passed-test false false plan role n sent received one_way e = absurd (cc e)
 
-ready-passed : (v : EndView) → is_ready v ≡ true → v.party.passed ≡ length v.party.pattern.messages
+ready-passed : (v : EndState) → is_ready v ≡ true → v.party.passed ≡ length v.party.pattern.messages
 ready-passed v e =
     eqb-true v.party.passed (length v.party.pattern.messages)
     (passed-test v.party.ended (v.party.passed == length v.party.pattern.messages) v.party.pattern v.party.role v.party.passed v.sent v.received
-    (is_one_way v.party.pattern) (and_parts (is_untouched (progress_of v)) (length v.held == 0) e).0)
+    (is_one_way v.party.pattern) (and_parts (is_untouched (progress_of v)) (length v.partial == 0) e).0)
 
 pub ready-over : (over : Option FileDatagrams) (d : Sides) → (is_some over && are_ready d) ≡ true → AreOver d
 ready-over over d e =
     let both = (and_parts (is_some over) (are_ready d) e).1 in (
-      ready-passed d.initiator.view (and_parts (is_ready d.initiator.view) (is_ready d.responder.view) both).0,
-      ready-passed d.responder.view (and_parts (is_ready d.initiator.view) (is_ready d.responder.view) both).1,
+      ready-passed d.initiator.state (and_parts (is_ready d.initiator.state) (is_ready d.responder.state) both).0,
+      ready-passed d.responder.state (and_parts (is_ready d.initiator.state) (is_ready d.responder.state) both).1,
     )
 
 -- ---- the keys of a session that has opened
@@ -59,7 +59,7 @@ ready-over over d e =
 same-test : (n : ℕ) → (n == n) ≡ true
 same-test n = grind (arith, nat_tests)
 
-pub keys-there : (v : View) → v.passed ≡ length v.pattern.messages → keys_in v ≡ Some (initiator_key v.history, responder_key v.history)
+pub keys-there : (v : Party) → v.passed ≡ length v.pattern.messages → keys_in v ≡ Some (initiator_key v.history, responder_key v.history)
 keys-there v e =
     let test : (v.passed == length v.pattern.messages) ≡ true =
     ap (λ (k : ℕ). k == length v.pattern.messages) e ∙ same-test (length v.pattern.messages) in

@@ -3,7 +3,7 @@ pub mod ComparingLemmas
 pub mod EndLemmas
 pub mod OneRunLemmas
 pub mod MetLemmas
-pub mod MomentLemmas
+pub mod KeyUseLemmas
 pub mod PerformingLemmas
 pub mod PrefixLemmas
 pub mod Shortness
@@ -16,7 +16,7 @@ pub mod ReceivedLemmas
 pub mod EventLemmas
 pub mod ExplainLemmas
 pub mod VectorExplainLemmas
-pub mod KeptLemmas
+pub mod SelectionLemmas
 pub mod FollowLemmas
 pub mod TracedRunLemmas
 pub mod LastTraceLemmas

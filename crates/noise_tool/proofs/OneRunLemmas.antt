@@ -1,5 +1,5 @@
 -- A vector file has one run.
-use Rattle.std.proofs.Common.{◌≡◌, ◌∙◌, ap, ap₂, sym, refl, subst, ℕ, List, ◌∷◌, ◌++◌, length, map, Option, Some, None}
+use Rattle.std.proofs.Common.{◌≡◌, ◌∙◌, ap, ap₂, sym, refl, subst, ℕ, List, ◌++◌, length, map, Option, Some, None}
 use Rattle.std.proofs.lemmas.Bool.{false≢true}
 use Rattle.noise_names.specs.declared.token.Role.{Role}
 use Rattle.noise_names.specs.declared.token.Role.TheVariants.{Initiator, Responder}
@@ -7,7 +7,7 @@ use Rattle.noise_names.specs.Names.{Section}
 use Rattle.noise_names.specs.Plan.{Plan}
 use Rattle.noise_events.specs.declared.window.Window.{Window}
 use Rattle.noise_events.specs.Events.{events_of}
-use Rattle.noise_duel.specs.Conversation.{facing}
+use Rattle.noise_duel.specs.Conversation.{sides_at_start}
 use Rattle.noise_events.specs.DatagramEvents.{DatagramEvent}
 use Rattle.noise_duel.specs.DatagramNotes.{DatagramNote}
 use Rattle.noise_events.specs.DatagramEvents.{datagram_events_of}
@@ -22,15 +22,13 @@ use Rattle.noise_vectors.specs.FileKeys.{agreement_of, public_of}
 use Rattle.noise_vectors.specs.declared.file_keys.FileKeys.{FileKeys}
 use Rattle.noise_vectors.specs.declared.vector.FileDatagrams.{FileDatagrams}
 use Rattle.noise_vectors.specs.declared.vector.VectorFile.{VectorFile}
-use Rattle.noise_tool.specs.Ends.{IsPatternOf, facing_in, known_before, setup_of}
+use Rattle.noise_tool.specs.Ends.{IsPatternOf, sides_of_file, known_before, setup_of}
 use Rattle.noise_handshake.specs.Setup.{setup_fault}
 use Rattle.noise_tool.specs.OneRun.{OneRun, RunAlike}
 use Rattle.noise_vectors.specs.SameFile.{held_datagrams}
 use Rattle.noise_tool.specs.Printed.{note_line}
-use Rattle.noise_tool.specs.PrintedDatagrams.{datagram_line, datagram_state_lines}
-use Rattle.noise_tool.specs.Running.{AreLast, IsRunOf, datagrams_in, gone_over}
+use Rattle.noise_tool.specs.Running.{AreLast, IsRunOf, datagram_lines, datagrams_in, gone_over}
 use Rattle.noise_tool.specs.Running.AreLast.{without, unready, ready}
-use Rattle.noise_vectors.specs.VectorText.{window_words}
 use Rattle.noise_tool.specs.OnePattern.{pattern-once}
 
 -- ---- what both ends start from
@@ -41,56 +39,52 @@ start_from plan role prologue psks own other = record {
   own = public_of own;
   agree = agreement_of own;
   remote = known_before plan role (public_of other);
-  secrets = psks;
+  psks = psks;
 }
 
-abbrev facing_from : Plan → List ℕ → ℕ → List (List ℕ) → FileKeys → FileKeys → Sides
-facing_from plan prologue interval psks first second =
-    facing plan (start_from plan Responder prologue psks first second) (start_from plan Initiator prologue psks second first) interval interval
+abbrev sides_from : Plan → List ℕ → ℕ → List (List ℕ) → FileKeys → FileKeys → Sides
+sides_from plan prologue interval psks first second =
+    sides_at_start plan (start_from plan Responder prologue psks first second) (start_from plan Initiator prologue psks second first) interval interval
 
-facing-is : (f : VectorFile) (plan : Plan)
-    → facing_in f plan ≡ facing_from plan f.prologue.items f.interval f.psks.items f.initiator f.responder
-facing-is f plan = refl
+sides-of-file-is : (f : VectorFile) (plan : Plan)
+    → sides_of_file f plan ≡ sides_from plan f.prologue.items f.interval f.psks.items f.initiator f.responder
+sides-of-file-is f plan = refl
 
-facing-same : (f g : VectorFile) (plan : Plan) → RunAlike f g → facing_in f plan ≡ facing_in g plan
-facing-same f g plan same =
-    facing-is f plan
-    ∙ ap (λ (z : List ℕ). facing_from plan z f.interval f.psks.items f.initiator f.responder) same.prologue
-    ∙ ap (λ (z : ℕ). facing_from plan g.prologue.items z f.psks.items f.initiator f.responder) same.interval
-    ∙ ap (λ (z : List (List ℕ)). facing_from plan g.prologue.items g.interval z f.initiator f.responder) same.psks
-    ∙ ap (λ (z : FileKeys). facing_from plan g.prologue.items g.interval g.psks.items z f.responder) same.initiator
-    ∙ ap (λ (z : FileKeys). facing_from plan g.prologue.items g.interval g.psks.items g.initiator z) same.responder
-    ∙ sym (facing-is g plan)
+sides-of-file-same : (f g : VectorFile) (plan : Plan) → RunAlike f g → sides_of_file f plan ≡ sides_of_file g plan
+sides-of-file-same f g plan same =
+    sides-of-file-is f plan
+    ∙ ap (λ (z : List ℕ). sides_from plan z f.interval f.psks.items f.initiator f.responder) same.prologue
+    ∙ ap (λ (z : ℕ). sides_from plan g.prologue.items z f.psks.items f.initiator f.responder) same.interval
+    ∙ ap (λ (z : List (List ℕ)). sides_from plan g.prologue.items g.interval z f.initiator f.responder) same.psks
+    ∙ ap (λ (z : FileKeys). sides_from plan g.prologue.items g.interval g.psks.items z f.responder) same.initiator
+    ∙ ap (λ (z : FileKeys). sides_from plan g.prologue.items g.interval g.psks.items g.initiator z) same.responder
+    ∙ sym (sides-of-file-is g plan)
 
 -- ---- the last lines
 
--- the lines of datagrams
-abbrev over_lines : Window → List (Role × DatagramNote) → DatagramSides → List (List ℕ)
-over_lines window notes last = window_words window ∷ (map datagram_line notes ++ datagram_state_lines last)
-
 over-once : DatagramRunOnce → (d : Sides) (v w : Window) (es fs : List DatagramEvent) (ms ns : List (Role × DatagramNote)) (x y : DatagramSides)
-    → v ≡ w → es ≡ fs → DatagramRun (gone_over d v) es ms x → DatagramRun (gone_over d w) fs ns y → over_lines v ms x ≡ over_lines w ns y
+    → v ≡ w → es ≡ fs → DatagramRun (gone_over d v) es ms x → DatagramRun (gone_over d w) fs ns y → datagram_lines v ms x ≡ datagram_lines w ns y
 over-once once d v w es fs ms ns x y same events h k =
     let other : DatagramRun (gone_over d v) es ns y =
     subst (λ (z : Window). DatagramRun (gone_over d z) es ns y) (sym same)
     (subst (λ (z : List DatagramEvent). DatagramRun (gone_over d w) z ns y) (sym events) k) in
     let one = once (gone_over d v) x y es ms ns h other in
-    ap (λ (z : Window). over_lines z ms x) same
-    ∙ ap₂ (λ (a : List (Role × DatagramNote)) (b : DatagramSides). over_lines w a b) one.0 one.1
+    ap (λ (z : Window). datagram_lines z ms x) same
+    ∙ ap₂ (λ (a : List (Role × DatagramNote)) (b : DatagramSides). datagram_lines w a b) one.0 one.1
 
 last-once : DatagramRunOnce → (o u : Option FileDatagrams) (d : Sides) (xs ys : List (List ℕ)) → held_datagrams o ≡ held_datagrams u → AreLast o d xs → AreLast u d ys
     → xs ≡ ys
 last-once once _ _ d xs ys e (without _) (without _) = refl
-last-once once _ _ d xs ys e (without _) (unready over _ held) = absurd (cc)
+last-once once _ _ d xs ys e (without _) (unready over _ partial) = absurd (cc)
 last-once once _ _ d xs ys e (without _) (ready over _ notes last may run) = absurd (cc)
-last-once once _ _ d xs ys e (unready over _ held) (without _) = absurd (cc)
-last-once once _ _ d xs ys e (unready over _ held) (unready also _ more) = refl
-last-once once _ _ d xs ys e (unready over _ held) (ready also _ notes last may run) = absurd (false≢true (sym held ∙ may))
+last-once once _ _ d xs ys e (unready over _ partial) (without _) = absurd (cc)
+last-once once _ _ d xs ys e (unready over _ partial) (unready also _ more) = refl
+last-once once _ _ d xs ys e (unready over _ partial) (ready also _ notes last may run) = absurd (false≢true (sym partial ∙ may))
 last-once once _ _ d xs ys e (ready over _ notes last may run) (without _) = absurd (cc)
-last-once once _ _ d xs ys e (ready over _ notes last may run) (unready also _ held) = absurd (false≢true (sym held ∙ may))
-last-once once _ _ d xs ys e (ready over _ notes last may run) (ready also _ told left indeed again) =
+last-once once _ _ d xs ys e (ready over _ notes last may run) (unready also _ partial) = absurd (false≢true (sym partial ∙ may))
+last-once once _ _ d xs ys e (ready over _ notes last may run) (ready also _ reported left indeed again) =
     let same : (over.window, datagram_events_of over.events.items) ≡ (also.window, datagram_events_of also.events.items) = cc in
-    over-once once d over.window also.window (datagram_events_of over.events.items) (datagram_events_of also.events.items) notes told last left
+    over-once once d over.window also.window (datagram_events_of over.events.items) (datagram_events_of also.events.items) notes reported last left
     (ap (λ (p : Window × List DatagramEvent). p.0) same) (ap (λ (p : Window × List DatagramEvent). p.1) same) run again
 
 -- ---- all lines
@@ -99,13 +93,13 @@ pub one-run : RunOnce → DatagramRunOnce → OneRun
 one-run once datagrams f g xs ys same a b =
     let pattern : IsPatternOf f.block f.protocol b.plan =
     subst (λ (z : Option Plan). IsPatternOf z f.protocol b.plan) (sym same.block)
-    (subst (λ (z : Section). IsPatternOf g.block z b.plan) (sym same.protocol) b.pattern) in
-    let plan : a.plan ≡ b.plan = pattern-once f.block f.protocol a.plan b.plan a.pattern pattern in
-    let start : facing_in f a.plan ≡ facing_in g b.plan = ap (facing_in f) plan ∙ facing-same f g b.plan same in
-    let run : Run (facing_in f a.plan) (events_of f.events.items) b.notes b.last =
+    (subst (λ (z : Section). IsPatternOf g.block z b.plan) (sym same.protocol) b.of_file.pattern) in
+    let plan : a.plan ≡ b.plan = pattern-once f.block f.protocol a.plan b.plan a.of_file.pattern pattern in
+    let start : sides_of_file f a.plan ≡ sides_of_file g b.plan = ap (sides_of_file f) plan ∙ sides-of-file-same f g b.plan same in
+    let run : Run (sides_of_file f a.plan) (events_of f.events.items) b.notes b.last =
     subst (λ (z : Sides). Run z (events_of f.events.items) b.notes b.last) (sym start)
-    (subst (λ (z : List Event). Run (facing_in g b.plan) z b.notes b.last) (sym same.events) b.run) in
-    let one = once (facing_in f a.plan) a.last b.last (events_of f.events.items) a.notes b.notes a.run run in
+    (subst (λ (z : List Event). Run (sides_of_file g b.plan) z b.notes b.last) (sym same.events) b.run) in
+    let one = once (sides_of_file f a.plan) a.last b.last (events_of f.events.items) a.notes b.notes a.run run in
     let after : a.after ≡ b.after =
     last-once datagrams (datagrams_in f.version) (datagrams_in g.version) a.last a.after b.after same.datagrams a.are_last
     (subst (λ (z : Sides). AreLast (datagrams_in g.version) z b.after) (sym one.1) b.are_last) in
@@ -119,14 +113,14 @@ one-run once datagrams f g xs ys same a b =
 last-moves : (o u : Option FileDatagrams) (d : Sides) (xs : List (List ℕ)) → held_datagrams o ≡ held_datagrams u → AreLast o d xs → AreLast u d xs
 last-moves _ None d xs e (without _) = without d
 last-moves _ (Some also) d xs e (without _) = absurd (cc)
-last-moves _ None d xs e (unready over _ held) = absurd (cc)
-last-moves _ (Some also) d xs e (unready over _ held) = unready also d held
+last-moves _ None d xs e (unready over _ partial) = absurd (cc)
+last-moves _ (Some also) d xs e (unready over _ partial) = unready also d partial
 last-moves _ None d xs e (ready over _ notes last may run) = absurd (cc)
 last-moves _ (Some also) d xs e (ready over _ notes last may run) =
     let same : (over.window, datagram_events_of over.events.items) ≡ (also.window, datagram_events_of also.events.items) = cc in
     let window : over.window ≡ also.window = ap (λ (p : Window × List DatagramEvent). p.0) same in
     let events : datagram_events_of over.events.items ≡ datagram_events_of also.events.items = ap (λ (p : Window × List DatagramEvent). p.1) same in
-    subst (λ (z : Window). AreLast (Some also) d (over_lines z notes last)) (sym window)
+    subst (λ (z : Window). AreLast (Some also) d (datagram_lines z notes last)) (sym window)
     (ready also d notes last may
     (subst (λ (z : Window). DatagramRun (gone_over d z) (datagram_events_of also.events.items) notes last) window
     (subst (λ (z : List DatagramEvent). DatagramRun (gone_over d over.window) z notes last) events run)))
@@ -144,14 +138,16 @@ setup-alike f g plan Responder same =
 pub run-moves : (f g : VectorFile) (xs : List (List ℕ)) → RunAlike f g → IsRunOf f xs → IsRunOf g xs
 run-moves f g xs same a = record {
   plan = a.plan;
-  pattern = subst (λ (z : Option Plan). IsPatternOf z g.protocol a.plan) same.block
-      (subst (λ (z : Section). IsPatternOf f.block z a.plan) same.protocol a.pattern);
-  valid = a.valid;
-  set_up = λ role. sym (setup-alike f g a.plan role same) ∙ a.set_up role;
+  of_file = record {
+    pattern = subst (λ (z : Option Plan). IsPatternOf z g.protocol a.plan) same.block
+        (subst (λ (z : Section). IsPatternOf f.block z a.plan) same.protocol a.of_file.pattern);
+    valid = a.of_file.valid;
+    set_up = λ role. sym (setup-alike f g a.plan role same) ∙ a.of_file.set_up role;
+  };
   notes = a.notes;
   last = a.last;
-  run = subst (λ (z : Sides). Run z (events_of g.events.items) a.notes a.last) (facing-same f g a.plan same)
-      (subst (λ (z : List Event). Run (facing_in f a.plan) z a.notes a.last) same.events a.run);
+  run = subst (λ (z : Sides). Run z (events_of g.events.items) a.notes a.last) (sides-of-file-same f g a.plan same)
+      (subst (λ (z : List Event). Run (sides_of_file f a.plan) z a.notes a.last) same.events a.run);
   after = a.after;
   are_last = last-moves (datagrams_in f.version) (datagrams_in g.version) a.last a.after same.datagrams a.are_last;
   lines_are = a.lines_are;

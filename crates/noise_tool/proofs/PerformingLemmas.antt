@@ -5,7 +5,7 @@ use Rattle.std.specs.Prelude.{IfErr, IfSome}
 use Rattle.std.specs.Io.KnownBytes.{Appends}
 use Rattle.noise_names.specs.declared.token.Role.{Role}
 use Rattle.noise_events.specs.Events.{events_of}
-use Rattle.noise_duel.specs.Acts.{lines_of}
+use Rattle.noise_duel.specs.Acts.{roles_and_payloads}
 use Rattle.noise_duel.specs.Conversation.{say_events}
 use Rattle.noise_events.specs.Events.{Event as Act, Say as Said}
 use Rattle.noise_events.specs.declared.event.Event.{Event}
@@ -22,12 +22,12 @@ use Rattle.noise_lines.specs.Converted.{converted_text}
 use Rattle.noise_lines.specs.declared.faults.Fault.{Fault}
 use Rattle.noise_lines.specs.declared.faults.Fault.TheVariants as fault
 use Rattle.noise_tool.specs.declared.running.Outcome.{Outcome}
-use Rattle.noise_lines.specs.Told.{LeavesOther, TellsRule}
-use Rattle.noise_tool.specs.TraceDone.{kept_of}
+use Rattle.noise_lines.specs.Reported.{LeavesOther, ReportsRule}
+use Rattle.noise_tool.specs.TraceDone.{selection_of}
 use Rattle.noise_tool.proofs.TracePerforming.{trace-after}
 use Rattle.noise_vectors.specs.Expectations.{IsFirstUnmet, bytes_of}
 use Rattle.noise_vectors.specs.VectorFile.{IsAllowedFile, IsReadFault, IsVectorFile, say_of}
-use Rattle.noise_vectors.specs.WrongLine.{IsTold}
+use Rattle.noise_vectors.specs.WrongLine.{IsReported}
 use Rattle.noise_vectors.specs.declared.faults.VectorFault.{VectorFault}
 use Rattle.noise_vectors.specs.declared.faults.VectorFault.TheVariants as vector
 use Rattle.noise_vectors.specs.VectorText.{text_of}
@@ -44,9 +44,9 @@ say_events-lines (l ∷ ls) = ap (λ (es : List Act). Said l.0 l.1.items ∷ es)
 
 -- the events that are these lines
 pub said-events : (events : List Event) (lines given : List (Role × Vec ℕ Global × List ℕ)) → events ≡ map say_of lines → given ≡ lines
-    → say_events (lines_of given) ≡ events_of events
+    → say_events (roles_and_payloads given) ≡ events_of events
 said-events events lines given said is =
-    ap (λ (l : List (Role × Vec ℕ Global × List ℕ)). say_events (lines_of l)) is
+    ap (λ (l : List (Role × Vec ℕ Global × List ℕ)). say_events (roles_and_payloads l)) is
     ∙ sym (say_events-lines lines)
     ∙ ap events_of (sym said)
 
@@ -94,15 +94,15 @@ no-file allowed text vector.Memory every = tt
 -- the fault of its reader is one of a run
 pub unread : (allowed : AllowedEvents) (known : Option (List ℕ)) (text items : List ℕ) (why : VectorFault) → IfSome known (λ bytes. items ≡ bytes)
     → text ≡ items → ((file : VectorFile) → IsVectorFile file → IsAllowedFile allowed file → text ≡ text_of file → why ≡ vector.Memory)
-    → IsTold allowed text why → IfSome known (λ bytes. IsRunFault allowed bytes (of_vector why))
-unread allowed None text items why h e every told = tt
-unread allowed (Some bytes) text items why h e every told =
+    → IsReported allowed text why → IfSome known (λ bytes. IsRunFault allowed bytes (of_vector why))
+unread allowed None text items why h e every reported = tt
+unread allowed (Some bytes) text items why h e every reported =
     let same : text ≡ bytes = e ∙ h in
     inr (inl (
       why,
       refl,
       subst (λ (t : List ℕ). IsReadFault allowed t why) same (no-file allowed text why every),
-      subst (λ (t : List ℕ). IsTold allowed t why) same told,
+      subst (λ (t : List ℕ). IsReported allowed t why) same reported,
     ))
 
 pub unread-or : (allowed : AllowedEvents) (known : Option (List ℕ)) (fault : Fault) (Other : List ℕ → Type 0)
@@ -138,8 +138,8 @@ unlike-of : (allowed : AllowedEvents) (known : Option (List ℕ)) (file : Vector
     → (status_of why ≡ 3) ⊎ IfSome known (λ bytes. IsRunFault allowed bytes why ⊎ IsUnmet bytes before after why)
 unlike-of allowed known file outcome before after why r (inl outside) = inl outside
 unlike-of allowed known file outcome before after why r (inr h) =
-    let (printed, tells) = h in
-    let (n, is, some, unmet) = tells in
+    let (printed, reports) = h in
+    let (n, is, some, unmet) = reports in
     inr (rw is (unmet-known allowed known file outcome before after n r printed some unmet))
 
 pub no-run : (allowed : AllowedEvents) (known : Option (List ℕ)) (file : VectorFile) (outcome : Outcome) (before after : Option (List ℕ))
@@ -182,7 +182,7 @@ too-long None file outcome why r one is long = tt
 too-long (Some bytes) file outcome why r one is long =
     inr (is, file, r.right, one, sym r.bytes ∙ r.spelled, bytes_of outcome.lines.items, r.run, long)
 
--- what `convert` tells, of the file
+-- what `convert` reports, of the file
 pub convert-fault : (file : VectorFile) (outcome : Outcome) (lines : List (Vec ℕ Global)) (text : List ℕ) (why : Fault) → file.version ≡ One
     → text ≡ text_of file → lines ≡ outcome.lines.items
     → (why ≡ fault.Memory) ⊎ ((why ≡ fault.TooLong) × ((other : VectorFile) → other.version ≡ One → text ≡ text_of other
@@ -233,7 +233,7 @@ fault-after (order.Talk path) (Some bytes) before middle after why same h = eith
 fault-after (order.Replay path) None before middle after why same h = h
 fault-after (order.Replay path) (Some bytes) before middle after why same h = either-after _ bytes before middle after why same h
 fault-after (order.Trace given) None before middle after why same h = h
-fault-after (order.Trace given) (Some bytes) before middle after why same h = trace-after (kept_of given) _ bytes before middle after why same h
+fault-after (order.Trace given) (Some bytes) before middle after why same h = trace-after (selection_of given) _ bytes before middle after why same h
 fault-after (order.Convert path) known before middle after why same h = h
 
 -- after lines the output is left as it is
@@ -252,56 +252,56 @@ lines-left fault.Unwritable out after err err_after lines h = absurd lines
 lines-left fault.Memory out after err err_after lines h = absurd lines
 
 -- after lines no rule is reported
-lines-tell : (why : Fault) (before after : Option (List ℕ)) → IsOfLines why → TellsRule why before after
-lines-tell (fault.Unmet n) before after lines = tt
-lines-tell (fault.Rule f) before after lines = absurd lines
-lines-tell (fault.Place f) before after lines = tt
-lines-tell (fault.Setup role f) before after lines = tt
-lines-tell (fault.Name f) before after lines = tt
-lines-tell fault.UnknownPattern before after lines = tt
-lines-tell (fault.Text f) before after lines = tt
-lines-tell (fault.Line n kind) before after lines = tt
-lines-tell fault.TooLong before after lines = tt
-lines-tell fault.Unreadable before after lines = tt
-lines-tell fault.Unwritable before after lines = tt
-lines-tell fault.Memory before after lines = tt
+lines-report_fault : (why : Fault) (before after : Option (List ℕ)) → IsOfLines why → ReportsRule why before after
+lines-report_fault (fault.Unmet n) before after lines = tt
+lines-report_fault (fault.Rule f) before after lines = absurd lines
+lines-report_fault (fault.Place f) before after lines = tt
+lines-report_fault (fault.Setup role f) before after lines = tt
+lines-report_fault (fault.Name f) before after lines = tt
+lines-report_fault fault.UnknownPattern before after lines = tt
+lines-report_fault (fault.Text f) before after lines = tt
+lines-report_fault (fault.Line n kind) before after lines = tt
+lines-report_fault fault.TooLong before after lines = tt
+lines-report_fault fault.Unreadable before after lines = tt
+lines-report_fault fault.Unwritable before after lines = tt
+lines-report_fault fault.Memory before after lines = tt
 
 -- a fault that is reported: what holds of the run and of the telling holds of both
-pub told-fault : {O E : Type 0} (contents : O → Option (List ℕ)) (Told : Fault → Type 0) (chosen : Chosen) (known : Option (List ℕ)) (old middle new : O) (err err_new : E)
+pub reported-fault : {O E : Type 0} (contents : O → Option (List ℕ)) (Reported : Fault → Type 0) (chosen : Chosen) (known : Option (List ℕ)) (old middle new : O) (err err_new : E)
     (why : Fault) (result : ℕ)
     → (status_of why ≡ 3) ⊎ IsFault chosen known (contents old) (contents middle) why
     → (status_of why ≡ 3) ⊎ IsOfLines why ⊎ (middle ≡ old)
     → (result ≡ status_of why) ⊎ (result ≡ 3)
     → (result ≡ 3) ⊎ LeavesOther why middle new err err_new
-    → (result ≡ 3) ⊎ TellsRule why (contents middle) (contents new)
-    → (result ≡ 3) ⊎ Told why
+    → (result ≡ 3) ⊎ ReportsRule why (contents middle) (contents new)
+    → (result ≡ 3) ⊎ Reported why
     → (result ≡ 3) ⊎ ((f : Fault) × (status_of f ≡ result) × IsFault chosen known (contents old) (contents new) f
-    × (IsOfLines f ⊎ LeavesOther f old new err err_new) × TellsRule f (contents old) (contents new) × Told f)
-told-fault contents Told chosen known old middle new err err_new why result h unwritten (inr three) other tells told = inl three
-told-fault contents Told chosen known old middle new err err_new why result (inl outside) unwritten (inl is) other tells told = inl (is ∙ outside)
-told-fault contents Told chosen known old middle new err err_new why result (inr h) unwritten (inl is) (inl three) tells told = inl three
-told-fault contents Told chosen known old middle new err err_new why result (inr h) unwritten (inl is) (inr leaves) (inl three) told = inl three
-told-fault contents Told chosen known old middle new err err_new why result (inr h) (inl outside) (inl is) (inr leaves) (inr tells) told = inl (is ∙ outside)
-told-fault contents Told chosen known old middle new err err_new why result (inr h) (inr unwritten) (inl is) (inr leaves) (inr tells) (inl three) = inl three
-told-fault contents Told chosen known old middle new err err_new why result (inr h) (inr (inl lines)) (inl is) (inr leaves) (inr tells) (inr told) =
+    × (IsOfLines f ⊎ LeavesOther f old new err err_new) × ReportsRule f (contents old) (contents new) × Reported f)
+reported-fault contents Reported chosen known old middle new err err_new why result h unwritten (inr three) other reports reported = inl three
+reported-fault contents Reported chosen known old middle new err err_new why result (inl outside) unwritten (inl is) other reports reported = inl (is ∙ outside)
+reported-fault contents Reported chosen known old middle new err err_new why result (inr h) unwritten (inl is) (inl three) reports reported = inl three
+reported-fault contents Reported chosen known old middle new err err_new why result (inr h) unwritten (inl is) (inr leaves) (inl three) reported = inl three
+reported-fault contents Reported chosen known old middle new err err_new why result (inr h) (inl outside) (inl is) (inr leaves) (inr reports) reported = inl (is ∙ outside)
+reported-fault contents Reported chosen known old middle new err err_new why result (inr h) (inr unwritten) (inl is) (inr leaves) (inr reports) (inl three) = inl three
+reported-fault contents Reported chosen known old middle new err err_new why result (inr h) (inr (inl lines)) (inl is) (inr leaves) (inr reports) (inr reported) =
     inr (
       why,
       sym is,
       fault-after chosen known (contents old) (contents middle) (contents new) why
           (λ l. ap contents (lines-left why middle new err err_new l leaves)) h,
       inl lines,
-      lines-tell why (contents old) (contents new) lines,
-      told,
+      lines-report_fault why (contents old) (contents new) lines,
+      reported,
     )
-told-fault {O = O} contents Told chosen known old middle new err err_new why result (inr h) (inr (inr same)) (inl is) (inr leaves) (inr tells) (inr told) =
+reported-fault {O = O} contents Reported chosen known old middle new err err_new why result (inr h) (inr (inr same)) (inl is) (inr leaves) (inr reports) (inr reported) =
     inr (
       why,
       sym is,
       fault-after chosen known (contents old) (contents middle) (contents new) why
           (λ l. ap contents (lines-left why middle new err err_new l leaves)) h,
       inr (subst (λ (o : O). LeavesOther why o new err err_new) same leaves),
-      subst (λ (o : O). TellsRule why (contents o) (contents new)) same tells,
-      told,
+      subst (λ (o : O). ReportsRule why (contents o) (contents new)) same reports,
+      reported,
     )
 
 -- at status 2 the output is as it was
@@ -333,13 +333,13 @@ no-lines-at-two fault.Unreadable two lines = lines
 no-lines-at-two fault.Unwritable two lines = lines
 no-lines-at-two fault.Memory two lines = lines
 
-pub told-at-two : {O E : Type 0} (old middle new : O) (err err_new : E) (why : Fault) (result : ℕ)
+pub reported-at-two : {O E : Type 0} (old middle new : O) (err err_new : E) (why : Fault) (result : ℕ)
     → (status_of why ≡ 3) ⊎ IsOfLines why ⊎ (middle ≡ old)
     → (result ≡ status_of why) ⊎ (result ≡ 3)
     → (result ≡ 3) ⊎ LeavesOther why middle new err err_new → result ≡ 2 → new ≡ old
-told-at-two old middle new err err_new why result unwritten (inr three) other two = let bad = sym three ∙ two in absurd (cc bad)
-told-at-two old middle new err err_new why result unwritten (inl is) (inl three) two = let bad = sym three ∙ two in absurd (cc bad)
-told-at-two old middle new err err_new why result (inl outside) (inl is) (inr leaves) two = let bad = sym outside ∙ sym is ∙ two in absurd (cc bad)
-told-at-two old middle new err err_new why result (inr (inl lines)) (inl is) (inr leaves) two = absurd (no-lines-at-two why (sym is ∙ two) lines)
-told-at-two old middle new err err_new why result (inr (inr same)) (inl is) (inr leaves) two =
+reported-at-two old middle new err err_new why result unwritten (inr three) other two = let bad = sym three ∙ two in absurd (cc bad)
+reported-at-two old middle new err err_new why result unwritten (inl is) (inl three) two = let bad = sym three ∙ two in absurd (cc bad)
+reported-at-two old middle new err err_new why result (inl outside) (inl is) (inr leaves) two = let bad = sym outside ∙ sym is ∙ two in absurd (cc bad)
+reported-at-two old middle new err err_new why result (inr (inl lines)) (inl is) (inr leaves) two = absurd (no-lines-at-two why (sym is ∙ two) lines)
+reported-at-two old middle new err err_new why result (inr (inr same)) (inl is) (inr leaves) two =
     left-at-two why middle new err err_new (sym is ∙ two) leaves ∙ same

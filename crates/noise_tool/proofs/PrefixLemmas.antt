@@ -6,7 +6,7 @@ use Rattle.noise_lines.specs.Converted.{converted_text}
 use Rattle.noise_lines.specs.Faults.{status_of}
 use Rattle.noise_lines.specs.Lines.{lines_text}
 use Rattle.noise_lines.specs.Prefixes.{AppendsPrefix}
-use Rattle.noise_lines.specs.Told.{IsToldOf, LeavesOutput, error_text, fault_line}
+use Rattle.noise_lines.specs.Reported.{IsReportedOf, LeavesOutput, error_text, fault_line}
 use Rattle.noise_lines.specs.declared.faults.Fault.{Fault}
 use Rattle.noise_lines.specs.declared.faults.Fault.TheVariants as fault
 use Rattle.noise_tool.specs.Conversion.{MeetsItself}
@@ -77,17 +77,17 @@ template-prefix word bytes known a b old new e (inr (text, h, grown)) =
     inr (text, inl (subst (λ (w : List ℕ). HasTemplated w known (Some []) (Some text)) e h), grown)
 
 -- the template of the pattern that a file spells
-pub spelled-template : (word : List ℕ) (known : Option (List ℕ)) (t items told : List ℕ) → names_protocol word ≡ false → t ≡ items
-    → IfSome known (λ bytes. items ≡ bytes) → (p : Plan) × Spells t p × IsValid p × IsTemplateText p told → HasTemplated word known (Some []) (Some told)
-spelled-template word known t items told e same h (p, spells, valid, is) =
-    subst (λ (b : Bool). MatchBool b ((q : Plan) × NamesPattern word q × HasTemplate q (Some []) (Some told))
-    (IfSome known (λ bytes. (q : Plan) × Spells bytes q × HasTemplate q (Some []) (Some told)))) (sym e) (by known h)
+pub spelled-template : (word : List ℕ) (known : Option (List ℕ)) (t items reported : List ℕ) → names_protocol word ≡ false → t ≡ items
+    → IfSome known (λ bytes. items ≡ bytes) → (p : Plan) × Spells t p × IsValid p × IsTemplateText p reported → HasTemplated word known (Some []) (Some reported)
+spelled-template word known t items reported e same h (p, spells, valid, is) =
+    subst (λ (b : Bool). MatchBool b ((q : Plan) × NamesPattern word q × HasTemplate q (Some []) (Some reported))
+    (IfSome known (λ bytes. (q : Plan) × Spells bytes q × HasTemplate q (Some []) (Some reported)))) (sym e) (by known h)
   where
     by : (known : Option (List ℕ)) → IfSome known (λ bytes. items ≡ bytes)
-        → IfSome known (λ bytes. (q : Plan) × Spells bytes q × HasTemplate q (Some []) (Some told))
+        → IfSome known (λ bytes. (q : Plan) × Spells bytes q × HasTemplate q (Some []) (Some reported))
     by None h = tt
     by (Some bytes) h =
-        (p, subst (λ (z : List ℕ). Spells z p) (same ∙ h) spells, record { valid = valid; text = told; is = is; printed = refl })
+        (p, subst (λ (z : List ℕ). Spells z p) (same ∙ h) spells, record { valid = valid; text = reported; is = is; printed = refl })
 
 pub replay-prefix : {O : Type 0} (path : String Global) (known a b : Option (List ℕ)) (old new : O) → (new ≡ old) ⊎ PrintsRunPrefix known a b
     → (new ≡ old) ⊎ PrintsPrefix (order.Replay path) known a b
@@ -148,12 +148,12 @@ rule-first f P (inl three) = absurd (cc three)
 rule-first f P (inr (inl lines)) = absurd lines
 rule-first f P (inr (inr p)) = p
 
-told-rule : {O : Type 0} (contents : O → Option (List ℕ)) (chosen : Chosen) (known : Option (List ℕ)) (old middle new : O) (f : RuleFault)
+reported-rule : {O : Type 0} (contents : O → Option (List ℕ)) (chosen : Chosen) (known : Option (List ℕ)) (old middle new : O) (f : RuleFault)
     → (status_of (fault.Rule f) ≡ 3) ⊎ IsFault chosen known (contents old) (contents middle) (fault.Rule f)
     → (status_of (fault.Rule f) ≡ 3) ⊎ IsOfLines (fault.Rule f) ⊎ (middle ≡ old)
     → AppendsPrefix (contents middle) (contents new) (fault_line (fault.Rule f) ++ 10 ∷ [])
     → PrintsPrefix chosen known (contents old) (contents new)
-told-rule {O = O} contents chosen known old middle new f h unwritten grown =
+reported-rule {O = O} contents chosen known old middle new f h unwritten grown =
     let text : List ℕ = fault_line (fault.Rule f) ++ 10 ∷ [] in
     let same : middle ≡ old = rule-first f (middle ≡ old) unwritten in
     let is = rule-is f (IsFault chosen known (contents old) (contents middle) (fault.Rule f)) h in (
@@ -163,30 +163,30 @@ told-rule {O = O} contents chosen known old middle new f h unwritten grown =
     )
 
 -- after a run, and what is reported then
-pub told-prefix : {O : Type 0} (contents : O → Option (List ℕ)) (chosen : Chosen) (known : Option (List ℕ)) (old middle new : O) (why : Fault)
+pub reported-prefix : {O : Type 0} (contents : O → Option (List ℕ)) (chosen : Chosen) (known : Option (List ℕ)) (old middle new : O) (why : Fault)
     → (middle ≡ old) ⊎ PrintsPrefix chosen known (contents old) (contents middle)
     → (status_of why ≡ 3) ⊎ IsFault chosen known (contents old) (contents middle) why
     → (status_of why ≡ 3) ⊎ IsOfLines why ⊎ (middle ≡ old)
     → LeavesOutput contents why middle new
     → (new ≡ old) ⊎ PrintsPrefix chosen known (contents old) (contents new)
-told-prefix {O = O} contents chosen known old middle new why run h unwritten left = of-two (left-or-rule contents why middle new left)
+reported-prefix {O = O} contents chosen known old middle new why run h unwritten left = of-two (left-or-rule contents why middle new left)
   where
     of-two : (new ≡ middle) ⊎ ((f : RuleFault) × (why ≡ fault.Rule f) × AppendsPrefix (contents middle) (contents new) (fault_line (fault.Rule f) ++ 10 ∷ []))
         → (new ≡ old) ⊎ PrintsPrefix chosen known (contents old) (contents new)
     of-two (inl same) = subst (λ (o : O). (o ≡ old) ⊎ PrintsPrefix chosen known (contents old) (contents o)) (sym same) run
-    of-two (inr (f, is, grown)) = inr (told-rule contents chosen known old middle new f
+    of-two (inr (f, is, grown)) = inr (reported-rule contents chosen known old middle new f
         (subst (λ (w : Fault). (status_of w ≡ 3) ⊎ IsFault chosen known (contents old) (contents middle) w) is h)
         (subst (λ (w : Fault). (status_of w ≡ 3) ⊎ IsOfLines w ⊎ (middle ≡ old)) is unwritten) grown)
 
 -- but for status 3 the fault itself is reported
-pub told-itself : (why : Fault) (result : ℕ) (a b : Option (List ℕ))
-    → (told : Fault) × IsToldOf why told × (status_of told ≡ result) × AppendsPrefix a b (error_text told)
+pub reported-itself : (why : Fault) (result : ℕ) (a b : Option (List ℕ))
+    → (reported : Fault) × IsReportedOf why reported × (status_of reported ≡ result) × AppendsPrefix a b (error_text reported)
     → (result ≡ 3) ⊎ AppendsPrefix a b (error_text why)
-told-itself why result a b (told, inl is, status, grown) = inr (subst (λ (f : Fault). AppendsPrefix a b (error_text f)) is grown)
-told-itself why result a b (told, inr (inl is), status, grown) = inl (sym status ∙ ap status_of is)
-told-itself why result a b (told, inr (inr is), status, grown) = inl (sym status ∙ ap status_of is)
+reported-itself why result a b (reported, inl is, status, grown) = inr (subst (λ (f : Fault). AppendsPrefix a b (error_text f)) is grown)
+reported-itself why result a b (reported, inr (inl is), status, grown) = inl (sym status ∙ ap status_of is)
+reported-itself why result a b (reported, inr (inr is), status, grown) = inl (sym status ∙ ap status_of is)
 
-pub told-outside : (why : Fault) (result : ℕ) (a b : Option (List ℕ))
-    → (told : Fault) × IsToldOf why told × (status_of told ≡ result) × AppendsPrefix a b (error_text told) → result ≡ 3
+pub reported-outside : (why : Fault) (result : ℕ) (a b : Option (List ℕ))
+    → (reported : Fault) × IsReportedOf why reported × (status_of reported ≡ result) × AppendsPrefix a b (error_text reported) → result ≡ 3
     → (f : Fault) × (status_of f ≡ 3) × AppendsPrefix a b (error_text f)
-told-outside why result a b (told, of, status, grown) three = (told, status ∙ three, grown)
+reported-outside why result a b (reported, of, status, grown) three = (reported, status ∙ three, grown)

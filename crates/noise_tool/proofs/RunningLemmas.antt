@@ -1,15 +1,15 @@
 -- The lines after those of the events.
 use Rattle.std.proofs.Common.{◌≡◌, ◌∙◌, ap, ap₂, sym, refl, subst, ◌&&◌, ◌==◌, Bool, true, false, ℕ, List, [], ◌∷◌, ◌++◌, Option, Some, None, Result, Ok, Err, OnOk, length, map, codes, append_assoc}
 use Rattle.noise_names.specs.declared.token.Role.{Role}
-use Rattle.noise_session.specs.Datagrams.{DatagramView}
+use Rattle.noise_session.specs.Datagrams.{DatagramState}
 use Rattle.noise_session.specs.EndDatagrams.{is_datagram_ready, is_untouched}
-use Rattle.noise_session.specs.Ends.{EndView, HeldEnd, IsToldBy}
+use Rattle.noise_session.specs.Ends.{EndState, EndValue, IsReportedBy}
 use Rattle.noise_session.specs.Progress.{Progress}
 use Rattle.noise_duel.specs.DatagramNotes.{DatagramNote}
 use Rattle.noise_events.specs.DatagramEvents.{datagram_events_of}
 use Rattle.noise_duel.specs.DatagramRuns.{DatagramRun}
-use Rattle.noise_duel.specs.DatagramSides.{DatagramSides, meeting}
-use Rattle.noise_duel.specs.HeldDuel.{HeldDuel}
+use Rattle.noise_duel.specs.DatagramSides.{DatagramSides, datagram_sides}
+use Rattle.noise_duel.specs.DuelValue.{DuelValue}
 use Rattle.noise_duel.specs.Sides.{Sides}
 use Rattle.noise_vectors.specs.VectorText.{window_words}
 use Rattle.noise_vectors.specs.declared.file_keys.FileKeys.{FileKeys}
@@ -24,22 +24,22 @@ on_ok (Err e) P Q f p = tt
 
 -- ---- which ends are ready
 
-ready-told : (e : HeldEnd FileKeys) (v : EndView) → IsToldBy v e → is_datagram_ready e ≡ is_ready v
-ready-told e v told = ap₂ (λ (p : Progress) (h : List ℕ). is_untouched p && (length h == 0)) told.progress told.held
+ready-reported : (e : EndValue FileKeys) (v : EndState) → IsReportedBy v e → is_datagram_ready e ≡ is_ready v
+ready-reported e v reported = ap₂ (λ (p : Progress) (h : List ℕ). is_untouched p && (length h == 0)) reported.progress reported.partial
 
-pub both-ready : (duel : HeldDuel FileKeys FileKeys) (d : Sides) → IsToldBy d.initiator.view duel.initiator → IsToldBy d.responder.view duel.responder
+pub both-ready : (duel : DuelValue FileKeys FileKeys) (d : Sides) → IsReportedBy d.initiator.state duel.initiator → IsReportedBy d.responder.state duel.responder
     → (is_datagram_ready duel.initiator ≡ true) × (is_datagram_ready duel.responder ≡ true) → are_ready d ≡ true
 both-ready duel d one other h =
-    let a : is_ready d.initiator.view ≡ true = sym (ready-told duel.initiator d.initiator.view one) ∙ h.0 in
-    let b : is_ready d.responder.view ≡ true = sym (ready-told duel.responder d.responder.view other) ∙ h.1 in
+    let a : is_ready d.initiator.state ≡ true = sym (ready-reported duel.initiator d.initiator.state one) ∙ h.0 in
+    let b : is_ready d.responder.state ≡ true = sym (ready-reported duel.responder d.responder.state other) ∙ h.1 in
     rw (a, b) refl
 
-pub not-ready : (duel : HeldDuel FileKeys FileKeys) (d : Sides) → IsToldBy d.initiator.view duel.initiator → IsToldBy d.responder.view duel.responder
+pub not-ready : (duel : DuelValue FileKeys FileKeys) (d : Sides) → IsReportedBy d.initiator.state duel.initiator → IsReportedBy d.responder.state duel.responder
     → ¬ ((is_datagram_ready duel.initiator ≡ true) × (is_datagram_ready duel.responder ≡ true)) → are_ready d ≡ false
-not-ready duel d one other h = at (is_ready d.initiator.view) (is_ready d.responder.view) refl refl where
-  at : (a b : Bool) → is_ready d.initiator.view ≡ a → is_ready d.responder.view ≡ b → are_ready d ≡ false
+not-ready duel d one other h = at (is_ready d.initiator.state) (is_ready d.responder.state) refl refl where
+  at : (a b : Bool) → is_ready d.initiator.state ≡ a → is_ready d.responder.state ≡ b → are_ready d ≡ false
   at true true p q =
-      absurd (h (ready-told duel.initiator d.initiator.view one ∙ p, ready-told duel.responder d.responder.view other ∙ q))
+      absurd (h (ready-reported duel.initiator d.initiator.state one ∙ p, ready-reported duel.responder d.responder.state other ∙ q))
   at true false p q = rw (p, q) refl
   at false b p q = rw p refl
 
@@ -72,10 +72,10 @@ after-ready given over d r old new some are h =
     (lines, subst (λ (o : Option FileDatagrams). AreLast o d lines) (sym some) (ready over d x.0 x.1 are x.2), x.3)) h
 
 -- the line of the window, those of the datagrams, and the states
-pub after-window : {E : Type 0} (over : FileDatagrams) (v w : DatagramView) (notes : List (Role × DatagramNote)) (last : DatagramSides) (r : Result Unit E)
-    (old one two new : List (List ℕ)) → DatagramRun (meeting v w) (datagram_events_of over.events.items) notes last
+pub after-window : {E : Type 0} (over : FileDatagrams) (v w : DatagramState) (notes : List (Role × DatagramNote)) (last : DatagramSides) (r : Result Unit E)
+    (old one two new : List (List ℕ)) → DatagramRun (datagram_sides v w) (datagram_events_of over.events.items) notes last
     → one ≡ old ++ window_words over.window ∷ [] → two ≡ one ++ map datagram_line notes → OnOk r (new ≡ two ++ datagram_state_lines last)
-    → OnOk r ((notes : List (Role × DatagramNote)) × (last : DatagramSides) × DatagramRun (meeting v w) (datagram_events_of over.events.items) notes last
+    → OnOk r ((notes : List (Role × DatagramNote)) × (last : DatagramSides) × DatagramRun (datagram_sides v w) (datagram_events_of over.events.items) notes last
     × (new ≡ old ++ window_words over.window ∷ (map datagram_line notes ++ datagram_state_lines last)))
 after-window over v w notes last r old one two new run first more h =
     on_ok r _ _ (λ e. (

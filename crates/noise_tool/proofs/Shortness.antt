@@ -23,7 +23,7 @@ unread-at known fault (inl three) = omega (arith, three)
 unread-at known fault (inr (is, long)) = let e : status_of fault ≡ 2 = ap status_of is in omega (arith, e)
 
 -- the status of a fault that is reported
-pub told-long : (S : Type 0) (fault : Fault) (result : ℕ) → (2 ≤ status_of fault) ⊎ S → (result ≡ status_of fault) ⊎ (result ≡ 3) → (2 ≤ result) ⊎ S
-told-long S fault result (inr s) told = inr s
-told-long S fault result (inl low) (inl is) = inl (omega (arith, low, is))
-told-long S fault result (inl low) (inr three) = inl (omega (arith, three))
+pub reported-long : (S : Type 0) (fault : Fault) (result : ℕ) → (2 ≤ status_of fault) ⊎ S → (result ≡ status_of fault) ⊎ (result ≡ 3) → (2 ≤ result) ⊎ S
+reported-long S fault result (inr s) reported = inr s
+reported-long S fault result (inl low) (inl is) = inl (omega (arith, low, is))
+reported-long S fault result (inl low) (inr three) = inl (omega (arith, three))

@@ -17,7 +17,7 @@ use Rattle.noise_names.specs.declared.token.Role.TheVariants.{Initiator, Respond
 use Rattle.noise_names.specs.declared.token.Token.{Token}
 use Rattle.noise_names.specs.declared.token.Token.TheVariants.{E, S, Ee, Es, Se, Ss, Psk}
 use Rattle.noise_keys.specs.declared.keys.Own.TheVariants.{Ephemeral, Static}
-use Rattle.noise_handshake.specs.Setup.{has_before, secrets_of, setup_fault}
+use Rattle.noise_handshake.specs.Setup.{has_before, psks_of, setup_fault}
 use Rattle.noise_vectors.specs.FileKeys.{public_of}
 use Rattle.noise_vectors.specs.declared.file_keys.FileKeys.{FileKeys}
 use Rattle.noise_vectors.specs.declared.file_keys.FileKeys.TheVariants.{Table}
@@ -44,7 +44,7 @@ pattern-of p file h t =
     subst (λ (b : Option Plan). IsPatternOf b file.protocol p) (sym t.block)
     (subst (λ (s : Section). IsPatternOf (unless_known (fundamental_of p.base) p) s p) (sym t.protocol) (pattern-by p h (fundamental_of p.base) refl))
 
--- ---- a secret for each place
+-- ---- a psk for each place
 
 -- how many places are no less than a number
 abbrev from : ℕ → List ℕ → ℕ
@@ -142,7 +142,7 @@ in-message places n ts h =
     omega (arith, sum, no-psk-among ts)
 
 later-psks : (places : List ℕ) (n : ℕ) (ms : List (List Token)) → 1 < n → IsTrue (rises places) → HavePsksAt places n ms
-    → secrets_of ms + from (n + length ms) places ≡ from n places
+    → psks_of ms + from (n + length ms) places ≡ from n places
 later-psks places n [] low up h =
     let end : from (n + 0) places ≡ from n places = ap (λ (k : ℕ). from k places) (omega arith) in
     omega (arith, end)
@@ -150,16 +150,16 @@ later-psks places n (ts ∷ ms) low up h =
     let not_first : eqb n 1 ≡ false = grind (arith, nat_tests) in
     let split : count_by is_psk ts ≡ count_by is_psk (cond (eqb n 1) (psk_if 0 places) []) + count_by is_psk (psk_if n places) = in-message places n ts h.0 in
     let none : count_by is_psk (cond (eqb n 1) (psk_if 0 places) []) ≡ 0 = ap (λ (b : Bool). count_by is_psk (cond b (psk_if 0 places) [])) not_first in
-    let more : secrets_of ms + from (n + 1 + length ms) places ≡ from (n + 1) places = later-psks places (n + 1) ms (omega arith) up h.1 in
+    let more : psks_of ms + from (n + 1 + length ms) places ≡ from (n + 1) places = later-psks places (n + 1) ms (omega arith) up h.1 in
     let last : from (n + length (ts ∷ ms)) places ≡ from (n + 1 + length ms) places = ap (λ (k : ℕ). from k places) (omega arith) in
     omega (arith, split, none, more, last, one-place n places up)
 
 all-psks : (places : List ℕ) (ms : List (List Token)) → 1 ≤ length ms → IsTrue (rises places) → HavePsksAt places 1 ms
-    → secrets_of ms + from (1 + length ms) places ≡ from 0 places
+    → psks_of ms + from (1 + length ms) places ≡ from 0 places
 all-psks places [] some up h = absurd (omega arith)
 all-psks places (ts ∷ ms) some up h =
     let here : count_by is_psk ts ≡ count_by is_psk (psk_if 0 places) + count_by is_psk (psk_if 1 places) = in-message places 1 ts h.0 in
-    let more : secrets_of ms + from (2 + length ms) places ≡ from 2 places = later-psks places 2 ms (omega arith) up h.1 in
+    let more : psks_of ms + from (2 + length ms) places ≡ from 2 places = later-psks places 2 ms (omega arith) up h.1 in
     let last : from (1 + length (ts ∷ ms)) places ≡ from (2 + length ms) places = ap (λ (k : ℕ). from k places) (omega arith) in
     omega (arith, here, more, last, one-place 0 places up, one-place 1 places up)
 
@@ -182,8 +182,8 @@ none-above count (n ∷ ns) h =
     let no : bit (leb (1 + count) n) ≡ 0 = ap bit (above-all count n low) in
     omega (arith, no, from-cons (1 + count) n ns, none-above count ns (second (nat_le n count) (list_all (λ m. nat_le m count) ns) h))
 
-secret-count : (p : Plan) → IsPattern p → length (map psk_key p.places) ≡ secrets_of p.messages
-secret-count p h =
+psk-count : (p : Plan) → IsPattern p → length (map psk_key p.places) ≡ psks_of p.messages
+psk-count p h =
     let some : 1 ≤ length p.messages = leb-true 1 (length p.messages) (first (nat_le 1 (length p.messages)) (nat_le (length p.messages) 8) h.count) in
     let up : IsTrue (rises p.places) = first (rises p.places) _ h.places in
     omega (
@@ -197,8 +197,8 @@ secret-count p h =
 -- ---- the keys
 
 -- the tokens of a party's pre-message are among its tokens
-abbrev BeforeStands : Plan → Type 0
-BeforeStands p = (party : Role) (t : Token) → has_before p party t ≡ true → is_among party t (places_of p) ≡ true
+abbrev BeforeMatches : Plan → Type 0
+BeforeMatches p = (party : Role) (t : Token) → has_before p party t ≡ true → is_among party t (places_of p) ≡ true
 
 own-there : (b : Bool) (key : List ℕ) → b && is_none (if b then Some key else None) ≡ false
 own-there true key = refl
@@ -219,21 +219,21 @@ keys-are : (p : Plan) (file : VectorFile) → IsTemplate p file → (role : Role
 keys-are p file t Initiator = t.initiator
 keys-are p file t Responder = t.responder
 
-whole-setup : (p : Plan) → BeforeStands p → (role : Role) (n : ℕ) → n ≡ secrets_of p.messages
+whole-setup : (p : Plan) → BeforeMatches p → (role : Role) (n : ℕ) → n ≡ psks_of p.messages
     → setup_fault p role (public_of (Table (template.keys_in p role)))
     (known_before p (other role) (public_of (Table (template.keys_in p (other role))))) n ≡ None
-whole-setup p stands role n count =
+whole-setup p matches role n count =
     let e = own-there (is_among role E (places_of p)) (placeholder (key_byte role Ephemeral)) in
     let s = own-there (is_among role S (places_of p)) (placeholder (key_byte role Static)) in
-    let re = remote-there (has_before p (other role) E) (is_among (other role) E (places_of p)) (placeholder (key_byte (other role) Ephemeral)) (stands (other role) E) in
-    let rs = remote-there (has_before p (other role) S) (is_among (other role) S (places_of p)) (placeholder (key_byte (other role) Static)) (stands (other role) S) in
+    let re = remote-there (has_before p (other role) E) (is_among (other role) E (places_of p)) (placeholder (key_byte (other role) Ephemeral)) (matches (other role) E) in
+    let rs = remote-there (has_before p (other role) S) (is_among (other role) S (places_of p)) (placeholder (key_byte (other role) Static)) (matches (other role) S) in
     let ue = none-unexpected (has_before p (other role) E) (is_among (other role) E (places_of p)) (placeholder (key_byte (other role) Ephemeral)) in
     let us = none-unexpected (has_before p (other role) S) (is_among (other role) S (places_of p)) (placeholder (key_byte (other role) Static)) in
-    let same : eqb n (secrets_of p.messages) ≡ true = grind (arith, nat_tests) in
+    let same : eqb n (psks_of p.messages) ≡ true = grind (arith, nat_tests) in
     simp (e, s, re, rs, ue, us, same)
 
-pub no-setup-fault : (p : Plan) (file : VectorFile) → IsPattern p → BeforeStands p → IsTemplate p file → (role : Role) → setup_of file p role ≡ None
-no-setup-fault p file h stands t role =
+pub no-setup-fault : (p : Plan) (file : VectorFile) → IsPattern p → BeforeMatches p → IsTemplate p file → (role : Role) → setup_of file p role ≡ None
+no-setup-fault p file h matches t role =
     ap₂ (λ (own theirs : FileKeys). setup_fault p role (public_of own) (known_before p (other role) (public_of theirs)) (length file.psks.items))
     (keys-are p file t role) (keys-are p file t (other role))
-    ∙ whole-setup p stands role (length file.psks.items) (ap length t.psks ∙ secret-count p h)
+    ∙ whole-setup p matches role (length file.psks.items) (ap length t.psks ∙ psk-count p h)

@@ -1,19 +1,21 @@
 -- What comes of vector files that are tested.
-use Rattle.std.proofs.Common.{◌≡◌, ◌∙◌, refl, sym, ap, ap₂, subst, ◌⊎◌, inl, inr, ◌≤◌, ◌+◌, ◌==◌, if◌then◌else◌, ℕ, Bool, true, false, not, ◌&&◌, ◌||◌, List, [], ◌∷◌, ◌++◌, Option, Some, None, String, drop, length, string_bytes, take, append_assoc, append-nil, arith}
-use Rattle.std.specs.Prelude.{IfErr, IfOk, IfSome, IsTrue, Result, Ok, Err, cond, count_by, map}
+use Rattle.std.proofs.Common.{Vec, ◌≡◌, ◌∙◌, refl, sym, ap, ap₂, subst, ◌⊎◌, inl, inr, ◌≤◌, ◌+◌, ◌==◌, if◌then◌else◌, ℕ, Bool, true, false, not, ◌&&◌, ◌||◌, List, [], ◌∷◌, ◌++◌, Option, Some, None, String, drop, length, string_bytes, take, append_assoc, append-nil, arith}
+use Rattle.std.specs.Prelude.{OnOk, IfErr, IfNone, IfOk, IfSome, IsTrue, Result, Ok, Err, cond, count_by, map}
 use Rattle.std.specs.Global.{Global}
 use Rattle.std.specs.List.{sum_by}
 use Rattle.std.specs.Io.KnownBytes.{Appends, Keeps}
 use Rattle.std.proofs.KnownBytes.{Appends-nil, Appends-trans}
+use Rattle.std.proofs.lemmas.Grind.{flat_map-append}
 use Rattle.std.proofs.lemmas.List.{flat_map_more, map-append, map_push, take-append-drop}
 use Rattle.std.proofs.lemmas.List.Elements.{All-nil, All-push}
 use Rattle.std.proofs.lemmas.List.Sums.{sum_by-append}
 use Rattle.noise_names.specs.Names.{Section}
 use Rattle.noise_names.specs.Plan.{Plan}
+use Rattle.noise_names.specs.Text.{line}
 use Rattle.noise_lines.specs.Faults.{of_vector, status_of}
 use Rattle.noise_lines.specs.Lines.{lines_text}
 use Rattle.noise_lines.specs.Prefixes.{AppendsPrefix}
-use Rattle.noise_lines.specs.Told.{IsToldOf, LeavesOutput, error_text}
+use Rattle.noise_lines.specs.Reported.{IsReportedOf, LeavesOutput, error_text}
 use Rattle.noise_lines.specs.declared.verdict.Difference.{Difference}
 use Rattle.noise_vectors.specs.declared.faults.VectorFault.{VectorFault}
 use Rattle.noise_vectors.specs.declared.faults.VectorFault.TheVariants as vector
@@ -24,49 +26,34 @@ use Rattle.noise_vectors.specs.VectorFile.{IsVectorFile}
 use Rattle.noise_vectors.specs.VectorText.{text_of}
 use Rattle.noise_vectors.specs.declared.vector.AllowedEvents.TheVariants.{Any}
 use Rattle.noise_vectors.specs.declared.vector.VectorFile.{VectorFile}
-use Rattle.noise_lines.specs.Verdicts.{IsJudged, is_met, verdict_text}
-use Rattle.noise_lines.specs.Woven.{traces_of}
+use Rattle.noise_explain.specs.FramePieces.{HaveNoFrame, SaysPiece}
+use Rattle.noise_lines.specs.Verdicts.{IsJudged, bytes_in, is_met, verdict_text}
+use Rattle.noise_lines.specs.TracedLines.{traces_of}
 use Rattle.noise_tool.specs.Ends.{IsPatternFault, IsStartFault}
 use Rattle.noise_tool.specs.Performing.{IsRunFault}
 use Rattle.noise_tool.specs.Running.{IsRunOf, expected_in}
-use Rattle.noise_tool.specs.Kept.{all_kept}
-use Rattle.noise_tool.specs.Testing.{Asked, EndsTest, HasBegun, HasTested, HaveTested, IsFront, IsOfFile, IsTested, IsVerdictOn, Judged, RunsTo, TestsPrefix}
-use Rattle.noise_tool.specs.Testing.{asked, asked_after, asked_in, failed_in, is_input, passed_in, tally_line, tested_text, verdicts_text}
-use Rattle.noise_tool.specs.TracedText.{front_of}
+use Rattle.noise_tool.specs.Selection.{all_lines}
+use Rattle.noise_tool.specs.Testing.{Asked, EndsTest, HasBegun, HasTested, HaveTested, IsBelow, IsFront, IsOfFile, IsPatternIn, IsPieceOf, IsTested, IsVerdictOn, Judged, RunsTo, SayPiece, TestsPrefix}
+use Rattle.noise_tool.specs.Testing.{asked, asked_after, asked_in, below_of, failed_in, listed, is_input, passed_in, tally_line, tested_text, verdicts_text}
+use Rattle.noise_tool.specs.TracedText.{front_if}
 use Rattle.noise_tool.specs.Tracing.{HasTraces}
-use Rattle.noise_tool.specs.declared.moment_lines.Kept.{Kept}
+use Rattle.noise_tool.specs.declared.testing.TestedRun.{TestedRun}
 use Rattle.noise_tool.specs.declared.tracing.Traced.{Traced}
 use Rattle.noise_lines.specs.declared.verdict.Verdict.{Verdict}
 use Rattle.noise_lines.specs.declared.verdict.Verdict.TheVariants.{Met, Differs, CannotRun, ExpectsNothing, NamedTwice}
 
 -- ---- the verdict on a file
 
--- the lines of a run with a trace are those of the run
-run-of : (kept : Kept) (file : VectorFile) (lines start : List (List ℕ)) (traces : List (List (List ℕ))) → HasTraces kept file lines start traces
-    → IsRunOf file lines
-run-of kept file lines start traces t = record {
-  plan = t.plan;
-  pattern = t.pattern;
-  valid = t.valid;
-  set_up = t.set_up;
-  notes = t.notes;
-  last = t.last;
-  run = t.run;
-  after = t.after;
-  are_last = t.are_last;
-  lines_are = t.lines_are;
-}
-
 -- what came of the run of a text, with a trace
 pub runs-traced : (traces : Bool) (text : List ℕ) (file : VectorFile) (result : Result Traced Fault) → IsVectorFile file → text ≡ text_of file
-    → IfOk result (λ t. HasTraces all_kept file (bytes_of t.outcome.lines.items) (bytes_of t.start.items) (traces_of t.traces.items))
+    → IfOk result (λ t. HasTraces all_lines file (bytes_of t.outcome.lines.items) (bytes_of t.start.items) (traces_of t.traces.items))
     → IfOk result (λ t. bytes_of t.outcome.expected.items ≡ expected_in file.version) → length text ≤ 4194304 → IfOk result (RunsTo traces text)
 runs-traced traces text file (Ok t) right spelled shown expected short = record {
   file = file;
   right = right;
   text_is = spelled;
   short = short;
-  run = run-of all_kept file (bytes_of t.outcome.lines.items) (bytes_of t.start.items) (traces_of t.traces.items) shown;
+  run = shown.run;
   expected = expected;
   shown = λ wanted. shown;
 }
@@ -88,20 +75,19 @@ runs-untraced traces text file (Ok t) none right spelled run expected short = re
 runs-untraced traces text file (Err why) none right spelled run expected short = tt
 
 -- why a text isn't run
-pub start-fault : (text : List ℕ) (file : VectorFile) (result : Result Traced Fault) → IsVectorFile file → text ≡ text_of file
+pub start-fault : {T : Type 0} (text : List ℕ) (file : VectorFile) (result : Result T Fault) → IsVectorFile file → text ≡ text_of file
     → IfErr result (λ why. IsStartFault file why) → IfErr result (λ why. (status_of why ≡ 3) ⊎ IsRunFault Any text why)
 start-fault text file (Ok t) right spelled is = tt
 start-fault text file (Err why) right spelled is = inr (inr (inr (file, right, spelled, is)))
 
 -- the same of a file's bytes, where they are known
-pub runs-known : (traces : Bool) (known : Option (List ℕ)) (text items : List ℕ) (result : Result Traced Fault) → text ≡ items
-    → IfSome known (λ bytes. items ≡ bytes) → IfOk result (RunsTo traces text)
-    → IfOk result (λ t. IfSome known (λ bytes. RunsTo traces bytes t))
-runs-known traces None text items (Ok t) same bytes runs = tt
-runs-known traces (Some known) text items (Ok t) same bytes runs = subst (λ (b : List ℕ). RunsTo traces b t) (same ∙ bytes) runs
-runs-known traces known text items (Err why) same bytes runs = tt
+pub ok-known : {T : Type 0} (P : List ℕ → T → Type 0) (known : Option (List ℕ)) (text items : List ℕ) (result : Result T Fault) → text ≡ items
+    → IfSome known (λ bytes. items ≡ bytes) → IfOk result (P text) → IfOk result (λ t. IfSome known (λ bytes. P bytes t))
+ok-known P None text items (Ok t) same bytes h = tt
+ok-known P (Some known) text items (Ok t) same bytes h = subst (λ (b : List ℕ). P b t) (same ∙ bytes) h
+ok-known P known text items (Err why) same bytes h = tt
 
-pub fails-known : (known : Option (List ℕ)) (text items : List ℕ) (result : Result Traced Fault) → text ≡ items
+pub fails-known : {T : Type 0} (known : Option (List ℕ)) (text items : List ℕ) (result : Result T Fault) → text ≡ items
     → IfSome known (λ bytes. items ≡ bytes) → IfErr result (λ why. (status_of why ≡ 3) ⊎ IsRunFault Any text why)
     → IfErr result (λ why. (status_of why ≡ 3) ⊎ IfSome known (λ bytes. IsRunFault Any bytes why))
 fails-known known text items (Ok t) same bytes fails = tt
@@ -110,20 +96,35 @@ fails-known (Some known) text items (Err why) same bytes fails =
     subst (λ (b : List ℕ). (status_of why ≡ 3) ⊎ IsRunFault Any b why) (same ∙ bytes) fails
 
 -- the front of the trace of a run that differs
-front-is : (traces : Bool) (file : VectorFile) (t : Traced) (verdict : Verdict)
-    → (traces ≡ true → HasTraces all_kept file (bytes_of t.outcome.lines.items) (bytes_of t.start.items) (traces_of t.traces.items))
-    → IsFront traces file (bytes_of t.outcome.lines.items) verdict (front_of verdict t)
-front-is true file t (Differs d) shown = record {
+front-is : (traces : Bool) (file : VectorFile) (t : Traced) (number : ℕ)
+    → (traces ≡ true → HasTraces all_lines file (bytes_of t.outcome.lines.items) (bytes_of t.start.items) (traces_of t.traces.items))
+    → IsFront traces file (bytes_of t.outcome.lines.items) number (front_if traces t number)
+front-is true file t number shown = record {
   start = bytes_of t.start.items;
   traces = traces_of t.traces.items;
   shown = shown refl;
   front_is = refl;
 }
-front-is true file t Met shown = tt
-front-is true file t (CannotRun why) shown = tt
-front-is true file t ExpectsNothing shown = tt
-front-is true file t NamedTwice shown = tt
-front-is false file t verdict shown = tt
+front-is false file t number shown = refl
+
+-- the lines that follow the two that differ
+below-is : (traces : Bool) (text : List ℕ) (file : VectorFile) (t : Traced) (plan : Plan) (verdict : Verdict) (piece : List (List ℕ))
+    → (traces ≡ true → HasTraces all_lines file (bytes_of t.outcome.lines.items) (bytes_of t.start.items) (traces_of t.traces.items))
+    → IsPatternIn text plan → IsPieceOf plan verdict piece
+    → IsBelow traces text file (bytes_of t.outcome.lines.items) verdict (below_of traces verdict piece t)
+below-is traces text file t plan (Differs d) piece shown pattern is = record {
+  plan = plan;
+  pattern = pattern;
+  piece = piece;
+  piece_is = is;
+  front = front_if traces t d.number;
+  front_is = front-is traces file t d.number shown;
+  below_is = refl;
+}
+below-is traces text file t plan Met piece shown pattern is = tt
+below-is traces text file t plan (CannotRun why) piece shown pattern is = tt
+below-is traces text file t plan ExpectsNothing piece shown pattern is = tt
+below-is traces text file t plan NamedTwice piece shown pattern is = tt
 
 -- a verdict on lines is of the file
 judged-file : (lines expected : List (List ℕ)) (verdict : Verdict) → IsJudged lines expected verdict → IsOfFile verdict
@@ -133,29 +134,26 @@ judged-file lines expected ExpectsNothing h = tt
 judged-file lines expected (CannotRun why) h = absurd h
 judged-file lines expected NamedTwice h = absurd h
 
-pub judged-known : (traces : Bool) (known : Option (List ℕ)) (unreadable : Bool) (t : Traced) (verdict : Verdict)
-    → IfSome known (λ bytes. RunsTo traces bytes t) → IsJudged (bytes_of t.outcome.lines.items) (bytes_of t.outcome.expected.items) verdict
-    → IsVerdictOn false traces known unreadable verdict (front_of verdict t)
-judged-known traces None unreadable t verdict runs judged = inr (judged-file _ _ verdict judged, tt)
-judged-known traces (Some bytes) unreadable t verdict runs judged = inr (
-  judged-file _ _ verdict judged,
-  inr (record {
-    file = runs.file;
-    right = runs.right;
-    text_is = runs.text_is;
-    short = runs.short;
-    lines = bytes_of t.outcome.lines.items;
-    run = runs.run;
-    judged = subst (λ (expected : List (List ℕ)). IsJudged (bytes_of t.outcome.lines.items) expected verdict) runs.expected judged;
-    front_is = front-is traces runs.file t verdict runs.shown;
-  }),
-)
-
--- nothing is added to a verdict on a file that isn't run
-text-unrun : (traces : Bool) (name : List ℕ) (why : Fault) (front : List (List ℕ))
-    → verdict_text name (CannotRun why) ≡ tested_text traces name (CannotRun why) front
-text-unrun true name why front = refl
-text-unrun false name why front = refl
+pub judged-known : (traces : Bool) (known : Option (List ℕ)) (unreadable : Bool) (run : TestedRun) (verdict : Verdict) (piece : List (List ℕ))
+    → IfSome known (λ bytes. RunsTo traces bytes run.traced) → IfSome known (λ bytes. IsPatternIn bytes run.pattern)
+    → IsJudged (bytes_of run.traced.outcome.lines.items) (bytes_of run.traced.outcome.expected.items) verdict
+    → IsPieceOf run.pattern verdict piece → IsVerdictOn false traces known unreadable verdict (below_of traces verdict piece run.traced)
+judged-known traces None unreadable run verdict piece runs pattern judged is = inr (judged-file _ _ verdict judged, tt)
+judged-known traces (Some bytes) unreadable run verdict piece runs pattern judged is =
+    let t = run.traced in
+    inr (
+      judged-file _ _ verdict judged,
+      inr (record {
+        file = runs.file;
+        right = runs.right;
+        text_is = runs.text_is;
+        short = runs.short;
+        lines = bytes_of t.outcome.lines.items;
+        run = runs.run;
+        judged = subst (λ (expected : List (List ℕ)). IsJudged (bytes_of t.outcome.lines.items) expected verdict) runs.expected judged;
+        below_is = below-is traces bytes runs.file t run.pattern verdict piece runs.shown pattern is;
+      }),
+    )
 
 -- a fault ends the command, or is a verdict
 sort-of : (why : Fault) → EndsTest why ⊎ (why ≡ fault.Unreadable) ⊎ (status_of why ≤ 2)
@@ -192,9 +190,9 @@ pub unrun-tested : (traces : Bool) (known : Option (List ℕ)) (unreadable : Boo
     → HasTested false traces known unreadable name a e false
 unrun-tested traces known unreadable name a e why verdict text is other failed fails text_is printed = record {
   verdict = CannotRun why;
-  front = [];
+  below = [];
   right = fault-known traces known unreadable why other failed fails;
-  printed = subst (λ (t : List ℕ). Appends a e t) (text_is ∙ ap (verdict_text name) is ∙ text-unrun traces name why []) printed;
+  printed = subst (λ (t : List ℕ). Appends a e t) (text_is ∙ ap (verdict_text name) is) printed;
   met_is = refl;
 }
 
@@ -204,9 +202,9 @@ pub unrun-begun : (traces : Bool) (known : Option (List ℕ)) (unreadable : Bool
     → HasBegun false traces known unreadable name a e
 unrun-begun traces known unreadable name a e why verdict text is other failed fails text_is grown = record {
   verdict = CannotRun why;
-  front = [];
+  below = [];
   right = fault-known traces known unreadable why other failed fails;
-  grown = subst (λ (t : List ℕ). AppendsPrefix a e t) (text_is ∙ ap (verdict_text name) is ∙ text-unrun traces name why []) grown;
+  grown = subst (λ (t : List ℕ). AppendsPrefix a e t) (text_is ∙ ap (verdict_text name) is) grown;
 }
 
 -- a text isn't run for what it says, or for want of memory
@@ -221,23 +219,67 @@ no-pattern-read : (block : Option Plan) (name : Section) → ¬ IsPatternFault b
 no-pattern-read None name h = h
 no-pattern-read (Some pattern) name h = h
 
-pub start-read : (file : VectorFile) (result : Result Traced Fault) → IfErr result (λ why. IsStartFault file why)
+-- why a file has no pattern is why it has no ends
+pattern-start : (file : VectorFile) (why : Fault) (block : Option Plan) → block ≡ file.block → IsPatternFault block file.protocol why
+    → IsStartFault file why
+pattern-start file (fault.Setup role f) None is h = absurd h
+pattern-start file (fault.Setup role f) (Some plan) is h = absurd h
+pattern-start file fault.Memory block is h = tt
+pattern-start file (fault.Unmet n) block is h = subst (λ (b : Option Plan). IsPatternFault b file.protocol (fault.Unmet n)) is h
+pattern-start file (fault.Rule f) block is h = subst (λ (b : Option Plan). IsPatternFault b file.protocol (fault.Rule f)) is h
+pattern-start file (fault.Place f) block is h = subst (λ (b : Option Plan). IsPatternFault b file.protocol (fault.Place f)) is h
+pattern-start file (fault.Name f) block is h = subst (λ (b : Option Plan). IsPatternFault b file.protocol (fault.Name f)) is h
+pattern-start file fault.UnknownPattern block is h = subst (λ (b : Option Plan). IsPatternFault b file.protocol fault.UnknownPattern) is h
+pattern-start file (fault.Text f) block is h = subst (λ (b : Option Plan). IsPatternFault b file.protocol (fault.Text f)) is h
+pattern-start file (fault.Line n kind) block is h = subst (λ (b : Option Plan). IsPatternFault b file.protocol (fault.Line n kind)) is h
+pattern-start file fault.TooLong block is h = subst (λ (b : Option Plan). IsPatternFault b file.protocol fault.TooLong) is h
+pattern-start file fault.Unreadable block is h = subst (λ (b : Option Plan). IsPatternFault b file.protocol fault.Unreadable) is h
+pattern-start file fault.Unwritable block is h = subst (λ (b : Option Plan). IsPatternFault b file.protocol fault.Unwritable) is h
+
+pub pattern-starts : {T : Type 0} (file : VectorFile) (block : Option Plan) (result : Result T Fault) → block ≡ file.block
+    → IfErr result (λ why. IsPatternFault block file.protocol why) → IfErr result (λ why. IsStartFault file why)
+pattern-starts file block (Ok t) is h = tt
+pattern-starts file block (Err why) is h = pattern-start file why block is h
+
+pub patterns-of : {T : Type 0} (P : Option Plan → T → Type 0) (block other : Option Plan) (result : Result T Fault) → block ≡ other
+    → IfOk result (P block) → IfOk result (P other)
+patterns-of P block other result is h = subst (λ (b : Option Plan). IfOk result (P b)) is h
+
+pub start-unread : (file : VectorFile) (why : Fault) → IsStartFault file why → ¬ (why ≡ fault.Unreadable)
+start-unread file why h = λ e. no-pattern-read file.block file.protocol (subst (IsStartFault file) e h)
+
+-- ---- the piece of a message
+
+pub say-first : (plan : Plan) (e p : Option (Vec ℕ Global)) (lines : List (List ℕ)) → e ≡ None → lines ≡ []
+    → SayPiece plan (bytes_in e) (bytes_in p) lines
+say-first plan e p lines none is = rw none is
+
+pub say-second : (plan : Plan) (e p : Option (Vec ℕ Global)) (lines : List (List ℕ)) → p ≡ None → lines ≡ []
+    → SayPiece plan (bytes_in e) (bytes_in p) lines
+say-second plan None p lines none is = is
+say-second plan (Some v) p lines none is = rw none is
+
+pub say-found : {E : Type 0} (plan : Plan) (e p found : Option (Vec ℕ Global)) (ev pv : List ℕ) (r : Result (Vec (Vec ℕ Global) Global) E)
+    → bytes_in e ≡ Some ev → bytes_in p ≡ Some pv → IfSome found (λ line. (n : ℕ) × SaysPiece plan n ev pv line.items)
+    → IfNone found (HaveNoFrame plan ev pv) → IfOk r (λ lines. bytes_of lines.items ≡ listed (bytes_in found))
+    → IfOk r (λ lines. SayPiece plan (bytes_in e) (bytes_in p) (bytes_of lines.items))
+say-found plan e p (Some line) ev pv (Ok lines) e_is p_is some none is = rw (e_is, p_is) (inl (some.0, line.items, is, some.1))
+say-found plan e p None ev pv (Ok lines) e_is p_is some none is = rw (e_is, p_is) (inr (is, none))
+say-found plan e p found ev pv (Err why) e_is p_is some none is = tt
+
+pub start-read : {T : Type 0} (file : VectorFile) (result : Result T Fault) → IfErr result (λ why. IsStartFault file why)
     → IfErr result (λ why. ¬ (why ≡ fault.Unreadable))
 start-read file (Ok t) h = tt
 start-read file (Err why) h = λ e. no-pattern-read file.block file.protocol (subst (IsStartFault file) e h)
 
 -- standard input is named twice
-text-again : (traces : Bool) (name : List ℕ) → verdict_text name NamedTwice ≡ tested_text traces name NamedTwice []
-text-again true name = refl
-text-again false name = refl
-
 pub again-tested : (traces : Bool) (known : Option (List ℕ)) (unreadable : Bool) (name : List ℕ) (a e : Option (List ℕ)) (text : List ℕ)
     → text ≡ verdict_text name NamedTwice → Appends a e text → HasTested true traces known unreadable name a e false
 again-tested traces known unreadable name a e text text_is printed = record {
   verdict = NamedTwice;
-  front = [];
+  below = [];
   right = refl;
-  printed = subst (λ (t : List ℕ). Appends a e t) (text_is ∙ text-again traces name) printed;
+  printed = subst (λ (t : List ℕ). Appends a e t) text_is printed;
   met_is = refl;
 }
 
@@ -245,9 +287,9 @@ pub again-begun : (traces : Bool) (known : Option (List ℕ)) (unreadable : Bool
     → text ≡ verdict_text name NamedTwice → AppendsPrefix a e text → HasBegun true traces known unreadable name a e
 again-begun traces known unreadable name a e text text_is grown = record {
   verdict = NamedTwice;
-  front = [];
+  below = [];
   right = refl;
-  grown = subst (λ (t : List ℕ). AppendsPrefix a e t) (text_is ∙ text-again traces name) grown;
+  grown = subst (λ (t : List ℕ). AppendsPrefix a e t) text_is grown;
 }
 
 -- ---- several files
@@ -256,7 +298,7 @@ pub none-tested : (traces : Bool) (bytes_at : List ℕ → Option (List ℕ)) (u
 none-tested traces bytes_at unreadable out = record {
   verdicts = [];
   named = refl;
-  right = All-nil (λ (v : Judged). IsVerdictOn v.again traces (bytes_at v.name) (unreadable v.name) v.verdict v.front);
+  right = All-nil (λ (v : Judged). IsVerdictOn v.again traces (bytes_at v.name) (unreadable v.name) v.verdict v.below);
   printed = Appends-nil out;
   passed_is = refl;
   failed_is = refl;
@@ -271,13 +313,13 @@ tested-more : (traces : Bool) (bytes_at : List ℕ → Option (List ℕ)) (unrea
     (met : Bool) (p f : ℕ) → HaveTested traces bytes_at unreadable names a m passed failed → HasTested again traces (bytes_at name) (unreadable name) name m e met → p ≡ passed + cond met 1 0
     → f ≡ failed + cond (not met) 1 0 → HaveTested traces bytes_at unreadable (names ++ (name, again) ∷ []) a e p f
 tested-more traces bytes_at unreadable names name again a m e passed failed met p f before one p_is f_is =
-    let this : Judged = record { name = name; again = again; verdict = one.verdict; front = one.front } in
+    let this : Judged = record { name = name; again = again; verdict = one.verdict; below = one.below } in
     record {
       verdicts = before.verdicts ++ this ∷ [];
       named = map_push asked_in before.verdicts this ∙ ap (λ (ns : List Asked). ns ++ (name, again) ∷ []) before.named;
-      right = All-push (λ (v : Judged). IsVerdictOn v.again traces (bytes_at v.name) (unreadable v.name) v.verdict v.front) before.verdicts this before.right one.right;
-      printed = subst (λ (t : List ℕ). Appends a e t) (flat_map_more (λ (v : Judged). tested_text traces v.name v.verdict v.front) [] before.verdicts this)
-          (Appends-trans a m e (verdicts_text traces before.verdicts) (tested_text traces name one.verdict one.front) before.printed one.printed);
+      right = All-push (λ (v : Judged). IsVerdictOn v.again traces (bytes_at v.name) (unreadable v.name) v.verdict v.below) before.verdicts this before.right one.right;
+      printed = subst (λ (t : List ℕ). Appends a e t) (flat_map_more (λ (v : Judged). tested_text v.name v.verdict v.below) [] before.verdicts this)
+          (Appends-trans a m e (verdicts_text before.verdicts) (tested_text name one.verdict one.below) before.printed one.printed);
       passed_is = p_is ∙ ap₂ (λ (n : ℕ) (b : Bool). n + cond b 1 0) before.passed_is one.met_is
           ∙ sym (counted (λ (v : Judged). is_met v.verdict) before.verdicts this);
       failed_is = f_is ∙ ap₂ (λ (n : ℕ) (b : Bool). n + cond (not b) 1 0) before.failed_is one.met_is
@@ -317,9 +359,9 @@ whole-tested traces bytes_at unreadable names a m n e passed failed status tally
       verdicts = before.verdicts;
       named = before.named;
       right = before.right;
-      printed = kept-appends a n e _ (subst (λ (t : List ℕ). Appends a n (verdicts_text traces before.verdicts ++ t))
+      printed = kept-appends a n e _ (subst (λ (t : List ℕ). Appends a n (verdicts_text before.verdicts ++ t))
           (tally_is ∙ ap₂ tally_line before.passed_is before.failed_is)
-          (Appends-trans a m n (verdicts_text traces before.verdicts) tally before.printed written)) kept;
+          (Appends-trans a m n (verdicts_text before.verdicts) tally before.printed written)) kept;
       status_is = status_is ∙ ap (λ (k : ℕ). if k == 0 then 0 else 1) before.failed_is;
     }
 
@@ -351,37 +393,67 @@ pub err-any : {T E : Type 0} (result : Result T E) (P : Type 0) → P → IfErr 
 err-any (Ok x) P h = tt
 err-any (Err e) P h = h
 
--- the text of a verdict is what is printed first
-verdict-first : (traces : Bool) (name : List ℕ) (verdict : Verdict) (front : List (List ℕ))
-    → (more : List ℕ) × (verdict_text name verdict ++ more ≡ tested_text traces name verdict front)
-verdict-first true name (Differs d) front = (lines_text front, refl)
-verdict-first true name Met front = ([], append-nil _)
-verdict-first true name (CannotRun why) front = ([], append-nil _)
-verdict-first true name ExpectsNothing front = ([], append-nil _)
-verdict-first true name NamedTwice front = ([], append-nil _)
-verdict-first false name verdict front = ([], append-nil _)
+pub on-ok-map : {T E : Type 0} (r : Result T E) (P Q : Type 0) → (P → Q) → OnOk r P → OnOk r Q
+on-ok-map (Ok t) P Q f h = f h
+on-ok-map (Err e) P Q f h = tt
 
-pub verdict-prefix : (traces : Bool) (name : List ℕ) (verdict : Verdict) (front : List (List ℕ)) (a e : Option (List ℕ)) (text : List ℕ)
-    → text ≡ verdict_text name verdict → AppendsPrefix a e text → AppendsPrefix a e (tested_text traces name verdict front)
-verdict-prefix traces name verdict front a e text is grown =
-    let more = verdict-first traces name verdict front in
+pub if-err-map : {T E : Type 0} (r : Result T E) (P Q : Type 0) → (P → Q) → IfErr r (λ _. P) → IfErr r (λ _. Q)
+if-err-map (Ok t) P Q f h = tt
+if-err-map (Err e) P Q f h = f h
+
+-- the text of a verdict is what is printed first
+verdict-first : (name : List ℕ) (verdict : Verdict) (below : List (List ℕ))
+    → (more : List ℕ) × (verdict_text name verdict ++ more ≡ tested_text name verdict below)
+verdict-first name (Differs d) below = (lines_text below, refl)
+verdict-first name Met below = ([], append-nil _)
+verdict-first name (CannotRun why) below = ([], append-nil _)
+verdict-first name ExpectsNothing below = ([], append-nil _)
+verdict-first name NamedTwice below = ([], append-nil _)
+
+pub verdict-prefix : (name : List ℕ) (verdict : Verdict) (below : List (List ℕ)) (a e : Option (List ℕ)) (text : List ℕ)
+    → text ≡ verdict_text name verdict → AppendsPrefix a e text → AppendsPrefix a e (tested_text name verdict below)
+verdict-prefix name verdict below a e text is grown =
+    let more = verdict-first name verdict below in
     subst (λ (t : List ℕ). AppendsPrefix a e t) more.1 (more-prefix a e (verdict_text name verdict) more.0
     (subst (λ (t : List ℕ). AppendsPrefix a e t) is grown))
 
-pub front-prefix : (traces : Bool) (name : List ℕ) (d : Difference) (t : Traced) (a m e : Option (List ℕ)) (text : List ℕ) → traces ≡ true
-    → text ≡ verdict_text name (Differs d) → Appends a m text → AppendsPrefix m e (lines_text (front_of (Differs d) t))
-    → AppendsPrefix a e (tested_text traces name (Differs d) (front_of (Differs d) t))
-front-prefix traces name d t a m e text wanted is written grown =
-    rw wanted (after-prefix a m e (verdict_text name (Differs d)) (lines_text (front_of (Differs d) t))
-    (subst (λ (x : List ℕ). Appends a m x) is written) grown)
+-- two lists of lines
+pub lines-both : (first more : List (List ℕ)) → lines_text (first ++ more) ≡ lines_text first ++ lines_text more
+lines-both first more = flat_map-append line first more
 
-pub judged-begun : (traces : Bool) (known : Option (List ℕ)) (unreadable : Bool) (name : List ℕ) (t : Traced) (verdict : Verdict) (a e : Option (List ℕ))
-    → IfSome known (λ bytes. RunsTo traces bytes t) → IsJudged (bytes_of t.outcome.lines.items) (bytes_of t.outcome.expected.items) verdict
-    → AppendsPrefix a e (tested_text traces name verdict (front_of verdict t)) → HasBegun false traces known unreadable name a e
-judged-begun traces known unreadable name t verdict a e runs judged grown = record {
+-- the lines that follow, as far as they are written
+pub piece-prefix : (name : List ℕ) (d : Difference) (piece front : List (List ℕ)) (a m e : Option (List ℕ)) (text : List ℕ)
+    → text ≡ verdict_text name (Differs d) → Appends a m text → AppendsPrefix m e (lines_text piece)
+    → AppendsPrefix a e (tested_text name (Differs d) (piece ++ front))
+piece-prefix name d piece front a m e text is written grown =
+    after-prefix a m e (verdict_text name (Differs d)) (lines_text (piece ++ front)) (subst (λ (x : List ℕ). Appends a m x) is written)
+    (subst (λ (x : List ℕ). AppendsPrefix m e x) (sym (lines-both piece front)) (more-prefix m e (lines_text piece) (lines_text front) grown))
+
+pub front-prefix : (name : List ℕ) (d : Difference) (piece front : List (List ℕ)) (a m n e : Option (List ℕ)) (text : List ℕ)
+    → text ≡ verdict_text name (Differs d) → Appends a m text → Appends m n (lines_text piece) → AppendsPrefix n e (lines_text front)
+    → AppendsPrefix a e (tested_text name (Differs d) (piece ++ front))
+front-prefix name d piece front a m n e text is written next grown =
+    after-prefix a m e (verdict_text name (Differs d)) (lines_text (piece ++ front)) (subst (λ (x : List ℕ). Appends a m x) is written)
+    (subst (λ (x : List ℕ). AppendsPrefix m e x) (sym (lines-both piece front))
+    (after-prefix m n e (lines_text piece) (lines_text front) next grown))
+
+pub front-written : (name : List ℕ) (d : Difference) (piece front : List (List ℕ)) (a m n e : Option (List ℕ)) (text : List ℕ)
+    → text ≡ verdict_text name (Differs d) → Appends a m text → Appends m n (lines_text piece) → Appends n e (lines_text front)
+    → Appends a e (tested_text name (Differs d) (piece ++ front))
+front-written name d piece front a m n e text is written next last =
+    Appends-trans a m e (verdict_text name (Differs d)) (lines_text (piece ++ front)) (subst (λ (x : List ℕ). Appends a m x) is written)
+    (subst (λ (x : List ℕ). Appends m e x) (sym (lines-both piece front))
+    (Appends-trans m n e (lines_text piece) (lines_text front) next last))
+
+pub judged-begun : (traces : Bool) (known : Option (List ℕ)) (unreadable : Bool) (name : List ℕ) (run : TestedRun) (verdict : Verdict)
+    (piece : List (List ℕ)) (a e : Option (List ℕ)) → IfSome known (λ bytes. RunsTo traces bytes run.traced)
+    → IfSome known (λ bytes. IsPatternIn bytes run.pattern) → IsJudged (bytes_of run.traced.outcome.lines.items) (bytes_of run.traced.outcome.expected.items) verdict
+    → IsPieceOf run.pattern verdict piece → AppendsPrefix a e (tested_text name verdict (below_of traces verdict piece run.traced))
+    → HasBegun false traces known unreadable name a e
+judged-begun traces known unreadable name run verdict piece a e runs pattern judged is grown = record {
   verdict = verdict;
-  front = front_of verdict t;
-  right = judged-known traces known unreadable t verdict runs judged;
+  below = below_of traces verdict piece run.traced;
+  right = judged-known traces known unreadable run verdict piece runs pattern judged is;
   grown = grown;
 }
 
@@ -396,8 +468,8 @@ none-begun traces bytes_at unreadable names others all a e passed failed is befo
   right = before.right;
   last = [];
   last_is = inl refl;
-  grown = subst (λ (t : List ℕ). AppendsPrefix a e t) (sym (append-nil (verdicts_text traces before.verdicts)))
-      (whole-prefix a e (verdicts_text traces before.verdicts) before.printed);
+  grown = subst (λ (t : List ℕ). AppendsPrefix a e t) (sym (append-nil (verdicts_text before.verdicts)))
+      (whole-prefix a e (verdicts_text before.verdicts) before.printed);
 }
 
 -- the next file has begun
@@ -410,22 +482,22 @@ one-begun {O = O} contents traces bytes_at unreadable names others all name agai
     subst (λ (o : O). TestsPrefix traces bytes_at unreadable all a (contents o)) (sym same)
     (none-begun traces bytes_at unreadable names ((name, again) ∷ others) all a (contents old) passed failed is before)
 one-begun contents traces bytes_at unreadable names others all name again a old new passed failed is before (inr one) =
-    let this : Judged = record { name = name; again = again; verdict = one.verdict; front = one.front } in
-    let text = tested_text traces name one.verdict one.front in
+    let this : Judged = record { name = name; again = again; verdict = one.verdict; below = one.below } in
+    let text = tested_text name one.verdict one.below in
     let named : map asked_in (before.verdicts ++ this ∷ []) ≡ names ++ (name, again) ∷ [] =
     map_push asked_in before.verdicts this ∙ ap (λ (ns : List Asked). ns ++ (name, again) ∷ []) before.named in
-    let whole : verdicts_text traces before.verdicts ++ text ≡ verdicts_text traces (before.verdicts ++ this ∷ []) ++ [] =
-    flat_map_more (λ (v : Judged). tested_text traces v.name v.verdict v.front) [] before.verdicts this
-    ∙ sym (append-nil (verdicts_text traces (before.verdicts ++ this ∷ []))) in
+    let whole : verdicts_text before.verdicts ++ text ≡ verdicts_text (before.verdicts ++ this ∷ []) ++ [] =
+    flat_map_more (λ (v : Judged). tested_text v.name v.verdict v.below) [] before.verdicts this
+    ∙ sym (append-nil (verdicts_text (before.verdicts ++ this ∷ []))) in
     record {
       verdicts = before.verdicts ++ this ∷ [];
       others = others;
       named = ap (λ (ns : List Asked). ns ++ others) named ∙ append_assoc names ((name, again) ∷ []) others ∙ is;
-      right = All-push (λ (v : Judged). IsVerdictOn v.again traces (bytes_at v.name) (unreadable v.name) v.verdict v.front) before.verdicts this before.right one.right;
+      right = All-push (λ (v : Judged). IsVerdictOn v.again traces (bytes_at v.name) (unreadable v.name) v.verdict v.below) before.verdicts this before.right one.right;
       last = [];
       last_is = inl refl;
       grown = subst (λ (t : List ℕ). AppendsPrefix a (contents new) t) whole
-          (after-prefix a (contents old) (contents new) (verdicts_text traces before.verdicts) text before.printed one.grown);
+          (after-prefix a (contents old) (contents new) (verdicts_text before.verdicts) text before.printed one.grown);
     }
 
 -- all files are tested, and the last line has begun
@@ -439,7 +511,7 @@ last-begun traces bytes_at unreadable names a m e passed failed tally before tal
   right = before.right;
   last = tally;
   last_is = inr (refl, tally_is ∙ ap₂ tally_line before.passed_is before.failed_is);
-  grown = after-prefix a m e (verdicts_text traces before.verdicts) tally before.printed grown;
+  grown = after-prefix a m e (verdicts_text before.verdicts) tally before.printed grown;
 }
 
 -- and written, and kept
@@ -528,25 +600,25 @@ ends-three : (why : Fault) → EndsTest why → status_of why ≡ 3
 ends-three why (inl is) = ap status_of is
 ends-three why (inr is) = ap status_of is
 
-pub told-three : (why : Fault) (result : ℕ) → EndsTest why → (result ≡ status_of why) ⊎ (result ≡ 3) → result ≡ 3
-told-three why result ends (inl is) = is ∙ ends-three why ends
-told-three why result ends (inr is) = is
+pub reported-three : (why : Fault) (result : ℕ) → EndsTest why → (result ≡ status_of why) ⊎ (result ≡ 3) → result ≡ 3
+reported-three why result ends (inl is) = is ∙ ends-three why ends
+reported-three why result ends (inr is) = is
 
-pub told-ends : (why : Fault) (result : ℕ) (a b : Option (List ℕ)) → EndsTest why
-    → (told : Fault) × IsToldOf why told × (status_of told ≡ result) × AppendsPrefix a b (error_text told)
+pub reported-ends : (why : Fault) (result : ℕ) (a b : Option (List ℕ)) → EndsTest why
+    → (reported : Fault) × IsReportedOf why reported × (status_of reported ≡ result) × AppendsPrefix a b (error_text reported)
     → (f : Fault) × EndsTest f × AppendsPrefix a b (error_text f)
-told-ends why result a b ends (told, inl is, status, grown) = (told, subst EndsTest (sym is) ends, grown)
-told-ends why result a b ends (told, inr (inl is), status, grown) = (told, inl is, grown)
-told-ends why result a b ends (told, inr (inr is), status, grown) = (told, inr is, grown)
+reported-ends why result a b ends (reported, inl is, status, grown) = (reported, subst EndsTest (sym is) ends, grown)
+reported-ends why result a b ends (reported, inr (inl is), status, grown) = (reported, inl is, grown)
+reported-ends why result a b ends (reported, inr (inr is), status, grown) = (reported, inr is, grown)
 
 -- what is reported leaves the output
-pub told-left : {O : Type 0} (contents : O → Option (List ℕ)) (why : Fault) (middle new : O) → EndsTest why → LeavesOutput contents why middle new
+pub reported-left : {O : Type 0} (contents : O → Option (List ℕ)) (why : Fault) (middle new : O) → EndsTest why → LeavesOutput contents why middle new
     → new ≡ middle
-told-left contents why middle new (inl is) h = subst (λ (f : Fault). LeavesOutput contents f middle new) is h
-told-left contents why middle new (inr is) h = subst (λ (f : Fault). LeavesOutput contents f middle new) is h
+reported-left contents why middle new (inl is) h = subst (λ (f : Fault). LeavesOutput contents f middle new) is h
+reported-left contents why middle new (inr is) h = subst (λ (f : Fault). LeavesOutput contents f middle new) is h
 
 pub left-begun : {O : Type 0} (contents : O → Option (List ℕ)) (traces : Bool) (bytes_at : List ℕ → Option (List ℕ)) (unreadable : List ℕ → Bool)
     (names : List (List ℕ)) (a : Option (List ℕ)) (why : Fault) (middle new : O) → EndsTest why → LeavesOutput contents why middle new
     → TestsPrefix traces bytes_at unreadable names a (contents middle) → TestsPrefix traces bytes_at unreadable names a (contents new)
 left-begun {O = O} contents traces bytes_at unreadable names a why middle new ends left begun =
-    subst (λ (o : O). TestsPrefix traces bytes_at unreadable names a (contents o)) (sym (told-left contents why middle new ends left)) begun
+    subst (λ (o : O). TestsPrefix traces bytes_at unreadable names a (contents o)) (sym (reported-left contents why middle new ends left)) begun

@@ -5,7 +5,7 @@ use Rattle.noise_events.specs.Events.{Event}
 use Rattle.noise_duel.specs.declared.entry.Entry.{Entry}
 use Rattle.noise_duel.specs.declared.report.Report.{Report}
 use Rattle.noise_duel.specs.Entries.{bytes_of as frames_in, notes_of}
-use Rattle.noise_duel.specs.HeldDuel.{DuelStands, HeldDuel}
+use Rattle.noise_duel.specs.DuelValue.{DuelMatches, DuelValue}
 use Rattle.noise_duel.specs.Notes.{Note}
 use Rattle.noise_duel.specs.OneEvent.{HasHappened}
 use Rattle.noise_duel.specs.Runs.{Run}
@@ -15,14 +15,14 @@ use Rattle.noise_vectors.specs.FileKeys.{agreement_of, public_of}
 use Rattle.noise_vectors.specs.declared.file_keys.FileKeys.{FileKeys}
 use Rattle.noise_tool.specs.TracedEnds.{EndsTraced, HasRunTraced, HasTracedTo, IsNewSides}
 use Rattle.noise_tool.specs.Tracing.{happened_traces, run_traces}
-use Rattle.noise_tool.specs.declared.moment_lines.Kept.{Kept}
+use Rattle.noise_tool.specs.declared.key_use_lines.Selection.{Selection}
 use Rattle.noise_tool.specs.declared.traced_ends.TracedEnds.{TracedEnds}
 
 abbrev Traces : Type 0
 Traces = List (List (List ℕ))
 
 abbrev Duel : Type 0
-Duel = HeldDuel FileKeys FileKeys
+Duel = DuelValue FileKeys FileKeys
 
 abbrev Noted : Type 0
 Noted = List (Role × Note)
@@ -44,25 +44,25 @@ new-notes before after part notes n count is e =
     ap notes_of is ∙ ap (λ (k : ℕ). notes_of (drop k after)) count ∙ notes-after before after notes e
 
 -- what comes of the events that are left
-abbrev GoesOn : Kept → Sides → List Event → Report → Traces → Sides → List Event → Type 0
-GoesOn kept d events report traces now rest = (notes : Noted) (last : Sides) (run : Run now rest notes last)
+abbrev GoesOn : Selection → Sides → List Event → Report → Traces → Sides → List Event → Type 0
+GoesOn selection d events report traces now rest = (notes : Noted) (last : Sides) (run : Run now rest notes last)
     → (all : Noted) × (whole : Run d events all last) × (all ≡ notes_of report.entries.items ++ notes)
-    × (run_traces kept d last events all whole ≡ traces ++ run_traces kept now last rest notes run)
+    × (run_traces selection d last events all whole ≡ traces ++ run_traces selection now last rest notes run)
 
 -- before the first event
-pub none-traced : (kept : Kept) (d : Sides) (events : List Event) (duel : Duel) (report : Report) (traced : TracedEnds) (traces : Traces)
-    → DuelStands public_of agreement_of public_of agreement_of duel d → IsNewSides d → EndsTraced traced d → traces ≡ []
+pub none-traced : (selection : Selection) (d : Sides) (events : List Event) (duel : Duel) (report : Report) (traced : TracedEnds) (traces : Traces)
+    → DuelMatches public_of agreement_of public_of agreement_of duel d → IsNewSides d → EndsTraced traced d → traces ≡ []
     → report.initiator.items ≡ [] → report.responder.items ≡ [] → report.entries.items ≡ []
-    → HasTracedTo kept d events events duel report traced traces
-none-traced kept d events duel report traced traces stands new follows none first second entries = record {
+    → HasTracedTo selection d events events duel report traced traces
+none-traced selection d events duel report traced traces matches new follows none first second entries = record {
   now = d;
   goes_on = λ notes last run. (
     notes,
     run,
     ap (λ (es : List (Role × Entry)). notes_of es ++ notes) (sym entries),
-    ap (λ (ts : Traces). ts ++ run_traces kept d last events notes run) (sym none),
+    ap (λ (ts : Traces). ts ++ run_traces selection d last events notes run) (sym none),
   );
-  stands = stands;
+  matches = matches;
   frames = record {
     initiator = ap frames_in first ∙ sym new.0;
     responder = ap frames_in second ∙ sym new.1;
@@ -71,15 +71,15 @@ none-traced kept d events duel report traced traces stands new follows none firs
 }
 
 -- one event more
-pub one-traced : (kept : Kept) (d : Sides) (events rest later : List Event) (event : Event) (duel after : Duel) (report told : Report)
+pub one-traced : (selection : Selection) (d : Sides) (events rest later : List Event) (event : Event) (duel after : Duel) (report reported : Report)
     (traced followed : TracedEnds) (traces grown : Traces) → rest ≡ event ∷ later
-    → (h : HasTracedTo kept d events rest duel report traced traces)
-    → (e : HasHappened public_of agreement_of public_of agreement_of h.now event after report told)
-    → (grown ≡ traces ++ happened_traces kept h.now e.next event e.notes e.happens) × EndsTraced followed e.next
-    → HasTracedTo kept d events later after told followed grown
-one-traced kept d events rest later event duel after report told traced followed traces grown is h e made =
-    let on : GoesOn kept d events report traces h.now (event ∷ later) =
-    subst (λ (z : List Event). GoesOn kept d events report traces h.now z) is h.goes_on in
+    → (h : HasTracedTo selection d events rest duel report traced traces)
+    → (e : HasHappened public_of agreement_of public_of agreement_of h.now event after report reported)
+    → (grown ≡ traces ++ happened_traces selection h.now e.next event e.notes e.happens) × EndsTraced followed e.next
+    → HasTracedTo selection d events later after reported followed grown
+one-traced selection d events rest later event duel after report reported traced followed traces grown is h e made =
+    let on : GoesOn selection d events report traces h.now (event ∷ later) =
+    subst (λ (z : List Event). GoesOn selection d events report traces h.now z) is h.goes_on in
     record {
       now = e.next;
       goes_on = λ notes last run.
@@ -89,19 +89,19 @@ one-traced kept d events rest later event duel after report told traced followed
             all_is ∙ sym (append_assoc (notes_of report.entries.items) e.notes notes)
                 ∙ ap (λ (ns : Noted). ns ++ notes) (sym e.entries),
             traces_are
-                ∙ sym (append_assoc traces (happened_traces kept h.now e.next event e.notes e.happens) (run_traces kept e.next last later notes run))
-                ∙ ap (λ (ts : Traces). ts ++ run_traces kept e.next last later notes run) (sym made.0),
+                ∙ sym (append_assoc traces (happened_traces selection h.now e.next event e.notes e.happens) (run_traces selection e.next last later notes run))
+                ∙ ap (λ (ts : Traces). ts ++ run_traces selection e.next last later notes run) (sym made.0),
           );
-      stands = e.stands;
+      matches = e.matches;
       frames = e.frames;
       traced = made.1;
     }
 
 -- all events
-pub all-traced : (kept : Kept) (d : Sides) (events rest : List Event) (duel : Duel) (report : Report) (traced : TracedEnds) (traces : Traces) → rest ≡ []
-    → HasTracedTo kept d events rest duel report traced traces → HasRunTraced kept d events duel report traced traces
-all-traced kept d events rest duel report traced traces none h =
-    let on : GoesOn kept d events report traces h.now [] = subst (λ (z : List Event). GoesOn kept d events report traces h.now z) none h.goes_on in
+pub all-traced : (selection : Selection) (d : Sides) (events rest : List Event) (duel : Duel) (report : Report) (traced : TracedEnds) (traces : Traces) → rest ≡ []
+    → HasTracedTo selection d events rest duel report traced traces → HasRunTraced selection d events duel report traced traces
+all-traced selection d events rest duel report traced traces none h =
+    let on : GoesOn selection d events report traces h.now [] = subst (λ (z : List Event). GoesOn selection d events report traces h.now z) none h.goes_on in
     let (all, whole, all_is, traces_are) = on [] h.now (ends h.now) in
     record {
       notes = all;
@@ -109,7 +109,7 @@ all-traced kept d events rest duel report traced traces none h =
       last = h.now;
       run = whole;
       traces_are = sym (traces_are ∙ append-nil traces);
-      stands = h.stands;
+      matches = h.matches;
       frames = h.frames;
       traced = h.traced;
     }

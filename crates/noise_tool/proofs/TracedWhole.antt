@@ -4,18 +4,18 @@ use Rattle.noise_names.specs.declared.token.Role.{Role}
 use Rattle.noise_events.specs.Events.{Event as Act, events_of}
 use Rattle.noise_duel.specs.declared.report.Report.{Report}
 use Rattle.noise_duel.specs.Entries.{notes_of}
-use Rattle.noise_duel.specs.HeldDuel.{HeldDuel}
+use Rattle.noise_duel.specs.DuelValue.{DuelValue}
 use Rattle.noise_duel.specs.Notes.{Note}
 use Rattle.noise_duel.specs.Sides.{Sides}
 use Rattle.noise_vectors.specs.declared.file_keys.FileKeys.{FileKeys}
 use Rattle.noise_vectors.specs.declared.vector.FileDatagrams.{FileDatagrams}
 use Rattle.noise_vectors.specs.declared.vector.VectorFile.{VectorFile}
-use Rattle.noise_tool.specs.Ends.{facing_in}
+use Rattle.noise_tool.specs.Ends.{sides_of_file}
 use Rattle.noise_tool.specs.Printed.{note_line}
 use Rattle.noise_tool.specs.Running.{AreLast, datagrams_in}
 use Rattle.noise_tool.specs.TracedEnds.{AreTracedEnds, HasRunTraced}
 use Rattle.noise_tool.specs.Tracing.{HasTraces, last_traces, start_traces}
-use Rattle.noise_tool.specs.declared.moment_lines.Kept.{Kept}
+use Rattle.noise_tool.specs.declared.key_use_lines.Selection.{Selection}
 use Rattle.noise_tool.specs.declared.traced_ends.TracedEnds.{TracedEnds}
 use Rattle.noise_tool.specs.declared.traced_ends.TracedStart.{TracedStart}
 
@@ -26,56 +26,56 @@ abbrev Lines : Type 0
 Lines = List (List ℕ)
 
 -- the lines after the events, and those of the key schedules there
-record Closed (kept : Kept) (over : Option FileDatagrams) (last : Sides) (lines whole : Lines) (traces pushed : Traces) : Type 0 where
+record HasEnded (selection : Selection) (over : Option FileDatagrams) (last : Sides) (lines whole : Lines) (traces pushed : Traces) : Type 0 where
   pub after : Lines
   pub are_last : AreLast over last after
   pub whole_is : whole ≡ lines ++ after
-  pub pushed_is : pushed ≡ traces ++ last_traces kept over last after are_last
+  pub pushed_is : pushed ≡ traces ++ last_traces selection over last after are_last
 
-closed-of : (kept : Kept) (over : Option FileDatagrams) (last : Sides) (lines whole : Lines) (traces pushed : Traces)
-    → ((after : Lines) (are_last : AreLast over last after) → pushed ≡ traces ++ last_traces kept over last after are_last)
-    → (after : Lines) × AreLast over last after × (whole ≡ lines ++ after) → Closed kept over last lines whole traces pushed
-closed-of kept over last lines whole traces pushed keys c = record {
+ended_session-of : (selection : Selection) (over : Option FileDatagrams) (last : Sides) (lines whole : Lines) (traces pushed : Traces)
+    → ((after : Lines) (are_last : AreLast over last after) → pushed ≡ traces ++ last_traces selection over last after are_last)
+    → (after : Lines) × AreLast over last after × (whole ≡ lines ++ after) → HasEnded selection over last lines whole traces pushed
+ended_session-of selection over last lines whole traces pushed keys c = record {
   after = c.0;
   are_last = c.1;
   whole_is = c.2;
   pushed_is = keys c.0 c.1;
 }
 
-pub traced-whole : (kept : Kept) (file : VectorFile) (made : TracedStart) (a : AreTracedEnds kept file made) (events : List Act)
-    (duel : HeldDuel FileKeys FileKeys) (report : Report) (ends : TracedEnds) (traces pushed : Traces) (start lines whole : Lines)
+pub traced-whole : (selection : Selection) (file : VectorFile) (made : TracedStart) (a : AreTracedEnds selection file made) (events : List Act)
+    (duel : DuelValue FileKeys FileKeys) (report : Report) (ends : TracedEnds) (traces pushed : Traces) (start lines whole : Lines)
     → events ≡ events_of file.events.items
-    → (r : HasRunTraced kept (facing_in file a.plan) events duel report ends traces)
-    → start ≡ start_traces kept file a.plan
+    → (r : HasRunTraced selection (sides_of_file file a.plan) events duel report ends traces)
+    → start ≡ start_traces selection file a.plan
     → lines ≡ map (note_line r.last) (notes_of report.entries.items)
     → ((after : Lines) (are_last : AreLast (datagrams_in made.version) r.last after)
-    → pushed ≡ traces ++ last_traces kept (datagrams_in made.version) r.last after are_last)
+    → pushed ≡ traces ++ last_traces selection (datagrams_in made.version) r.last after are_last)
     → (after : Lines) × AreLast (datagrams_in made.version) r.last after × (whole ≡ lines ++ after)
-    → HasTraces kept file whole start pushed
-traced-whole kept file made a events duel report ends traces pushed start lines whole same r start_is lines_is keys closes =
-    let closed : Closed kept (datagrams_in file.version) r.last lines whole traces pushed =
-    subst (λ (o : Option FileDatagrams). Closed kept o r.last lines whole traces pushed) (ap datagrams_in a.version)
-    (closed-of kept (datagrams_in made.version) r.last lines whole traces pushed keys closes) in
-    of-parts closed (subst (λ (z : List Act). (q : HasRunTraced kept (facing_in file a.plan) z duel report ends traces) × (q.last ≡ r.last)) same (r, refl))
+    → HasTraces selection file whole start pushed
+traced-whole selection file made a events duel report ends traces pushed start lines whole same r start_is lines_is keys closes =
+    let ended_session : HasEnded selection (datagrams_in file.version) r.last lines whole traces pushed =
+    subst (λ (o : Option FileDatagrams). HasEnded selection o r.last lines whole traces pushed) (ap datagrams_in a.version)
+    (ended_session-of selection (datagrams_in made.version) r.last lines whole traces pushed keys closes) in
+    of-parts ended_session (subst (λ (z : List Act). (q : HasRunTraced selection (sides_of_file file a.plan) z duel report ends traces) × (q.last ≡ r.last)) same (r, refl))
   where
-    of-parts : Closed kept (datagrams_in file.version) r.last lines whole traces pushed
-        → (q : HasRunTraced kept (facing_in file a.plan) (events_of file.events.items) duel report ends traces) × (q.last ≡ r.last)
-        → HasTraces kept file whole start pushed
-    of-parts closed (q, last_is) =
-        let here : Closed kept (datagrams_in file.version) q.last lines whole traces pushed =
-        subst (λ (z : Sides). Closed kept (datagrams_in file.version) z lines whole traces pushed) (sym last_is) closed in
+    of-parts : HasEnded selection (datagrams_in file.version) r.last lines whole traces pushed
+        → (q : HasRunTraced selection (sides_of_file file a.plan) (events_of file.events.items) duel report ends traces) × (q.last ≡ r.last)
+        → HasTraces selection file whole start pushed
+    of-parts ended_session (q, last_is) =
+        let here : HasEnded selection (datagrams_in file.version) q.last lines whole traces pushed =
+        subst (λ (z : Sides). HasEnded selection (datagrams_in file.version) z lines whole traces pushed) (sym last_is) ended_session in
         record {
-          plan = a.plan;
-          pattern = a.pattern;
-          valid = a.valid;
-          set_up = a.set_up;
-          notes = q.notes;
-          last = q.last;
-          run = q.run;
-          after = here.after;
-          are_last = here.are_last;
-          lines_are = here.whole_is ∙ ap (λ (z : Lines). z ++ here.after)
-              (lines_is ∙ ap₂ (λ (d : Sides) (ns : List (Role × Note)). map (note_line d) ns) (sym last_is) q.notes_are);
+          run = record {
+            plan = a.plan;
+            of_file = a.of_file;
+            notes = q.notes;
+            last = q.last;
+            run = q.run;
+            after = here.after;
+            are_last = here.are_last;
+            lines_are = here.whole_is ∙ ap (λ (z : Lines). z ++ here.after)
+                (lines_is ∙ ap₂ (λ (d : Sides) (ns : List (Role × Note)). map (note_line d) ns) (sym last_is) q.notes_are);
+          };
           start_is = start_is;
-          traces_are = here.pushed_is ∙ ap (λ (z : Traces). z ++ last_traces kept (datagrams_in file.version) q.last here.after here.are_last) q.traces_are;
+          traces_are = here.pushed_is ∙ ap (λ (z : Traces). z ++ last_traces selection (datagrams_in file.version) q.last here.after here.are_last) q.traces_are;
         }

@@ -9,7 +9,7 @@ use Rattle.noise_vectors.specs.VectorText.{text_of}
 use Rattle.noise_vectors.specs.declared.vector.VectorFile.{VectorFile}
 use Rattle.noise_tool.specs.Explaining.{IsExplainedFile, IsExplainedRun, IsExplainedText, IsExplainedVector}
 
--- a right file is told
+-- a right file is reported
 pub file-said : (name text : List ℕ) (file : VectorFile) (r : Result Explained Fault) → IsVectorFile file → text ≡ text_of file
     → IfOk r (IsExplainedRun name file) → IfOk r (IsExplainedVector name text)
 file-said name text file (Ok e) right is said = inl (record { file = file; right = right; text_is = is; said = said })
@@ -22,8 +22,7 @@ vector-said name text (Ok e) is said = inl (is, said)
 vector-said name text (Err why) is said = tt
 
 -- of the bytes that are known
-pub bytes-said : (known : Option (List ℕ)) (name text items : List ℕ) (r : Result Explained Fault) → text ≡ items → IfSome known (λ bytes. items ≡ bytes)
-    → IfOk r (IsExplainedText name text) → IfOk r (IsExplainedFile known name)
-bytes-said None name text items (Ok e) is same said = tt
-bytes-said (Some bytes) name text items (Ok e) is same said = inl (subst (λ (t : List ℕ). IsExplainedText name t e) (is ∙ same) said)
-bytes-said known name text items (Err why) is same said = tt
+pub bytes-said : (known : Option (List ℕ)) (name text items : List ℕ) (e : Explained) → text ≡ items → IfSome known (λ bytes. items ≡ bytes)
+    → IsExplainedText name text e → IsExplainedFile known name e
+bytes-said None name text items e is same said = tt
+bytes-said (Some bytes) name text items e is same said = inl (subst (λ (t : List ℕ). IsExplainedText name t e) (is ∙ same) said)

@@ -9,7 +9,7 @@ use Rattle.noise_compare.specs.declared.comparing.Finding.TheVariants.{Agrees, E
 use Rattle.noise_compare.specs.declared.line.Line.{Line}
 use Rattle.noise_lines.specs.Faults.{status_of}
 use Rattle.noise_lines.specs.Prefixes.{AppendsPrefix}
-use Rattle.noise_lines.specs.Told.{fault_line}
+use Rattle.noise_lines.specs.Reported.{fault_line}
 use Rattle.noise_lines.specs.Verdicts.{named_fault}
 use Rattle.noise_lines.specs.declared.faults.Fault.TheVariants.{TooLong}
 use Rattle.noise_vectors.specs.VectorFile.{IsVectorFile}
@@ -17,7 +17,7 @@ use Rattle.noise_vectors.specs.VectorText.{text_of}
 use Rattle.noise_vectors.specs.declared.vector.AllowedEvents.TheVariants.{Any}
 use Rattle.noise_vectors.specs.declared.vector.VectorFile.{VectorFile}
 use Rattle.noise_words.specs.declared.orders.Compared.{Compared}
-use Rattle.noise_tool.specs.Kept.{all_kept}
+use Rattle.noise_tool.specs.Selection.{all_lines}
 use Rattle.noise_tool.specs.Performing.{IsRunFault}
 use Rattle.noise_tool.specs.Testing.{is_input}
 use Rattle.noise_tool.specs.Tracing.{HasTraces}
@@ -40,7 +40,7 @@ pub record IsScheduleOf (text : List ℕ) (right : List Line) : Type 0 where
   pub lines : List (List ℕ)
   pub start : List (List ℕ)
   pub traces : List (List (List ℕ))
-  pub shown : HasTraces all_kept file lines start traces
+  pub shown : HasTraces all_lines file lines start traces
   pub words_are : map words_in right ≡ map words_of (schedule_of start traces)
 
 abbrev pub finding_status : Finding → ℕ
@@ -89,7 +89,8 @@ IsWrongLog log _ = ⊥
 
 -- why it isn't, by the names and by the texts of the log and the vector file, where these are known
 abbrev pub IsUncompared : Compared → Option (List ℕ) → Option (List ℕ) → Uncompared → Type 0
-IsUncompared names log file NamedTwice = (is_input (string_bytes names.log) ≡ true) × (is_input (string_bytes names.file) ≡ true)
+IsUncompared names log file NamedTwice =
+    (is_input (string_bytes names.log) ≡ true) × (is_input (string_bytes names.file) ≡ true)
 IsUncompared names log file (WrongFile fault) = (status_of fault ≤ 2) × IfSome file (λ f. IsRunFault Any f fault)
 IsUncompared names log file why = IfSome log (λ l. IsWrongLog l why)
 
@@ -99,7 +100,8 @@ uncompared_line names NamedTwice = named_fault (codes "-") (codes "standard inpu
 uncompared_line names LongLog = named_fault (string_bytes names.log) (fault_line TooLong)
 uncompared_line names (WrongFile fault) = named_fault (string_bytes names.file) (fault_line fault)
 uncompared_line names NoLine = named_fault (string_bytes names.log) (codes "no line of a key schedule")
-uncompared_line names (WrongLine number) = named_fault (string_bytes names.log) (codes "line " ++ (decimal number ++ codes " trace"))
+uncompared_line names (WrongLine number) =
+    named_fault (string_bytes names.log) (codes "line " ++ (decimal number ++ codes " trace"))
 
 -- the log or the file is wrong, and the error output grew by a prefix of the line that says why
 pub record IsNotCompared (names : Compared) (log file : Option (List ℕ)) (before after : Option (List ℕ)) : Type 0 where

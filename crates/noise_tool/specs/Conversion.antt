@@ -10,8 +10,8 @@ use Rattle.noise_lines.specs.PrintedWords.{AreExpected}
 use Rattle.noise_tool.specs.Running.{IsRunOf, expected_in}
 use Rattle.noise_lines.specs.Converted.{converted_text}
 
--- The conversion of a file of version 1 with these lines is the text of a right file. Every right file of that text expects these lines, and they are the
--- lines of its run.
+-- The conversion of a file of version 1 with these lines is the text of a right file. Every right file of that text
+-- expects these lines, and they are the lines of its run.
 pub record MeetsItself (file : VectorFile) (lines : List (List ℕ)) : Type 0 where
   pub readable : (converted : VectorFile) × IsVectorFile converted × (converted_text file lines ≡ text_of converted)
   pub expects : (converted : VectorFile) → IsVectorFile converted → converted_text file lines ≡ text_of converted
@@ -21,5 +21,6 @@ pub record MeetsItself (file : VectorFile) (lines : List (List ℕ)) : Type 0 wh
 
 -- so does every conversion of a right file with the lines of its run, where each of these may be expected
 abbrev pub ConversionsMeetThemselves : Type 0
-ConversionsMeetThemselves = (file : VectorFile) (lines : Vec (Vec ℕ Global) Global) → IsVectorFile file → file.version ≡ One
-    → AreExpected lines.items → IsRunOf file (bytes_of lines.items) → MeetsItself file (bytes_of lines.items)
+ConversionsMeetThemselves = (file : VectorFile) (lines : Vec (Vec ℕ Global) Global) → IsVectorFile file
+    → file.version ≡ One → AreExpected lines.items → IsRunOf file (bytes_of lines.items)
+    → MeetsItself file (bytes_of lines.items)

@@ -11,11 +11,12 @@ use Rattle.noise_keys.specs.declared.keys.Own.{Own}
 use Rattle.noise_keys.specs.declared.keys.Own.TheVariants.{Ephemeral, Static}
 use Rattle.noise_handshake.specs.declared.remote.Remote.{Remote}
 use Rattle.noise_keys.specs.declared.faults.SetupFault.{SetupFault}
-use Rattle.noise_handshake.specs.Held.{Held}
-use Rattle.noise_handshake.specs.Party.{Stands}
+use Rattle.noise_handshake.specs.HandshakeValue.{HandshakeValue}
+use Rattle.noise_handshake.specs.Matching.{Matches}
 use Rattle.noise_handshake.specs.Setup.{has_before, setup_fault}
-use Rattle.noise_duel.specs.Conversation.{facing}
-use Rattle.noise_duel.specs.HeldDuel.{HeldDuel, DuelStands}
+use Rattle.noise_handshake.specs.Party.{Party}
+use Rattle.noise_duel.specs.Conversation.{sides_at_start}
+use Rattle.noise_duel.specs.DuelValue.{DuelValue, DuelMatches}
 use Rattle.noise_duel.specs.Messages.{Start, begun_as}
 use Rattle.noise_duel.specs.Sides.{Sides}
 use Rattle.noise_vectors.specs.FileKeys.{public_of, agreement_of}
@@ -57,41 +58,54 @@ start_of file plan role = record {
   own = public_of (keys_in file role);
   agree = agreement_of (keys_in file role);
   remote = known_to file plan role;
-  secrets = file.psks.items;
+  psks = file.psks.items;
 }
 
+-- a party with a file's keys, and two of them
+abbrev pub FileMatches : HandshakeValue FileKeys → Party → Type 0
+FileMatches h v = Matches public_of agreement_of h v
+
+abbrev pub FileDuelMatches : DuelValue FileKeys FileKeys → Sides → Type 0
+FileDuelMatches duel d = DuelMatches public_of agreement_of public_of agreement_of duel d
+
 -- both ends before the first message, by this pattern
-abbrev pub facing_in : VectorFile → Plan → Sides
-facing_in file plan = facing plan (start_of file plan Initiator) (start_of file plan Responder) file.interval file.interval
+abbrev pub sides_of_file : VectorFile → Plan → Sides
+sides_of_file file plan =
+    sides_at_start plan (start_of file plan Initiator) (start_of file plan Responder) file.interval file.interval
 
 -- what is wrong with it, if anything is
 abbrev pub setup_of : VectorFile → Plan → Role → Option SetupFault
-setup_of file plan role = setup_fault plan role (public_of (keys_in file role)) (known_to file plan role) (length file.psks.items)
+setup_of file plan role =
+    setup_fault plan role (public_of (keys_in file role)) (known_to file plan role) (length file.psks.items)
 
--- the two ends start from what the file says, by one valid pattern, and nothing is wrong with their setups
-pub record AreEnds (file : VectorFile) (duel : HeldDuel FileKeys FileKeys) : Type 0 where
-  pub plan : Plan
+-- the plan is the file's valid pattern, and nothing is wrong with either setup
+pub record IsPlanOf (file : VectorFile) (plan : Plan) : Type 0 where
   pub pattern : IsPatternOf file.block file.protocol plan
   pub valid : IsValid plan
   pub set_up : (role : Role) → setup_of file plan role ≡ None
-  pub stands : DuelStands public_of agreement_of public_of agreement_of duel (facing_in file plan)
 
--- the handshakes of both start from it
-pub record AreHandshakes (file : VectorFile) (first second : Held FileKeys) : Type 0 where
+-- the two ends start from what the file says
+pub record AreEnds (file : VectorFile) (duel : DuelValue FileKeys FileKeys) : Type 0 where
   pub plan : Plan
-  pub pattern : IsPatternOf file.block file.protocol plan
-  pub valid : IsValid plan
-  pub set_up : (role : Role) → setup_of file plan role ≡ None
-  pub initiator : Stands public_of agreement_of first (begun_as plan Initiator (start_of file plan Initiator))
-  pub responder : Stands public_of agreement_of second (begun_as plan Responder (start_of file plan Responder))
+  pub of_file : IsPlanOf file plan
+  pub matches : FileDuelMatches duel (sides_of_file file plan)
+
+-- and so do the handshakes of both
+pub record AreHandshakes (file : VectorFile) (first second : HandshakeValue FileKeys) : Type 0 where
+  pub plan : Plan
+  pub of_file : IsPlanOf file plan
+  pub initiator : FileMatches first (begun_as plan Initiator (start_of file plan Initiator))
+  pub responder : FileMatches second (begun_as plan Responder (start_of file plan Responder))
 
 -- by a valid pattern of the file, this is wrong with the setups
 abbrev pub HasSetupFault : VectorFile → Role → SetupFault → Plan → Type 0
 HasSetupFault file Initiator fault plan = setup_of file plan Initiator ≡ Some fault
-HasSetupFault file Responder fault plan = (setup_of file plan Initiator ≡ None) × (setup_of file plan Responder ≡ Some fault)
+HasSetupFault file Responder fault plan =
+    (setup_of file plan Initiator ≡ None) × (setup_of file plan Responder ≡ Some fault)
 
 -- why a file has no ends: its pattern, then the initiator's setup, then the responder's, the first of these
 abbrev pub IsStartFault : VectorFile → Fault → Type 0
-IsStartFault file (Setup role fault) = (plan : Plan) × IsPatternOf file.block file.protocol plan × IsValid plan × HasSetupFault file role fault plan
+IsStartFault file (Setup role fault) =
+    (plan : Plan) × IsPatternOf file.block file.protocol plan × IsValid plan × HasSetupFault file role fault plan
 IsStartFault file Memory = ⊤
 IsStartFault file fault = IsPatternFault file.block file.protocol fault

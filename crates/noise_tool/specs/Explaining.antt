@@ -1,16 +1,19 @@
 -- What `explain` prints of files, and its exit status.
-use Rattle.std.specs.Prelude.{◌≡◌, ◌⊎◌, ◌<◌, ℕ, List, ◌++◌, Option, IfSome, IsFalse, IsTrue, flat_map, fold, length, map, nat_le, if◌then◌else◌}
-use Rattle.std.specs.List.{All}
+use Rattle.std.specs.Prelude.{◌≡◌, ◌⊎◌, ◌<◌, ℕ, Bool, List, ◌++◌, Option, IfSome, IsFalse, IsTrue, flat_map, fold, length, map, nat_le, if◌then◌else◌}
+use Rattle.std.specs.List.{All, Contains}
 use Rattle.std.specs.Io.KnownBytes.{Appends}
 use Rattle.noise_explain.specs.Explained.{IsExplained, SaysLong}
+use Rattle.noise_explain.specs.Shown.{unread_head}
 use Rattle.noise_explain.specs.declared.explaining.Explained.{Explained}
-use Rattle.noise_explain_vectors.specs.VectorExplained.{TellsFault, TellsLine, TellsVector, is_vector_text}
+use Rattle.noise_explain_vectors.specs.VectorExplained.{ReportsFault, ReportsLine, ReportsVector, is_vector_text}
 use Rattle.noise_lines.specs.Prefixes.{AppendsPrefix}
+use Rattle.noise_lines.specs.Reported.{error_text}
 use Rattle.noise_lines.specs.declared.faults.Fault.{Fault}
-use Rattle.noise_lines.specs.declared.faults.Fault.TheVariants.{Line}
+use Rattle.noise_lines.specs.declared.faults.Fault.TheVariants.{Line, Unreadable}
 use Rattle.noise_tool.specs.Ends.{IsStartFault}
 use Rattle.noise_tool.specs.Performing.{IsUnread}
 use Rattle.noise_tool.specs.Running.{IsRunOf}
+use Rattle.noise_tool.specs.Testing.{EndsTest}
 use Rattle.noise_vectors.specs.VectorFile.{IsVectorFile}
 use Rattle.noise_vectors.specs.VectorText.{text_of}
 use Rattle.noise_vectors.specs.declared.faults.LineKind.{LineKind}
@@ -21,12 +24,12 @@ use Rattle.noise_vectors.specs.declared.vector.VectorFile.{VectorFile}
 pub record SaysRun (name : List ℕ) (file : VectorFile) (e : Explained) : Type 0 where
   pub lines : List (List ℕ)
   pub run : IsRunOf file lines
-  pub tells : TellsVector name file.protocol e
+  pub reports : ReportsVector name file.protocol e
 
 pub record SaysNoEnds (name : List ℕ) (file : VectorFile) (e : Explained) : Type 0 where
   pub fault : Fault
   pub wrong : IsStartFault file fault
-  pub tells : TellsFault name fault e
+  pub reports : ReportsFault name fault e
 
 abbrev pub IsExplainedRun : List ℕ → VectorFile → Explained → Type 0
 IsExplainedRun name file e = SaysRun name file e ⊎ SaysNoEnds name file e
@@ -38,12 +41,12 @@ pub record SaysFile (name text : List ℕ) (e : Explained) : Type 0 where
   pub text_is : text ≡ text_of file
   pub said : IsExplainedRun name file e
 
--- the text is that of no vector file, and the line that `replay` tells is told with its place
+-- the text is that of no vector file, and the line that `replay` reports is reported with its place
 pub record SaysWrongLine (name text : List ℕ) (e : Explained) : Type 0 where
   pub number : ℕ
   pub kind : LineKind
   pub wrong : IsUnread Any text (Line number kind)
-  pub tells : TellsLine name text number kind e
+  pub reports : ReportsLine name text number kind e
 
 abbrev pub IsExplainedVector : List ℕ → List ℕ → Explained → Type 0
 IsExplainedVector name text e = SaysFile name text e ⊎ SaysWrongLine name text e
@@ -51,11 +54,13 @@ IsExplainedVector name text e = SaysFile name text e ⊎ SaysWrongLine name text
 -- what is said of a text, by whether it is taken as that of a vector file
 abbrev pub IsExplainedText : List ℕ → List ℕ → Explained → Type 0
 IsExplainedText name text e =
-    (IsTrue (is_vector_text text) × IsExplainedVector name text e) ⊎ (IsFalse (is_vector_text text) × IsExplained name text e)
+    (IsTrue (is_vector_text text) × IsExplainedVector name text e) ⊎ (IsFalse (is_vector_text text)
+    × IsExplained name text e)
 
 -- what is said of the file of this name, where its bytes are known
 abbrev pub IsExplainedFile : Option (List ℕ) → List ℕ → Explained → Type 0
-IsExplainedFile known name e = IfSome known (λ text. IsExplainedText name text e ⊎ ((4194304 < length text) × SaysLong name e))
+IsExplainedFile known name e =
+    IfSome known (λ text. IsExplainedText name text e ⊎ ((4194304 < length text) × SaysLong name e))
 
 -- the name of a file, and what is said of it
 pub record Said : Type 0 where
@@ -78,17 +83,35 @@ pub record AreSaid (bytes_at : List ℕ → Option (List ℕ)) (names : List (Li
   pub right : All (λ s. IsExplainedFile (bytes_at s.name) s.name s.explained) said
 
 -- the files of these names are explained, in order
-pub record HasExplained (bytes_at : List ℕ → Option (List ℕ)) (names : List (List ℕ)) (before after : Option (List ℕ)) (status : ℕ) : Type 0 where
+pub record HasExplained (bytes_at : List ℕ
+    → Option (List ℕ)) (names : List (List ℕ)) (before after : Option (List ℕ)) (status : ℕ) : Type 0 where
   pub said : List Said
   pub are : AreSaid bytes_at names said
   pub printed : Appends before after (said_text said)
   pub status_is : status ≡ worst_of said
 
 -- the output grew by a prefix of what is said of the first of these files
-pub record ExplainsPrefix (bytes_at : List ℕ → Option (List ℕ)) (names : List (List ℕ)) (before after : Option (List ℕ)) : Type 0 where
+pub record ExplainsPrefix (bytes_at : List ℕ
+    → Option (List ℕ)) (names : List (List ℕ)) (before after : Option (List ℕ)) : Type 0 where
   pub first : List (List ℕ)
   pub others : List (List ℕ)
   pub names_are : first ++ others ≡ names
   pub said : List Said
   pub are : AreSaid bytes_at first said
   pub grown : AppendsPrefix before after (said_text said)
+
+-- ---- where the command ends before its work is done
+
+-- the line that says why: memory runs out or a write is refused; or a file of these can't be read, where it may be that
+-- it can't, and the line has its name
+abbrev pub IsStop : (List ℕ → Bool) → List (List ℕ) → List ℕ → Type 0
+IsStop unreadable names text =
+    ((fault : Fault) × EndsTest fault × (text ≡ error_text fault))
+    ⊎ ((name : List ℕ) × Contains names name × IsTrue (unreadable name) × (text ≡ unread_head name Unreadable))
+
+-- the error output grew by a prefix of such a line
+pub record StopsExplaining (unreadable : List ℕ → Bool) (names : List (List ℕ)) (before after : Option (List ℕ))
+    : Type 0 where
+  pub text : List ℕ
+  pub why : IsStop unreadable names text
+  pub grown : AppendsPrefix before after text

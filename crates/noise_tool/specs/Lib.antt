@@ -2,8 +2,8 @@ pub mod Comparing
 pub mod Conversion
 pub mod Ends
 pub mod Explaining
-pub mod Kept
-pub mod Moments
+pub mod Selection
+pub mod KeyUseLines
 pub mod OnePattern
 pub mod OneRun
 pub mod Performing
@@ -16,6 +16,8 @@ pub mod TemplateStarts
 pub mod Templating
 pub mod Testing
 pub mod TraceDone
+pub mod TraceFile
 pub mod TracedEnds
+pub mod TracedEvents
 pub mod TracedText
 pub mod Tracing

@@ -13,6 +13,7 @@ named-once name p q h k =
     let same : h.plain ≡ k.plain = same_Some h.plain k.plain (sym h.known ∙ k.known) in
     placed-once h.plain name.places p q h.placed (subst (λ (z : Plan). Placed z name.places q) (sym same) k.placed)
 
-pub pattern-once : (block : Option Plan) (name : Section) (p q : Plan) → IsPatternOf block name p → IsPatternOf block name q → p ≡ q
+pub pattern-once : (block : Option Plan) (name : Section) (p q : Plan) → IsPatternOf block name p
+    → IsPatternOf block name q → p ≡ q
 pattern-once (Some pattern) name p q h k = h ∙ sym k
 pattern-once None name p q h k = named-once name p q h k

@@ -5,7 +5,8 @@ use Rattle.noise_vectors.specs.SameFile.{held_datagrams}
 use Rattle.noise_vectors.specs.declared.vector.VectorFile.{VectorFile}
 use Rattle.noise_tool.specs.Running.{IsRunOf, datagrams_in}
 
--- Both files say the same of the ends and of what is done to them. Their headers, the pieces that frames come in, and what they expect may differ.
+-- Both files say the same of the ends and of what is done to them. Their headers, the pieces that frames come in, and
+-- what they expect may differ.
 pub record RunAlike (f g : VectorFile) : Type 0 where
   pub protocol : f.protocol ≡ g.protocol
   pub block : f.block ≡ g.block

@@ -4,7 +4,7 @@ use Rattle.std.specs.Io.KnownBytes.{Appends}
 use Rattle.noise_names.specs.Plan.{Plan}
 use Rattle.noise_names.specs.Text.{Spells}
 use Rattle.noise_names.specs.Validity.{IsValid}
-use Rattle.noise_lines.specs.Verdicts.{IsMet, TellsUnmet}
+use Rattle.noise_lines.specs.Verdicts.{IsMet, ReportsUnmet}
 use Rattle.noise_tool.specs.Conversion.{MeetsItself}
 use Rattle.noise_tool.specs.Ends.{IsStartFault}
 use Rattle.noise_lines.specs.Faults.{of_vector}
@@ -12,11 +12,11 @@ use Rattle.noise_lines.specs.Output.{IsCheckFault, IsShowFault, NamesPattern, ch
 use Rattle.noise_lines.specs.Lines.{lines_text}
 use Rattle.noise_tool.specs.Running.{IsRunOf, expected_in}
 use Rattle.noise_tool.specs.Templating.{HasTemplated, IsTemplateFault, LeavesPattern, ReadsShortPattern}
-use Rattle.noise_tool.specs.TraceDone.{HasTraced, IsTraceUnmet, kept_of}
+use Rattle.noise_tool.specs.TraceDone.{HasTraced, IsTraceUnmet, selection_of}
 use Rattle.noise_lines.specs.Converted.{converted_text}
 use Rattle.noise_vectors.specs.Expectations.{IsFirstUnmet, bytes_of}
 use Rattle.noise_vectors.specs.VectorFile.{IsReadFault, IsVectorFile}
-use Rattle.noise_vectors.specs.WrongLine.{IsTold}
+use Rattle.noise_vectors.specs.WrongLine.{IsReported}
 use Rattle.noise_vectors.specs.VectorText.{text_of}
 use Rattle.noise_lines.specs.declared.faults.Fault.{Fault}
 use Rattle.noise_lines.specs.declared.faults.Fault.TheVariants.{TooLong, Unmet}
@@ -42,9 +42,11 @@ pub record HasPrinted (file : VectorFile) (before after : Option (List ℕ)) : T
 
 -- a right vector file has this text, and its run was printed
 abbrev pub HasRun : List ℕ → Option (List ℕ) → Option (List ℕ) → Type 0
-HasRun text before after = (file : VectorFile) × IsVectorFile file × (text ≡ text_of file) × HasPrinted file before after
+HasRun text before after =
+    (file : VectorFile) × IsVectorFile file × (text ≡ text_of file) × HasPrinted file before after
 
--- A right vector file of version 1 has this text, and the output grew by it, as one of version 2 that expects the lines of its run, and meets them.
+-- A right vector file of version 1 has this text, and the output grew by it, as one of version 2 that expects the lines
+-- of its run, and meets them.
 pub record HasConverted (text : List ℕ) (before after : Option (List ℕ)) : Type 0 where
   pub file : VectorFile
   pub right : IsVectorFile file
@@ -56,16 +58,19 @@ pub record HasConverted (text : List ℕ) (before after : Option (List ℕ)) : T
   pub short : length (converted_text file lines) ≤ 4194304
   pub printed : Appends before after (converted_text file lines)
 
--- of the file's bytes, and of the output's before and after, each where they are known: the text of the command stands after what was there before
+-- of the file's bytes, and of the output's before and after, each where they are known: the text of the command stands
+-- after what was there before
 abbrev pub IsDone : Chosen → Option (List ℕ) → Option (List ℕ) → Option (List ℕ) → Type 0
 IsDone Listing file before after = Appends before after list_text
-IsDone (Show name) file before after = (p : Plan) × NamesPattern (string_bytes name) p × Appends before after (show_text p)
-IsDone (Check path) file before after = IfSome file (λ text. (p : Plan) × Spells text p × IsValid p × Appends before after (check_text p))
+IsDone (Show name) file before after =
+    (p : Plan) × NamesPattern (string_bytes name) p × Appends before after (show_text p)
+IsDone (Check path) file before after =
+    IfSome file (λ text. (p : Plan) × Spells text p × IsValid p × Appends before after (check_text p))
 IsDone (Template word) file before after = HasTemplated (string_bytes word) file before after
 IsDone (Talk path) file before after = IfSome file (λ text. HasRun text before after)
 IsDone (Replay path) file before after = IfSome file (λ text. HasRun text before after)
 IsDone (Convert path) file before after = IfSome file (λ text. HasConverted text before after)
-IsDone (Trace traced) file before after = IfSome file (λ text. HasTraced (kept_of traced) text before after)
+IsDone (Trace traced) file before after = IfSome file (λ text. HasTraced (selection_of traced) text before after)
 
 -- the bytes of a file, where they are known, are at most 4194304
 abbrev pub IsShort : Option (List ℕ) → Type 0
@@ -85,15 +90,17 @@ IsTooLong text fault = (fault ≡ TooLong) × (4194304 < length text)
 abbrev pub HasNoEnds : List ℕ → Fault → Type 0
 HasNoEnds text fault = (file : VectorFile) × IsVectorFile file × (text ≡ text_of file) × IsStartFault file fault
 
--- why this text isn't read, and which of its lines is told
+-- why this text isn't read, and which of its lines is reported
 abbrev pub IsUnread : AllowedEvents → List ℕ → Fault → Type 0
-IsUnread allowed text fault = (why : VectorFault) × (fault ≡ of_vector why) × IsReadFault allowed text why × IsTold allowed text why
+IsUnread allowed text fault =
+    (why : VectorFault) × (fault ≡ of_vector why) × IsReadFault allowed text why × IsReported allowed text why
 
 -- why this text of a vector file, of what is allowed, isn't run
 abbrev pub IsRunFault : AllowedEvents → List ℕ → Fault → Type 0
 IsRunFault allowed text fault = IsTooLong text fault ⊎ IsUnread allowed text fault ⊎ HasNoEnds text fault
 
--- a right vector file has this text, the output grew by all lines of its run, and this is the first that differs from what it expects
+-- a right vector file has this text, the output grew by all lines of its run, and this is the first that differs from
+-- what it expects
 pub record HasUnmet (text : List ℕ) (before after : Option (List ℕ)) (number : ℕ) : Type 0 where
   pub file : VectorFile
   pub right : IsVectorFile file
@@ -107,7 +114,7 @@ pub record HasUnmet (text : List ℕ) (before after : Option (List ℕ)) (number
 -- an outcome's lines were printed, and this is the first that differs from what is expected
 abbrev pub IsUnlike : Outcome → Option (List ℕ) → Option (List ℕ) → Fault → Type 0
 IsUnlike outcome before after fault = Appends before after (lines_text (bytes_of outcome.lines.items))
-    × TellsUnmet (bytes_of outcome.expected.items) (bytes_of outcome.lines.items) fault
+    × ReportsUnmet (bytes_of outcome.expected.items) (bytes_of outcome.lines.items) fault
 
 -- the lines of the run aren't those that are expected
 abbrev pub IsUnmet : List ℕ → Option (List ℕ) → Option (List ℕ) → Fault → Type 0
@@ -116,20 +123,25 @@ IsUnmet text before after fault = ⊥
 
 -- the converted text of a right vector file of version 1 has too many bytes
 abbrev pub IsTooLongConverted : List ℕ → Fault → Type 0
-IsTooLongConverted text fault = (fault ≡ TooLong) × (file : VectorFile) × IsVectorFile file × (file.version ≡ One) × (text ≡ text_of file)
+IsTooLongConverted text fault =
+    (fault ≡ TooLong) × (file : VectorFile) × IsVectorFile file × (file.version ≡ One) × (text ≡ text_of file)
     × (lines : List (List ℕ)) × IsRunOf file lines × (4194304 < length (converted_text file lines))
 
--- why a command ends before its work is done, where the fault is in what it was given; the file's bytes and the output's, before and after, each
--- where they are known
+-- why a command ends before its work is done, where the fault is in what it was given; the file's bytes and the
+-- output's, before and after, each where they are known
 abbrev pub IsFault : Chosen → Option (List ℕ) → Option (List ℕ) → Option (List ℕ) → Fault → Type 0
 IsFault Listing file before after fault = ⊥
 IsFault (Show name) file before after fault = IsShowFault (string_bytes name) fault
 IsFault (Check path) file before after fault = IfSome file (λ text. IsTooLong text fault ⊎ IsCheckFault text fault)
 IsFault (Template word) file before after fault = IsTemplateFault (string_bytes word) file fault
-IsFault (Talk path) file before after fault = IfSome file (λ text. IsRunFault SayOnly text fault ⊎ IsUnmet text before after fault)
-IsFault (Replay path) file before after fault = IfSome file (λ text. IsRunFault Any text fault ⊎ IsUnmet text before after fault)
-IsFault (Convert path) file before after fault = IfSome file (λ text. IsRunFault VersionOne text fault ⊎ IsTooLongConverted text fault)
-IsFault (Trace traced) file before after fault = IfSome file (λ text. IsRunFault Any text fault ⊎ IsTraceUnmet (kept_of traced) text before after fault)
+IsFault (Talk path) file before after fault =
+    IfSome file (λ text. IsRunFault SayOnly text fault ⊎ IsUnmet text before after fault)
+IsFault (Replay path) file before after fault =
+    IfSome file (λ text. IsRunFault Any text fault ⊎ IsUnmet text before after fault)
+IsFault (Convert path) file before after fault =
+    IfSome file (λ text. IsRunFault VersionOne text fault ⊎ IsTooLongConverted text fault)
+IsFault (Trace traced) file before after fault =
+    IfSome file (λ text. IsRunFault Any text fault ⊎ IsTraceUnmet (selection_of traced) text before after fault)
 
 -- `list` and `show` leave the file as it was, and `template` of a protocol name
 abbrev pub LeavesFile : {R : Type 0} → Chosen → R → R → Type 0

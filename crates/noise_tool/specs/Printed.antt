@@ -1,5 +1,6 @@
--- What is printed of a run: a line for each note, and then one for each of the two ends. Each line is without its LF here.
-use Rattle.std.specs.Prelude.{ℕ, List, [], ◌∷◌, codes, decimal, slice_get, unwrap_or}
+-- What is printed of a run: a line for each note, and then one for each of the two ends, here without their LF.
+use Rattle.std.specs.Prelude.{◌≡◌, ℕ, List, [], ◌∷◌, ◌++◌, Vec, codes, decimal, slice_get, unwrap_or}
+use Rattle.std.specs.Global.{Global}
 use Rattle.noise_names.specs.declared.token.Role.{Role}
 use Rattle.noise_names.specs.declared.token.Role.TheVariants.{Initiator, Responder}
 use Rattle.noise_state.specs.History.{hash}
@@ -7,18 +8,23 @@ use Rattle.noise_handshake.specs.declared.faults.Cause.{Cause}
 use Rattle.noise_handshake.specs.declared.faults.Cause.TheVariants as cause
 use Rattle.noise_session.specs.declared.faults.SendFault.{SendFault}
 use Rattle.noise_session.specs.declared.faults.SendFault.TheVariants as fault
-use Rattle.noise_session.specs.Ends.{EndView, progress_of}
+use Rattle.noise_session.specs.Ends.{EndState, progress_of}
 use Rattle.noise_session.specs.declared.stage.Stage.{Stage}
 use Rattle.noise_session.specs.declared.stage.Stage.TheVariants as stage
 use Rattle.noise_session.specs.Progress.{Progress}
-use Rattle.noise_session.specs.Progress.Progress.{Handshaking, Open, Closed}
-use Rattle.noise_session.specs.Steps.{Told}
-use Rattle.noise_session.specs.Steps.Told.{Ended, YourTurn, Silent, Payload, Dropped, Refused, Exhausted}
+use Rattle.noise_session.specs.Progress.Progress.{Handshaking, Open, HasEnded}
+use Rattle.noise_session.specs.Steps.{StepValue}
+use Rattle.noise_session.specs.Steps.StepValue.{Ended, YourTurn, Silent, Payload, Dropped, Refused, Exhausted}
 use Rattle.noise_duel.specs.Notes.{Note, Wrote, WriteFault, Judged, Left, Missing, Held}
 use Rattle.noise_duel.specs.Sides.{Side, Sides, side}
 use Rattle.noise_lines.specs.Lines.{line_of}
+use Rattle.noise_vectors.specs.Expectations.{bytes_of}
 use Rattle.noise_vectors.specs.HexWord.{hex_of}
 use Rattle.noise_vectors.specs.VectorText.{role_word}
+
+-- these lines are added to those before
+abbrev pub Appended : Vec (Vec ℕ Global) Global → Vec (Vec ℕ Global) Global → List (List ℕ) → Type 0
+Appended before after lines = bytes_of after.items ≡ bytes_of before.items ++ lines
 
 abbrev pub cause_word : Cause → List ℕ
 cause_word cause.Short = codes "short"
@@ -36,14 +42,14 @@ fault_words fault.Exhausted = codes "exhausted" ∷ []
 fault_words (fault.Output written) = codes "output" ∷ decimal written ∷ []
 
 -- why an end takes no bytes; no other step says so
-abbrev pub idle_word : Told → List ℕ
+abbrev pub idle_word : StepValue → List ℕ
 idle_word YourTurn = codes "your-turn"
 idle_word Silent = codes "silent"
 idle_word Ended = codes "ended"
 idle_word _ = []
 
 -- what a frame came to; a frame comes to no other step
-abbrev pub frame_words : Role → Told → List (List ℕ)
+abbrev pub frame_words : Role → StepValue → List (List ℕ)
 frame_words role (Payload bytes) = codes "payload" ∷ role_word role ∷ hex_of bytes ∷ []
 frame_words role (Dropped why) = codes "dropped" ∷ role_word role ∷ cause_word why ∷ []
 frame_words role (Refused token why) = codes "refused" ∷ role_word role ∷ decimal token ∷ cause_word why ∷ []
@@ -70,18 +76,20 @@ note_line d (role, note) = line_of (note_words (side d role) role note)
 -- how far an end has come; the handshake's hash (Noise 11.2) once it is open
 abbrev pub progress_words : Progress → List ℕ → List (List ℕ)
 progress_words (Handshaking pattern role passed) hash = codes "handshake" ∷ decimal passed ∷ []
-progress_words (Open role one_way sent received) hash = codes "transport" ∷ decimal sent ∷ decimal received ∷ hex_of hash ∷ []
-progress_words (Closed role) hash = codes "ended" ∷ []
+progress_words (Open role one_way sent received) hash =
+    codes "transport" ∷ decimal sent ∷ decimal received ∷ hex_of hash ∷ []
+progress_words (HasEnded role) hash = codes "ended" ∷ []
 
--- the same of a stage, which an end tells; the hash is read where it is open
+-- the same of a stage; the hash is read where it is open
 abbrev pub stage_words : Stage → List ℕ → List (List ℕ)
 stage_words (stage.Handshake passed ours) hash = codes "handshake" ∷ decimal passed ∷ []
-stage_words (stage.Transport sent received) hash = codes "transport" ∷ decimal sent ∷ decimal received ∷ hex_of hash ∷ []
+stage_words (stage.Transport sent received) hash =
+    codes "transport" ∷ decimal sent ∷ decimal received ∷ hex_of hash ∷ []
 stage_words stage.Ended hash = codes "ended" ∷ []
 
-abbrev pub state_line : Role → EndView → List ℕ
+abbrev pub state_line : Role → EndState → List ℕ
 state_line role v = line_of (codes "state" ∷ role_word role ∷ progress_words (progress_of v) (hash v.party.history))
 
 -- the states of both ends
 abbrev pub state_lines : Sides → List (List ℕ)
-state_lines d = state_line Initiator d.initiator.view ∷ state_line Responder d.responder.view ∷ []
+state_lines d = state_line Initiator d.initiator.state ∷ state_line Responder d.responder.state ∷ []

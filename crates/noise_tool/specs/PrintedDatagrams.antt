@@ -4,7 +4,7 @@ use Rattle.noise_names.specs.declared.token.Role.{Role}
 use Rattle.noise_names.specs.declared.token.Role.TheVariants.{Initiator, Responder}
 use Rattle.noise_session.specs.declared.datagram_fault.DatagramFault.{DatagramFault}
 use Rattle.noise_session.specs.declared.datagram_fault.DatagramFault.TheVariants as fault
-use Rattle.noise_session.specs.Datagrams.{DatagramView}
+use Rattle.noise_session.specs.Datagrams.{DatagramState}
 use Rattle.noise_duel.specs.DatagramNotes.{DatagramNote, Sealed, SealFault, Payload, Rejected, Missing}
 use Rattle.noise_duel.specs.DatagramSides.{DatagramSides}
 use Rattle.noise_vectors.specs.HexWord.{hex_of}
@@ -34,9 +34,10 @@ abbrev pub datagram_line : Role × DatagramNote → List ℕ
 datagram_line (role, note) = line_of (datagram_words role note)
 
 -- the sending nonce
-abbrev pub datagram_state_line : Role → DatagramView → List ℕ
+abbrev pub datagram_state_line : Role → DatagramState → List ℕ
 datagram_state_line role v = line_of (codes "state" ∷ role_word role ∷ codes "datagrams" ∷ decimal v.sent ∷ [])
 
 -- where both parties stand
 abbrev pub datagram_state_lines : DatagramSides → List (List ℕ)
-datagram_state_lines d = datagram_state_line Initiator d.initiator.view ∷ datagram_state_line Responder d.responder.view ∷ []
+datagram_state_lines d =
+    datagram_state_line Initiator d.initiator.state ∷ datagram_state_line Responder d.responder.state ∷ []

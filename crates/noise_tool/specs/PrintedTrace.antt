@@ -1,4 +1,4 @@
--- The words of the lines that `trace` prints of a key schedule: twelve in each, and a hyphen where there is nothing; and the line that names them.
+-- The lines that `trace` prints of a key schedule: twelve words in each, and a hyphen where there is nothing.
 use Rattle.std.specs.Prelude.{ℕ, ◌+◌, List, [], ◌∷◌, Bool, true, Option, None, Some, codes, decimal, slice_range}
 use Rattle.noise_names.specs.declared.token.Role.{Role}
 use Rattle.noise_names.specs.declared.token.Role.TheVariants.{Initiator, Responder}
@@ -22,7 +22,7 @@ use Rattle.noise_tool.specs.declared.trace_lines.Act.TheVariants.{Writes, Accept
 abbrev pub none_word : List ℕ
 none_word = codes "-"
 
--- a line of this role, and of a part of the run: the start, the number of a handshake message, `open`, `transport` or `datagrams`
+-- a line of this role and of a part of the run: `start`, a handshake message's number, `open`, `transport`, `datagrams`
 abbrev pub trace_line : Role → List ℕ → List (List ℕ) → List ℕ
 trace_line role where_it_is words = line_of (codes "trace" ∷ role_word role ∷ where_it_is ∷ words)
 
@@ -61,12 +61,14 @@ start_call_word psks (start.Key party token) = mix_word psks token
 
 abbrev pub start_line : Role → Bool → ℕ → StartStep → List ℕ
 start_line role psks number step = trace_line role (codes "start")
-    (decimal number ∷ start_word step.part ∷ start_call_word psks step.part ∷ none_word ∷ none_word ∷ state_words step.state)
+    (decimal number ∷ start_word step.part ∷ start_call_word psks step.part ∷ none_word ∷ none_word
+    ∷ state_words step.state)
 
 -- one line for each step, numbered from this number on
 abbrev pub start_lines_from : Role → Bool → ℕ → List StartStep → List (List ℕ)
 start_lines_from role psks number [] = []
-start_lines_from role psks number (s ∷ more) = start_line role psks number s ∷ start_lines_from role psks (number + 1) more
+start_lines_from role psks number (s ∷ more) =
+    start_line role psks number s ∷ start_lines_from role psks (number + 1) more
 
 -- ---- a handshake message (Noise 5.3)
 
@@ -102,14 +104,16 @@ step_lines_from about message i (s ∷ more) = step_line about message i s ∷ s
 
 -- ---- after the handshake (Noise 5.2)
 
--- the transport key of the messages that a party writes, from nonce 0 on, with the hash and the chaining key that it comes of
+-- the transport key of the messages that a party writes, with the hash and the chaining key that it comes of
 abbrev pub opening_line : Role → ℕ → Role → StateValues → List ℕ → List ℕ
 opening_line role number writer v key = trace_line role (codes "open")
-    (decimal number ∷ role_word writer ∷ codes "Split" ∷ none_word ∷ none_word ∷ hex_of v.hash ∷ hex_of v.chaining_key ∷ hex_of key ∷ codes "0" ∷ [])
+    (decimal number ∷ role_word writer ∷ codes "Split" ∷ none_word ∷ none_word
+    ∷ hex_of v.hash ∷ hex_of v.chaining_key ∷ hex_of key ∷ codes "0" ∷ [])
 
 -- both, the initiator's first
 abbrev pub opening_lines : Role → StateValues → List ℕ → List ℕ → List (List ℕ)
-opening_lines role v initiator responder = opening_line role 0 Initiator v initiator ∷ opening_line role 1 Responder v responder ∷ []
+opening_lines role v initiator responder =
+    opening_line role 0 Initiator v initiator ∷ opening_line role 1 Responder v responder ∷ []
 
 -- what has come of a transport message, and what it goes through
 abbrev pub act_word : Act → List ℕ
@@ -130,7 +134,8 @@ transport_line role name call key nonce = trace_line role (codes "transport")
 -- a key of the datagrams
 abbrev pub datagram_key_line : Role → ℕ → Role → List ℕ → List ℕ
 datagram_key_line role number writer key = trace_line role (codes "datagrams")
-    (decimal number ∷ role_word writer ∷ none_word ∷ none_word ∷ none_word ∷ none_word ∷ none_word ∷ hex_of key ∷ none_word ∷ [])
+    (decimal number ∷ role_word writer ∷ none_word ∷ none_word ∷ none_word ∷ none_word ∷ none_word
+    ∷ hex_of key ∷ none_word ∷ [])
 
 -- both, the initiator's first
 abbrev pub datagram_key_lines : Role → List ℕ → List ℕ → List (List ℕ)

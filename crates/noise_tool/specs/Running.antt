@@ -2,29 +2,27 @@
 use Rattle.std.specs.Prelude.{◌≡◌, ◌&&◌, ◌==◌, ℕ, List, [], ◌∷◌, ◌++◌, codes, length, map, Bool, true, false, Option, None, Some}
 use Rattle.noise_names.specs.declared.token.Role.{Role}
 use Rattle.noise_names.specs.Plan.{Plan}
-use Rattle.noise_names.specs.Validity.{IsValid}
 use Rattle.noise_events.specs.declared.window.Window.{Window}
 use Rattle.noise_session.specs.Datagrams.{datagrams_of}
 use Rattle.noise_session.specs.EndDatagrams.{is_untouched}
-use Rattle.noise_session.specs.Ends.{EndView, progress_of}
+use Rattle.noise_session.specs.Ends.{EndState, progress_of}
 use Rattle.noise_events.specs.Events.{Event, events_of}
 use Rattle.noise_duel.specs.DatagramNotes.{DatagramNote}
 use Rattle.noise_events.specs.DatagramEvents.{datagram_events_of}
 use Rattle.noise_duel.specs.DatagramRuns.{DatagramRun}
-use Rattle.noise_duel.specs.DatagramSides.{DatagramSides, meeting}
-use Rattle.noise_duel.specs.HeldDuel.{DuelStands, HeldDuel}
+use Rattle.noise_duel.specs.DatagramSides.{DatagramSides, datagram_sides}
+use Rattle.noise_duel.specs.DuelValue.{DuelValue}
 use Rattle.noise_duel.specs.Notes.{Note}
 use Rattle.noise_duel.specs.Runs.{Run}
 use Rattle.noise_duel.specs.Sides.{Sides}
 use Rattle.noise_vectors.specs.Expectations.{bytes_of}
-use Rattle.noise_vectors.specs.FileKeys.{agreement_of, public_of}
 use Rattle.noise_vectors.specs.VectorText.{window_words}
 use Rattle.noise_vectors.specs.declared.file_keys.FileKeys.{FileKeys}
 use Rattle.noise_vectors.specs.declared.vector.FileDatagrams.{FileDatagrams}
 use Rattle.noise_vectors.specs.declared.vector.VectorFile.{VectorFile}
 use Rattle.noise_vectors.specs.declared.vector.Version.{Version}
 use Rattle.noise_vectors.specs.declared.vector.Version.TheVariants.{One, Two}
-use Rattle.noise_tool.specs.Ends.{IsPatternOf, facing_in, setup_of}
+use Rattle.noise_tool.specs.Ends.{FileDuelMatches, IsPlanOf, sides_of_file}
 use Rattle.noise_tool.specs.Printed.{note_line, state_lines}
 use Rattle.noise_tool.specs.PrintedDatagrams.{datagram_line, datagram_state_lines}
 
@@ -39,43 +37,49 @@ expected_in One = []
 expected_in (Two additions) = bytes_of additions.expected.items
 
 -- whether an end may go over: it is open, no transport message was sent or received, and nothing has come of a frame
-abbrev pub is_ready : EndView → Bool
-is_ready v = is_untouched (progress_of v) && (length v.held == 0)
+abbrev pub is_ready : EndState → Bool
+is_ready v = is_untouched (progress_of v) && (length v.partial == 0)
 
 abbrev pub are_ready : Sides → Bool
-are_ready d = is_ready d.initiator.view && is_ready d.responder.view
+are_ready d = is_ready d.initiator.state && is_ready d.responder.state
 
 -- both parties, gone over with this window
 abbrev pub gone_over : Sides → Window → DatagramSides
-gone_over d window = meeting (datagrams_of d.initiator.view.party window) (datagrams_of d.responder.view.party window)
+gone_over d window =
+    datagram_sides (datagrams_of d.initiator.state.party window) (datagrams_of d.responder.state.party window)
 
--- The lines after those of the events: the states of both ends; or, where the file has datagrams, that both have gone over, what came of each event
--- there, and where both stand then; or that they can't, and the datagrams' events aren't run.
+-- that both have gone over with this window, what came of each event there, and where both stand then
+abbrev pub datagram_lines : Window → List (Role × DatagramNote) → DatagramSides → List (List ℕ)
+datagram_lines window notes last = window_words window ∷ (map datagram_line notes ++ datagram_state_lines last)
+
+-- The lines after those of the events. Without datagrams: the states of both ends. With them: those of the
+-- datagrams; or that they can't go over, and their states.
 pub data AreLast : Option FileDatagrams → Sides → List (List ℕ) → Type 0 where
   without : (d : Sides) → AreLast None d (state_lines d)
-  unready : (over : FileDatagrams) (d : Sides) → are_ready d ≡ false → AreLast (Some over) d (codes "no-datagrams" ∷ state_lines d)
-  ready : (over : FileDatagrams) (d : Sides) (notes : List (Role × DatagramNote)) (last : DatagramSides) → are_ready d ≡ true
-      → DatagramRun (gone_over d over.window) (datagram_events_of over.events.items) notes last
-      → AreLast (Some over) d (window_words over.window ∷ (map datagram_line notes ++ datagram_state_lines last))
+  unready : (over : FileDatagrams) (d : Sides) → are_ready d ≡ false
+      → AreLast (Some over) d (codes "no-datagrams" ∷ state_lines d)
+  ready : (over : FileDatagrams) (d : Sides) (notes : List (Role × DatagramNote)) (last : DatagramSides)
+      → are_ready d ≡ true → DatagramRun (gone_over d over.window) (datagram_events_of over.events.items) notes last
+      → AreLast (Some over) d (datagram_lines over.window notes last)
 
 -- these events, of which the sides make these lines' notes, leave the duel
-pub record LeavesLines (start : Sides) (events : List Event) (duel : HeldDuel FileKeys FileKeys) (lines : List (List ℕ)) : Type 0 where
+pub record LeavesLines (start : Sides) (events : List Event) (duel : DuelValue FileKeys FileKeys)
+    (lines : List (List ℕ)) : Type 0 where
   pub notes : List (Role × Note)
   pub last : Sides
   pub run : Run start events notes last
-  pub stands : DuelStands public_of agreement_of public_of agreement_of duel last
+  pub matches : FileDuelMatches duel last
   pub lines_are : lines ≡ map (note_line last) notes
 
--- These are the lines of the file's run: by its valid pattern, two ends start from what the file gives them, nothing is wrong with either setup, and
--- the file's events make of them these notes and last sides. A file has one such list of lines (`file_run_once`).
+-- These are the lines of the file's run: by its valid pattern two ends start from what the file gives them, nothing is
+-- wrong with either setup, and the file's events make of them these notes and last sides. A file has one such list of
+-- lines (`file_run_once`).
 pub record IsRunOf (file : VectorFile) (lines : List (List ℕ)) : Type 0 where
   pub plan : Plan
-  pub pattern : IsPatternOf file.block file.protocol plan
-  pub valid : IsValid plan
-  pub set_up : (role : Role) → setup_of file plan role ≡ None
+  pub of_file : IsPlanOf file plan
   pub notes : List (Role × Note)
   pub last : Sides
-  pub run : Run (facing_in file plan) (events_of file.events.items) notes last
+  pub run : Run (sides_of_file file plan) (events_of file.events.items) notes last
   pub after : List (List ℕ)
   pub are_last : AreLast (datagrams_in file.version) last after
   pub lines_are : lines ≡ map (note_line last) notes ++ after

@@ -1,9 +1,11 @@
 -- What `test` prints of vector files, and its exit status.
-use Rattle.std.specs.Prelude.{⊤, ◌≡◌, ◌⊎◌, ◌≤◌, ◌==◌, ◌&&◌, ◌||◌, if◌then◌else◌, ℕ, Bool, true, false, not, List, [], ◌∷◌, ◌++◌, Option, IfSome, IsTrue}
+use Rattle.std.specs.Prelude.{⊤, ◌≡◌, ◌⊎◌, ◌≤◌, ◌==◌, ◌&&◌, ◌||◌, if◌then◌else◌, ℕ, Bool, true, false, not, List, [], ◌∷◌, ◌++◌, Option, None, Some, IfSome, IsTrue}
 use Rattle.std.specs.Prelude.{codes, count_by, decimal, flat_map, length, map}
 use Rattle.std.specs.List.{All}
 use Rattle.std.specs.Str.{bytes_eq}
 use Rattle.std.specs.Io.KnownBytes.{Appends}
+use Rattle.noise_explain.specs.FramePieces.{HaveNoFrame, SaysPiece}
+use Rattle.noise_names.specs.Plan.{Plan}
 use Rattle.noise_names.specs.Text.{line}
 use Rattle.noise_lines.specs.Faults.{status_of}
 use Rattle.noise_lines.specs.Lines.{lines_text}
@@ -15,15 +17,18 @@ use Rattle.noise_vectors.specs.VectorFile.{IsVectorFile}
 use Rattle.noise_vectors.specs.VectorText.{text_of}
 use Rattle.noise_vectors.specs.declared.vector.AllowedEvents.TheVariants.{Any}
 use Rattle.noise_vectors.specs.declared.vector.VectorFile.{VectorFile}
-use Rattle.noise_lines.specs.Woven.{traces_of}
-use Rattle.noise_tool.specs.Kept.{all_kept}
+use Rattle.noise_lines.specs.TracedLines.{traces_of}
+use Rattle.noise_tool.specs.Ends.{IsPatternOf}
+use Rattle.noise_tool.specs.Selection.{all_lines}
 use Rattle.noise_tool.specs.Performing.{IsRunFault}
 use Rattle.noise_tool.specs.Running.{IsRunOf, expected_in}
+use Rattle.noise_tool.specs.TracedText.{front_if}
 use Rattle.noise_tool.specs.Tracing.{HasTraces, IsTraceTo}
 use Rattle.noise_tool.specs.declared.tracing.Traced.{Traced}
+use Rattle.noise_lines.specs.declared.verdict.Difference.{Difference}
 use Rattle.noise_lines.specs.declared.verdict.Verdict.{Verdict}
 use Rattle.noise_lines.specs.declared.verdict.Verdict.TheVariants.{Differs, CannotRun, NamedTwice}
-use Rattle.noise_lines.specs.Verdicts.{IsJudged, is_met, verdict_text}
+use Rattle.noise_lines.specs.Verdicts.{IsJudged, bytes_in, is_met, verdict_text}
 
 -- ---- standard input
 
@@ -45,14 +50,52 @@ asked names = asked_after false names
 
 -- ---- the verdict on a file
 
--- Where traces are wanted and the run differs, this is the front of a trace of this run, of all parts and both roles: up to the first line that differs,
--- and what is shown there.
-abbrev pub IsFront : Bool → VectorFile → List (List ℕ) → Verdict → List (List ℕ) → Type 0
-IsFront true file lines (Differs d) front = IsTraceTo all_kept file lines d.number front
-IsFront _ file lines verdict front = ⊤
+-- a right vector file has this text, and this is its pattern
+abbrev pub IsPatternIn : List ℕ → Plan → Type 0
+IsPatternIn text plan =
+    (file : VectorFile) × IsVectorFile file × (text ≡ text_of file) × IsPatternOf file.block file.protocol plan
 
--- a right vector file has this text, the verdict is on the lines of its run, and the front is that of a trace of it
-pub record IsOfRun (traces : Bool) (text : List ℕ) (verdict : Verdict) (front : List (List ℕ)) : Type 0 where
+-- of two lines that differ: where both are of the frame of one handshake message, a line of the first byte at which the
+-- frames differ, and of the piece of the message that stands there
+abbrev pub SayPiece : Plan → Option (List ℕ) → Option (List ℕ) → List (List ℕ) → Type 0
+SayPiece plan (Some expected) (Some printed) lines =
+    ((n : ℕ) × (line : List ℕ) × (lines ≡ line ∷ []) × SaysPiece plan n expected printed line)
+    ⊎ ((lines ≡ []) × HaveNoFrame plan expected printed)
+SayPiece plan _ _ lines = lines ≡ []
+
+-- the line, if there is one
+abbrev pub listed : Option (List ℕ) → List (List ℕ)
+listed None = []
+listed (Some line) = line ∷ []
+
+abbrev pub IsPieceOf : Plan → Verdict → List (List ℕ) → Type 0
+IsPieceOf plan (Differs d) lines = SayPiece plan (bytes_in d.expected) (bytes_in d.printed) lines
+IsPieceOf plan verdict lines = ⊤
+
+-- Where traces are wanted, this is the front of a trace of this run, of all parts and both roles: up to the line of
+-- this number, and what is shown there.
+abbrev pub IsFront : Bool → VectorFile → List (List ℕ) → ℕ → List (List ℕ) → Type 0
+IsFront true file lines number front = IsTraceTo all_lines file lines number front
+IsFront false file lines number front = front ≡ []
+
+-- these lines follow the two that differ: that of the piece, by the file's pattern, and the front of a trace
+pub record IsFollowed (traces : Bool) (text : List ℕ) (file : VectorFile) (lines : List (List ℕ)) (d : Difference)
+    (below : List (List ℕ)) : Type 0 where
+  pub plan : Plan
+  pub pattern : IsPatternIn text plan
+  pub piece : List (List ℕ)
+  pub piece_is : IsPieceOf plan (Differs d) piece
+  pub front : List (List ℕ)
+  pub front_is : IsFront traces file lines d.number front
+  pub below_is : below ≡ piece ++ front
+
+-- where the run differs
+abbrev pub IsBelow : Bool → List ℕ → VectorFile → List (List ℕ) → Verdict → List (List ℕ) → Type 0
+IsBelow traces text file lines (Differs d) below = IsFollowed traces text file lines d below
+IsBelow traces text file lines verdict below = ⊤
+
+-- a right vector file has this text, the verdict is on the lines of its run, and these lines follow it
+pub record IsOfRun (traces : Bool) (text : List ℕ) (verdict : Verdict) (below : List (List ℕ)) : Type 0 where
   pub file : VectorFile
   pub right : IsVectorFile file
   pub text_is : text ≡ text_of file
@@ -60,7 +103,7 @@ pub record IsOfRun (traces : Bool) (text : List ℕ) (verdict : Verdict) (front 
   pub lines : List (List ℕ)
   pub run : IsRunOf file lines
   pub judged : IsJudged lines (expected_in file.version) verdict
-  pub front_is : IsFront traces file lines verdict front
+  pub below_is : IsBelow traces text file lines verdict below
 
 -- a right vector file has this text, and this came of its run, with a trace where one is wanted
 pub record RunsTo (traces : Bool) (text : List ℕ) (traced : Traced) : Type 0 where
@@ -70,7 +113,9 @@ pub record RunsTo (traces : Bool) (text : List ℕ) (traced : Traced) : Type 0 w
   pub short : length text ≤ 4194304
   pub run : IsRunOf file (bytes_of traced.outcome.lines.items)
   pub expected : bytes_of traced.outcome.expected.items ≡ expected_in file.version
-  pub shown : traces ≡ true → HasTraces all_kept file (bytes_of traced.outcome.lines.items) (bytes_of traced.start.items) (traces_of traced.traces.items)
+  pub shown : traces ≡ true
+      → HasTraces all_lines file (bytes_of traced.outcome.lines.items) (bytes_of traced.start.items)
+      (traces_of traced.traces.items)
 
 -- the verdict is why the file isn't run
 abbrev pub IsOfFault : List ℕ → Verdict → Type 0
@@ -78,21 +123,26 @@ IsOfFault text (CannotRun why) = IsRunFault Any text why
 IsOfFault text _ = ⊥
 
 abbrev pub IsVerdict : Bool → List ℕ → Verdict → List (List ℕ) → Type 0
-IsVerdict traces text verdict front = IsOfFault text verdict ⊎ IsOfRun traces text verdict front
+IsVerdict traces text verdict below = IsOfFault text verdict ⊎ IsOfRun traces text verdict below
 
 -- ---- what is printed
 
--- with the front of a trace, where traces are wanted and the run differs
-abbrev pub tested_text : Bool → List ℕ → Verdict → List (List ℕ) → List ℕ
-tested_text true name (Differs d) front = verdict_text name (Differs d) ++ lines_text front
-tested_text _ name verdict front = verdict_text name verdict
+-- a verdict, and where the run differs the lines that follow
+abbrev pub tested_text : List ℕ → Verdict → List (List ℕ) → List ℕ
+tested_text name (Differs d) below = verdict_text name (Differs d) ++ lines_text below
+tested_text name verdict below = verdict_text name verdict
 
--- the name of a file, whether it is standard input again, the verdict on it, and the front of a trace
+-- the lines that follow: these of the piece, and the front of this trace
+abbrev pub below_of : Bool → Verdict → List (List ℕ) → Traced → List (List ℕ)
+below_of traces (Differs d) piece t = piece ++ front_if traces t d.number
+below_of traces verdict piece t = []
+
+-- the name of a file, whether it is standard input again, the verdict on it, and the lines that follow
 pub record Judged : Type 0 where
   pub name : List ℕ
   pub again : Bool
   pub verdict : Verdict
-  pub front : List (List ℕ)
+  pub below : List (List ℕ)
 
 abbrev pub Verdicts : Type 0
 Verdicts = List Judged
@@ -106,8 +156,8 @@ passed_in verdicts = count_by (λ v. is_met v.verdict) verdicts
 abbrev pub failed_in : Verdicts → ℕ
 failed_in verdicts = count_by (λ v. not (is_met v.verdict)) verdicts
 
-abbrev pub verdicts_text : Bool → Verdicts → List ℕ
-verdicts_text traces verdicts = flat_map (λ v. tested_text traces v.name v.verdict v.front) verdicts
+abbrev pub verdicts_text : Verdicts → List ℕ
+verdicts_text verdicts = flat_map (λ v. tested_text v.name v.verdict v.below) verdicts
 
 -- the last line
 abbrev pub tally_line : ℕ → ℕ → List ℕ
@@ -119,39 +169,42 @@ IsOfFile (CannotRun why) = status_of why ≤ 2
 IsOfFile NamedTwice = ⊥
 IsOfFile verdict = ⊤
 
--- The verdict on a file. On standard input again: that it is named twice. On any other: that it can't be read, where it may be that it can't; else one that
--- is of the file and that its bytes have, where they are known, and this is the front of a trace.
+-- The verdict on a file, and the lines that follow. On standard input again: that it is named twice. On any other: that
+-- it can't be read, where it may be that it can't; else one that is of the file and that its bytes have, where they are
+-- known.
 abbrev pub IsVerdictOn : Bool → Bool → Option (List ℕ) → Bool → Verdict → List (List ℕ) → Type 0
-IsVerdictOn true traces known unreadable verdict front = verdict ≡ NamedTwice
-IsVerdictOn false traces known unreadable verdict front =
-    ((verdict ≡ CannotRun Unreadable) × IsTrue unreadable) ⊎ (IsOfFile verdict × IfSome known (λ text. IsVerdict traces text verdict front))
+IsVerdictOn true traces known unreadable verdict below = verdict ≡ NamedTwice
+IsVerdictOn false traces known unreadable verdict below =
+    ((verdict ≡ CannotRun Unreadable) × IsTrue unreadable)
+    ⊎ (IsOfFile verdict × IfSome known (λ text. IsVerdict traces text verdict below))
 
--- one file is tested: the output grew by the text of its verdict, and the front of a trace where that is wanted
-pub record HasTested (again traces : Bool) (known : Option (List ℕ)) (unreadable : Bool) (name : List ℕ) (before after : Option (List ℕ)) (met : Bool)
-    : Type 0 where
+-- one file is tested: the output grew by the text of its verdict, and the lines that follow
+pub record HasTested (again traces : Bool) (known : Option (List ℕ)) (unreadable : Bool) (name : List ℕ)
+    (before after : Option (List ℕ)) (met : Bool) : Type 0 where
   pub verdict : Verdict
-  pub front : List (List ℕ)
-  pub right : IsVerdictOn again traces known unreadable verdict front
-  pub printed : Appends before after (tested_text traces name verdict front)
+  pub below : List (List ℕ)
+  pub right : IsVerdictOn again traces known unreadable verdict below
+  pub printed : Appends before after (tested_text name verdict below)
   pub met_is : met ≡ is_met verdict
 
 -- these files are tested, in order: the output grew by the texts of their verdicts
-pub record HaveTested (traces : Bool) (bytes_at : List ℕ → Option (List ℕ)) (unreadable : List ℕ → Bool) (files : List Asked)
-    (before after : Option (List ℕ)) (passed failed : ℕ) : Type 0 where
+pub record HaveTested (traces : Bool) (bytes_at : List ℕ → Option (List ℕ)) (unreadable : List ℕ → Bool)
+    (files : List Asked) (before after : Option (List ℕ)) (passed failed : ℕ) : Type 0 where
   pub verdicts : Verdicts
   pub named : map asked_in verdicts ≡ files
-  pub right : All (λ v. IsVerdictOn v.again traces (bytes_at v.name) (unreadable v.name) v.verdict v.front) verdicts
-  pub printed : Appends before after (verdicts_text traces verdicts)
+  pub right : All (λ v. IsVerdictOn v.again traces (bytes_at v.name) (unreadable v.name) v.verdict v.below) verdicts
+  pub printed : Appends before after (verdicts_text verdicts)
   pub passed_is : passed ≡ passed_in verdicts
   pub failed_is : failed ≡ failed_in verdicts
 
--- The same of the files of these names, and after it the output has the line of how many passed and failed. The status is 0 if none failed, and else 1.
-pub record IsTested (traces : Bool) (bytes_at : List ℕ → Option (List ℕ)) (unreadable : List ℕ → Bool) (names : List (List ℕ))
-    (before after : Option (List ℕ)) (status : ℕ) : Type 0 where
+-- The same of the files of these names, and after it the output has the line of how many passed and failed. The status
+-- is 0 if none failed, and else 1.
+pub record IsTested (traces : Bool) (bytes_at : List ℕ → Option (List ℕ)) (unreadable : List ℕ → Bool)
+    (names : List (List ℕ)) (before after : Option (List ℕ)) (status : ℕ) : Type 0 where
   pub verdicts : Verdicts
   pub named : map asked_in verdicts ≡ asked names
-  pub right : All (λ v. IsVerdictOn v.again traces (bytes_at v.name) (unreadable v.name) v.verdict v.front) verdicts
-  pub printed : Appends before after (verdicts_text traces verdicts ++ tally_line (passed_in verdicts) (failed_in verdicts))
+  pub right : All (λ v. IsVerdictOn v.again traces (bytes_at v.name) (unreadable v.name) v.verdict v.below) verdicts
+  pub printed : Appends before after (verdicts_text verdicts ++ tally_line (passed_in verdicts) (failed_in verdicts))
   pub status_is : status ≡ (if failed_in verdicts == 0 then 0 else 1)
 
 -- ---- where the command ends before its work is done
@@ -160,21 +213,22 @@ pub record IsTested (traces : Bool) (bytes_at : List ℕ → Option (List ℕ)) 
 abbrev pub EndsTest : Fault → Type 0
 EndsTest fault = (fault ≡ Memory) ⊎ (fault ≡ Unwritable)
 
--- one file is tested, and the output grew by a prefix of the text of its verdict, and of the front of a trace where that is wanted
-pub record HasBegun (again traces : Bool) (known : Option (List ℕ)) (unreadable : Bool) (name : List ℕ) (before after : Option (List ℕ)) : Type 0 where
-  pub verdict : Verdict
-  pub front : List (List ℕ)
-  pub right : IsVerdictOn again traces known unreadable verdict front
-  pub grown : AppendsPrefix before after (tested_text traces name verdict front)
-
--- The output grew by a prefix of what is printed of the files of these names: the texts of the verdicts on the first of them, and after those of all files
--- the last line.
-pub record TestsPrefix (traces : Bool) (bytes_at : List ℕ → Option (List ℕ)) (unreadable : List ℕ → Bool) (names : List (List ℕ))
+-- one file is tested, and the output grew by a prefix of the text of its verdict, and of the lines that follow
+pub record HasBegun (again traces : Bool) (known : Option (List ℕ)) (unreadable : Bool) (name : List ℕ)
     (before after : Option (List ℕ)) : Type 0 where
+  pub verdict : Verdict
+  pub below : List (List ℕ)
+  pub right : IsVerdictOn again traces known unreadable verdict below
+  pub grown : AppendsPrefix before after (tested_text name verdict below)
+
+-- The output grew by a prefix of what is printed of the files of these names: the texts of the verdicts on the first of
+-- them, and after those of all files the last line.
+pub record TestsPrefix (traces : Bool) (bytes_at : List ℕ → Option (List ℕ)) (unreadable : List ℕ → Bool)
+    (names : List (List ℕ)) (before after : Option (List ℕ)) : Type 0 where
   pub verdicts : Verdicts
   pub others : List Asked
   pub named : map asked_in verdicts ++ others ≡ asked names
-  pub right : All (λ v. IsVerdictOn v.again traces (bytes_at v.name) (unreadable v.name) v.verdict v.front) verdicts
+  pub right : All (λ v. IsVerdictOn v.again traces (bytes_at v.name) (unreadable v.name) v.verdict v.below) verdicts
   pub last : List ℕ
   pub last_is : (last ≡ []) ⊎ ((others ≡ []) × (last ≡ tally_line (passed_in verdicts) (failed_in verdicts)))
-  pub grown : AppendsPrefix before after (verdicts_text traces verdicts ++ last)
+  pub grown : AppendsPrefix before after (verdicts_text verdicts ++ last)

@@ -1,25 +1,24 @@
--- What is shown of the key schedules in a run, along what happens in it, and the lines of it.
-use Rattle.std.specs.Prelude.{◌≡◌, ℕ, ◌+◌, List, [], ◌∷◌, ◌++◌, map, length, Option, None, Result}
+-- The keys that a run uses, along what happens in it, and the lines of them.
+use Rattle.std.specs.Prelude.{◌≡◌, ℕ, ◌+◌, List, [], ◌∷◌, ◌++◌, map, length, Option, Result}
 use Rattle.noise_names.specs.declared.token.Role.{Role}
 use Rattle.noise_names.specs.declared.token.Role.TheVariants.{Initiator, Responder}
 use Rattle.noise_names.specs.Plan.{Plan, has_psk}
 use Rattle.noise_names.specs.Tokens.{other}
-use Rattle.noise_names.specs.Validity.{IsValid}
 use Rattle.noise_events.specs.Events.{Event, events_of}
 use Rattle.noise_handshake.specs.declared.remote.Remote.{Remote}
 use Rattle.noise_handshake.specs.Setup.{public_keys}
 use Rattle.noise_session.specs.declared.faults.SendFault.{SendFault}
-use Rattle.noise_session.specs.Ends.{EndView}
+use Rattle.noise_session.specs.Ends.{EndState}
 use Rattle.noise_session.specs.Frames.{frame}
 use Rattle.noise_session.specs.Sending.{Sends}
 use Rattle.noise_session.specs.Sending.Sends.{refuses, lacks_answer, sends_handshake, sends_transport}
-use Rattle.noise_session.specs.Steps.{Told}
-use Rattle.noise_session.specs.Steps.Told.{Payload}
+use Rattle.noise_session.specs.Steps.{StepValue}
+use Rattle.noise_session.specs.Steps.StepValue.{Payload}
 use Rattle.noise_session.specs.Taking.{Judges}
 use Rattle.noise_session.specs.Taking.Judges.{accepted, refused, opened, dropped, exhausted}
-use Rattle.noise_lines.specs.Woven.{woven, woven_to}
-use Rattle.noise_session_trace.specs.Moments.{Shown, message_moment, opened_moment, sent_moment, stopped_moment, tried_moment}
-use Rattle.noise_session_trace.specs.Moments.Shown.{Nothing}
+use Rattle.noise_lines.specs.TracedLines.{with_traces, with_traces_to}
+use Rattle.noise_trace.specs.KeyUses.{KeyUseValue, message_use, opened_use, sent_use, stopped_use, tried_use}
+use Rattle.noise_trace.specs.KeyUses.KeyUseValue.{Nothing}
 use Rattle.noise_state.specs.History.{initiator_key, responder_key}
 use Rattle.noise_duel.specs.Notes.{Note, held_note, left_note}
 use Rattle.noise_duel.specs.Runs.{Happens, Run, SideReads, SideReceives, SideWrites}
@@ -34,31 +33,31 @@ use Rattle.noise_vectors.specs.FileKeys.{public_of}
 use Rattle.noise_vectors.specs.declared.file_keys.FileKeys.{FileKeys}
 use Rattle.noise_vectors.specs.declared.vector.FileDatagrams.{FileDatagrams}
 use Rattle.noise_vectors.specs.declared.vector.VectorFile.{VectorFile}
-use Rattle.noise_tool.specs.Ends.{IsPatternOf, facing_in, keys_in as file_keys, known_to, setup_of}
-use Rattle.noise_tool.specs.Kept.{heading_lines, keeps_handshake, keeps_transport, only_if}
-use Rattle.noise_tool.specs.Moments.{moment_lines}
-use Rattle.noise_tool.specs.Printed.{note_line}
+use Rattle.noise_tool.specs.Ends.{sides_of_file, keys_in as file_keys, known_to}
+use Rattle.noise_tool.specs.Selection.{heading_lines, selects_handshake, selects_transport, only_if}
+use Rattle.noise_tool.specs.KeyUseLines.{key_use_lines}
 use Rattle.noise_tool.specs.PrintedTrace.{datagram_key_lines, start_lines_from}
-use Rattle.noise_tool.specs.Running.{AreLast, datagrams_in}
+use Rattle.noise_tool.specs.Running.{AreLast, IsRunOf, datagrams_in}
 use Rattle.noise_tool.specs.Running.AreLast.{without, unready, ready}
-use Rattle.noise_tool.specs.declared.moment_lines.Kept.{Kept}
+use Rattle.noise_tool.specs.declared.key_use_lines.Selection.{Selection}
 use Rattle.noise_tool.specs.declared.trace_lines.About.{About}
 use Rattle.noise_tool.specs.declared.trace_lines.Act.{Act}
 use Rattle.noise_tool.specs.declared.trace_lines.Act.TheVariants.{Writes as Writing, Accepts as Accepting, Refuses as Refusing}
 
--- ---- what is shown of a write
+-- ---- the keys of a write
 
 -- of what isn't sent: the steps up to the token for which there is no DH answer
-abbrev pub unsent_moment : (v next : EndView) (payload : List ℕ) (told : Result (List ℕ) SendFault) → Sends v payload told next → Shown
-unsent_moment v next payload told (refuses _ _ why refusal) = Nothing
-unsent_moment v next payload told (lacks_answer _ _ token free lacks) = stopped_moment v token lacks.lacks.before
-unsent_moment v next payload told (sends_handshake _ _ message xs free w) = Nothing
-unsent_moment v next payload told (sends_transport _ _ free opens) = Nothing
+abbrev pub unsent_use : (v next : EndState) (payload : List ℕ) (reported : Result (List ℕ) SendFault)
+    → Sends v payload reported next → KeyUseValue
+unsent_use v next payload reported (refuses _ _ why refusal) = Nothing
+unsent_use v next payload reported (lacks_answer _ _ token free lacks) = stopped_use v token lacks.lacks.before
+unsent_use v next payload reported (sends_handshake _ _ message xs free w) = Nothing
+unsent_use v next payload reported (sends_transport _ _ free opens) = Nothing
 
-abbrev pub written_moment : (s next : Side) (payload : List ℕ) (note : Note) → SideWrites s payload note next → Shown
-written_moment s next payload note (writes_nothing _ _ why after sends) = unsent_moment s.view after payload _ sends
-written_moment s next payload note (writes_handshake _ message _ xs free w) = message_moment s.view xs payload
-written_moment s next payload note (writes_transport _ message _ free opens is) = sent_moment s.view
+abbrev pub written_use : (s next : Side) (payload : List ℕ) (note : Note) → SideWrites s payload note next → KeyUseValue
+written_use s next payload note (writes_nothing _ _ why after sends) = unsent_use s.state after payload _ sends
+written_use s next payload note (writes_handshake _ message _ xs free w) = message_use s.state xs payload
+written_use s next payload note (writes_transport _ message _ free opens is) = sent_use s.state
 
 -- the message, if there is one
 abbrev pub written_message : (s next : Side) (payload : List ℕ) (note : Note) → SideWrites s payload note next → List ℕ
@@ -72,125 +71,132 @@ written_frame s next payload note (writes_nothing _ _ why after sends) = []
 written_frame s next payload note (writes_handshake _ message _ xs free w) = frame message
 written_frame s next payload note (writes_transport _ message _ free opens is) = frame message
 
--- ---- what is shown of a message that comes
+-- ---- the keys of a message that comes
 
-abbrev pub judged_moment : (v next : EndView) (message : List ℕ) (step : Told) → Judges v message step next → Shown
-judged_moment v next message step (accepted _ _ payload xs accepts) = message_moment v xs payload
-judged_moment v next message step (refused _ _ token cause r) = stopped_moment v token r.stops.carried
-judged_moment v next message step (opened _ _ payload opens more is) = opened_moment v
-judged_moment v next message step (dropped _ _ opens more none) = tried_moment v
-judged_moment v next message step (exhausted _ _ opens none) = Nothing
+abbrev pub judged_use : (v next : EndState) (message : List ℕ) (step : StepValue) → Judges v message step next
+    → KeyUseValue
+judged_use v next message step (accepted _ _ payload xs accepts) = message_use v xs payload
+judged_use v next message step (refused _ _ token cause r) = stopped_use v token r.stops.carried
+judged_use v next message step (opened _ _ payload opens more is) = opened_use v
+judged_use v next message step (dropped _ _ opens more none) = tried_use v
+judged_use v next message step (exhausted _ _ opens none) = Nothing
 
-abbrev pub read_moment : (s next : Side) (message : List ℕ) (step : Told) → SideReads s message step next → Shown
-read_moment s next message step (accepts_handshake _ _ payload xs accepts) = message_moment s.view xs payload
-read_moment s next message step (accepts_transport _ _ payload opens more is) = opened_moment s.view
-read_moment s next message step (refuses_message _ _ _ after gives judges) = judged_moment s.view after message step judges
+abbrev pub read_use : (s next : Side) (message : List ℕ) (step : StepValue) → SideReads s message step next
+    → KeyUseValue
+read_use s next message step (accepts_handshake _ _ payload xs accepts) = message_use s.state xs payload
+read_use s next message step (accepts_transport _ _ payload opens more is) = opened_use s.state
+read_use s next message step (refuses_message _ _ _ after gives judges) = judged_use s.state after message step judges
 
-abbrev pub act_of : Told → Act
+abbrev pub act_of : StepValue → Act
 act_of (Payload bytes) = Accepting
 act_of _ = Refusing
 
 -- ---- the lines of an event: for each of its notes those that follow it
 
 -- a message of an end: handshake messages are numbered from 1 on
-abbrev pub about : Role → EndView → Act → About
+abbrev pub about : Role → EndState → Act → About
 about role v act = record { role = role; psks = has_psk v.party.pattern; act = act; number = v.party.passed + 1 }
-
-abbrev pub written_trace : Kept → Role → (s next : Side) (payload : List ℕ) (note : Note) → SideWrites s payload note next → List (List ℕ)
-written_trace kept role s next payload note w =
-    moment_lines kept (about role s.view Writing) (written_message s next payload note w) (written_moment s next payload note w)
-
-abbrev pub read_trace : Kept → Role → (s next : Side) (message : List ℕ) (step : Told) → SideReads s message step next → List (List ℕ)
-read_trace kept role s next message step r = moment_lines kept (about role s.view (act_of step)) message (read_moment s next message step r)
 
 -- no lines after each of these notes
 abbrev pub blanks : List Note → List (List (List ℕ))
 blanks notes = map (λ note. []) notes
 
-abbrev pub received_traces : Kept → Role → (s reader : Side) (bytes : List ℕ) (notes : List Note) → SideReceives s bytes notes reader
-    → List (List (List ℕ))
-received_traces kept role s reader bytes notes (is_idle _ _ step idle) = blanks (left_note step (length bytes))
-received_traces kept role s reader bytes notes (waits _ _ listens part) = []
-received_traces kept role s reader bytes notes (reads_frame _ next _ _ message rest step more listens cut fits r later) =
-    read_trace kept role s next message step r ∷ received_traces kept role next reader rest more later
+-- of what is selected
+module _ (selection : Selection) where
+  abbrev pub written_trace : Role → (s next : Side) (payload : List ℕ) (note : Note) → SideWrites s payload note next
+      → List (List ℕ)
+  written_trace role s next payload note w = key_use_lines selection (about role s.state Writing)
+      (written_message s next payload note w) (written_use s next payload note w)
 
--- with the note of the bytes that are held then
-abbrev pub came_traces : Kept → Role → (s reader : Side) (bytes : List ℕ) (notes : List Note) → SideReceives s bytes notes reader
-    → List (List (List ℕ))
-came_traces kept role s reader bytes notes x = received_traces kept role s reader bytes notes x ++ blanks (held_note (length reader.view.held))
+  abbrev pub read_trace : Role → (s next : Side) (message : List ℕ) (step : StepValue) → SideReads s message step next
+      → List (List ℕ)
+  read_trace role s next message step r =
+      key_use_lines selection (about role s.state (act_of step)) message (read_use s next message step r)
 
-abbrev pub happened_traces : Kept → (d last : Sides) (event : Event) (notes : List (Role × Note)) → Happens d event notes last
-    → List (List (List ℕ))
-happened_traces kept d last event notes (writes _ role payload note next w) = written_trace kept role _ next payload note w ∷ []
-happened_traces kept d last event notes (says_nothing _ role payload why next w) = written_trace kept role _ next payload _ w ∷ []
-happened_traces kept d last event notes (says _ role payload bytes n heard next reader w got x) =
-    written_trace kept role _ next payload _ w ∷ came_traces kept (other role) _ reader bytes heard x
-happened_traces kept d last event notes (delivers _ role n bytes heard reader got x) = came_traces kept role _ reader bytes heard x
-happened_traces kept d last event notes (misses _ role n none) = [] ∷ []
-happened_traces kept d last event notes (injects _ role bytes heard reader x) = came_traces kept role _ reader bytes heard x
+  abbrev pub received_traces : Role → (s reader : Side) (bytes : List ℕ) (notes : List Note)
+      → SideReceives s bytes notes reader → List (List (List ℕ))
+  received_traces role s reader bytes notes (is_idle _ _ step idle) = blanks (left_note step (length bytes))
+  received_traces role s reader bytes notes (waits _ _ listens part) = []
+  received_traces role s reader bytes notes (reads_frame _ next _ _ message rest step more listens cut fits r later) =
+      read_trace role s next message step r ∷ received_traces role next reader rest more later
 
-abbrev pub run_traces : Kept → (d last : Sides) (events : List Event) (notes : List (Role × Note)) → Run d events notes last
-    → List (List (List ℕ))
-run_traces kept d last events notes (ends _) = []
-run_traces kept d last events notes (begins _ next _ event more here later h rest) =
-    happened_traces kept d next event here h ++ run_traces kept next last more later rest
+  -- with the note of the bytes that are held then
+  abbrev pub came_traces : Role → (s reader : Side) (bytes : List ℕ) (notes : List Note)
+      → SideReceives s bytes notes reader → List (List (List ℕ))
+  came_traces role s reader bytes notes x =
+      received_traces role s reader bytes notes x ++ blanks (held_note (length reader.state.partial))
 
--- ---- before the events, and after them
+  abbrev pub happened_traces : (d last : Sides) (event : Event) (notes : List (Role × Note))
+      → Happens d event notes last → List (List (List ℕ))
+  happened_traces d last event notes (writes _ role payload note next w) = written_trace role _ next payload note w ∷ []
+  happened_traces d last event notes (says_nothing _ role payload why next w) =
+      written_trace role _ next payload _ w ∷ []
+  happened_traces d last event notes (says _ role payload bytes n heard next reader w got x) =
+      written_trace role _ next payload _ w ∷ came_traces (other role) _ reader bytes heard x
+  happened_traces d last event notes (delivers _ role n bytes heard reader got x) =
+      came_traces role _ reader bytes heard x
+  happened_traces d last event notes (misses _ role n none) = [] ∷ []
+  happened_traces d last event notes (injects _ role bytes heard reader x) = came_traces role _ reader bytes heard x
 
--- the start of an end of this role, with these keys, and these of the other party that it knows
-abbrev pub start_lines_of : Kept → Role → Plan → List ℕ → FileKeys → Remote → List (List ℕ)
-start_lines_of kept role plan prologue keys remote = only_if (keeps_handshake kept role)
-    (start_lines_from role (has_psk plan) 0 (start_steps plan role prologue (public_keys (public_of keys)) remote))
+  abbrev pub run_traces : (d last : Sides) (events : List Event) (notes : List (Role × Note)) → Run d events notes last
+      → List (List (List ℕ))
+  run_traces d last events notes (ends _) = []
+  run_traces d last events notes (begins _ next _ event more here later h rest) =
+      happened_traces d next event here h ++ run_traces next last more later rest
 
-abbrev pub start_of_role : Kept → VectorFile → Plan → Role → List (List ℕ)
-start_of_role kept file plan role = start_lines_of kept role plan file.prologue.items (file_keys file role) (known_to file plan role)
+  -- ---- before the events, and after them
 
--- of each end, after the heading
-abbrev pub start_traces : Kept → VectorFile → Plan → List (List ℕ)
-start_traces kept file plan = heading_lines kept ++ start_of_role kept file plan Initiator ++ start_of_role kept file plan Responder
+  -- the start of an end of this role, with these keys, and these of the other party that it knows
+  abbrev pub start_lines_of : Role → Plan → List ℕ → FileKeys → Remote → List (List ℕ)
+  start_lines_of role plan prologue keys remote = only_if (selects_handshake selection role)
+      (start_lines_from role (has_psk plan) 0 (start_steps plan role prologue (public_keys (public_of keys)) remote))
 
--- the keys of datagrams of each end
-abbrev pub datagram_keys_of : Kept → Role → EndView → List (List ℕ)
-datagram_keys_of kept role v =
-    only_if (keeps_transport kept role) (datagram_key_lines role (initiator_key v.party.history) (responder_key v.party.history))
+  abbrev pub start_of_role : VectorFile → Plan → Role → List (List ℕ)
+  start_of_role file plan role =
+      start_lines_of role plan file.prologue.items (file_keys file role) (known_to file plan role)
 
--- after the first of the last lines, where both ends have gone over to datagrams
-abbrev pub last_traces : Kept → (over : Option FileDatagrams) (d : Sides) (after : List (List ℕ)) → AreLast over d after → List (List (List ℕ))
-last_traces kept over d after (without _) = []
-last_traces kept over d after (unready _ _ not_ready) = []
-last_traces kept over d after (ready _ _ notes last are run) =
-    (datagram_keys_of kept Initiator d.initiator.view ++ datagram_keys_of kept Responder d.responder.view) ∷ []
+  -- of each end, after the heading
+  abbrev pub start_traces : VectorFile → Plan → List (List ℕ)
+  start_traces file plan =
+      heading_lines selection ++ start_of_role file plan Initiator ++ start_of_role file plan Responder
+
+  -- the keys of datagrams of each end
+  abbrev pub datagram_keys_of : Role → EndState → List (List ℕ)
+  datagram_keys_of role v = only_if (selects_transport selection role)
+      (datagram_key_lines role (initiator_key v.party.history) (responder_key v.party.history))
+
+  -- after the first of the last lines, where both ends have gone over to datagrams
+  abbrev pub last_traces : (over : Option FileDatagrams) (d : Sides) (after : List (List ℕ)) → AreLast over d after
+      → List (List (List ℕ))
+  last_traces over d after (without _) = []
+  last_traces over d after (unready _ _ not_ready) = []
+  last_traces over d after (ready _ _ notes last are run) =
+      (datagram_keys_of Initiator d.initiator.state ++ datagram_keys_of Responder d.responder.state) ∷ []
 
 -- ---- the whole
 
--- These are the lines of the file's run, as `replay` prints them (`IsRunOf`), and those of its key schedules: of the start of each end, and for each line
--- of the run, as far as there are some, those that follow it.
-pub record HasTraces (kept : Kept) (file : VectorFile) (lines start : List (List ℕ)) (traces : List (List (List ℕ))) : Type 0 where
-  pub plan : Plan
-  pub pattern : IsPatternOf file.block file.protocol plan
-  pub valid : IsValid plan
-  pub set_up : (role : Role) → setup_of file plan role ≡ None
-  pub notes : List (Role × Note)
-  pub last : Sides
-  pub run : Run (facing_in file plan) (events_of file.events.items) notes last
-  pub after : List (List ℕ)
-  pub are_last : AreLast (datagrams_in file.version) last after
-  pub lines_are : lines ≡ map (note_line last) notes ++ after
-  pub start_is : start ≡ start_traces kept file plan
-  pub traces_are : traces ≡ run_traces kept (facing_in file plan) last (events_of file.events.items) notes run
-      ++ last_traces kept (datagrams_in file.version) last after are_last
+-- These are the lines of the file's run (`IsRunOf`), and those of its key schedules: of the start of each end, and for
+-- each line of the run, as far as there are some, those that follow it.
+pub record HasTraces (selection : Selection) (file : VectorFile) (lines start : List (List ℕ))
+    (traces : List (List (List ℕ))) : Type 0 where
+  pub run : IsRunOf file lines
+  pub start_is : start ≡ start_traces selection file run.plan
+  pub traces_are : traces ≡ run_traces selection (sides_of_file file run.plan) run.last (events_of file.events.items)
+      run.notes run.run ++ last_traces selection (datagrams_in file.version) run.last run.after run.are_last
 
--- These are the lines of the file's run, and those that `trace` prints: the start of each end, and then each line of the run with what is shown of the
--- key schedules there.
-pub record IsTraceOf (kept : Kept) (file : VectorFile) (lines traced : List (List ℕ)) : Type 0 where
+-- These are the lines of the file's run, and those that `trace` prints: the start of each end, and then each line of
+-- the run with those that follow it.
+pub record IsTraceOf (selection : Selection) (file : VectorFile) (lines traced : List (List ℕ)) : Type 0 where
   pub start : List (List ℕ)
   pub traces : List (List (List ℕ))
-  pub shown : HasTraces kept file lines start traces
-  pub traced_are : traced ≡ start ++ woven lines traces
+  pub shown : HasTraces selection file lines start traces
+  pub traced_are : traced ≡ start ++ with_traces lines traces
 
--- These are the lines of the file's run, and the front of what `trace` prints, up to the line of the run of this number and what is shown there.
-pub record IsTraceTo (kept : Kept) (file : VectorFile) (lines : List (List ℕ)) (number : ℕ) (front : List (List ℕ)) : Type 0 where
+-- These are the lines of the file's run, and the front of what `trace` prints, up to the line of the run of this number
+-- and those that follow it.
+pub record IsTraceTo (selection : Selection) (file : VectorFile) (lines : List (List ℕ)) (number : ℕ)
+    (front : List (List ℕ)) : Type 0 where
   pub start : List (List ℕ)
   pub traces : List (List (List ℕ))
-  pub shown : HasTraces kept file lines start traces
-  pub front_is : front ≡ start ++ woven_to number lines traces
+  pub shown : HasTraces selection file lines start traces
+  pub front_is : front ≡ start ++ with_traces_to number lines traces

@@ -5,9 +5,9 @@ ghost use Rattle.std.specs.Io.KnownBytes.{Appends};
 ghost use Rattle.noise_compare.specs.Lines.{words_in, words_of};
 ghost use Rattle.noise_lines.specs.Faults.{status_of};
 ghost use Rattle.noise_lines.specs.Prefixes.{AppendsPrefix};
-ghost use Rattle.noise_lines.specs.Told.{error_text};
+ghost use Rattle.noise_lines.specs.Reported.{error_text};
 ghost use Rattle.noise_lines.specs.declared.faults.Fault.{Fault};
-ghost use Rattle.noise_lines.specs.Woven.{traces_of};
+ghost use Rattle.noise_lines.specs.TracedLines.{traces_of};
 ghost use Rattle.noise_vectors.specs.Expectations.{bytes_of};
 ghost use Rattle.noise_tool.specs.Comparing.{Compares, ComparesPrefix, IfMade, IfWrong, IsCompared, IsNotCompared, IsUncompared, IsWrongLog};
 ghost use Rattle.noise_tool.specs.Comparing.{finding_status, schedule_of, uncompared_line};
@@ -15,10 +15,10 @@ ghost use Rattle.noise_tool.specs.Testing.{RunsTo};
 ghost use Rattle.noise_tool.specs.declared.comparing.Comparison.TheVariants.{Wrong};
 ghost use Rattle.noise_tool.specs.declared.comparing.Uncompared.TheVariants.{WrongFile};
 
-use crate::testing::{FilesByName, is_input, run_named};
+use crate::testing::{FilesByName, is_input, trace_named};
 use crate::tracing::Traced;
 use noise_compare::{Finding, Line, LogFault, LogReport, compare_lines, push_schedule, read_log};
-use noise_lines::{Fault, Verdict, flush, named_fault, tell, verdict_lines, write};
+use noise_lines::{Fault, Verdict, flush, named_fault, report_fault, verdict_lines, write};
 use noise_words::Compared;
 use std::alloc::{AllocError, Global};
 use std::io::Write;
@@ -75,16 +75,16 @@ pub fn compare_log<F: FilesByName, O: Write, E: Write>(
     match compare_named(alloc, names, files) {
         Ok(Comparison::Made(report)) => match print_report(&report, out) {
             Ok(status) => status,
-            Err(fault) => tell(alloc, fault, out, err),
+            Err(fault) => report_fault(alloc, fault, out, err),
         },
         Ok(Comparison::Wrong(why)) => match uncompared_line(alloc, names, why) {
             Ok(line) => {
                 let _ = write(&line, err);
                 2
             }
-            Err(_) => tell(alloc, Fault::Memory, out, err),
+            Err(_) => report_fault(alloc, Fault::Memory, out, err),
         },
-        Err(fault) => tell(alloc, fault, out, err),
+        Err(fault) => report_fault(alloc, fault, out, err),
     }
 }
 
@@ -113,7 +113,8 @@ fn compare_named<F: FilesByName>(
         (λ report. IfSome (F.bytes_at files.now (string_bytes names.now.log))
         (λ log. IfSome (F.bytes_at files.now (string_bytes names.now.file)) (λ file. Compares log file report)))) }
     ensures wrong { IfOk result (λ made. IfWrong made
-        (IsUncompared names.now (F.bytes_at files.now (string_bytes names.now.log)) (F.bytes_at files.now (string_bytes names.now.file)))) }
+        (IsUncompared names.now (F.bytes_at files.now (string_bytes names.now.log)) (F.bytes_at files.now
+        (string_bytes names.now.file)))) }
     ensures fault { IfErr result (λ fault. status_of fault ≡ 3) }
 {
     let (log_name, file_name) = (names.log.as_str(), names.file.as_str());
@@ -125,7 +126,7 @@ fn compare_named<F: FilesByName>(
         Err(Fault::TooLong) => return Ok(Comparison::Wrong(Uncompared::LongLog)),
         Err(fault) => return Err(fault),
     };
-    match run_named(alloc, file_name, true, files) {
+    match trace_named(alloc, file_name, files) {
         Ok(traced) => compare_traced(alloc, &log, &traced),
         Err(fault) => wrong_file(fault),
     }

@@ -1,11 +1,12 @@
 //! The lines of a run of datagrams.
 
 ghost use Rattle.std.specs.Prelude.{◌≡◌, ◌++◌, map, IfOk, IsTrue, OnOk};
-ghost use Rattle.noise_session.specs.Datagrams.{DatagramView, DatagramsStand};
-ghost use Rattle.noise_duel.specs.DatagramReports.{DatagramDuelStands, datagram_note_of, datagram_notes_of};
+ghost use Rattle.noise_session.specs.Datagrams.{DatagramState, DatagramsMatch};
+ghost use Rattle.noise_duel.specs.DatagramReports.{DatagramDuelMatches, datagram_note_of, datagram_notes_of};
 ghost use Rattle.noise_duel.specs.DatagramSides.{DatagramSides};
 ghost use Rattle.noise_vectors.specs.Expectations.{bytes_of};
 ghost use Rattle.noise_lines.specs.Lines.{line_of, text_in};
+ghost use Rattle.noise_tool.specs.Printed.{Appended};
 ghost use Rattle.noise_tool.specs.PrintedDatagrams as print;
 ghost use Rattle.noise_lines.specs.PrintedWords.{AreExpected, is_printed};
 
@@ -22,8 +23,8 @@ pub fn push_datagram_lines(
     report: &DatagramReport,
     lines: &mut Vec<Vec<u8>>,
 ) -> Result<(), AllocError>
-    ensures lines { OnOk result (bytes_of lines.new.items
-        ≡ bytes_of lines.old.items ++ map print.datagram_line (datagram_notes_of report.now.entries.items)) }
+    ensures lines { OnOk result
+        (Appended lines.old lines.new (map print.datagram_line (datagram_notes_of report.now.entries.items))) }
     ensures printed { AreExpected lines.old.items → OnOk result (AreExpected lines.new.items) }
 {
     for (role, entry) in &report.entries {
@@ -73,8 +74,8 @@ pub fn push_datagram_states(
     duel: &DatagramDuel,
     lines: &mut Vec<Vec<u8>>,
 ) -> Result<(), AllocError>
-    ensures lines { (d : DatagramSides) → DatagramDuelStands duel.now d
-        → OnOk result (bytes_of lines.new.items ≡ bytes_of lines.old.items ++ print.datagram_state_lines d) }
+    ensures lines { (d : DatagramSides) → DatagramDuelMatches duel.now d
+        → OnOk result (Appended lines.old lines.new (print.datagram_state_lines d)) }
     ensures printed { AreExpected lines.old.items → OnOk result (AreExpected lines.new.items) }
 {
     let first = datagram_state(alloc, Role::Initiator, duel.initiator())?;
@@ -86,7 +87,8 @@ pub fn push_datagram_states(
 
 // The state of a party.
 fn datagram_state(alloc: Global, role: Role, datagrams: &Datagrams) -> Result<Line, AllocError>
-    ensures { (v : DatagramView) → DatagramsStand datagrams.now v → IfOk result (λ line. text_in line ≡ print.datagram_state_line role v) }
+    ensures { (v : DatagramState) → DatagramsMatch datagrams.now v
+        → IfOk result (λ line. text_in line ≡ print.datagram_state_line role v) }
 {
     begun_line(alloc, "state", role)?
         .word("datagrams")?

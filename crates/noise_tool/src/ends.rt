@@ -3,21 +3,20 @@
 ghost use Rattle.std.specs.Prelude.{◌≡◌, ◌≤◌, IfOk, IfErr, false, length};
 ghost use Rattle.std.specs.Option.{option_map};
 ghost use Rattle.std.specs.Result.{result_err};
-ghost use Rattle.noise_duel.specs.HeldDuel.{DuelStands, facing_as};
+ghost use Rattle.noise_duel.specs.DuelValue.{both_sides};
 ghost use Rattle.noise_names.specs.Validity.{IsValid};
 ghost use Rattle.noise_names.specs.declared.token.Role.TheVariants.{Initiator, Responder};
-ghost use Rattle.noise_handshake.specs.Party.{Stands};
-ghost use Rattle.noise_handshake.specs.Setup.{begun, setup_fault};
-ghost use Rattle.noise_handshake.specs.View.{View};
+ghost use Rattle.noise_handshake.specs.Setup.{party_at_start, setup_fault};
+ghost use Rattle.noise_handshake.specs.Party.{Party};
 ghost use Rattle.noise_session.specs.Ends.{end_of};
 ghost use Rattle.noise_vectors.specs.FileKeys.{agreement_of, public_of};
-ghost use Rattle.noise_tool.specs.Ends.{AreEnds, AreHandshakes, IsPatternFault, IsPatternOf, IsStartFault, known_before};
+ghost use Rattle.noise_tool.specs.Ends.{AreEnds, AreHandshakes, FileDuelMatches, FileMatches, IsPatternFault, IsPatternOf, IsStartFault, known_before};
 
 use noise_duel::{Duel, Event};
 use noise_handshake::{Handshake, Keys, Own, Remote};
 use noise_lines::{Fault, named_pattern};
 use noise_names::{Pattern, ProtocolName, Role, Token, ValidPattern};
-use noise_session::{End, end_is_told};
+use noise_session::{End, end_is_reported};
 use noise_vectors::{FileKeys, VectorFile, Version};
 use std::alloc::{AllocError, Global};
 
@@ -33,8 +32,8 @@ pub(crate) struct Beginning {
 
 /// The two ends that the file describes, before the first message, the file's events, and its version.
 ///
-/// At `Err` the fault is the first of these: a psk place beyond the messages of the pattern, a rule that the pattern breaks, the initiator's setup,
-/// the responder's setup.
+/// At `Err` the fault is the first of these: a psk place beyond the messages of the pattern, a rule that the pattern
+/// breaks, the initiator's setup, the responder's setup.
 pub fn make_ends(
     alloc: Global,
     file: VectorFile,
@@ -57,9 +56,13 @@ pub fn make_ends(
 
 // The handshakes of both ends, before the first message. The fault is that of `make_ends`.
 pub(crate) fn begin(file: VectorFile) -> Result<Beginning, Fault>
-    ensures handshakes { IfOk result (λ begun. AreHandshakes file begun.initiator begun.responder) }
-    ensures begins { IfOk result (λ begun. (begun.initiator.ended ≡ false) × (begun.responder.ended ≡ false)) }
-    ensures same { IfOk result (λ begun. (begun.interval ≡ file.interval) × (begun.events ≡ file.events) × (begun.version ≡ file.version)) }
+    ensures handshakes { IfOk result
+        (λ beginning. AreHandshakes file beginning.initiator beginning.responder) }
+    ensures begins { IfOk result (λ beginning. (beginning.initiator.ended ≡ false)
+        × (beginning.responder.ended ≡ false)) }
+    ensures value { IfOk result (λ beginning. (beginning.interval ≡ file.interval)
+        × (beginning.events ≡ file.events)
+        × (beginning.version ≡ file.version)) }
     ensures fault { IfErr result (λ fault. IsStartFault file fault) }
 {
     let VectorFile {
@@ -111,19 +114,22 @@ pub(crate) fn duel_of(
 ) -> Result<Duel<FileKeys, FileKeys>, AllocError>
     requires first { initiator.ended ≡ false }
     requires second { responder.ended ≡ false }
-    requires roles { (v w : View) × Stands public_of agreement_of initiator v × Stands public_of agreement_of responder w
+    requires roles { (v w : Party) × FileMatches initiator v × FileMatches responder w
         × (v.role ≡ Initiator) × (w.role ≡ Responder) }
-    ensures { (v w : View) → Stands public_of agreement_of initiator v → Stands public_of agreement_of responder w
-        → IfOk result (λ duel. DuelStands public_of agreement_of public_of agreement_of duel (facing_as (end_of v interval) (end_of w interval))) }
+    ensures { (v w : Party) → FileMatches initiator v → FileMatches responder w
+        → IfOk result (λ duel. FileDuelMatches duel (both_sides (end_of v interval) (end_of w interval))) }
 {
     let first = End::new(alloc, initiator, interval)?;
     let second = End::new(alloc, responder, interval)?;
-    end_is_told::<FileKeys>();
+    end_is_reported::<FileKeys>();
     Ok(Duel::new(first, second))
 }
 
 // The pattern that a file spells, or else that of its protocol's name.
-fn valid_pattern(block: Option<Pattern>, name: &ProtocolName) -> Result<ValidPattern, Fault>
+pub(crate) fn valid_pattern(
+    block: Option<Pattern>,
+    name: &ProtocolName,
+) -> Result<ValidPattern, Fault>
     ensures pattern { IfOk result (λ pattern. IsPatternOf block name.now pattern) }
     ensures valid { IfOk result (λ pattern. IsValid pattern) }
     ensures fault { IfErr result (λ fault. IsPatternFault block name.now fault) }
@@ -167,9 +173,11 @@ fn handshake(
     psks: &[[u8; 32]],
 ) -> Result<Handshake<FileKeys>, Fault>
     requires { length prologue.now ≤ 65535 }
-    ensures stands { IfOk result (λ h. Stands public_of agreement_of h (begun pattern role prologue.now (public_of keys) (agreement_of keys) remote psks.now)) }
+    ensures matches { IfOk result (λ h. FileMatches h
+        (party_at_start pattern role prologue.now (public_of keys) (agreement_of keys) remote psks.now)) }
     ensures begins { IfOk result (λ h. h.ended ≡ false) }
-    ensures fault { result_err result ≡ option_map (λ why. Fault.Setup role why) (setup_fault pattern role (public_of keys) remote (length psks.now)) }
+    ensures fault { result_err result ≡ option_map (λ why. Fault.Setup role why)
+        (setup_fault pattern role (public_of keys) remote (length psks.now)) }
 {
     match Handshake::new(pattern, role, prologue, keys, remote, psks) {
         Ok(handshake) => Ok(handshake),

@@ -1,25 +1,27 @@
-//! The command `explain`: what is wrong with pattern texts and vector files, in sentences, or what follows from the tokens of their patterns.
+//! The command `explain`: what is wrong with pattern texts and vector files, in sentences, or what follows from the
+//! tokens of their patterns.
 
-ghost use Rattle.std.specs.Prelude.{◌≡◌, ◌⊎◌, ◌≤◌, IfErr, IfOk, IfSome, map, string_bytes};
-ghost use Rattle.noise_lines.specs.Faults.{status_of};
+ghost use Rattle.std.specs.Prelude.{◌≡◌, ◌⊎◌, ◌≤◌, IfErr, IfNone, IfOk, IfSome, IsTrue, map, string_bytes};
+ghost use Rattle.noise_explain.specs.Shown.{unread_head};
 ghost use Rattle.noise_lines.specs.Prefixes.{AppendsPrefix};
-ghost use Rattle.noise_lines.specs.Told.{error_text};
-ghost use Rattle.noise_lines.specs.declared.faults.Fault.{Fault};
-ghost use Rattle.noise_tool.specs.Explaining.{ExplainsPrefix, HasExplained, IsExplainedFile, IsExplainedRun, IsExplainedText, IsExplainedVector, worse};
+ghost use Rattle.noise_lines.specs.declared.faults.Fault.TheVariants.{Unreadable};
+ghost use Rattle.noise_tool.specs.Explaining.{ExplainsPrefix, HasExplained, IsExplainedFile, IsExplainedRun, IsExplainedText, IsExplainedVector, StopsExplaining, worse};
+ghost use Rattle.noise_tool.specs.Testing.{EndsTest};
 
 use crate::running::replay;
 use crate::testing::FilesByName;
-use noise_explain::{Explained, explain, explain_long};
+use noise_explain::{Explained, explain, explain_long, unread_head};
 use noise_explain_vectors::{
     explain_line, explain_start, explain_vector, is_vector_text, pattern_in,
 };
-use noise_lines::{Fault, flush, tell, write};
+use noise_lines::{Fault, flush, report_fault, write};
 use noise_vectors::{AllowedEvents, VectorFault, VectorFile, read_vector};
 use std::alloc::Global;
 use std::io::Write;
 
-/// Explains the file of each name, one after the other. The exit status is the greatest of theirs: 0 of a right file, 1 of a pattern that breaks a rule
-/// or of ends that can't be made, 2 of a wrong text. Where a file can't be read, the output can't be written or memory runs out, the command ends with 3.
+/// Explains the file of each name, one after the other. The exit status is the greatest of theirs: 0 of a right file, 1
+/// of a pattern that breaks a rule or of ends that can't be made, 2 of a wrong text. Where a file can't be read, which
+/// `err` says with its name, the output can't be written or memory runs out, the command ends with 3.
 pub fn explain_files<F: FilesByName, O: Write, E: Write>(
     alloc: Global,
     names: &[String],
@@ -28,37 +30,63 @@ pub fn explain_files<F: FilesByName, O: Write, E: Write>(
     err: &mut E,
 ) -> u8
     ensures status { result ≤ 3 }
-    ensures explained { (result ≡ 3) ⊎ (HasExplained (F.bytes_at files.now) (map string_bytes names.now) (O.contents out.old) (O.contents out.new) result
+    ensures explained { (result ≡ 3)
+        ⊎ (HasExplained (F.bytes_at files.now) (map string_bytes names.now) (O.contents out.old)
+        (O.contents out.new) result
         × (err.new ≡ err.old)) }
-    ensures outside { result ≡ 3 → (fault : Fault) × (status_of fault ≡ 3)
-        × AppendsPrefix (E.contents err.old) (E.contents err.new) (error_text fault) }
-    ensures prefix { ExplainsPrefix (F.bytes_at files.now) (map string_bytes names.now) (O.contents out.old) (O.contents out.new) }
+    ensures outside { (result ≤ 2) ⊎ StopsExplaining (F.unreadable files.now) (map string_bytes names.now)
+        (E.contents err.old) (E.contents err.new) }
+    ensures prefix { ExplainsPrefix (F.bytes_at files.now) (map string_bytes names.now) (O.contents out.old)
+        (O.contents out.new) }
 {
-    match explain_each(alloc, names, files, out) {
+    match explain_each(alloc, names, files, out, err) {
         Ok(status) => status,
-        Err(fault) => tell(alloc, fault, out, err),
+        Err(fault) => report_fault(alloc, fault, out, err),
     }
 }
 
-fn explain_each<F: FilesByName, O: Write>(
+fn explain_each<F: FilesByName, O: Write, E: Write>(
     alloc: Global,
     names: &[String],
     files: &F,
     out: &mut O,
+    err: &mut E,
 ) -> Result<u8, Fault>
-    ensures status { IfOk result (λ status. status ≤ 2) }
-    ensures explained { IfOk result (HasExplained (F.bytes_at files.now) (map string_bytes names.now) (O.contents out.old) (O.contents out.new)) }
-    ensures prefix { IfErr result (λ fault. ExplainsPrefix (F.bytes_at files.now) (map string_bytes names.now) (O.contents out.old) (O.contents out.new)) }
-    ensures fault { IfErr result (λ fault. status_of fault ≡ 3) }
+    ensures status { IfOk result (λ status. status ≤ 3) }
+    ensures explained { IfOk result (λ status. (status ≡ 3)
+        ⊎ (HasExplained (F.bytes_at files.now) (map string_bytes names.now) (O.contents out.old)
+        (O.contents out.new) status
+        × (err.new ≡ err.old))) }
+    ensures outside { IfOk result (λ status. (status ≤ 2) ⊎ StopsExplaining (F.unreadable files.now)
+        (map string_bytes names.now) (E.contents err.old) (E.contents err.new)) }
+    ensures prefix { ExplainsPrefix (F.bytes_at files.now) (map string_bytes names.now) (O.contents out.old)
+        (O.contents out.new) }
+    ensures fault { IfErr result EndsTest }
+    ensures quiet { IfErr result (λ _. err.new ≡ err.old) }
 {
     let mut status = 0;
     for name in names {
-        let explained = explain_named(alloc, name.as_str(), files)?;
+        let Some(explained) = explain_named(alloc, name.as_str(), files)? else {
+            return write_unread(alloc, name.as_str(), err);
+        };
         write(&explained.text, out)?;
         status = worse(status, explained.status);
     }
     flush(out)?;
     Ok(status)
+}
+
+// Writes that the file of this name can't be read, and gives the exit status. A refused write leaves the status.
+fn write_unread<E: Write>(alloc: Global, name: &str, err: &mut E) -> Result<u8, Fault>
+    ensures status { IfOk result (λ status. status ≡ 3) }
+    ensures written { IfOk result
+        (λ _. AppendsPrefix (E.contents err.old) (E.contents err.new) (unread_head name.now Unreadable)) }
+    ensures fault { IfErr result EndsTest }
+    ensures quiet { IfErr result (λ _. err.new ≡ err.old) }
+{
+    let line = unread_head(alloc, name, Fault::Unreadable)?;
+    let _ = write(&line, err);
+    Ok(3)
 }
 
 fn worse(first: u8, second: u8) -> u8
@@ -67,15 +95,25 @@ fn worse(first: u8, second: u8) -> u8
     if first <= second { second } else { first }
 }
 
-// What is said of the file of this name.
-fn explain_named<F: FilesByName>(alloc: Global, name: &str, files: &F) -> Result<Explained, Fault>
-    ensures explained { IfOk result (IsExplainedFile (F.bytes_at files.now name.now) name.now) }
-    ensures bound { IfOk result (λ e. e.status ≤ 2) }
-    ensures fault { IfErr result (λ fault. status_of fault ≡ 3) }
+// What is said of the file of this name, if it can be read.
+fn explain_named<F: FilesByName>(
+    alloc: Global,
+    name: &str,
+    files: &F,
+) -> Result<Option<Explained>, Fault>
+    ensures explained { IfOk result
+        (λ found. IfSome found (IsExplainedFile (F.bytes_at files.now name.now) name.now)) }
+    ensures unread { IfOk result (λ found. IfNone found (IsTrue (F.unreadable files.now name.now))) }
+    ensures bound { IfOk result (λ found. IfSome found (λ e. e.status ≤ 2)) }
+    ensures fault { IfErr result EndsTest }
 {
     match files.read(alloc, name) {
-        Ok(text) => explain_bytes(alloc, name, &text),
-        Err(Fault::TooLong) => Ok(explain_long(alloc, name)?),
+        Ok(text) => {
+            let explained = explain_bytes(alloc, name, &text)?;
+            Ok(Some(explained))
+        }
+        Err(Fault::TooLong) => Ok(Some(explain_long(alloc, name)?)),
+        Err(Fault::Unreadable) => Ok(None),
         Err(fault) => Err(fault),
     }
 }
@@ -84,7 +122,7 @@ fn explain_named<F: FilesByName>(alloc: Global, name: &str, files: &F) -> Result
 fn explain_bytes(alloc: Global, name: &str, text: &[u8]) -> Result<Explained, Fault>
     ensures explained { IfOk result (IsExplainedText name.now text.now) }
     ensures bound { IfOk result (λ e. e.status ≤ 2) }
-    ensures fault { IfErr result (λ fault. status_of fault ≡ 3) }
+    ensures fault { IfErr result EndsTest }
 {
     if is_vector_text(text) {
         explain_vector_text(alloc, name, text)
@@ -97,7 +135,7 @@ fn explain_bytes(alloc: Global, name: &str, text: &[u8]) -> Result<Explained, Fa
 fn explain_vector_text(alloc: Global, name: &str, text: &[u8]) -> Result<Explained, Fault>
     ensures explained { IfOk result (IsExplainedVector name.now text.now) }
     ensures bound { IfOk result (λ e. e.status ≤ 2) }
-    ensures fault { IfErr result (λ fault. status_of fault ≡ 3) }
+    ensures fault { IfErr result EndsTest }
 {
     match read_vector(alloc, text, AllowedEvents::Any) {
         Ok(file) => explain_file(alloc, name, file),
@@ -110,10 +148,10 @@ fn explain_vector_text(alloc: Global, name: &str, text: &[u8]) -> Result<Explain
 fn explain_file(alloc: Global, name: &str, file: VectorFile) -> Result<Explained, Fault>
     ensures explained { IfOk result (IsExplainedRun name.now file) }
     ensures bound { IfOk result (λ e. e.status ≤ 2) }
-    ensures fault { IfErr result (λ fault. status_of fault ≡ 3) }
+    ensures fault { IfErr result EndsTest }
 {
     let protocol = file.protocol.clone()?;
-    let pattern = pattern_in(&file.protocol, file.block.as_ref())?;
+    let pattern = pattern_in(&file.protocol, &file.block)?;
     match replay(alloc, file) {
         Ok(outcome) => Ok(explain_vector(alloc, name, &protocol, pattern, &outcome.lines)?),
         Err(fault) if fault.status() < 3 => Ok(explain_start(

@@ -5,7 +5,7 @@ ghost use Rattle.noise_tool.specs.OneRun.{OneRun};
 ghost use Rattle.noise_tool.specs.TemplateStarts.{TemplatesStart};
 
 use noise_duel::{datagram_run_once, run_once};
-use noise_handshake::tokens_stand;
+use noise_handshake::laws::tokens_match;
 use noise_vectors::vector_texts_are_unique;
 
 /// Files that say the same print the same lines; so a file has one list of lines.
@@ -28,5 +28,5 @@ pub fn conversions_meet_themselves()
 pub fn templates_start()
     ensures { TemplatesStart }
 {
-    tokens_stand();
+    tokens_match();
 }

@@ -5,8 +5,8 @@ mod comparing;
 mod datagram_report;
 mod ends;
 mod explaining;
+mod key_use_lines;
 mod laws;
-mod moment_lines;
 mod performing;
 mod report;
 mod running;
@@ -19,7 +19,7 @@ mod traced_event;
 mod tracing;
 
 pub use laws::{conversions_meet_themselves, file_run_once, templates_start};
-pub use noise_lines::{Difference, Fault, Verdict, read_file, tell};
+pub use noise_lines::{Difference, Fault, Verdict, read_file, report_fault};
 pub use noise_template::names_protocol;
 pub use noise_words::{Chosen, LineFault, Order, Tested, chosen};
 pub use performing::{perform, perform_command};

@@ -8,13 +8,13 @@ ghost use Rattle.noise_vectors.specs.declared.vector.AllowedEvents.TheVariants.{
 ghost use Rattle.noise_tool.specs.Performing.{HasConverted, HasRun, IsDone, IsFault, IsOfLines, IsRunFault, IsTooLongConverted, IsUnlike, IsUnmet};
 ghost use Rattle.noise_tool.specs.Performing.{IfCommand, IfCompare, IfExplain, IfTest, IsShort, LeavesAtTwo, LeavesFile, LeavesInput, ReadsShort};
 ghost use Rattle.noise_tool.specs.Comparing.{ComparesPrefix, IsCompared, IsNotCompared};
-ghost use Rattle.noise_tool.specs.Explaining.{ExplainsPrefix, HasExplained};
+ghost use Rattle.noise_tool.specs.Explaining.{ExplainsPrefix, HasExplained, StopsExplaining};
 ghost use Rattle.noise_tool.specs.Templating.{HasTemplated, IsTemplateFault, LeavesPattern, ReadsShortPattern};
 ghost use Rattle.noise_tool.specs.Testing.{EndsTest, IsTested, TestsPrefix};
 ghost use Rattle.noise_tool.specs.Prefixes.{PrintsConvertedPrefix, PrintsPrefix, PrintsRunPrefix};
 ghost use Rattle.noise_lines.specs.Lines.{lines_text};
 ghost use Rattle.noise_lines.specs.Prefixes.{AppendsPrefix};
-ghost use Rattle.noise_lines.specs.Told.{LeavesOther, TellsRule, error_text};
+ghost use Rattle.noise_lines.specs.Reported.{LeavesOther, ReportsRule, error_text};
 ghost use Rattle.noise_lines.specs.Verdicts.{IsMet};
 ghost use Rattle.noise_lines.specs.declared.faults.Fault.{Fault};
 
@@ -25,7 +25,7 @@ use crate::running::{Outcome, replay, run_vector};
 use crate::testing::{FilesByName, test};
 use crate::trace_file::trace_chosen;
 use noise_lines::{
-    Fault, check, compare, convert, flush, list, read_file, show, tell, write, write_lines,
+    Fault, check, compare, convert, flush, list, read_file, report_fault, show, write, write_lines,
 };
 use noise_template::{named_template, names_protocol, spelled_template};
 use noise_vectors::{AllowedEvents, read_vector};
@@ -33,9 +33,10 @@ use noise_words::{Chosen, Order};
 use std::alloc::Global;
 use std::io::{Read, Write};
 
-/// Does what the words of the command line ask for, and gives the exit status: a command on at most one file, which is opened, as `perform_command` does
-/// it, or `test`, `explain` or `compare`, with the files by their names. What isn't asked for is not read: of `file` nothing for `test`, `explain`,
-/// `compare`, `list`, `show` and `template` of a protocol name, of `files` nothing for a command.
+/// Does what the words of the command line ask for, and gives the exit status: a command on at most one file, which is
+/// opened, as `perform_command` does it, or `test`, `explain` or `compare`, with the files by their names. What isn't
+/// asked for is not read: of `file` nothing for `test`, `explain`, `compare`, `list`, `show` and `template` of a
+/// protocol name, of `files` nothing for a command.
 pub fn perform<R: Read, F: FilesByName, O: Write, E: Write>(
     alloc: Global,
     order: &Order,
@@ -45,11 +46,14 @@ pub fn perform<R: Read, F: FilesByName, O: Write, E: Write>(
     err: &mut E,
 ) -> u8
     ensures status { result ≤ 3 }
-    ensures done { result ≡ 0 → IfCommand order.now (λ chosen. IsDone chosen (R.remaining file.old) (O.contents out.old) (O.contents out.new)) }
-    ensures fault { 1 ≤ result → IfCommand order.now (λ chosen. (result ≡ 3) ⊎ ((fault : Fault) × (status_of fault ≡ result)
+    ensures done { result ≡ 0
+        → IfCommand order.now (λ chosen. IsDone chosen (R.remaining file.old) (O.contents out.old)
+        (O.contents out.new)) }
+    ensures fault { 1 ≤ result → IfCommand order.now (λ chosen. (result ≡ 3) ⊎ ((fault : Fault)
+        × (status_of fault ≡ result)
         × IsFault chosen (R.remaining file.old) (O.contents out.old) (O.contents out.new) fault
         × (IsOfLines fault ⊎ LeavesOther fault out.old out.new err.old err.new)
-        × TellsRule fault (O.contents out.old) (O.contents out.new)
+        × ReportsRule fault (O.contents out.old) (O.contents out.new)
         × AppendsPrefix (E.contents err.old) (E.contents err.new) (error_text fault))) }
     ensures outside { result ≡ 3 → IfCommand order.now (λ chosen. (fault : Fault) × (status_of fault ≡ 3)
         × AppendsPrefix (E.contents err.old) (E.contents err.new) (error_text fault)) }
@@ -60,23 +64,30 @@ pub fn perform<R: Read, F: FilesByName, O: Write, E: Write>(
     ensures quiet { result ≡ 0 → err.new ≡ err.old }
     ensures unread { LeavesInput order.now file.old file.new }
     ensures tested { IfTest order.now (λ asked. (result ≡ 3)
-        ⊎ (IsTested asked.traces (F.bytes_at files.now) (F.unreadable files.now) (map string_bytes asked.files.items) (O.contents out.old)
+        ⊎ (IsTested asked.traces (F.bytes_at files.now) (F.unreadable files.now)
+        (map string_bytes asked.files.items) (O.contents out.old)
         (O.contents out.new) result × (err.new ≡ err.old))) }
     ensures test_outside { result ≡ 3 → IfTest order.now (λ asked. (fault : Fault) × EndsTest fault
         × AppendsPrefix (E.contents err.old) (E.contents err.new) (error_text fault)) }
-    ensures test_prefix { IfTest order.now (λ asked. TestsPrefix asked.traces (F.bytes_at files.now) (F.unreadable files.now)
+    ensures test_prefix { IfTest order.now (λ asked. TestsPrefix asked.traces (F.bytes_at files.now)
+        (F.unreadable files.now)
         (map string_bytes asked.files.items) (O.contents out.old) (O.contents out.new)) }
     ensures explained { IfExplain order.now (λ names. (result ≡ 3)
-        ⊎ (HasExplained (F.bytes_at files.now) names (O.contents out.old) (O.contents out.new) result × (err.new ≡ err.old))) }
-    ensures explain_outside { result ≡ 3 → IfExplain order.now (λ _. (fault : Fault) × (status_of fault ≡ 3)
-        × AppendsPrefix (E.contents err.old) (E.contents err.new) (error_text fault)) }
-    ensures explain_prefix { IfExplain order.now (λ names. ExplainsPrefix (F.bytes_at files.now) names (O.contents out.old) (O.contents out.new)) }
+        ⊎ (HasExplained (F.bytes_at files.now) names (O.contents out.old) (O.contents out.new) result
+        × (err.new ≡ err.old))) }
+    ensures explain_outside { IfExplain order.now (λ names. (result ≤ 2)
+        ⊎ StopsExplaining (F.unreadable files.now) names (E.contents err.old) (E.contents err.new)) }
+    ensures explain_prefix { IfExplain order.now (λ names. ExplainsPrefix (F.bytes_at files.now) names
+        (O.contents out.old) (O.contents out.new)) }
     ensures compared { IfCompare order.now (λ names. (2 ≤ result)
-        ⊎ (IsCompared (F.bytes_at files.now (string_bytes names.log)) (F.bytes_at files.now (string_bytes names.file)) (O.contents out.old)
+        ⊎ (IsCompared (F.bytes_at files.now (string_bytes names.log)) (F.bytes_at files.now
+        (string_bytes names.file)) (O.contents out.old)
         (O.contents out.new) result × (err.new ≡ err.old))) }
-    ensures compare_fault { result ≡ 2 → IfCompare order.now (λ names. IsNotCompared names (F.bytes_at files.now (string_bytes names.log))
+    ensures compare_fault { result ≡ 2
+        → IfCompare order.now (λ names. IsNotCompared names (F.bytes_at files.now (string_bytes names.log))
         (F.bytes_at files.now (string_bytes names.file)) (E.contents err.old) (E.contents err.new)) }
-    ensures compare_prefix { IfCompare order.now (λ names. (out.new ≡ out.old) ⊎ ComparesPrefix (F.bytes_at files.now (string_bytes names.log))
+    ensures compare_prefix { IfCompare order.now (λ names. (out.new ≡ out.old)
+        ⊎ ComparesPrefix (F.bytes_at files.now (string_bytes names.log))
         (F.bytes_at files.now (string_bytes names.file)) (O.contents out.old) (O.contents out.new)) }
     ensures compare_outside { result ≡ 3 → IfCompare order.now (λ names. (fault : Fault) × (status_of fault ≡ 3)
         × AppendsPrefix (E.contents err.old) (E.contents err.new) (error_text fault)) }
@@ -89,12 +100,13 @@ pub fn perform<R: Read, F: FilesByName, O: Write, E: Write>(
     }
 }
 
-/// Does what was chosen, with the opened file, and gives the exit status: 0 without a fault; 1 where a pattern breaks a rule of validity or has
-/// fewer messages than a psk place needs, the ends of a vector file can't be made, or the lines of its run aren't those that it expects; 2 where
-/// the name is none, is of no fundamental pattern, or the file isn't a pattern text or a vector file, or what it is converted to is too long; 3
-/// where the file can't be read, the output can't be written, or memory runs out. A refused write to `err` leaves the status. `list`, `show` and
-/// `template` of a protocol name read no byte of `file`. At each status what comes to the output is a prefix of a text that is right for status 0 or 1, and what comes to `err` is
-/// a prefix of the line of the fault.
+/// Does what was chosen, with the opened file, and gives the exit status: 0 without a fault; 1 where a pattern breaks a
+/// rule of validity or has fewer messages than a psk place needs, the ends of a vector file can't be made, or the lines
+/// of its run aren't those that it expects; 2 where the name is none, is of no fundamental pattern, or the file isn't a
+/// pattern text or a vector file, or what it is converted to is too long; 3 where the file can't be read, the output
+/// can't be written, or memory runs out. A refused write to `err` leaves the status. `list`, `show` and `template` of a
+/// protocol name read no byte of `file`. At each status what comes to the output is a prefix of a text that is right
+/// for status 0 or 1, and what comes to `err` is a prefix of the line of the fault.
 pub fn perform_command<R: Read, O: Write, E: Write>(
     alloc: Global,
     chosen: &Chosen,
@@ -107,11 +119,12 @@ pub fn perform_command<R: Read, O: Write, E: Write>(
     ensures fault { 1 ≤ result → (result ≡ 3) ⊎ ((fault : Fault) × (status_of fault ≡ result)
         × IsFault chosen.now (R.remaining file.old) (O.contents out.old) (O.contents out.new) fault
         × (IsOfLines fault ⊎ LeavesOther fault out.old out.new err.old err.new)
-        × TellsRule fault (O.contents out.old) (O.contents out.new)
+        × ReportsRule fault (O.contents out.old) (O.contents out.new)
         × AppendsPrefix (E.contents err.old) (E.contents err.new) (error_text fault)) }
     ensures outside { result ≡ 3 → (fault : Fault) × (status_of fault ≡ 3)
         × AppendsPrefix (E.contents err.old) (E.contents err.new) (error_text fault) }
-    ensures prefix { (out.new ≡ out.old) ⊎ PrintsPrefix chosen.now (R.remaining file.old) (O.contents out.old) (O.contents out.new) }
+    ensures prefix { (out.new ≡ out.old)
+        ⊎ PrintsPrefix chosen.now (R.remaining file.old) (O.contents out.old) (O.contents out.new) }
     ensures long { (2 ≤ result) ⊎ ReadsShort chosen.now (R.remaining file.old) }
     ensures unwritten { result ≡ 2 → out.new ≡ out.old }
     ensures quiet { result ≡ 0 → err.new ≡ err.old }
@@ -119,7 +132,7 @@ pub fn perform_command<R: Read, O: Write, E: Write>(
 {
     match run(alloc, chosen, file, out) {
         Ok(()) => 0,
-        Err(fault) => tell(alloc, fault, out, err),
+        Err(fault) => report_fault(alloc, fault, out, err),
     }
 }
 
@@ -135,7 +148,8 @@ fn run<R: Read, O: Write>(
     ensures long { MatchResult result (λ _. ReadsShort chosen.now (R.remaining file.old))
         (λ fault. (2 ≤ status_of fault) ⊎ ReadsShort chosen.now (R.remaining file.old)) }
     ensures unwritten { IfErr result (λ fault. (status_of fault ≡ 3) ⊎ IsOfLines fault ⊎ (out.new ≡ out.old)) }
-    ensures prefix { (out.new ≡ out.old) ⊎ PrintsPrefix chosen.now (R.remaining file.old) (O.contents out.old) (O.contents out.new) }
+    ensures prefix { (out.new ≡ out.old)
+        ⊎ PrintsPrefix chosen.now (R.remaining file.old) (O.contents out.old) (O.contents out.new) }
     ensures unread { LeavesFile chosen.now file.old file.new }
 {
     match chosen {
@@ -160,12 +174,15 @@ fn print_template<R: Read, O: Write>(
     file: &mut R,
     out: &mut O,
 ) -> Result<(), Fault>
-    ensures done { OnOk result (HasTemplated word.now (R.remaining file.old) (O.contents out.old) (O.contents out.new)) }
-    ensures fault { IfErr result (λ fault. (status_of fault ≡ 3) ⊎ IsTemplateFault word.now (R.remaining file.old) fault) }
+    ensures done { OnOk result (HasTemplated word.now (R.remaining file.old) (O.contents out.old)
+        (O.contents out.new)) }
+    ensures fault { IfErr result (λ fault. (status_of fault ≡ 3)
+        ⊎ IsTemplateFault word.now (R.remaining file.old) fault) }
     ensures long { MatchResult result (λ _. ReadsShortPattern word.now (R.remaining file.old))
         (λ fault. (2 ≤ status_of fault) ⊎ ReadsShortPattern word.now (R.remaining file.old)) }
     ensures unwritten { IfErr result (λ fault. (status_of fault ≡ 3) ⊎ (out.new ≡ out.old)) }
-    ensures prefix { (out.new ≡ out.old) ⊎ ((text : List ℕ) × HasTemplated word.now (R.remaining file.old) (Some []) (Some text)
+    ensures prefix { (out.new ≡ out.old) ⊎ ((text : List ℕ)
+        × HasTemplated word.now (R.remaining file.old) (Some []) (Some text)
         × AppendsPrefix (O.contents out.old) (O.contents out.new) text) }
     ensures unread { LeavesPattern word.now file.old file.new }
 {
@@ -183,12 +200,16 @@ fn run_file<R: Read, O: Write>(
     file: &mut R,
     out: &mut O,
 ) -> Result<(), Fault>
-    ensures done { OnOk result (IfSome (R.remaining file.old) (λ text. HasRun text (O.contents out.old) (O.contents out.new))) }
+    ensures done { OnOk result (IfSome (R.remaining file.old) (λ text. HasRun text (O.contents out.old)
+        (O.contents out.new))) }
     ensures fault { IfErr result (λ fault. (status_of fault ≡ 3)
-        ⊎ IfSome (R.remaining file.old) (λ text. IsRunFault allowed text fault ⊎ IsUnmet text (O.contents out.old) (O.contents out.new) fault)) }
-    ensures long { MatchResult result (λ _. IsShort (R.remaining file.old)) (λ fault. (2 ≤ status_of fault) ⊎ IsShort (R.remaining file.old)) }
+        ⊎ IfSome (R.remaining file.old) (λ text. IsRunFault allowed text fault
+        ⊎ IsUnmet text (O.contents out.old) (O.contents out.new) fault)) }
+    ensures long { MatchResult result (λ _. IsShort (R.remaining file.old)) (λ fault. (2 ≤ status_of fault)
+        ⊎ IsShort (R.remaining file.old)) }
     ensures unwritten { IfErr result (λ fault. (status_of fault ≡ 3) ⊎ IsOfLines fault ⊎ (out.new ≡ out.old)) }
-    ensures prefix { (out.new ≡ out.old) ⊎ PrintsRunPrefix (R.remaining file.old) (O.contents out.old) (O.contents out.new) }
+    ensures prefix { (out.new ≡ out.old)
+        ⊎ PrintsRunPrefix (R.remaining file.old) (O.contents out.old) (O.contents out.new) }
 {
     let text = read_file(alloc, file)?;
     let vector = read_vector(alloc, &text, allowed)?;
@@ -198,10 +219,13 @@ fn run_file<R: Read, O: Write>(
 
 // Prints the lines of a run, and compares them with those that are expected, if any are.
 fn print_outcome<O: Write>(outcome: &Outcome, out: &mut O) -> Result<(), Fault>
-    ensures printed { OnOk result (Appends (O.contents out.old) (O.contents out.new) (lines_text (bytes_of outcome.now.lines.items))) }
+    ensures printed { OnOk result (Appends (O.contents out.old) (O.contents out.new) (lines_text
+        (bytes_of outcome.now.lines.items))) }
     ensures met { OnOk result (IsMet (bytes_of outcome.now.expected.items) (bytes_of outcome.now.lines.items)) }
-    ensures fault { IfErr result (λ fault. (status_of fault ≡ 3) ⊎ IsUnlike outcome.now (O.contents out.old) (O.contents out.new) fault) }
-    ensures prefix { AppendsPrefix (O.contents out.old) (O.contents out.new) (lines_text (bytes_of outcome.now.lines.items)) }
+    ensures fault { IfErr result (λ fault. (status_of fault ≡ 3)
+        ⊎ IsUnlike outcome.now (O.contents out.old) (O.contents out.new) fault) }
+    ensures prefix { AppendsPrefix (O.contents out.old) (O.contents out.new) (lines_text
+        (bytes_of outcome.now.lines.items)) }
 {
     write_lines(&outcome.lines, out)?;
     flush(out)?;
@@ -210,12 +234,15 @@ fn print_outcome<O: Write>(outcome: &Outcome, out: &mut O) -> Result<(), Fault>
 
 // Prints a version 1 vector file as one of version 2.
 fn convert_file<R: Read, O: Write>(alloc: Global, file: &mut R, out: &mut O) -> Result<(), Fault>
-    ensures done { OnOk result (IfSome (R.remaining file.old) (λ text. HasConverted text (O.contents out.old) (O.contents out.new))) }
+    ensures done { OnOk result (IfSome (R.remaining file.old) (λ text. HasConverted text (O.contents out.old)
+        (O.contents out.new))) }
     ensures fault { IfErr result (λ fault. (status_of fault ≡ 3)
         ⊎ IfSome (R.remaining file.old) (λ text. IsRunFault VersionOne text fault ⊎ IsTooLongConverted text fault)) }
-    ensures long { MatchResult result (λ _. IsShort (R.remaining file.old)) (λ fault. (2 ≤ status_of fault) ⊎ IsShort (R.remaining file.old)) }
+    ensures long { MatchResult result (λ _. IsShort (R.remaining file.old)) (λ fault. (2 ≤ status_of fault)
+        ⊎ IsShort (R.remaining file.old)) }
     ensures unwritten { IfErr result (λ fault. (status_of fault ≡ 3) ⊎ (out.new ≡ out.old)) }
-    ensures prefix { (out.new ≡ out.old) ⊎ PrintsConvertedPrefix (R.remaining file.old) (O.contents out.old) (O.contents out.new) }
+    ensures prefix { (out.new ≡ out.old)
+        ⊎ PrintsConvertedPrefix (R.remaining file.old) (O.contents out.old) (O.contents out.new) }
 {
     let text = read_file(alloc, file)?;
     let vector = read_vector(alloc, &text, AllowedEvents::VersionOne)?;

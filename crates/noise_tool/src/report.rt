@@ -2,15 +2,15 @@
 
 ghost use Rattle.std.specs.Prelude.{◌≡◌, ◌∷◌, ◌++◌, [], codes, map, IfOk, IsTrue, OnOk};
 ghost use Rattle.std.specs.List.{join_with_byte};
-ghost use Rattle.noise_state.specs.History.{hash};
-ghost use Rattle.noise_session.specs.Ends.{EndView, EndStands, progress_of};
+ghost use Rattle.noise_session.specs.Ends.{EndState, EndMatches};
 ghost use Rattle.noise_duel.specs.Entries.{note_of, notes_of, step_of};
 ghost use Rattle.noise_duel.specs.Notes.{WriteFault};
-ghost use Rattle.noise_duel.specs.HeldDuel.{DuelStands, HasFrames};
+ghost use Rattle.noise_duel.specs.DuelValue.{HasFrames};
 ghost use Rattle.noise_duel.specs.Sides.{Side, Sides, side};
 ghost use Rattle.noise_vectors.specs.Expectations.{bytes_of};
 ghost use Rattle.noise_vectors.specs.FileKeys.{agreement_of, public_of};
 ghost use Rattle.noise_lines.specs.Lines.{text_in};
+ghost use Rattle.noise_tool.specs.Ends.{FileDuelMatches};
 ghost use Rattle.noise_tool.specs.Printed as print;
 ghost use Rattle.noise_lines.specs.PrintedWords.{AreExpected, is_printed};
 ghost use Rattle.noise_vectors.specs.VectorText as text;
@@ -19,7 +19,7 @@ use noise_duel::{Duel, Entry, Idle, Report};
 use noise_handshake::Cause;
 use noise_lines::{Line, role_word};
 use noise_names::Role;
-use noise_session::{End, SendFault, Stage, end_is_told};
+use noise_session::{End, SendFault, Stage, end_is_reported};
 use noise_vectors::FileKeys;
 use std::alloc::{AllocError, Global};
 
@@ -43,8 +43,8 @@ pub fn push_state_lines(
     duel: &Duel<FileKeys, FileKeys>,
     lines: &mut Vec<Vec<u8>>,
 ) -> Result<(), AllocError>
-    ensures lines { (d : Sides) → DuelStands public_of agreement_of public_of agreement_of duel.now d
-        → OnOk result (bytes_of lines.new.items ≡ bytes_of lines.old.items ++ print.state_lines d) }
+    ensures lines { (d : Sides) → FileDuelMatches duel.now d
+        → OnOk result (print.Appended lines.old lines.new (print.state_lines d)) }
     ensures printed { AreExpected lines.old.items → OnOk result (AreExpected lines.new.items) }
 {
     let first = state_line(alloc, Role::Initiator, duel.initiator())?;
@@ -62,7 +62,8 @@ pub fn entry_line(
     entry: &Entry,
 ) -> Result<Line, AllocError>
     ensures { (d : Sides) → HasFrames report.now d
-        → IfOk result (λ line. text_in line ≡ join_with_byte 32 (print.note_words (side d role) role (note_of entry.now))) }
+        → IfOk result (λ line. text_in line ≡ join_with_byte 32
+        (print.note_words (side d role) role (note_of entry.now))) }
 {
     match entry {
         Entry::Wrote(number) => begun_line(alloc, "wrote", role)?
@@ -105,7 +106,8 @@ pub fn fault_line(
     fault: SendFault,
 ) -> Result<Line, AllocError>
     requires { IsTrue (is_printed word.now) }
-    ensures { IfOk result (λ line. text_in line ≡ join_with_byte 32 (word.now ∷ text.role_word role ∷ print.fault_words fault)) }
+    ensures { IfOk result (λ line. text_in line
+        ≡ join_with_byte 32 (word.now ∷ text.role_word role ∷ print.fault_words fault)) }
 {
     let line = begun_line(alloc, word, role)?;
     match fault {
@@ -121,17 +123,18 @@ pub fn fault_line(
 
 // The state of an end.
 fn state_line(alloc: Global, role: Role, end: &End<FileKeys>) -> Result<Line, AllocError>
-    ensures { (v : EndView) → EndStands public_of agreement_of end.now v → IfOk result (λ line. text_in line ≡ join_with_byte 32
-        (codes "state" ∷ text.role_word role ∷ print.progress_words (progress_of v) (hash v.party.history))) }
+    ensures { (v : EndState) → EndMatches public_of agreement_of end.now v
+        → IfOk result (λ line. text_in line ≡ print.state_line role v) }
 {
-    end_is_told::<FileKeys>();
+    end_is_reported::<FileKeys>();
     let line = begun_line(alloc, "state", role)?;
     // An end that is open shows its hash, and no other stage shows one.
     add_stage(line, end.stage(), end.hash().unwrap_or([0; 32]))
 }
 
 fn add_stage(line: Line, stage: Stage, hash: [u8; 32]) -> Result<Line, AllocError>
-    ensures { IfOk result (λ made. text_in made ≡ text_in line ++ 32 ∷ join_with_byte 32 (print.stage_words stage hash)) }
+    ensures { IfOk result (λ made. text_in made
+        ≡ text_in line ++ 32 ∷ join_with_byte 32 (print.stage_words stage hash)) }
 {
     match stage {
         Stage::Handshake { done, ours: _ } => line.word("handshake")?.number(u64::from(done)),

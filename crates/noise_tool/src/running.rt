@@ -3,33 +3,31 @@
 ghost use Rattle.std.specs.Prelude.{◌≡◌, ◌++◌, ◌∷◌, [], ℕ, List, Option, IfErr, IfOk, OnOk, codes, map};
 ghost use Rattle.std.specs.List.{All};
 ghost use Rattle.noise_duel.specs.DatagramNotes.{DatagramNote};
-ghost use Rattle.noise_duel.specs.DatagramReports.{DatagramDuelStands};
+ghost use Rattle.noise_duel.specs.DatagramReports.{DatagramDuelMatches};
 ghost use Rattle.noise_duel.specs.DatagramRuns.{DatagramRun};
-ghost use Rattle.noise_duel.specs.DatagramSides.{DatagramSides, meeting};
-ghost use Rattle.noise_duel.specs.HeldDuel.{DuelStands, facing_as};
+ghost use Rattle.noise_duel.specs.DatagramSides.{DatagramSides, datagram_sides};
+ghost use Rattle.noise_duel.specs.DuelValue.{both_sides};
 ghost use Rattle.noise_duel.specs.Sides.{Sides};
 ghost use Rattle.noise_events.specs.DatagramEvents.{datagram_events_of};
 ghost use Rattle.noise_events.specs.Events.{events_of};
 ghost use Rattle.noise_names.specs.declared.token.Role.{Role};
-ghost use Rattle.noise_session.specs.Datagrams.{DatagramView};
-ghost use Rattle.noise_session.specs.Ends.{EndView};
+ghost use Rattle.noise_session.specs.Datagrams.{DatagramState};
+ghost use Rattle.noise_session.specs.Ends.{EndState};
 ghost use Rattle.noise_vectors.specs.Expectations.{bytes_of};
-ghost use Rattle.noise_vectors.specs.FileKeys.{agreement_of, public_of};
 ghost use Rattle.noise_vectors.specs.VectorFile.{IsAllowed, IsAllowedFile};
 ghost use Rattle.noise_vectors.specs.VectorText.{window_words};
 ghost use Rattle.noise_vectors.specs.declared.vector.AllowedEvents.TheVariants.{SayOnly};
-ghost use Rattle.noise_tool.specs.Ends.{IsStartFault};
+ghost use Rattle.noise_tool.specs.Ends.{FileDuelMatches, IsStartFault};
 ghost use Rattle.noise_lines.specs.PrintedWords.{AreExpected};
-ghost use Rattle.noise_tool.specs.Printed.{state_lines};
-ghost use Rattle.noise_tool.specs.PrintedDatagrams.{datagram_line, datagram_state_lines};
-ghost use Rattle.noise_tool.specs.Running.{AreLast, IsRunOf, LeavesLines, datagrams_in, expected_in};
+ghost use Rattle.noise_tool.specs.Printed.{Appended, state_lines};
+ghost use Rattle.noise_tool.specs.Running.{AreLast, IsRunOf, LeavesLines, datagram_lines, datagrams_in, expected_in};
 
 use crate::datagram_report::{push_datagram_lines, push_datagram_states};
 use crate::ends::make_ends;
 use crate::report::{entry_lines, push_state_lines};
 use noise_duel::{DatagramDuel, Duel, Event};
 use noise_lines::{Fault, Line};
-use noise_session::{Window, end_is_told};
+use noise_session::{Window, end_is_reported};
 use noise_vectors::{AllowedEvents, FileDatagrams, FileKeys, VectorFile, Version, said_lines};
 use std::alloc::{AllocError, Global};
 
@@ -90,8 +88,8 @@ fn say(
     events: Vec<Event>,
 ) -> Result<(Duel<FileKeys, FileKeys>, Vec<Vec<u8>>), AllocError>
     requires { All (IsAllowed SayOnly) events.items }
-    ensures ran { (v w : EndView) → DuelStands public_of agreement_of public_of agreement_of duel (facing_as v w)
-        → IfOk result (λ r. LeavesLines (facing_as v w) (events_of events.items) r.0 (bytes_of r.1.items)) }
+    ensures ran { (v w : EndState) → FileDuelMatches duel (both_sides v w)
+        → IfOk result (λ r. LeavesLines (both_sides v w) (events_of events.items) r.0 (bytes_of r.1.items)) }
     ensures printed { IfOk result (λ r. AreExpected r.1.items) }
 {
     let said = said_lines(alloc, events)?;
@@ -106,8 +104,8 @@ fn run_events(
     duel: Duel<FileKeys, FileKeys>,
     events: &[Event],
 ) -> Result<(Duel<FileKeys, FileKeys>, Vec<Vec<u8>>), AllocError>
-    ensures ran { (v w : EndView) → DuelStands public_of agreement_of public_of agreement_of duel (facing_as v w)
-        → IfOk result (λ r. LeavesLines (facing_as v w) (events_of events.now) r.0 (bytes_of r.1.items)) }
+    ensures ran { (v w : EndState) → FileDuelMatches duel (both_sides v w)
+        → IfOk result (λ r. LeavesLines (both_sides v w) (events_of events.now) r.0 (bytes_of r.1.items)) }
     ensures printed { IfOk result (λ r. AreExpected r.1.items) }
 {
     let (duel, report) = duel.run(alloc, events)?;
@@ -122,7 +120,7 @@ pub(crate) fn close(
     mut lines: Vec<Vec<u8>>,
     version: Version,
 ) -> Result<Outcome, AllocError>
-    ensures after { (d : Sides) → DuelStands public_of agreement_of public_of agreement_of duel d
+    ensures after { (d : Sides) → FileDuelMatches duel d
         → IfOk result (λ outcome. (after : List (List ℕ)) × AreLast (datagrams_in version) d after
         × (bytes_of outcome.lines.items ≡ bytes_of lines.items ++ after)) }
     ensures printed { AreExpected lines.items → IfOk result (λ outcome. AreExpected outcome.lines.items) }
@@ -151,11 +149,11 @@ fn go_over(
     datagrams: Option<FileDatagrams>,
     lines: &mut Vec<Vec<u8>>,
 ) -> Result<(), AllocError>
-    ensures after { (d : Sides) → DuelStands public_of agreement_of public_of agreement_of duel d
-        → OnOk result ((after : List (List ℕ)) × AreLast datagrams d after × (bytes_of lines.new.items ≡ bytes_of lines.old.items ++ after)) }
+    ensures after { (d : Sides) → FileDuelMatches duel d
+        → OnOk result ((after : List (List ℕ)) × AreLast datagrams d after × Appended lines.old lines.new after) }
     ensures printed { AreExpected lines.old.items → OnOk result (AreExpected lines.new.items) }
 {
-    end_is_told::<FileKeys>();
+    end_is_reported::<FileKeys>();
     let Some(over) = datagrams else {
         return push_state_lines(alloc, &duel, lines);
     };
@@ -172,10 +170,10 @@ fn push_datagrams(
     over: &FileDatagrams,
     lines: &mut Vec<Vec<u8>>,
 ) -> Result<(), AllocError>
-    ensures after { (v w : DatagramView) → DatagramDuelStands duel (meeting v w)
+    ensures after { (v w : DatagramState) → DatagramDuelMatches duel (datagram_sides v w)
         → OnOk result ((notes : List (Role × DatagramNote)) × (last : DatagramSides)
-        × DatagramRun (meeting v w) (datagram_events_of over.now.events.items) notes last
-        × (bytes_of lines.new.items ≡ bytes_of lines.old.items ++ window_words over.now.window ∷ (map datagram_line notes ++ datagram_state_lines last))) }
+        × DatagramRun (datagram_sides v w) (datagram_events_of over.now.events.items) notes last
+        × Appended lines.old lines.new (datagram_lines over.now.window notes last)) }
     ensures printed { AreExpected lines.old.items → OnOk result (AreExpected lines.new.items) }
 {
     push_window(alloc, over.window, lines)?;
@@ -186,7 +184,7 @@ fn push_datagrams(
 
 // Appends the line of two ends that go over to datagrams with this window.
 fn push_window(alloc: Global, window: Window, lines: &mut Vec<Vec<u8>>) -> Result<(), AllocError>
-    ensures lines { OnOk result (bytes_of lines.new.items ≡ bytes_of lines.old.items ++ window_words window ∷ []) }
+    ensures lines { OnOk result (Appended lines.old lines.new (window_words window ∷ [])) }
     ensures printed { AreExpected lines.old.items → OnOk result (AreExpected lines.new.items) }
 {
     let line = Line::new(alloc, "datagrams")?.number(window.width())?;
@@ -199,8 +197,8 @@ fn push_without_datagrams(
     duel: &Duel<FileKeys, FileKeys>,
     lines: &mut Vec<Vec<u8>>,
 ) -> Result<(), AllocError>
-    ensures after { (d : Sides) → DuelStands public_of agreement_of public_of agreement_of duel.now d
-        → OnOk result (bytes_of lines.new.items ≡ bytes_of lines.old.items ++ codes "no-datagrams" ∷ state_lines d) }
+    ensures after { (d : Sides) → FileDuelMatches duel.now d
+        → OnOk result (Appended lines.old lines.new (codes "no-datagrams" ∷ state_lines d)) }
     ensures printed { AreExpected lines.old.items → OnOk result (AreExpected lines.new.items) }
 {
     lines.push(Line::new(alloc, "no-datagrams")?.into_bytes())?;

@@ -4,23 +4,33 @@ ghost use Rattle.std.specs.Prelude.{◌≡◌, ◌⊎◌, ◌<◌, ◌≤◌, �
 ghost use Rattle.std.specs.Io.KnownBytes.{Appends};
 ghost use Rattle.noise_lines.specs.Faults.{status_of};
 ghost use Rattle.noise_lines.specs.Prefixes.{AppendsPrefix};
-ghost use Rattle.noise_lines.specs.Told.{error_text};
+ghost use Rattle.noise_lines.specs.Reported.{error_text};
 ghost use Rattle.noise_lines.specs.declared.faults.Fault.{Fault};
 ghost use Rattle.noise_lines.specs.declared.faults.Fault.TheVariants.{TooLong, Unreadable};
 ghost use Rattle.noise_vectors.specs.Expectations.{bytes_of};
 ghost use Rattle.noise_vectors.specs.declared.vector.AllowedEvents.TheVariants.{Any};
-ghost use Rattle.noise_tool.specs.Ends.{IsStartFault};
+ghost use Rattle.noise_tool.specs.Ends.{IsPatternOf, IsStartFault};
 ghost use Rattle.noise_tool.specs.Performing.{IsRunFault};
 ghost use Rattle.noise_tool.specs.Running.{IsRunOf, expected_in};
-ghost use Rattle.noise_tool.specs.Testing.{EndsTest, HasBegun, HasTested, HaveTested, IsTested, RunsTo, TestsPrefix, asked, is_input, tally_line, tested_text};
-ghost use Rattle.noise_tool.specs.TracedText.{front_of};
+ghost use Rattle.noise_tool.specs.Testing.{EndsTest, HasBegun, HasTested, HaveTested, IsPatternIn, IsPieceOf, IsTested, RunsTo, SayPiece, TestsPrefix};
+ghost use Rattle.noise_tool.specs.Testing.{asked, below_of, is_input, listed, tally_line, tested_text};
+ghost use Rattle.noise_tool.specs.TracedText.{front_if};
+ghost use Rattle.noise_lines.specs.Lines.{lines_text};
+ghost use Rattle.noise_lines.specs.Verdicts.{bytes_in};
 ghost use Rattle.noise_lines.specs.declared.verdict.Verdict.TheVariants.{CannotRun};
+ghost use Rattle.noise_vectors.specs.VectorFile.{IsVectorFile};
+ghost use Rattle.noise_vectors.specs.VectorText.{text_of};
 
-use crate::moment_lines::ALL_KEPT;
+use crate::ends::valid_pattern;
+use crate::key_use_lines::ALL_LINES;
 use crate::running::replay;
 use crate::trace_file::write_front;
 use crate::tracing::{Traced, trace};
-use noise_lines::{Fault, Verdict, flush, judge, tell, verdict_lines, write};
+use noise_explain::difference_line;
+use noise_lines::{
+    Difference, Fault, Verdict, flush, judge, report_fault, verdict_lines, write, write_lines,
+};
+use noise_names::{Pattern, ValidPattern};
 use noise_vectors::{AllowedEvents, VectorFile, read_vector, vector_texts_are_unique};
 use std::alloc::{AllocError, Global};
 use std::io::Write;
@@ -42,12 +52,21 @@ pub trait FilesByName {
             ⊎ ((fault ≡ TooLong) × IfSome (bytes_at self.now name.now) (λ bytes. 4194304 < length bytes))) };
 }
 
-/// Runs the vector file of each name, one after the other, and writes what comes of it, and last how many passed and failed. The exit status is 0 if all
-/// passed, and else 1. A file that can't be read or run fails, and the others are still run; 3 where memory runs out or the output can't be written,
-/// after which no more files are run. Standard input, `-`, is read once: named again it fails.
+/// What comes of the run of a file, and its pattern.
+#[derive(Drop)]
+pub(crate) struct TestedRun {
+    pub traced: Traced,
+    pub pattern: ValidPattern,
+}
+
+/// Runs the vector file of each name, one after the other, and writes what comes of it, and last how many passed and
+/// failed. The exit status is 0 if all passed, and else 1. A file that can't be read or run fails, and the others are
+/// still run; 3 where memory runs out or the output can't be written, after which no more files are run. Standard
+/// input, `-`, is read once: named again it fails.
 ///
-/// Where traces are wanted, the text of each file whose run differs from what it expects goes on with the trace of this run, up to the first line that
-/// differs and what is shown of the key schedules there. These lines are secrets.
+/// Where the frame of a handshake message differs from what a file expects, a line names the piece of the message that
+/// differs first. Where traces are wanted, the text of each file whose run differs goes on with the trace of this run,
+/// up to the first line that differs and what is shown of the key schedules there. These lines are secrets.
 pub fn test<F: FilesByName, O: Write, E: Write>(
     alloc: Global,
     names: &[String],
@@ -69,7 +88,7 @@ pub fn test<F: FilesByName, O: Write, E: Write>(
 {
     match test_all(alloc, names, traces, files, out) {
         Ok(status) => status,
-        Err(fault) => tell(alloc, fault, out, err),
+        Err(fault) => report_fault(alloc, fault, out, err),
     }
 }
 
@@ -141,17 +160,17 @@ fn test_file<F: FilesByName, O: Write>(
     files: &F,
     out: &mut O,
 ) -> Result<bool, Fault>
-    ensures tested { IfOk result (HasTested again traces (F.bytes_at files.now name.now) (F.unreadable files.now name.now) name.now (O.contents out.old)
-        (O.contents out.new)) }
-    ensures prefix { IfErr result (λ fault. (out.new ≡ out.old)
-        ⊎ HasBegun again traces (F.bytes_at files.now name.now) (F.unreadable files.now name.now) name.now (O.contents out.old) (O.contents out.new)) }
+    ensures tested { IfOk result (HasTested again traces (F.bytes_at files.now name.now)
+        (F.unreadable files.now name.now) name.now (O.contents out.old) (O.contents out.new)) }
+    ensures prefix { IfErr result (λ fault. (out.new ≡ out.old) ⊎ HasBegun again traces (F.bytes_at files.now name.now)
+        (F.unreadable files.now name.now) name.now (O.contents out.old) (O.contents out.new)) }
     ensures fault { IfErr result EndsTest }
 {
     if again {
         return write_again(alloc, name, out);
     }
     match run_named(alloc, name, traces, files) {
-        Ok(traced) => write_run(alloc, name, traces, &traced, out),
+        Ok(run) => write_run(alloc, name, traces, &run, out),
         Err(fault) => write_unrun(alloc, name, fault, out),
     }
 }
@@ -160,7 +179,8 @@ fn test_file<F: FilesByName, O: Write>(
 fn write_again<O: Write>(alloc: Global, name: &str, out: &mut O) -> Result<bool, Fault>
     ensures tested { (traces : Bool) (known : Option (List ℕ)) (unreadable : Bool)
         → IfOk result (HasTested true traces known unreadable name.now (O.contents out.old) (O.contents out.new)) }
-    ensures prefix { (traces : Bool) (known : Option (List ℕ)) (unreadable : Bool) → IfErr result (λ _. (out.new ≡ out.old)
+    ensures prefix { (traces : Bool) (known : Option (List ℕ)) (unreadable : Bool)
+        → IfErr result (λ _. (out.new ≡ out.old)
         ⊎ HasBegun true traces known unreadable name.now (O.contents out.old) (O.contents out.new)) }
     ensures fault { IfErr result EndsTest }
 {
@@ -174,45 +194,119 @@ fn write_run<O: Write>(
     alloc: Global,
     name: &str,
     traces: bool,
-    traced: &Traced,
+    run: &TestedRun,
     out: &mut O,
 ) -> Result<bool, Fault>
-    ensures tested { (known : Option (List ℕ)) (unreadable : Bool) → IfSome known (λ text. RunsTo traces text traced.now)
+    ensures tested { (known : Option (List ℕ)) (unreadable : Bool)
+        → IfSome known (λ text. RunsTo traces text run.now.traced)
+        → IfSome known (λ text. IsPatternIn text run.now.pattern)
         → IfOk result (HasTested false traces known unreadable name.now (O.contents out.old) (O.contents out.new)) }
-    ensures prefix { (known : Option (List ℕ)) (unreadable : Bool) → IfSome known (λ text. RunsTo traces text traced.now)
-        → IfErr result (λ fault. (out.new ≡ out.old) ⊎ HasBegun false traces known unreadable name.now (O.contents out.old) (O.contents out.new)) }
+    ensures prefix { (known : Option (List ℕ)) (unreadable : Bool)
+        → IfSome known (λ text. RunsTo traces text run.now.traced)
+        → IfSome known (λ text. IsPatternIn text run.now.pattern)
+        → IfErr result (λ _. (out.new ≡ out.old) ⊎ HasBegun false traces known unreadable name.now
+        (O.contents out.old) (O.contents out.new)) }
     ensures fault { IfErr result EndsTest }
 {
-    let verdict = judge(&traced.outcome.lines, &traced.outcome.expected)?;
-    write_verdict(alloc, name, traces, &verdict, traced, out)?;
+    let outcome = &run.traced.outcome;
+    let verdict = judge(&outcome.lines, &outcome.expected)?;
+    let piece = piece_lines(alloc, &run.pattern, &verdict)?;
+    write_verdict(alloc, name, traces, &verdict, &piece, &run.traced, out)?;
     Ok(verdict.is_met())
 }
 
-// Writes the verdict on a run, and the front of its trace, where traces are wanted and the run differs.
+// The line of the piece of a message at which the frame of a run differs, if it does.
+fn piece_lines(
+    alloc: Global,
+    pattern: &ValidPattern,
+    verdict: &Verdict,
+) -> Result<Vec<Vec<u8>>, AllocError>
+    ensures { IfOk result (λ lines. IsPieceOf pattern.now verdict.now (bytes_of lines.items)) }
+{
+    match verdict {
+        Verdict::Differs(difference) => difference_lines(alloc, pattern, difference),
+        Verdict::Met | Verdict::CannotRun(_) | Verdict::ExpectsNothing | Verdict::NamedTwice => {
+            Ok(Vec::new(alloc))
+        }
+    }
+}
+
+fn difference_lines(
+    alloc: Global,
+    pattern: &ValidPattern,
+    difference: &Difference,
+) -> Result<Vec<Vec<u8>>, AllocError>
+    ensures { IfOk result (λ lines. SayPiece pattern.now (bytes_in difference.now.expected)
+        (bytes_in difference.now.printed) (bytes_of lines.items)) }
+{
+    let Some(expected) = &difference.expected else {
+        return Ok(Vec::new(alloc));
+    };
+    let Some(printed) = &difference.printed else {
+        return Ok(Vec::new(alloc));
+    };
+    let line = difference_line(alloc, pattern, expected, printed)?;
+    one_line(alloc, line)
+}
+
+// This line, if there is one.
+fn one_line(alloc: Global, line: Option<Vec<u8>>) -> Result<Vec<Vec<u8>>, AllocError>
+    ensures { IfOk result (λ lines. bytes_of lines.items ≡ listed (bytes_in line)) }
+{
+    let mut lines = Vec::new(alloc);
+    if let Some(line) = line {
+        lines.push(line)?;
+    }
+    Ok(lines)
+}
+
+// Writes the verdict on a run, and where the run differs these lines of the piece, and the front of its trace if traces
+// are wanted.
 fn write_verdict<O: Write>(
     alloc: Global,
     name: &str,
     traces: bool,
     verdict: &Verdict,
+    piece: &[Vec<u8>],
     traced: &Traced,
     out: &mut O,
 ) -> Result<(), Fault>
     ensures written { OnOk result (Appends (O.contents out.old) (O.contents out.new)
-        (tested_text traces name.now verdict.now (front_of verdict.now traced.now))) }
-    ensures prefix { IfErr result (λ fault. AppendsPrefix (O.contents out.old) (O.contents out.new)
-        (tested_text traces name.now verdict.now (front_of verdict.now traced.now))) }
+        (tested_text name.now verdict.now (below_of traces verdict.now (bytes_of piece.now) traced.now))) }
+    ensures prefix { IfErr result (λ _. AppendsPrefix (O.contents out.old) (O.contents out.new)
+        (tested_text name.now verdict.now (below_of traces verdict.now (bytes_of piece.now) traced.now))) }
     ensures fault { IfErr result EndsTest }
 {
     let text = verdict_lines(alloc, name, verdict)?;
     write(&text, out)?;
-    if !traces {
-        return Ok(());
-    }
     match verdict {
-        Verdict::Differs(difference) => write_front(traced, difference.number, out),
+        Verdict::Differs(difference) => {
+            write_lines(piece, out)?;
+            write_trace(traces, difference.number, traced, out)
+        }
         Verdict::Met | Verdict::CannotRun(_) | Verdict::ExpectsNothing | Verdict::NamedTwice => Ok(
             (),
         ),
+    }
+}
+
+// Writes the front of a trace, if traces are wanted.
+fn write_trace<O: Write>(
+    traces: bool,
+    number: usize,
+    traced: &Traced,
+    out: &mut O,
+) -> Result<(), Fault>
+    ensures written { OnOk result (Appends (O.contents out.old) (O.contents out.new)
+        (lines_text (front_if traces traced.now number))) }
+    ensures prefix { IfErr result (λ _. AppendsPrefix (O.contents out.old) (O.contents out.new)
+        (lines_text (front_if traces traced.now number))) }
+    ensures fault { IfErr result EndsTest }
+{
+    if traces {
+        write_front(traced, number, out)
+    } else {
+        Ok(())
     }
 }
 
@@ -223,12 +317,15 @@ fn write_unrun<O: Write>(
     fault: Fault,
     out: &mut O,
 ) -> Result<bool, Fault>
-    ensures tested { (traces : Bool) (known : Option (List ℕ)) (unreadable : Bool) → (fault ≡ Unreadable → IsTrue unreadable)
+    ensures tested { (traces : Bool) (known : Option (List ℕ)) (unreadable : Bool)
+        → (fault ≡ Unreadable → IsTrue unreadable)
         → (status_of fault ≡ 3) ⊎ IfSome known (λ text. IsRunFault Any text fault)
         → IfOk result (HasTested false traces known unreadable name.now (O.contents out.old) (O.contents out.new)) }
-    ensures prefix { (traces : Bool) (known : Option (List ℕ)) (unreadable : Bool) → (fault ≡ Unreadable → IsTrue unreadable)
+    ensures prefix { (traces : Bool) (known : Option (List ℕ)) (unreadable : Bool)
+        → (fault ≡ Unreadable → IsTrue unreadable)
         → (status_of fault ≡ 3) ⊎ IfSome known (λ text. IsRunFault Any text fault)
-        → IfErr result (λ _. (out.new ≡ out.old) ⊎ HasBegun false traces known unreadable name.now (O.contents out.old) (O.contents out.new)) }
+        → IfErr result (λ _. (out.new ≡ out.old) ⊎ HasBegun false traces known unreadable name.now
+        (O.contents out.old) (O.contents out.new)) }
     ensures fault { IfErr result EndsTest }
 {
     let verdict = fault_verdict(fault)?;
@@ -249,34 +346,91 @@ fn fault_verdict(fault: Fault) -> Result<Verdict, Fault>
     }
 }
 
-/// What comes of the run of the file of this name, with its trace where traces are wanted.
-pub(crate) fn run_named<F: FilesByName>(
+/// What comes of the run of the file of this name, with its trace.
+pub(crate) fn trace_named<F: FilesByName>(
+    alloc: Global,
+    name: &str,
+    files: &F,
+) -> Result<Traced, Fault>
+    ensures runs { IfOk result
+        (λ traced. IfSome (F.bytes_at files.now name.now) (λ text. RunsTo true text traced)) }
+    ensures fault { IfErr result (λ fault. (status_of fault ≡ 3)
+        ⊎ IfSome (F.bytes_at files.now name.now) (λ text. IsRunFault Any text fault)) }
+{
+    let TestedRun { traced, .. } = run_named(alloc, name, true, files)?;
+    Ok(traced)
+}
+
+// What comes of it, with its trace where traces are wanted, and its pattern.
+fn run_named<F: FilesByName>(
     alloc: Global,
     name: &str,
     traces: bool,
     files: &F,
-) -> Result<Traced, Fault>
-    ensures runs { IfOk result (λ traced. IfSome (F.bytes_at files.now name.now) (λ text. RunsTo traces text traced)) }
+) -> Result<TestedRun, Fault>
+    ensures runs { IfOk result (λ run. IfSome (F.bytes_at files.now name.now) (λ text. RunsTo traces text run.traced)) }
+    ensures pattern { IfOk result (λ run. IfSome (F.bytes_at files.now name.now)
+        (λ text. IsPatternIn text run.pattern)) }
     ensures failed { IfErr result (λ fault. fault ≡ Unreadable → IsTrue (F.unreadable files.now name.now)) }
-    ensures fault { IfErr result (λ fault. (status_of fault ≡ 3) ⊎ IfSome (F.bytes_at files.now name.now) (λ text. IsRunFault Any text fault)) }
+    ensures fault { IfErr result (λ fault. (status_of fault ≡ 3)
+        ⊎ IfSome (F.bytes_at files.now name.now) (λ text. IsRunFault Any text fault)) }
 {
     let text = files.read(alloc, name)?;
     run_text(alloc, &text, traces)
 }
 
 // The same of the file of this text.
-fn run_text(alloc: Global, text: &[u8], traces: bool) -> Result<Traced, Fault>
-    ensures runs { length text.now ≤ 4194304 → IfOk result (RunsTo traces text.now) }
+fn run_text(alloc: Global, text: &[u8], traces: bool) -> Result<TestedRun, Fault>
+    ensures runs { length text.now ≤ 4194304 → IfOk result (λ run. RunsTo traces text.now run.traced) }
+    ensures pattern { IfOk result (λ run. IsPatternIn text.now run.pattern) }
     ensures read { IfErr result (λ fault. ¬ (fault ≡ Unreadable)) }
     ensures fault { IfErr result (λ fault. (status_of fault ≡ 3) ⊎ IsRunFault Any text.now fault) }
 {
     let vector = read_vector(alloc, text, AllowedEvents::Any)?;
+    let pattern = match file_pattern(&vector) {
+        Ok(pattern) => pattern,
+        Err(fault) => return Err(fault),
+    };
+    let traced = run_read(alloc, text, vector, traces)?;
+    Ok(TestedRun { traced, pattern })
+}
+
+// The pattern of a file.
+fn file_pattern(file: &VectorFile) -> Result<ValidPattern, Fault>
+    ensures pattern { IfOk result (λ pattern. IsPatternOf file.now.block file.now.protocol pattern) }
+    ensures fault { IfErr result (λ fault. IsStartFault file.now fault) }
+{
+    let block = same_block(&file.block)?;
+    valid_pattern(block, &file.protocol)
+}
+
+// A clone of the pattern that a file spells, if it spells one.
+fn same_block(block: &Option<Pattern>) -> Result<Option<Pattern>, AllocError>
+    ensures { IfOk result (λ same. same ≡ block.now) }
+{
+    match block {
+        Some(block) => {
+            let same = block.clone()?;
+            Ok(Some(same))
+        }
+        None => Ok(None),
+    }
+}
+
+// What comes of the run of the file that this text is of.
+fn run_read(alloc: Global, text: &[u8], vector: VectorFile, traces: bool) -> Result<Traced, Fault>
+    requires right { IsVectorFile vector }
+    requires text { text.now ≡ text_of vector }
+    ensures runs { length text.now ≤ 4194304 → IfOk result (RunsTo traces text.now) }
+    ensures read { IfErr result (λ fault. ¬ (fault ≡ Unreadable)) }
+    ensures fault { IfErr result (λ fault. (status_of fault ≡ 3) ⊎ IsRunFault Any text.now fault) }
+{
     if !traces {
         return untraced(alloc, vector);
     }
     let again = read_vector(alloc, text, AllowedEvents::Any)?;
     vector_texts_are_unique();
-    trace(alloc, ALL_KEPT, vector, again)
+    trace(alloc, ALL_LINES, vector, again)
 }
 
 // What comes of the run of a file, without a trace.

@@ -5,6 +5,7 @@ ghost use Rattle.noise_lines.specs.Lines.{line_of, text_in};
 ghost use Rattle.noise_lines.specs.PrintedWords.{is_printed};
 ghost use Rattle.noise_vectors.specs.Expectations.{bytes_of};
 ghost use Rattle.noise_vectors.specs.VectorText as text;
+ghost use Rattle.noise_tool.specs.Printed.{Appended};
 ghost use Rattle.noise_tool.specs.PrintedTrace as print;
 
 use crate::report::begun_line;
@@ -40,7 +41,7 @@ pub fn push_start_lines(
     steps: &[StartStep],
     lines: &mut Vec<Vec<u8>>,
 ) -> Result<(), AllocError>
-    ensures { OnOk result (bytes_of lines.new.items ≡ bytes_of lines.old.items ++ print.start_lines_from role psks 0 steps.now) }
+    ensures { OnOk result (Appended lines.old lines.new (print.start_lines_from role psks 0 steps.now)) }
 {
     for (number, step) in steps.iter().enumerate() {
         let line = start_line(alloc, role, psks, number as u64, step)?;
@@ -57,7 +58,7 @@ pub fn push_step_lines(
     steps: &[Step],
     lines: &mut Vec<Vec<u8>>,
 ) -> Result<(), AllocError>
-    ensures { OnOk result (bytes_of lines.new.items ≡ bytes_of lines.old.items ++ print.step_lines_from about message.now 0 steps.now) }
+    ensures { OnOk result (Appended lines.old lines.new (print.step_lines_from about message.now 0 steps.now)) }
 {
     for (number, step) in steps.iter().enumerate() {
         let line = step_line(alloc, about, message, number as u64, step)?;
@@ -75,8 +76,8 @@ pub fn push_opening_lines(
     responder: &[u8; 32],
     lines: &mut Vec<Vec<u8>>,
 ) -> Result<(), AllocError>
-    ensures { OnOk result (bytes_of lines.new.items
-        ≡ bytes_of lines.old.items ++ print.opening_lines role state.now initiator.now responder.now) }
+    ensures { OnOk result
+        (Appended lines.old lines.new (print.opening_lines role state.now initiator.now responder.now)) }
 {
     let first = opening_line(alloc, role, 0, Role::Initiator, state, initiator)?;
     lines.push(first.into_bytes())?;
@@ -97,8 +98,8 @@ pub fn push_transport_line(
 ) -> Result<(), AllocError>
     requires name { IsTrue (is_printed name.now) }
     requires call { IsTrue (is_printed call.now) }
-    ensures { OnOk result (bytes_of lines.new.items
-        ≡ bytes_of lines.old.items ++ print.transport_line role name.now call.now key.now nonce ∷ []) }
+    ensures { OnOk result
+        (Appended lines.old lines.new (print.transport_line role name.now call.now key.now nonce ∷ [])) }
 {
     let line = begun_trace(alloc, role, "transport")?;
     let line = add_three(line, "-", name, call)?;
@@ -116,8 +117,7 @@ pub fn push_datagram_key_lines(
     responder: &[u8; 32],
     lines: &mut Vec<Vec<u8>>,
 ) -> Result<(), AllocError>
-    ensures { OnOk result (bytes_of lines.new.items
-        ≡ bytes_of lines.old.items ++ print.datagram_key_lines role initiator.now responder.now) }
+    ensures { OnOk result (Appended lines.old lines.new (print.datagram_key_lines role initiator.now responder.now)) }
 {
     let first = datagram_key_line(alloc, role, 0, Role::Initiator, initiator)?;
     lines.push(first.into_bytes())?;
@@ -139,14 +139,16 @@ fn add_three(line: Line, first: &str, second: &str, third: &str) -> Result<Line,
     requires first { IsTrue (is_printed first.now) }
     requires second { IsTrue (is_printed second.now) }
     requires third { IsTrue (is_printed third.now) }
-    ensures { IfOk result (λ made. text_in made ≡ text_in line ++ 32 ∷ line_of (first.now ∷ second.now ∷ third.now ∷ [])) }
+    ensures { IfOk result (λ made. text_in made
+        ≡ text_in line ++ 32 ∷ line_of (first.now ∷ second.now ∷ third.now ∷ [])) }
 {
     line.word(first)?.word(second)?.word(third)
 }
 
 // With two hyphens more.
 fn add_nothing(line: Line) -> Result<Line, AllocError>
-    ensures { IfOk result (λ made. text_in made ≡ text_in line ++ 32 ∷ line_of (print.none_word ∷ print.none_word ∷ [])) }
+    ensures { IfOk result
+        (λ made. text_in made ≡ text_in line ++ 32 ∷ line_of (print.none_word ∷ print.none_word ∷ [])) }
 {
     line.word("-")?.word("-")
 }

@@ -1,49 +1,47 @@
 //! The key schedule of one end of a run, and the lines of what comes of its messages.
 
-ghost use Rattle.std.specs.Prelude.{◌≡◌, ◌≤◌, ◌-◌, ◌++◌, ℕ, List, [], IfOk, OnOk, drop, if◌then◌else◌, length, take};
-ghost use Rattle.noise_duel.specs.Entries.{note_of, notes_of};
-ghost use Rattle.noise_duel.specs.Notes.{Held, Judged, Left, Note, WriteFault, held_note, noted_by};
-ghost use Rattle.noise_duel.specs.Runs.{SideReads, SideReceives, SideWrites};
+ghost use Rattle.std.specs.Prelude.{◌≡◌, ◌≤◌, ◌-◌, ◌++◌, ℕ, List, [], IfOk, drop, if◌then◌else◌, length, take};
+ghost use Rattle.noise_duel.specs.Entries.{note_of};
+ghost use Rattle.noise_duel.specs.Notes.{Held, Judged, Left, Note, WriteFault};
+ghost use Rattle.noise_duel.specs.Runs.{SideReads, SideWrites};
 ghost use Rattle.noise_duel.specs.Sides.{Side};
-ghost use Rattle.noise_handshake.specs.View.{Refuses};
+ghost use Rattle.noise_handshake.specs.Party.{Refuses};
 ghost use Rattle.noise_handshake.specs.declared.faults.Cause.{Cause};
-ghost use Rattle.noise_session.specs.Ends.{EndView};
+ghost use Rattle.noise_session.specs.Ends.{EndState};
 ghost use Rattle.noise_session.specs.Frames.{frame};
-ghost use Rattle.noise_session.specs.Steps.{Told};
-ghost use Rattle.noise_session_trace.specs.Following.{EndFollows};
-ghost use Rattle.noise_session_trace.specs.Moments.{shown, stopped_moment};
-ghost use Rattle.noise_session_trace.specs.Moments.Shown.{Nothing};
+ghost use Rattle.noise_session.specs.Steps.{StepValue};
+ghost use Rattle.noise_trace.specs.KeyUses.{use_value, stopped_use};
+ghost use Rattle.noise_trace.specs.KeyUses.KeyUseValue.{Nothing};
 ghost use Rattle.noise_vectors.specs.Expectations.{bytes_of};
-ghost use Rattle.noise_vectors.specs.FileKeys.{agreement_of, public_of};
-ghost use Rattle.noise_lines.specs.Woven.{traces_of};
-ghost use Rattle.noise_tool.specs.Moments.{IsCounted, moment_lines};
-ghost use Rattle.noise_tool.specs.TracedEnds.{IsOfNoFrame, Shows, TracedStands, note_ends};
-ghost use Rattle.noise_tool.specs.Tracing.{about, act_of, came_traces, read_moment, read_trace, written_frame, written_message, written_moment, written_trace};
+ghost use Rattle.noise_tool.specs.KeyUseLines.{IsCounted, key_use_lines};
+ghost use Rattle.noise_tool.specs.TracedEnds.{Follow, IsOfNoFrame, Shows, Used, note_ends};
+ghost use Rattle.noise_tool.specs.TracedEvents.{TracesRead, TracesReads, TracesReceived, TracesWrite};
+ghost use Rattle.noise_tool.specs.Tracing.{about, act_of, read_use, written_message, written_use};
 
-use crate::moment_lines::{Kept, push_moment};
+use crate::key_use_lines::{Selection, push_key_use};
 use crate::trace_lines::{About, Act};
 use byteorder::{BigEndian, ByteOrder};
 use noise_duel::Entry;
 use noise_names::Role;
 use noise_session::SendFault;
-use noise_session_trace::{EndTrace, Moment, end_is_followed};
+use noise_trace::{EndTrace, KeyUse, end_is_followed};
 use noise_vectors::FileKeys;
 use std::alloc::{AllocError, Global};
 
-/// The key schedule of one end of a run, and what has come of its next frame.
+/// The key schedule of one end of a run, and the bytes of its next frame.
 #[derive(Drop)]
 pub struct TracedEnd {
     pub role: Role,
     /// Whether the pattern has psk tokens.
     pub psks: bool,
     pub end: EndTrace<FileKeys>,
-    pub held: Vec<u8>,
+    pub partial: Vec<u8>,
 }
 
 impl TracedEnd {
     // A message of this end.
     fn about(&self, act: Act) -> About
-        ensures { (v : EndView) → Shows self.now v → result ≡ about self.now.role v act }
+        ensures { (v : EndState) → Shows self.now v → result ≡ about self.now.role v act }
     {
         About {
             role: self.role,
@@ -53,82 +51,75 @@ impl TracedEnd {
         }
     }
 
-    /// The lines of what came of a payload that the end was to write, by its entry; `frame` is the frame that it wrote, or nothing.
+    /// The lines of what came of a payload that the end was to write, by its entry and the frame that it wrote, if any.
     pub fn write(
         &mut self,
         alloc: Global,
-        kept: Kept,
+        selection: Selection,
         frame: &[u8],
         entry: &Entry,
     ) -> Result<Vec<Vec<u8>>, AllocError>
         ensures role { self.new.role ≡ self.old.role }
-        ensures lines { (s next : Side) (payload : List ℕ) (note : Note) (w : SideWrites s payload note next) → TracedStands self.old s.view
-            → note_of entry.now ≡ note → frame.now ≡ written_frame s next payload note w
-            → IfOk result (λ lines. (bytes_of lines.items ≡ written_trace kept self.old.role s next payload note w) × TracedStands self.new next.view) }
+        ensures lines { TracesWrite selection self.old self.new frame.now (note_of entry.now) result }
     {
         let about = self.about(Act::Writes);
         let message = message_in(frame);
-        let moment = written_moment(&mut self.end, message, entry);
+        let key_use = written_use(&mut self.end, message, entry);
         self.let_go(alloc, entry);
-        moment_of(alloc, kept, about, message, &moment)
+        lines_of_use(alloc, selection, about, message, &key_use)
     }
 
-    // Lets go of what is held, if the session has ended with what an entry says of a write.
+    // Drops the bytes of the next frame, if the session has ended with what an entry says of a write.
     fn let_go(&mut self, alloc: Global, entry: &Entry)
         ensures role { self.new.role ≡ self.old.role }
         ensures psks { self.new.psks ≡ self.old.psks }
         ensures end { self.new.end ≡ self.old.end }
-        ensures held { self.new.held.items ≡ (if note_ends (note_of entry.now) then [] else self.old.held.items) }
+        ensures partial { self.new.partial.items ≡ (if note_ends
+            (note_of entry.now) then [] else self.old.partial.items) }
     {
         if ends_session(entry) {
-            self.held = Vec::new(alloc);
+            self.partial = Vec::new(alloc);
         }
     }
 
-    /// Appends the lines that follow each of these entries, which tell what came of bytes that came to the end.
+    /// Appends the lines that follow each of these entries, which report what came of bytes that came to the end.
     pub fn receive(
         &mut self,
         alloc: Global,
-        kept: Kept,
+        selection: Selection,
         bytes: &[u8],
         entries: &[(Role, Entry)],
         traces: &mut Vec<Vec<Vec<u8>>>,
     ) -> Result<(), AllocError>
         ensures role { self.new.role ≡ self.old.role }
-        ensures lines { (s reader : Side) (role : Role) (notes : List Note) (x : SideReceives s bytes.now notes reader) → TracedStands self.old s.view
-            → notes_of entries.now ≡ noted_by role (notes ++ held_note (length reader.view.held))
-            → OnOk result ((traces_of traces.new.items
-            ≡ traces_of traces.old.items ++ came_traces kept self.old.role s reader bytes.now notes x) × TracedStands self.new reader.view) }
+        ensures lines { TracesReceived selection self.old self.new bytes.now entries.now
+            traces.old.items traces.new.items result }
     {
-        let mut came = Vec::from_slice(alloc, &self.held)?;
+        let mut came = Vec::from_slice(alloc, &self.partial)?;
         came.extend_from_slice(bytes)?;
-        let left = self.read_all(alloc, kept, &came, entries, traces)?;
-        self.held = left;
+        let left = self.read_all(alloc, selection, &came, entries, traces)?;
+        self.partial = left;
         Ok(())
     }
 
-    // Appends the lines that follow each of these entries, and returns the bytes that are held then.
+    // The same of these bytes: the bytes of the next frame that are left of them.
     fn read_all(
         &mut self,
         alloc: Global,
-        kept: Kept,
+        selection: Selection,
         came: &[u8],
         entries: &[(Role, Entry)],
         traces: &mut Vec<Vec<Vec<u8>>>,
     ) -> Result<Vec<u8>, AllocError>
         ensures role { self.new.role ≡ self.old.role }
-        ensures lines { (s reader : Side) (role : Role) (bytes : List ℕ) (notes : List Note) (x : SideReceives s bytes notes reader)
-            → Shows self.old s.view → came.now ≡ s.view.held ++ bytes
-            → notes_of entries.now ≡ noted_by role (notes ++ held_note (length reader.view.held))
-            → IfOk result (λ left. (left.items ≡ reader.view.held)
-            × (traces_of traces.new.items ≡ traces_of traces.old.items ++ came_traces kept self.old.role s reader bytes notes x)
-            × Shows self.new reader.view) }
+        ensures lines { TracesReads selection self.old self.new came.now entries.now
+            traces.old.items traces.new.items result }
     {
         end_is_followed::<FileKeys>();
         let mut rest = came;
         for (_, entry) in entries {
             let (message, after) = split_entry(rest, entry);
-            let lines = self.read(alloc, kept, message, entry)?;
+            let lines = self.read(alloc, selection, message, entry)?;
             traces.push(lines)?;
             rest = after;
         }
@@ -139,26 +130,24 @@ impl TracedEnd {
     fn read(
         &mut self,
         alloc: Global,
-        kept: Kept,
+        selection: Selection,
         message: &[u8],
         entry: &Entry,
     ) -> Result<Vec<Vec<u8>>, AllocError>
         ensures role { self.new.role ≡ self.old.role }
-        ensures lines { (s next : Side) (text : List ℕ) (step : Told) (r : SideReads s text step next) → Shows self.old s.view → message.now ≡ text
-            → note_of entry.now ≡ Judged step
-            → IfOk result (λ lines. (bytes_of lines.items ≡ read_trace kept self.old.role s next text step r) × Shows self.new next.view) }
-        ensures none { (v : EndView) → Shows self.old v → IsOfNoFrame (note_of entry.now)
+        ensures lines { TracesRead selection self.old self.new message.now (note_of entry.now) result }
+        ensures none { (v : EndState) → Shows self.old v → IsOfNoFrame (note_of entry.now)
             → IfOk result (λ lines. (bytes_of lines.items ≡ []) × Shows self.new v) }
     {
         let about = self.about(act_of(entry));
-        let moment = read_moment(&mut self.end, message, entry);
-        moment_of(alloc, kept, about, message, &moment)
+        let key_use = read_use(&mut self.end, message, entry);
+        lines_of_use(alloc, selection, about, message, &key_use)
     }
 }
 
 // What an end makes of a message that came, by its entry.
 fn act_of(entry: &Entry) -> Act
-    ensures { (step : Told) → note_of entry.now ≡ Judged step → result ≡ act_of step }
+    ensures { (step : StepValue) → note_of entry.now ≡ Judged step → result ≡ act_of step }
 {
     match entry {
         Entry::Payload(_) => Act::Accepts,
@@ -167,17 +156,18 @@ fn act_of(entry: &Entry) -> Act
 }
 
 // The lines of what is shown of a message.
-fn moment_of(
+fn lines_of_use(
     alloc: Global,
-    kept: Kept,
+    selection: Selection,
     about: About,
     message: &[u8],
-    moment: &Moment,
+    key_use: &KeyUse,
 ) -> Result<Vec<Vec<u8>>, AllocError>
-    ensures { IsCounted (shown moment.now) → IfOk result (λ lines. bytes_of lines.items ≡ moment_lines kept about message.now (shown moment.now)) }
+    ensures { IsCounted (use_value key_use.now) → IfOk result
+        (λ lines. bytes_of lines.items ≡ key_use_lines selection about message.now (use_value key_use.now)) }
 {
     let mut lines = Vec::new(alloc);
-    push_moment(alloc, kept, about, message, moment, &mut lines)?;
+    push_key_use(alloc, selection, about, message, key_use, &mut lines)?;
     Ok(lines)
 }
 
@@ -202,27 +192,24 @@ fn message_in(frame: &[u8]) -> &[u8]
 }
 
 // What is shown of what came of a payload, by its entry.
-fn written_moment(end: &mut EndTrace<FileKeys>, message: &[u8], entry: &Entry) -> Moment
+fn written_use(end: &mut EndTrace<FileKeys>, message: &[u8], entry: &Entry) -> KeyUse
     ensures { (s next : Side) (payload : List ℕ) (note : Note) (w : SideWrites s payload note next)
-        → EndFollows public_of agreement_of end.old s.view → note_of entry.now ≡ note
-        → message.now ≡ written_message s next payload note w
-        → (shown result ≡ written_moment s next payload note w) × IsCounted (shown result)
-        × EndFollows public_of agreement_of end.new next.view }
+        → Follow end.old s.state → note_of entry.now ≡ note → message.now ≡ written_message s next payload note w
+        → Used (use_value result) (written_use s next payload note w) end.new next.state }
 {
     end_is_followed::<FileKeys>();
     match entry {
         Entry::Wrote(_) => end.wrote(message),
-        Entry::WriteFault(fault) => unsent_moment(end, *fault),
-        _ => Moment::Nothing,
+        Entry::WriteFault(fault) => unsent_use(end, *fault),
+        _ => KeyUse::Nothing,
     }
 }
 
 // What is shown of a payload that wasn't written.
-fn unsent_moment(end: &EndTrace<FileKeys>, fault: SendFault) -> Moment
+fn unsent_use(end: &EndTrace<FileKeys>, fault: SendFault) -> KeyUse
     ensures { (s next : Side) (payload : List ℕ) (note : Note) (w : SideWrites s payload note next)
-        → EndFollows public_of agreement_of end.now s.view → WriteFault fault ≡ note
-        → (shown result ≡ written_moment s next payload note w) × IsCounted (shown result)
-        × EndFollows public_of agreement_of end.now next.view }
+        → Follow end.now s.state → WriteFault fault ≡ note
+        → Used (use_value result) (written_use s next payload note w) end.now next.state }
 {
     end_is_followed::<FileKeys>();
     match fault {
@@ -232,32 +219,31 @@ fn unsent_moment(end: &EndTrace<FileKeys>, fault: SendFault) -> Moment
         | SendFault::Ended
         | SendFault::OneWay
         | SendFault::Exhausted
-        | SendFault::Output { .. } => Moment::Nothing,
+        | SendFault::Output { .. } => KeyUse::Nothing,
     }
 }
 
 // What is shown of a message that was refused at this token.
-fn refused_moment(end: &EndTrace<FileKeys>, message: &[u8], token: u8) -> Moment
-    ensures { (v : EndView) (cause : Cause) → EndFollows public_of agreement_of end.now v → (refused : Refuses v.party message.now token cause)
-        → shown result ≡ stopped_moment v token refused.stops.carried }
+fn refused_use(end: &EndTrace<FileKeys>, message: &[u8], token: u8) -> KeyUse
+    ensures { (v : EndState) (cause : Cause) → Follow end.now v → (refused : Refuses v.party message.now token cause)
+        → use_value result ≡ stopped_use v token refused.stops.carried }
 {
     end.refused(message, token)
 }
 
 // What is shown of a message that came, by its entry.
-fn read_moment(end: &mut EndTrace<FileKeys>, message: &[u8], entry: &Entry) -> Moment
-    ensures frame { (s next : Side) (text : List ℕ) (step : Told) (r : SideReads s text step next)
-        → EndFollows public_of agreement_of end.old s.view → message.now ≡ text → note_of entry.now ≡ Judged step
-        → (shown result ≡ read_moment s next text step r) × IsCounted (shown result)
-        × EndFollows public_of agreement_of end.new next.view }
-    ensures none { IsOfNoFrame (note_of entry.now) → (shown result ≡ Nothing) × (end.new ≡ end.old) }
+fn read_use(end: &mut EndTrace<FileKeys>, message: &[u8], entry: &Entry) -> KeyUse
+    ensures frame { (s next : Side) (text : List ℕ) (step : StepValue) (r : SideReads s text step next)
+        → Follow end.old s.state → message.now ≡ text → note_of entry.now ≡ Judged step
+        → Used (use_value result) (read_use s next text step r) end.new next.state }
+    ensures none { IsOfNoFrame (note_of entry.now) → (use_value result ≡ Nothing) × (end.new ≡ end.old) }
 {
     end_is_followed::<FileKeys>();
     match entry {
         Entry::Payload(_) => end.took(message),
         Entry::Dropped(_) => end.tried(),
-        Entry::Refused { token, .. } => refused_moment(end, message, *token),
-        _ => Moment::Nothing,
+        Entry::Refused { token, .. } => refused_use(end, message, *token),
+        _ => KeyUse::Nothing,
     }
 }
 
@@ -276,18 +262,19 @@ fn split_frame(bytes: &[u8]) -> (&[u8], &[u8])
 
 // The message that an entry is about, or nothing, and the bytes that are left then of these.
 fn split_entry<'a>(rest: &'a [u8], entry: &Entry) -> (&'a [u8], &'a [u8])
-    ensures frame { (message more : List ℕ) (step : Told) → note_of entry.now ≡ Judged step → rest.now ≡ frame message ++ more
-        → length message ≤ 65535 → (result.0.now ≡ message) × (result.1.now ≡ more) }
-    ensures left { (step : Told) (n : ℕ) → note_of entry.now ≡ Left step n → result.1.now ≡ take (length rest.now - n) rest.now }
-    ensures held { (n : ℕ) → note_of entry.now ≡ Held n → result.1.now ≡ rest.now }
+    ensures frame { (message more : List ℕ) (step : StepValue) → note_of entry.now ≡ Judged step
+        → rest.now ≡ frame message ++ more → length message ≤ 65535 → (result.0.now ≡ message) × (result.1.now ≡ more) }
+    ensures left { (step : StepValue) (n : ℕ) → note_of entry.now ≡ Left step n
+        → result.1.now ≡ take (length rest.now - n) rest.now }
+    ensures partial { (n : ℕ) → note_of entry.now ≡ Held n → result.1.now ≡ rest.now }
 {
     match entry {
         Entry::Payload(_) | Entry::Dropped(_) | Entry::Refused { .. } | Entry::Exhausted => {
             split_frame(rest)
         }
         Entry::Left(_, count) => {
-            let (kept, _) = rest.split_at(rest.len().saturating_sub(*count));
-            (&[], kept)
+            let (front, _) = rest.split_at(rest.len().saturating_sub(*count));
+            (&[], front)
         }
         _ => (&[], rest),
     }

@@ -1,29 +1,28 @@
 //! The two ends that a vector file describes, with the key schedule of each beside it.
 
 ghost use Rattle.std.specs.Prelude.{◌≡◌, ◌≤◌, ◌++◌, ℕ, List, None, IfErr, IfOk, OnOk, length};
-ghost use Rattle.noise_handshake.specs.Party.{Stands};
 ghost use Rattle.noise_handshake.specs.Setup.{setup_fault};
-ghost use Rattle.noise_handshake.specs.View.{View};
+ghost use Rattle.noise_handshake.specs.Party.{Party};
 ghost use Rattle.noise_names.specs.declared.token.Role.{Role};
 ghost use Rattle.noise_session.specs.Ends.{end_of};
 ghost use Rattle.noise_vectors.specs.Expectations.{bytes_of};
 ghost use Rattle.noise_vectors.specs.FileKeys.{agreement_of, public_of};
 ghost use Rattle.noise_vectors.specs.SameFile.{SaySame};
-ghost use Rattle.noise_tool.specs.Ends.{IsStartFault, setup_of};
-ghost use Rattle.noise_tool.specs.Kept.{heading_lines};
-ghost use Rattle.noise_tool.specs.TracedEnds.{AreTracedEnds, TracedStands};
+ghost use Rattle.noise_tool.specs.Ends.{FileMatches, IsStartFault, setup_of};
+ghost use Rattle.noise_tool.specs.Printed.{Appended};
+ghost use Rattle.noise_tool.specs.Selection.{heading_lines};
+ghost use Rattle.noise_tool.specs.TracedEnds.{AreTracedEnds, TracedMatches};
 ghost use Rattle.noise_tool.specs.Tracing.{start_lines_of, start_traces};
 
 use crate::ends::{Beginning, begin, duel_of, known_before};
-use crate::moment_lines::Kept;
+use crate::key_use_lines::Selection;
 use crate::trace_lines::push_start_lines;
 use crate::traced_end::TracedEnd;
 use noise_duel::{Duel, Event};
 use noise_handshake::{Handshake, Remote};
 use noise_lines::Fault;
 use noise_names::{Role, ValidPattern};
-use noise_session_trace::EndTrace;
-use noise_trace::{Following, start_steps};
+use noise_trace::{EndTrace, Following, start_steps};
 use noise_vectors::{FileKeys, VectorFile, Version};
 use std::alloc::{AllocError, Global};
 
@@ -46,18 +45,18 @@ pub struct TracedStart {
     pub version: Version,
 }
 
-/// The two ends that the file describes, before the first message, each with its key schedule. `again` says what `file` says: its keys are those of the
-/// key schedules.
+/// The two ends that the file describes, before the first message, each with its key schedule. `again` says what `file`
+/// says: its keys are those of the key schedules.
 ///
 /// At `Err` the fault is that of `make_ends`.
 pub fn make_traced_ends(
     alloc: Global,
-    kept: Kept,
+    selection: Selection,
     file: VectorFile,
     again: VectorFile,
 ) -> Result<TracedStart, Fault>
     requires { SaySame file again }
-    ensures ends { IfOk result (λ made. AreTracedEnds kept file made) }
+    ensures ends { IfOk result (λ made. AreTracedEnds selection file made) }
     ensures fault { IfErr result (λ fault. IsStartFault file fault) }
 {
     let Beginning {
@@ -67,7 +66,7 @@ pub fn make_traced_ends(
         events,
         version,
     } = begin(file)?;
-    let lines = start_lines(alloc, kept, initiator.pattern(), &again)?;
+    let lines = start_lines(alloc, selection, initiator.pattern(), &again)?;
     let VectorFile {
         initiator: initiator_keys,
         responder: responder_keys,
@@ -94,34 +93,34 @@ fn follow(
     keys: FileKeys,
     interval: u64,
 ) -> TracedEnd
-    ensures { (v : View) → Stands public_of agreement_of handshake.now v → public_of keys ≡ v.own → agreement_of keys ≡ v.agree
-        → (result.role ≡ v.role) × TracedStands result (end_of v interval) }
+    ensures { (v : Party) → FileMatches handshake.now v → public_of keys ≡ v.own → agreement_of keys ≡ v.agree
+        → (result.role ≡ v.role) × TracedMatches result (end_of v interval) }
 {
     TracedEnd {
         role: handshake.role(),
         psks: !handshake.pattern().pattern().is_plain(),
         end: EndTrace::new(Following::new(handshake, keys), interval),
-        held: Vec::new(alloc),
+        partial: Vec::new(alloc),
     }
 }
 
 // The lines of the start of both ends of a file, by this pattern.
 fn start_lines(
     alloc: Global,
-    kept: Kept,
+    selection: Selection,
     pattern: &ValidPattern,
     file: &VectorFile,
 ) -> Result<Vec<Vec<u8>>, AllocError>
     ensures { ((role : Role) → setup_of file.now pattern.now role ≡ None)
-        → IfOk result (λ lines. bytes_of lines.items ≡ start_traces kept file.now pattern.now) }
+        → IfOk result (λ lines. bytes_of lines.items ≡ start_traces selection file.now pattern.now) }
 {
     let of_initiator = known_before(pattern.pattern(), Role::Initiator, &file.initiator);
     let of_responder = known_before(pattern.pattern(), Role::Responder, &file.responder);
     let mut lines = Vec::new(alloc);
-    push_heading(alloc, kept, &mut lines)?;
+    push_heading(alloc, selection, &mut lines)?;
     push_start(
         alloc,
-        kept,
+        selection,
         pattern,
         Role::Initiator,
         &file.prologue,
@@ -131,7 +130,7 @@ fn start_lines(
     )?;
     push_start(
         alloc,
-        kept,
+        selection,
         pattern,
         Role::Responder,
         &file.prologue,
@@ -143,10 +142,14 @@ fn start_lines(
 }
 
 // Appends the line that names the words of the others, where it is wanted.
-fn push_heading(alloc: Global, kept: Kept, lines: &mut Vec<Vec<u8>>) -> Result<(), AllocError>
-    ensures { OnOk result (bytes_of lines.new.items ≡ bytes_of lines.old.items ++ heading_lines kept) }
+fn push_heading(
+    alloc: Global,
+    selection: Selection,
+    lines: &mut Vec<Vec<u8>>,
+) -> Result<(), AllocError>
+    ensures { OnOk result (Appended lines.old lines.new (heading_lines selection)) }
 {
-    if kept.heading {
+    if selection.heading {
         let line = b"trace ROLE PART NUMBER NAME CALL FROM BYTES HASH CHAINING-KEY KEY NONCE";
         lines.push(Vec::from_slice(alloc, line.as_slice())?)?;
     }
@@ -156,7 +159,7 @@ fn push_heading(alloc: Global, kept: Kept, lines: &mut Vec<Vec<u8>>) -> Result<(
 // Appends the lines of the start of one end.
 fn push_start(
     alloc: Global,
-    kept: Kept,
+    selection: Selection,
     pattern: &ValidPattern,
     role: Role,
     prologue: &[u8],
@@ -164,10 +167,11 @@ fn push_start(
     remote: &Remote,
     lines: &mut Vec<Vec<u8>>,
 ) -> Result<(), AllocError>
-    ensures { (secrets : ℕ) → setup_fault pattern.now role (public_of keys.now) remote.now secrets ≡ None
-        → OnOk result (bytes_of lines.new.items ≡ bytes_of lines.old.items ++ start_lines_of kept role pattern.now prologue.now keys.now remote.now) }
+    ensures { (psks : ℕ) → setup_fault pattern.now role (public_of keys.now) remote.now psks ≡ None
+        → OnOk result (Appended lines.old lines.new
+        (start_lines_of selection role pattern.now prologue.now keys.now remote.now)) }
 {
-    if !kept.keeps_handshake(role) {
+    if !selection.selects_handshake(role) {
         return Ok(());
     }
     let psks = !pattern.pattern().is_plain();

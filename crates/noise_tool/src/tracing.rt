@@ -1,21 +1,20 @@
 //! The run of a vector file with the key schedules of both ends beside it.
 
 ghost use Rattle.std.specs.Prelude.{◌≡◌, ◌&&◌, ◌++◌, [], ℕ, List, IfErr, IfOk, OnOk, drop, is_some, length};
-ghost use Rattle.noise_duel.specs.HeldDuel.{DuelStands};
 ghost use Rattle.noise_duel.specs.Sides.{Sides};
 ghost use Rattle.noise_events.specs.Events.{events_of};
 ghost use Rattle.noise_names.specs.declared.token.Role.TheVariants.{Initiator, Responder};
-ghost use Rattle.noise_session.specs.Ends.{EndView};
+ghost use Rattle.noise_session.specs.Ends.{EndState};
 ghost use Rattle.noise_vectors.specs.Expectations.{bytes_of};
-ghost use Rattle.noise_vectors.specs.FileKeys.{agreement_of, public_of};
 ghost use Rattle.noise_vectors.specs.SameFile.{SaySame};
-ghost use Rattle.noise_lines.specs.Woven.{traces_of};
-ghost use Rattle.noise_tool.specs.Ends.{IsStartFault};
+ghost use Rattle.noise_lines.specs.TracedLines.{traces_of};
+ghost use Rattle.noise_tool.specs.Ends.{FileDuelMatches, IsStartFault};
+ghost use Rattle.noise_tool.specs.Printed.{Appended};
 ghost use Rattle.noise_tool.specs.Running.{AreLast, are_ready, datagrams_in, expected_in};
 ghost use Rattle.noise_tool.specs.TracedEnds.{AreOver, EndsTraced, HasRunTraced, IsNewSides, Shows};
 ghost use Rattle.noise_tool.specs.Tracing.{HasTraces, datagram_keys_of, last_traces};
 
-use crate::moment_lines::Kept;
+use crate::key_use_lines::Selection;
 use crate::report::entry_lines;
 use crate::running::{Outcome, close};
 use crate::trace_lines::push_datagram_key_lines;
@@ -25,7 +24,7 @@ use crate::traced_event::trace_event;
 use noise_duel::{Duel, Entry, Event, Report};
 use noise_lines::Fault;
 use noise_names::Role;
-use noise_session::end_is_told;
+use noise_session::end_is_reported;
 use noise_vectors::{FileKeys, VectorFile, Version};
 use std::alloc::{AllocError, Global};
 
@@ -44,13 +43,13 @@ pub struct Traced {
 /// Where there are no such ends, the fault is that of `make_ends`.
 pub fn trace(
     alloc: Global,
-    kept: Kept,
+    selection: Selection,
     file: VectorFile,
     again: VectorFile,
 ) -> Result<Traced, Fault>
     requires { SaySame file again }
-    ensures lines { IfOk result (λ traced. HasTraces kept file (bytes_of traced.outcome.lines.items) (bytes_of traced.start.items)
-        (traces_of traced.traces.items)) }
+    ensures lines { IfOk result (λ traced. HasTraces selection file (bytes_of traced.outcome.lines.items)
+        (bytes_of traced.start.items) (traces_of traced.traces.items)) }
     ensures expected { IfOk result (λ traced. bytes_of traced.outcome.expected.items ≡ expected_in file.version) }
     ensures fault { IfErr result (λ fault. IsStartFault file fault) }
 {
@@ -60,10 +59,10 @@ pub fn trace(
         lines: start,
         events,
         version,
-    } = make_traced_ends(alloc, kept, file, again)?;
+    } = make_traced_ends(alloc, selection, file, again)?;
     let mut traces = Vec::new(alloc);
-    let (duel, report) = run_traced(alloc, kept, duel, &events, &mut ends, &mut traces)?;
-    push_datagram_trace(alloc, kept, &duel, &version, &ends, &mut traces)?;
+    let (duel, report) = run_traced(alloc, selection, duel, &events, &mut ends, &mut traces)?;
+    push_datagram_trace(alloc, selection, &duel, &version, &ends, &mut traces)?;
     let lines = entry_lines(alloc, &report)?;
     let outcome = close(alloc, duel, lines, version)?;
     Ok(Traced {
@@ -76,28 +75,28 @@ pub fn trace(
 // Appends the lines of the keys of datagrams, if both ends go over to them.
 fn push_datagram_trace(
     alloc: Global,
-    kept: Kept,
+    selection: Selection,
     duel: &Duel<FileKeys, FileKeys>,
     version: &Version,
     ends: &TracedEnds,
     traces: &mut Vec<Vec<Vec<u8>>>,
 ) -> Result<(), AllocError>
-    ensures { (d : Sides) → DuelStands public_of agreement_of public_of agreement_of duel.now d → EndsTraced ends.now d
-        → (after : List (List ℕ)) (are_last : AreLast (datagrams_in version.now) d after)
-        → OnOk result (traces_of traces.new.items ≡ traces_of traces.old.items ++ last_traces kept (datagrams_in version.now) d after are_last) }
+    ensures { (d : Sides) → FileDuelMatches duel.now d → EndsTraced ends.now d → (after : List (List ℕ))
+        (last : AreLast (datagrams_in version.now) d after) → OnOk result (traces_of traces.new.items
+        ≡ traces_of traces.old.items ++ last_traces selection (datagrams_in version.now) d after last) }
 {
     if goes_over(duel, version) {
-        traces.push(datagram_keys(alloc, kept, ends)?)?;
+        traces.push(datagram_keys(alloc, selection, ends)?)?;
     }
     Ok(())
 }
 
 // Whether both ends go over to datagrams.
 fn goes_over(duel: &Duel<FileKeys, FileKeys>, version: &Version) -> bool
-    ensures { (d : Sides) → DuelStands public_of agreement_of public_of agreement_of duel.now d
+    ensures { (d : Sides) → FileDuelMatches duel.now d
         → result ≡ (is_some (datagrams_in version.now) && are_ready d) }
 {
-    end_is_told::<FileKeys>();
+    end_is_reported::<FileKeys>();
     match version {
         Version::One => false,
         Version::Two(additions) => {
@@ -109,26 +108,31 @@ fn goes_over(duel: &Duel<FileKeys, FileKeys>, version: &Version) -> bool
 }
 
 // The lines of the keys of datagrams.
-fn datagram_keys(alloc: Global, kept: Kept, ends: &TracedEnds) -> Result<Vec<Vec<u8>>, AllocError>
-    ensures { (d : Sides) → EndsTraced ends.now d → AreOver d → IfOk result (λ lines. bytes_of lines.items
-        ≡ datagram_keys_of kept Initiator d.initiator.view ++ datagram_keys_of kept Responder d.responder.view) }
+fn datagram_keys(
+    alloc: Global,
+    selection: Selection,
+    ends: &TracedEnds,
+) -> Result<Vec<Vec<u8>>, AllocError>
+    ensures { (d : Sides) → EndsTraced ends.now d → AreOver d → IfOk result
+        (λ lines. bytes_of lines.items ≡ datagram_keys_of selection Initiator d.initiator.state
+        ++ datagram_keys_of selection Responder d.responder.state) }
 {
     let mut lines = Vec::new(alloc);
-    push_datagram_keys(alloc, kept, &ends.initiator, &mut lines)?;
-    push_datagram_keys(alloc, kept, &ends.responder, &mut lines)?;
+    push_datagram_keys(alloc, selection, &ends.initiator, &mut lines)?;
+    push_datagram_keys(alloc, selection, &ends.responder, &mut lines)?;
     Ok(lines)
 }
 
 fn push_datagram_keys(
     alloc: Global,
-    kept: Kept,
+    selection: Selection,
     traced: &TracedEnd,
     lines: &mut Vec<Vec<u8>>,
 ) -> Result<(), AllocError>
-    ensures { (v : EndView) → Shows traced.now v → v.party.passed ≡ length v.party.pattern.messages
-        → OnOk result (bytes_of lines.new.items ≡ bytes_of lines.old.items ++ datagram_keys_of kept traced.now.role v) }
+    ensures { (v : EndState) → Shows traced.now v → v.party.passed ≡ length v.party.pattern.messages
+        → OnOk result (Appended lines.old lines.new (datagram_keys_of selection traced.now.role v)) }
 {
-    if !kept.keeps_transport(traced.role) {
+    if !selection.selects_transport(traced.role) {
         return Ok(());
     }
     match traced.end.keys() {
@@ -140,22 +144,22 @@ fn push_datagram_keys(
 // Runs events, and appends the lines that follow each entry of the report.
 fn run_traced(
     alloc: Global,
-    kept: Kept,
+    selection: Selection,
     mut duel: Duel<FileKeys, FileKeys>,
     events: &[Event],
     ends: &mut TracedEnds,
     traces: &mut Vec<Vec<Vec<u8>>>,
 ) -> Result<(Duel<FileKeys, FileKeys>, Report), AllocError>
-    ensures { (d : Sides) → DuelStands public_of agreement_of public_of agreement_of duel d → IsNewSides d → EndsTraced ends.old d
-        → traces_of traces.old.items ≡ []
-        → IfOk result (λ r. HasRunTraced kept d (events_of events.now) r.0 r.1 ends.new (traces_of traces.new.items)) }
+    ensures { (d : Sides) → FileDuelMatches duel d → IsNewSides d → EndsTraced ends.old d
+        → traces_of traces.old.items ≡ [] → IfOk result
+        (λ r. HasRunTraced selection d (events_of events.now) r.0 r.1 ends.new (traces_of traces.new.items)) }
 {
     let mut report = Report::new(alloc);
     for event in events {
         let from = report.entries.len();
         duel.apply(alloc, event, &mut report)?;
         let entries = entries_from(&report, from);
-        trace_event(alloc, kept, event, &report, entries, ends, traces)?;
+        trace_event(alloc, selection, event, &report, entries, ends, traces)?;
     }
     Ok((duel, report))
 }

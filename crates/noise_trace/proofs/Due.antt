@@ -1,5 +1,5 @@
 -- The message that is due, and what its tokens carry.
-use Rattle.std.proofs.Common.{◌≡◌, ℕ, zero, suc, ◌<◌, ◌≤◌, List, [], ◌∷◌, ◌++◌, length, get_or, drop, refl, ap, ◌∙◌, arith}
+use Rattle.std.proofs.Common.{◌≡◌, ℕ, zero, suc, ◌<◌, ◌≤◌, List, [], ◌∷◌, ◌++◌, length, get_or, drop, refl, ap, sym, subst, ◌∙◌, arith}
 use Rattle.std.specs.Prelude.{Bool, true, false, not, count_by}
 use Rattle.noise_names.specs.declared.token.Token.{Token}
 use Rattle.noise_names.specs.declared.token.Token.TheVariants.{E, S, Ee, Es, Se, Ss, Psk}
@@ -8,16 +8,16 @@ use Rattle.noise_names.specs.declared.token.Role.TheVariants.{Initiator, Respond
 use Rattle.noise_names.specs.Tokens.{is_psk, other, same_role, turn_from}
 use Rattle.noise_state.specs.History.{History}
 use Rattle.noise_handshake.specs.declared.remote.Remote.{Remote}
-use Rattle.noise_handshake.specs.Held.{is_turn}
-use Rattle.noise_handshake.specs.Setup.{secrets_of}
+use Rattle.noise_handshake.specs.HandshakeValue.{is_turn}
+use Rattle.noise_handshake.specs.Setup.{psks_of}
 use Rattle.noise_handshake.specs.Message.{before_payload, message_bytes, after_payload}
-use Rattle.noise_handshake.specs.View.{View, Reader, Fits, Fit, Listens, Speaks, known_after, secrets_after, tokens_at}
-use Rattle.noise_handshake.specs.Writing.{Writer, Gives, Given}
+use Rattle.noise_handshake.specs.Party.{Party, Accepts, Reader, Fits, Fit, Listens, Speaks, known_after, reader, psks_after, tokens_at, tokens_now}
+use Rattle.noise_handshake.specs.Writing.{Writer, Writes, Gives, Given, writer}
 use Rattle.noise_trace.specs.declared.values.StateValues.{StateValues}
 use Rattle.noise_trace.specs.declared.step.Part.TheVariants as part
 use Rattle.noise_trace.specs.declared.step.Step.{Step}
 use Rattle.noise_trace.specs.Values.{values_of}
-use Rattle.noise_trace.specs.inner.Carried.{Carries}
+use Rattle.noise_trace.specs.inner.Carried.{Carries, IsNextMessage}
 use Rattle.noise_trace.specs.Steps.{token_steps, message_steps}
 
 pub tokens_at-read : (ms : List (List Token)) (i : ℕ) (d : List Token) → i < length ms → get_or ms i d ≡ tokens_at ms i
@@ -30,42 +30,42 @@ tokens_at-none [] i h = refl
 tokens_at-none (ts ∷ ms) zero h = absurd (omega arith)
 tokens_at-none (ts ∷ ms) (suc i) h = tokens_at-none ms i (omega arith)
 
--- the next message takes no more secrets than all that are to come
-pub secrets-due : (ms : List (List Token)) (n : ℕ) → count_by is_psk (tokens_at ms n) ≤ secrets_of (drop n ms)
-secrets-due [] n = omega arith
-secrets-due (ts ∷ ms) zero = omega arith
-secrets-due (ts ∷ ms) (suc n) = secrets-due ms n
+-- the next message takes no more psks than all that are to come
+pub psks-due : (ms : List (List Token)) (n : ℕ) → count_by is_psk (tokens_at ms n) ≤ psks_of (drop n ms)
+psks-due [] n = omega arith
+psks-due (ts ∷ ms) zero = omega arith
+psks-due (ts ∷ ms) (suc n) = psks-due ms n
 
 -- what a message of the other party carries
-pub fit-carries : (v : Reader) (known : Remote) (secrets : List (List ℕ)) (ts : List Token) (xs : List (List ℕ))
-    → Fit v known secrets ts xs → Carries true v known secrets ts xs
-fit-carries v known secrets [] [] f = tt
-fit-carries v known secrets [] (x ∷ xs) f = f
-fit-carries v known secrets (t ∷ ts) [] f = f
-fit-carries v known secrets (t ∷ ts) (x ∷ xs) f = (f.0, fit-carries v (known_after known t x) (secrets_after secrets t) ts xs f.1)
+pub fit-carries : (v : Reader) (known : Remote) (psks : List (List ℕ)) (ts : List Token) (xs : List (List ℕ))
+    → Fit v known psks ts xs → Carries true v known psks ts xs
+fit-carries v known psks [] [] f = tt
+fit-carries v known psks [] (x ∷ xs) f = f
+fit-carries v known psks (t ∷ ts) [] f = f
+fit-carries v known psks (t ∷ ts) (x ∷ xs) f = (f.0, fit-carries v (known_after known t x) (psks_after psks t) ts xs f.1)
 
 -- what reading asks of a party that writes
 abbrev pub as_reader : Writer → Reader
-as_reader w = record { role = w.role; psks = w.psks; agree = w.agree }
+as_reader w = record { role = w.role; has_psks = w.has_psks; agree = w.agree }
 
-gives-fits : (w : Writer) (known : Remote) (secrets : List (List ℕ)) (t : Token) (x : List ℕ) → Gives w known secrets t x
-    → Fits (as_reader w) known secrets t x
-gives-fits w known secrets E x g = g.1
-gives-fits w known secrets S x g = g.1
-gives-fits w known secrets Ee x g = g
-gives-fits w known secrets Es x g = g
-gives-fits w known secrets Se x g = g
-gives-fits w known secrets Ss x g = g
-gives-fits w known secrets Psk x g = g
+gives-fits : (w : Writer) (known : Remote) (psks : List (List ℕ)) (t : Token) (x : List ℕ) → Gives w known psks t x
+    → Fits (as_reader w) known psks t x
+gives-fits w known psks E x g = g.1
+gives-fits w known psks S x g = g.1
+gives-fits w known psks Ee x g = g
+gives-fits w known psks Es x g = g
+gives-fits w known psks Se x g = g
+gives-fits w known psks Ss x g = g
+gives-fits w known psks Psk x g = g
 
 -- what a message of its own carries
-pub given-carries : (w : Writer) (known : Remote) (secrets : List (List ℕ)) (ts : List Token) (xs : List (List ℕ))
-    → Given w known secrets ts xs → Carries false (as_reader w) known secrets ts xs
-given-carries w known secrets [] [] f = tt
-given-carries w known secrets [] (x ∷ xs) f = f
-given-carries w known secrets (t ∷ ts) [] f = f
-given-carries w known secrets (t ∷ ts) (x ∷ xs) f =
-    (gives-fits w known secrets t x f.0, given-carries w known (secrets_after secrets t) ts xs f.1)
+pub given-carries : (w : Writer) (known : Remote) (psks : List (List ℕ)) (ts : List Token) (xs : List (List ℕ))
+    → Given w known psks ts xs → Carries false (as_reader w) known psks ts xs
+given-carries w known psks [] [] f = tt
+given-carries w known psks [] (x ∷ xs) f = f
+given-carries w known psks (t ∷ ts) [] f = f
+given-carries w known psks (t ∷ ts) (x ∷ xs) f =
+    (gives-fits w known psks t x f.0, given-carries w known (psks_after psks t) ts xs f.1)
 
 listens : (a b : Role) → a ≡ other b → not (same_role a b) ≡ true
 listens Initiator Initiator e = absurd (cc)
@@ -80,21 +80,40 @@ speaks Responder Initiator e = absurd (cc)
 speaks Responder Responder e = refl
 
 -- a party that listens reads, and one that speaks doesn't
-pub reads : (v : View) → Listens v → not (is_turn v.role v.passed) ≡ true
+pub reads : (v : Party) → Listens v → not (is_turn v.role v.passed) ≡ true
 reads v l = listens (turn_from Initiator v.passed) v.role l.turn
 
-pub writes : (v : View) → Speaks v → not (is_turn v.role v.passed) ≡ false
+pub writes : (v : Party) → Speaks v → not (is_turn v.role v.passed) ≡ false
 writes v s = speaks (turn_from Initiator v.passed) v.role s.turn
 
+-- a message that is accepted, and one that is written, is the next one
+pub accepted-next : (v : Party) (message : List ℕ) (xs : List (List ℕ)) (payload : List ℕ) → Accepts v message xs payload
+    → IsNextMessage v xs payload message
+accepted-next v message xs payload a = record {
+  more = a.listens.more;
+  carries = subst (λ (b : Bool). Carries b (reader v) v.remote v.psks (tokens_now v) xs) (sym (reads v a.listens))
+      (fit-carries (reader v) v.remote v.psks (tokens_now v) xs a.reads.fit);
+  spelled = a.reads.spelled;
+}
+
+pub written-next : (v : Party) (message : List ℕ) (xs : List (List ℕ)) (payload : List ℕ) → Writes v payload xs message
+    → IsNextMessage v xs payload message
+written-next v message xs payload w = record {
+  more = w.speaks.more;
+  carries = subst (λ (b : Bool). Carries b (reader v) v.remote v.psks (tokens_now v) xs) (sym (writes v w.speaks))
+      (given-carries (writer v) v.remote v.psks (tokens_now v) xs w.given);
+  spelled = w.spelled;
+}
+
 -- the steps of the tokens and that of the payload are those of the message
-pub message-done : (psks : Bool) (r : History) (ts : List Token) (xs : List (List ℕ)) (payload m : List ℕ) (from : ℕ) (values : StateValues)
-    (before after : List Step) → from ≡ length (before_payload psks r ts xs) → m ≡ message_bytes psks r ts xs payload → values ≡ values_of (after_payload psks r ts xs payload)
-    → before ≡ token_steps psks r 0 ts xs
+pub message-done : (has_psks : Bool) (r : History) (ts : List Token) (xs : List (List ℕ)) (payload m : List ℕ) (from : ℕ) (values : StateValues)
+    (before after : List Step) → from ≡ length (before_payload has_psks r ts xs) → m ≡ message_bytes has_psks r ts xs payload → values ≡ values_of (after_payload has_psks r ts xs payload)
+    → before ≡ token_steps has_psks r 0 ts xs
     → after ≡ before ++ (record { part = part.Payload; from = from; to = length m; state = values }) ∷ []
-    → after ≡ message_steps psks r ts xs payload
-message-done psks r ts xs payload m from values before after f s w b a =
+    → after ≡ message_steps has_psks r ts xs payload
+message-done has_psks r ts xs payload m from values before after f s w b a =
     a ∙ ap (λ (z : List Step). z ++ (record { part = part.Payload; from = from; to = length m; state = values }) ∷ []) b
-    ∙ ap (λ (n : ℕ). token_steps psks r 0 ts xs ++ (record { part = part.Payload; from = n; to = length m; state = values }) ∷ []) f
-    ∙ ap (λ (z : List ℕ). token_steps psks r 0 ts xs ++ (record { part = part.Payload; from = length (before_payload psks r ts xs); to = length z; state = values }) ∷ []) s
-    ∙ ap (λ (z : StateValues). token_steps psks r 0 ts xs
-    ++ (record { part = part.Payload; from = length (before_payload psks r ts xs); to = length (message_bytes psks r ts xs payload); state = z }) ∷ []) w
+    ∙ ap (λ (n : ℕ). token_steps has_psks r 0 ts xs ++ (record { part = part.Payload; from = n; to = length m; state = values }) ∷ []) f
+    ∙ ap (λ (z : List ℕ). token_steps has_psks r 0 ts xs ++ (record { part = part.Payload; from = length (before_payload has_psks r ts xs); to = length z; state = values }) ∷ []) s
+    ∙ ap (λ (z : StateValues). token_steps has_psks r 0 ts xs
+    ++ (record { part = part.Payload; from = length (before_payload has_psks r ts xs); to = length (message_bytes has_psks r ts xs payload); state = z }) ∷ []) w

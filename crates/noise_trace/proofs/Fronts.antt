@@ -4,87 +4,82 @@ use Rattle.std.specs.Prelude.{Bool, Option, Some}
 use Rattle.noise_names.specs.declared.token.Token.{Token}
 use Rattle.noise_state.specs.declared.symmetric.SymmetricState.{SymmetricState}
 use Rattle.noise_state.specs.History.{History}
-use Rattle.noise_state.specs.Standing.{StateStands}
+use Rattle.noise_state.specs.Standing.{StateMatches}
 use Rattle.noise_handshake.specs.declared.remote.Remote.{Remote}
 use Rattle.noise_handshake.specs.Message.{token_bytes, after_token, before_payload, after_tokens}
-use Rattle.noise_handshake.specs.View.{Reader, Fits, secrets_after}
+use Rattle.noise_handshake.specs.Party.{Reader, Fits, psks_after}
 use Rattle.noise_trace.specs.declared.step.Part.TheVariants as part
 use Rattle.noise_trace.specs.declared.step.Step.{Step}
 use Rattle.noise_trace.specs.inner.Carried.{known_next, known_through, Carries}
+use Rattle.noise_trace.specs.inner.Means.{IsFollowed}
 use Rattle.noise_trace.specs.Steps.{step, token_steps}
 
 -- The text of the first token, and those of the others.
-pub record Parted (reads : Bool) (v : Reader) (known : Remote) (secrets : List (List ℕ)) (r : History) (t : Token) (ts : List Token)
+pub record Parted (reads : Bool) (v : Reader) (known : Remote) (psks : List (List ℕ)) (r : History) (t : Token) (ts : List Token)
     (xs : List (List ℕ)) (more rest : List ℕ) : Type 0 where
   pub first : List ℕ
   pub others : List (List ℕ)
   pub parts : xs ≡ first ∷ others
-  pub fits : Fits v known secrets t first
-  pub carries : Carries reads v (known_next reads known t first) (secrets_after secrets t) ts others
-  pub spelled : rest ≡ token_bytes r t first ++ (before_payload v.psks (after_token v.psks r t first) ts others ++ more)
+  pub fits : Fits v known psks t first
+  pub carries : Carries reads v (known_next reads known t first) (psks_after psks t) ts others
+  pub spelled : rest ≡ token_bytes r t first ++ (before_payload v.has_psks (after_token v.has_psks r t first) ts others ++ more)
 
-parted-first : (reads : Bool) (v : Reader) (known : Remote) (secrets : List (List ℕ)) (r : History) (t : Token) (ts : List Token)
+parted-first : (reads : Bool) (v : Reader) (known : Remote) (psks : List (List ℕ)) (r : History) (t : Token) (ts : List Token)
     (xs : List (List ℕ)) (more rest : List ℕ)
-    → Carries reads v known secrets (t ∷ ts) xs → rest ≡ before_payload v.psks r (t ∷ ts) xs ++ more → Parted reads v known secrets r t ts xs more rest
-parted-first reads v known secrets r t ts [] more rest c e = absurd c
-parted-first reads v known secrets r t ts (x ∷ xs) more rest c e = record {
+    → Carries reads v known psks (t ∷ ts) xs → rest ≡ before_payload v.has_psks r (t ∷ ts) xs ++ more → Parted reads v known psks r t ts xs more rest
+parted-first reads v known psks r t ts [] more rest c e = absurd c
+parted-first reads v known psks r t ts (x ∷ xs) more rest c e = record {
   first = x;
   others = xs;
   parts = refl;
   fits = c.0;
   carries = c.1;
-  spelled = e ∙ append_assoc (token_bytes r t x) (before_payload v.psks (after_token v.psks r t x) ts xs) more;
+  spelled = e ∙ append_assoc (token_bytes r t x) (before_payload v.has_psks (after_token v.has_psks r t x) ts xs) more;
 }
 
-pub parted : (reads : Bool) (v : Reader) (known : Remote) (secrets : List (List ℕ)) (r : History) (tokens : List Token) (t : Token) (ts : List Token)
+pub parted : (reads : Bool) (v : Reader) (known : Remote) (psks : List (List ℕ)) (r : History) (tokens : List Token) (t : Token) (ts : List Token)
     (xs : List (List ℕ)) (more rest : List ℕ) → tokens ≡ t ∷ ts
-    → Carries reads v known secrets tokens xs → rest ≡ before_payload v.psks r tokens xs ++ more → Parted reads v known secrets r t ts xs more rest
-parted reads v known secrets r tokens t ts xs more rest split c e =
-    parted-first reads v known secrets r t ts xs more rest
-    (subst (λ (us : List Token). Carries reads v known secrets us xs) split c)
-    (subst (λ (us : List Token). rest ≡ before_payload v.psks r us xs ++ more) split e)
-
--- what following tokens makes
-abbrev pub IsFollowed : Bool → History → Bool → Remote → List Token → List (List ℕ) → ℕ → SymmetricState → Option (ℕ × Remote) → List Step → List Step → Type 0
-IsFollowed psks r reads known tokens xs from state result old new =
-    (result ≡ Some (from + length (before_payload psks r tokens xs), known_through reads known tokens xs)) × StateStands state (after_tokens psks r tokens xs)
-    × (new ≡ old ++ token_steps psks r from tokens xs)
+    → Carries reads v known psks tokens xs → rest ≡ before_payload v.has_psks r tokens xs ++ more → Parted reads v known psks r t ts xs more rest
+parted reads v known psks r tokens t ts xs more rest split c e =
+    parted-first reads v known psks r t ts xs more rest
+    (subst (λ (us : List Token). Carries reads v known psks us xs) split c)
+    (subst (λ (us : List Token). rest ≡ before_payload v.has_psks r us xs ++ more) split e)
 
 -- the step of the first token, and then those of the others
-pub steps-on : (psks : Bool) (r : History) (tokens ts : List Token) (t : Token) (xs ys : List (List ℕ)) (x : List ℕ) (from to : ℕ)
+pub steps-on : (has_psks : Bool) (r : History) (tokens ts : List Token) (t : Token) (xs ys : List (List ℕ)) (x : List ℕ) (from to : ℕ)
     (old mid new : List Step)
     → tokens ≡ t ∷ ts → xs ≡ x ∷ ys → to ≡ from + length (token_bytes r t x)
-    → mid ≡ old ++ step (part.Token t) from (length (token_bytes r t x)) (after_token psks r t x) ∷ []
-    → new ≡ mid ++ token_steps psks (after_token psks r t x) to ts ys → new ≡ old ++ token_steps psks r from tokens xs
-steps-on psks r tokens ts t xs ys x from to old mid new split parts place pushed later =
-    let after : History = after_token psks r t x in
+    → mid ≡ old ++ step (part.Token t) from (length (token_bytes r t x)) (after_token has_psks r t x) ∷ []
+    → new ≡ mid ++ token_steps has_psks (after_token has_psks r t x) to ts ys → new ≡ old ++ token_steps has_psks r from tokens xs
+steps-on has_psks r tokens ts t xs ys x from to old mid new split parts place pushed later =
+    let after : History = after_token has_psks r t x in
     let width : ℕ = length (token_bytes r t x) in
-    let whole : new ≡ old ++ token_steps psks r from (t ∷ ts) (x ∷ ys) =
-    later ∙ ap (λ (n : ℕ). mid ++ token_steps psks after n ts ys) place
-    ∙ ap (λ (z : List Step). z ++ token_steps psks after (from + width) ts ys) pushed
-    ∙ append_assoc old (step (part.Token t) from width after ∷ []) (token_steps psks after (from + width) ts ys) in
-    subst (λ (us : List Token). new ≡ old ++ token_steps psks r from us xs) (sym split)
-    (subst (λ (zs : List (List ℕ)). new ≡ old ++ token_steps psks r from (t ∷ ts) zs) (sym parts) whole)
+    let whole : new ≡ old ++ token_steps has_psks r from (t ∷ ts) (x ∷ ys) =
+    later ∙ ap (λ (n : ℕ). mid ++ token_steps has_psks after n ts ys) place
+    ∙ ap (λ (z : List Step). z ++ token_steps has_psks after (from + width) ts ys) pushed
+    ∙ append_assoc old (step (part.Token t) from width after ∷ []) (token_steps has_psks after (from + width) ts ys) in
+    subst (λ (us : List Token). new ≡ old ++ token_steps has_psks r from us xs) (sym split)
+    (subst (λ (zs : List (List ℕ)). new ≡ old ++ token_steps has_psks r from (t ∷ ts) zs) (sym parts) whole)
 
 -- what following the others makes is what following all of them makes
-pub followed-on : (psks : Bool) (r : History) (reads : Bool) (known learned : Remote) (tokens ts : List Token) (t : Token) (xs ys : List (List ℕ)) (x : List ℕ)
+pub followed-on : (has_psks : Bool) (r : History) (reads : Bool) (known learned : Remote) (tokens ts : List Token) (t : Token) (xs ys : List (List ℕ)) (x : List ℕ)
     (from to : ℕ) (state : SymmetricState) (result : Option (ℕ × Remote)) (old mid new : List Step)
     → tokens ≡ t ∷ ts → xs ≡ x ∷ ys → to ≡ from + length (token_bytes r t x) → learned ≡ known_next reads known t x
-    → mid ≡ old ++ step (part.Token t) from (length (token_bytes r t x)) (after_token psks r t x) ∷ []
-    → IsFollowed psks (after_token psks r t x) reads learned ts ys to state result mid new
-    → IsFollowed psks r reads known tokens xs from state result old new
-followed-on psks r reads known learned tokens ts t xs ys x from to state result old mid new split parts place knows pushed f =
-    let after : History = after_token psks r t x in
+    → mid ≡ old ++ step (part.Token t) from (length (token_bytes r t x)) (after_token has_psks r t x) ∷ []
+    → IsFollowed has_psks (after_token has_psks r t x) reads learned ts ys to state result mid new
+    → IsFollowed has_psks r reads known tokens xs from state result old new
+followed-on has_psks r reads known learned tokens ts t xs ys x from to state result old mid new split parts place knows pushed f =
+    let after : History = after_token has_psks r t x in
     let piece : List ℕ = token_bytes r t x in
-    let length-is : to + length (before_payload psks after ts ys) ≡ from + length (piece ++ before_payload psks after ts ys) =
-    omega (arith, place, length-append piece (before_payload psks after ts ys)) in
+    let length-is : to + length (before_payload has_psks after ts ys) ≡ from + length (piece ++ before_payload has_psks after ts ys) =
+    omega (arith, place, length-append piece (before_payload has_psks after ts ys)) in
     let Ends : List Token → List (List ℕ) → Type 0 =
-    λ us zs. (result ≡ Some (from + length (before_payload psks r us zs), known_through reads known us zs)) × StateStands state (after_tokens psks r us zs) in
+    λ us zs. (result ≡ Some (from + length (before_payload has_psks r us zs), known_through reads known us zs)) × StateMatches state (after_tokens has_psks r us zs) in
     let ends : Ends (t ∷ ts) (x ∷ ys) = (
       f.0 ∙ ap (λ (n : ℕ). Some (n, known_through reads learned ts ys)) length-is
-          ∙ ap (λ (z : Remote). Some (from + length (piece ++ before_payload psks after ts ys), known_through reads z ts ys)) knows,
+          ∙ ap (λ (z : Remote). Some (from + length (piece ++ before_payload has_psks after ts ys), known_through reads z ts ys)) knows,
       f.1,
     ) in
     let whole : Ends tokens xs =
     subst (λ (us : List Token). Ends us xs) (sym split) (subst (λ (zs : List (List ℕ)). Ends (t ∷ ts) zs) (sym parts) ends) in
-    (whole.0, whole.1, steps-on psks r tokens ts t xs ys x from to old mid new split parts place pushed f.2)
+    (whole.0, whole.1, steps-on has_psks r tokens ts t xs ys x from to old mid new split parts place pushed f.2)

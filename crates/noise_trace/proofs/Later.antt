@@ -6,22 +6,22 @@ use Rattle.noise_names.specs.declared.token.Role.{Role}
 use Rattle.noise_names.specs.declared.token.Role.TheVariants.{Initiator, Responder}
 use Rattle.noise_names.specs.Tokens.{is_psk, other, same_role, turn_from}
 use Rattle.noise_handshake.specs.declared.remote.Remote.{Remote}
-use Rattle.noise_handshake.specs.Held.{is_turn}
-use Rattle.noise_handshake.specs.Setup.{secrets_of}
-use Rattle.noise_handshake.specs.View.{known_after, learned, tokens_at}
+use Rattle.noise_handshake.specs.HandshakeValue.{is_turn}
+use Rattle.noise_handshake.specs.Setup.{psks_of}
+use Rattle.noise_handshake.specs.Party.{known_after, remote_after, tokens_at}
 use Rattle.noise_trace.specs.inner.Carried.{known_through}
 
-secrets-after : (ms : List (List Token)) (n : ℕ)
-    → count_by is_psk (tokens_at ms n) + secrets_of (drop (suc n) ms) ≡ secrets_of (drop n ms)
-secrets-after [] zero = refl
-secrets-after [] (suc n) = refl
-secrets-after (ts ∷ ms) zero = refl
-secrets-after (ts ∷ ms) (suc n) = secrets-after ms n
+psks-after : (ms : List (List Token)) (n : ℕ)
+    → count_by is_psk (tokens_at ms n) + psks_of (drop (suc n) ms) ≡ psks_of (drop n ms)
+psks-after [] zero = refl
+psks-after [] (suc n) = refl
+psks-after (ts ∷ ms) zero = refl
+psks-after (ts ∷ ms) (suc n) = psks-after ms n
 
--- a message takes its secrets, and the later messages the others
-pub secrets-later : (ms : List (List Token)) (n : ℕ)
-    → count_by is_psk (tokens_at ms n) + secrets_of (drop (n + 1) ms) ≡ secrets_of (drop n ms)
-secrets-later ms n = rw add-one (secrets-after ms n)
+-- a message takes its psks, and the later messages the others
+pub psks-later : (ms : List (List Token)) (n : ℕ)
+    → count_by is_psk (tokens_at ms n) + psks_of (drop (n + 1) ms) ≡ psks_of (drop n ms)
+psks-later ms n = rw add-one (psks-after ms n)
 
 flips-turn : (party role : Role) (n : ℕ) → not (same_role (turn_from party n) role) ≡ same_role (turn_from (other party) n) role
 flips-turn Initiator Initiator zero = refl
@@ -35,7 +35,7 @@ pub next-turn : (role : Role) (n : ℕ) → not (is_turn role n) ≡ is_turn rol
 next-turn role n = rw add-one (flips-turn Initiator role n)
 
 -- who reads learns the keys
-pub through-reads : (known : Remote) (ts : List Token) (xs : List (List ℕ)) → known_through true known ts xs ≡ learned known ts xs
+pub through-reads : (known : Remote) (ts : List Token) (xs : List (List ℕ)) → known_through true known ts xs ≡ remote_after known ts xs
 through-reads known [] xs = refl
 through-reads known (t ∷ ts) [] = refl
 through-reads known (t ∷ ts) (x ∷ xs) = through-reads (known_after known t x) ts xs

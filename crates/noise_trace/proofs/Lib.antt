@@ -1,7 +1,9 @@
-pub mod Keys
-pub mod Fronts
 pub mod Due
-pub mod Later
+pub mod Fronts
 pub mod Joined
-pub mod PreMessages
+pub mod Keys
+pub mod Later
 pub mod NonceBounds
+pub mod PreMessages
+pub mod Renewals
+pub mod Unopened

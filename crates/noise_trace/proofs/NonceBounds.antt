@@ -18,39 +18,39 @@ next-most : (keyed : Bool) (n : ℕ) → next_nonce keyed n ≤ n + 1
 next-most true n = omega arith
 next-most false n = omega arith
 
-if-most : (psks : Bool) (n : ℕ) → (if psks then 0 else n) ≤ n + 1
+if-most : (has_psks : Bool) (n : ℕ) → (if has_psks then 0 else n) ≤ n + 1
 if-most true n = omega arith
 if-most false n = omega arith
 
-after-most : (psks keyed : Bool) (n : ℕ) (t : Token) → nonce_after psks keyed n t ≤ n + 1
-after-most psks keyed n E = if-most psks n
-after-most psks keyed n S = next-most keyed n
-after-most psks keyed n Ee = omega arith
-after-most psks keyed n Es = omega arith
-after-most psks keyed n Se = omega arith
-after-most psks keyed n Ss = omega arith
-after-most psks keyed n Psk = omega arith
+after-most : (has_psks keyed : Bool) (n : ℕ) (t : Token) → nonce_after has_psks keyed n t ≤ n + 1
+after-most has_psks keyed n E = if-most has_psks n
+after-most has_psks keyed n S = next-most keyed n
+after-most has_psks keyed n Ee = omega arith
+after-most has_psks keyed n Es = omega arith
+after-most has_psks keyed n Se = omega arith
+after-most has_psks keyed n Ss = omega arith
+after-most has_psks keyed n Psk = omega arith
 
-tokens-most : (psks keyed : Bool) (n : ℕ) (ts : List Token) → nonce_after_tokens psks keyed n ts ≤ n + length ts
-tokens-most psks keyed n [] = omega arith
-tokens-most psks keyed n (t ∷ ts) =
-    omega (arith, tokens-most psks (keyed_after psks keyed t) (nonce_after psks keyed n t) ts, after-most psks keyed n t)
+tokens-most : (has_psks keyed : Bool) (n : ℕ) (ts : List Token) → nonce_after_tokens has_psks keyed n ts ≤ n + length ts
+tokens-most has_psks keyed n [] = omega arith
+tokens-most has_psks keyed n (t ∷ ts) =
+    omega (arith, tokens-most has_psks (keyed_after has_psks keyed t) (nonce_after has_psks keyed n t) ts, after-most has_psks keyed n t)
 
 -- each message has at most 10 tokens
 abbrev pub AreShort : List (List Token) → Type 0
 AreShort [] = Unit {0}
 AreShort (ts ∷ ms) = (length ts ≤ 10) × AreShort ms
 
-messages-most : (psks keyed : Bool) (n k : ℕ) (ms : List (List Token)) → AreShort ms
-    → nonce_after_messages psks keyed n (take k ms) ≤ n + 11 * length ms
-messages-most psks keyed n zero ms short = omega arith
-messages-most psks keyed n (suc k) [] short = omega arith
-messages-most psks keyed n (suc k) (ts ∷ ms) short =
+messages-most : (has_psks keyed : Bool) (n k : ℕ) (ms : List (List Token)) → AreShort ms
+    → nonce_after_messages has_psks keyed n (take k ms) ≤ n + 11 * length ms
+messages-most has_psks keyed n zero ms short = omega arith
+messages-most has_psks keyed n (suc k) [] short = omega arith
+messages-most has_psks keyed n (suc k) (ts ∷ ms) short =
     omega (
       arith,
-      messages-most psks (keyed_after_tokens psks keyed ts) (nonce_after_message psks keyed n ts) k ms short.1,
-      next-most (keyed_after_tokens psks keyed ts) (nonce_after_tokens psks keyed n ts),
-      tokens-most psks keyed n ts,
+      messages-most has_psks (keyed_after_tokens has_psks keyed ts) (nonce_after_message has_psks keyed n ts) k ms short.1,
+      next-most (keyed_after_tokens has_psks keyed ts) (nonce_after_tokens has_psks keyed n ts),
+      tokens-most has_psks keyed n ts,
       short.0,
     )
 

@@ -11,18 +11,19 @@ use Rattle.noise_names.specs.Names.{name_bytes}
 use Rattle.noise_names.specs.Validity.{is_among}
 use Rattle.noise_state.specs.declared.symmetric.SymmetricState.{SymmetricState}
 use Rattle.noise_state.specs.History.{History, MixHash, and_then}
-use Rattle.noise_state.specs.Standing.{StateStands}
+use Rattle.noise_state.specs.Standing.{StateMatches}
 use Rattle.noise_keys.specs.declared.keys.Own.{Own}
 use Rattle.noise_keys.specs.declared.keys.Own.TheVariants.{Ephemeral, Static}
 use Rattle.noise_handshake.specs.declared.remote.Remote.{Remote}
 use Rattle.noise_handshake.specs.Setup.{has_before, has_token, keys_of, public_keys, start_of, token_of}
-use Rattle.noise_handshake.specs.View.{with_premessage}
+use Rattle.noise_handshake.specs.Party.{with_premessage}
 use Rattle.noise_trace.specs.declared.start_step.StartPart.TheVariants as part
 use Rattle.noise_trace.specs.declared.start_step.StartStep.{StartStep}
 use Rattle.noise_handshake.specs.Message.{with_ephemeral}
 use Rattle.noise_trace.specs.declared.values.StateValues.{StateValues}
 use Rattle.noise_trace.specs.Values.{values_of}
-use Rattle.noise_trace.specs.Start.{start_step, key_steps, pre_steps, named, prologued, start_steps, values_after}
+use Rattle.noise_trace.specs.inner.PreMessages.{Mixes}
+use Rattle.noise_trace.specs.Start.{start_step, key_steps, pre_steps, after_name, after_prologue, start_steps, values_after}
 use Rattle.std.proofs.lemmas.Bool.{or_right}
 
 pub flips : (b x : Bool) → (IsTrue b ↔ IsFalse x) → not b ≡ x
@@ -30,54 +31,49 @@ flips true x e = sym (e.0 refl)
 flips false true e = refl
 flips false false e = absurd (let h : false ≡ true = e.1 refl in cc)
 
--- what mixing tokens makes of a pre-message
-abbrev pub Mixes : Bool → Role → Remote → List Token → History → SymmetricState → List StartStep → List StartStep → Type 0
-Mixes psks party keys ts r state old new =
-    StateStands state (with_premessage psks keys ts r) × (new ≡ old ++ key_steps psks party keys ts r)
-
 -- a static key
-pub mixes-s : (psks : Bool) (party : Role) (keys : Remote) (t : Token) (r : History) (key : List ℕ) (state : SymmetricState) (old new : List StartStep)
-    → t ≡ S → keys.s ≡ Some key → StateStands state (and_then r (MixHash key))
-    → new ≡ old ++ start_step (part.Key party t) (and_then r (MixHash key)) ∷ [] → Mixes psks party keys (t ∷ []) r state old new
-mixes-s psks party keys t r key state old new e k s n =
+pub mixes-s : (has_psks : Bool) (party : Role) (keys : Remote) (t : Token) (r : History) (key : List ℕ) (state : SymmetricState) (old new : List StartStep)
+    → t ≡ S → keys.s ≡ Some key → StateMatches state (and_then r (MixHash key))
+    → new ≡ old ++ start_step (part.Key party t) (and_then r (MixHash key)) ∷ [] → Mixes has_psks party keys (t ∷ []) r state old new
+mixes-s has_psks party keys t r key state old new e k s n =
     let q : key ≡ unwrap_or keys.s [] = sym (ap (λ (o : Option (List ℕ)). unwrap_or o []) k) in
     let n1 : new ≡ old ++ start_step (part.Key party S) (and_then r (MixHash key)) ∷ [] =
     subst (λ (u : Token). new ≡ old ++ start_step (part.Key party u) (and_then r (MixHash key)) ∷ []) e n in
-    subst (λ (u : Token). Mixes psks party keys (u ∷ []) r state old new) (sym e) (
-      subst (λ (z : List ℕ). StateStands state (and_then r (MixHash z))) q s,
+    subst (λ (u : Token). Mixes has_psks party keys (u ∷ []) r state old new) (sym e) (
+      subst (λ (z : List ℕ). StateMatches state (and_then r (MixHash z))) q s,
       subst (λ (z : List ℕ). new ≡ old ++ start_step (part.Key party S) (and_then r (MixHash z)) ∷ []) q n1,
     )
 
-pre-cons : (psks : Bool) (keys : Remote) (t : Token) (ts : List Token) (r : History)
-    → with_premessage psks keys ts (with_premessage psks keys (t ∷ []) r) ≡ with_premessage psks keys (t ∷ ts) r
-pre-cons psks keys E ts r = refl
-pre-cons psks keys S ts r = refl
-pre-cons psks keys Ee ts r = refl
-pre-cons psks keys Es ts r = refl
-pre-cons psks keys Se ts r = refl
-pre-cons psks keys Ss ts r = refl
-pre-cons psks keys Psk ts r = refl
+pre-cons : (has_psks : Bool) (keys : Remote) (t : Token) (ts : List Token) (r : History)
+    → with_premessage has_psks keys ts (with_premessage has_psks keys (t ∷ []) r) ≡ with_premessage has_psks keys (t ∷ ts) r
+pre-cons has_psks keys E ts r = refl
+pre-cons has_psks keys S ts r = refl
+pre-cons has_psks keys Ee ts r = refl
+pre-cons has_psks keys Es ts r = refl
+pre-cons has_psks keys Se ts r = refl
+pre-cons has_psks keys Ss ts r = refl
+pre-cons has_psks keys Psk ts r = refl
 
-steps-cons : (psks : Bool) (party : Role) (keys : Remote) (t : Token) (ts : List Token) (r : History)
-    → key_steps psks party keys (t ∷ []) r ++ key_steps psks party keys ts (with_premessage psks keys (t ∷ []) r) ≡ key_steps psks party keys (t ∷ ts) r
-steps-cons psks party keys E ts r = refl
-steps-cons psks party keys S ts r = refl
-steps-cons psks party keys Ee ts r = refl
-steps-cons psks party keys Es ts r = refl
-steps-cons psks party keys Se ts r = refl
-steps-cons psks party keys Ss ts r = refl
-steps-cons psks party keys Psk ts r = refl
+steps-cons : (has_psks : Bool) (party : Role) (keys : Remote) (t : Token) (ts : List Token) (r : History)
+    → key_steps has_psks party keys (t ∷ []) r ++ key_steps has_psks party keys ts (with_premessage has_psks keys (t ∷ []) r) ≡ key_steps has_psks party keys (t ∷ ts) r
+steps-cons has_psks party keys E ts r = refl
+steps-cons has_psks party keys S ts r = refl
+steps-cons has_psks party keys Ee ts r = refl
+steps-cons has_psks party keys Es ts r = refl
+steps-cons has_psks party keys Se ts r = refl
+steps-cons has_psks party keys Ss ts r = refl
+steps-cons has_psks party keys Psk ts r = refl
 
 -- the first token, and then the others
-pub mixes-on : (psks : Bool) (party : Role) (keys : Remote) (tokens : List Token) (t : Token) (ts : List Token) (r : History) (state : SymmetricState)
-    (old mid new : List StartStep) → tokens ≡ t ∷ ts → mid ≡ old ++ key_steps psks party keys (t ∷ []) r
-    → Mixes psks party keys ts (with_premessage psks keys (t ∷ []) r) state mid new → Mixes psks party keys tokens r state old new
-mixes-on psks party keys tokens t ts r state old mid new split first m =
-    let later : List StartStep = key_steps psks party keys ts (with_premessage psks keys (t ∷ []) r) in
-    subst (λ (us : List Token). Mixes psks party keys us r state old new) (sym split) (
-      subst (λ (z : History). StateStands state z) (pre-cons psks keys t ts r) m.0,
-      m.1 ∙ ap (λ (z : List StartStep). z ++ later) first ∙ append_assoc old (key_steps psks party keys (t ∷ []) r) later
-          ∙ ap (λ (z : List StartStep). old ++ z) (steps-cons psks party keys t ts r),
+pub mixes-on : (has_psks : Bool) (party : Role) (keys : Remote) (tokens : List Token) (t : Token) (ts : List Token) (r : History) (state : SymmetricState)
+    (old mid new : List StartStep) → tokens ≡ t ∷ ts → mid ≡ old ++ key_steps has_psks party keys (t ∷ []) r
+    → Mixes has_psks party keys ts (with_premessage has_psks keys (t ∷ []) r) state mid new → Mixes has_psks party keys tokens r state old new
+mixes-on has_psks party keys tokens t ts r state old mid new split first m =
+    let later : List StartStep = key_steps has_psks party keys ts (with_premessage has_psks keys (t ∷ []) r) in
+    subst (λ (us : List Token). Mixes has_psks party keys us r state old new) (sym split) (
+      subst (λ (z : History). StateMatches state z) (pre-cons has_psks keys t ts r) m.0,
+      m.1 ∙ ap (λ (z : List StartStep). z ++ later) first ∙ append_assoc old (key_steps has_psks party keys (t ∷ []) r) later
+          ∙ ap (λ (z : List StartStep). old ++ z) (steps-cons has_psks party keys t ts r),
     )
 
 -- the tokens of a list are among it
@@ -105,20 +101,20 @@ module _ (p : Plan) (own : Own → Option (List ℕ)) (known : Remote)
 
 -- the steps as the code makes them
 abbrev pub made : Bool → List Token → List Token → List ℕ → List ℕ → Remote → Remote → List StartStep
-made psks first second name prologue initiator responder =
+made has_psks first second name prologue initiator responder =
     let r0 : History = record { name = name; entries = [] } in
     let r1 : History = and_then r0 (MixHash prologue) in
     start_step part.Name r0 ∷ start_step part.Prologue r1
-    ∷ (key_steps psks Initiator initiator first r1
-    ++ key_steps psks Responder responder second (with_premessage psks initiator first r1))
+    ∷ (key_steps has_psks Initiator initiator first r1
+    ++ key_steps has_psks Responder responder second (with_premessage has_psks initiator first r1))
 
 -- they are those of the pattern
-pub made-is : (p : Plan) (psks : Bool) (first second : List Token) (name prologue : List ℕ) (initiator responder i r : Remote)
-    → psks ≡ has_psk p → first ≡ pre_of Initiator p → second ≡ pre_of Responder p → name ≡ name_bytes (record { base = p.base; places = p.places })
+pub made-is : (p : Plan) (has_psks : Bool) (first second : List Token) (name prologue : List ℕ) (initiator responder i r : Remote)
+    → has_psks ≡ has_psk p → first ≡ pre_of Initiator p → second ≡ pre_of Responder p → name ≡ name_bytes (record { base = p.base; places = p.places })
     → initiator ≡ i → responder ≡ r
-    → made psks first second name prologue initiator responder
-    ≡ start_step part.Name (named p) ∷ start_step part.Prologue (prologued p prologue) ∷ pre_steps p i r (prologued p prologue)
-made-is p psks first second name prologue initiator responder i r eb ef es en ei er =
+    → made has_psks first second name prologue initiator responder
+    ≡ start_step part.Name (after_name p) ∷ start_step part.Prologue (after_prologue p prologue) ∷ pre_steps p i r (after_prologue p prologue)
+made-is p has_psks first second name prologue initiator responder i r eb ef es en ei er =
     ap (λ (z : Bool). made z first second name prologue initiator responder) eb
     ∙ ap (λ (z : List Token). made (has_psk p) z second name prologue initiator responder) ef
     ∙ ap (λ (z : List Token). made (has_psk p) (pre_of Initiator p) z name prologue initiator responder) es
@@ -127,18 +123,18 @@ made-is p psks first second name prologue initiator responder i r eb ef es en ei
     ∙ ap (λ (z : Remote). made (has_psk p) (pre_of Initiator p) (pre_of Responder p) (name_bytes (record { base = p.base; places = p.places })) prologue i z) er
 
 -- one after another
-pub in-turn : (psks : Bool) (first second : List Token) (name prologue : List ℕ) (initiator responder : Remote) (none one two three four : List StartStep)
+pub in-turn : (has_psks : Bool) (first second : List Token) (name prologue : List ℕ) (initiator responder : Remote) (none one two three four : List StartStep)
     → none ≡ [] → one ≡ none ++ start_step part.Name (record { name = name; entries = [] }) ∷ []
     → two ≡ one ++ start_step part.Prologue (and_then (record { name = name; entries = [] }) (MixHash prologue)) ∷ []
-    → three ≡ two ++ key_steps psks Initiator initiator first (and_then (record { name = name; entries = [] }) (MixHash prologue))
-    → four ≡ three ++ key_steps psks Responder responder second
-    (with_premessage psks initiator first (and_then (record { name = name; entries = [] }) (MixHash prologue)))
-    → four ≡ made psks first second name prologue initiator responder
-in-turn psks first second name prologue initiator responder none one two three four e0 e1 e2 e3 e4 =
+    → three ≡ two ++ key_steps has_psks Initiator initiator first (and_then (record { name = name; entries = [] }) (MixHash prologue))
+    → four ≡ three ++ key_steps has_psks Responder responder second
+    (with_premessage has_psks initiator first (and_then (record { name = name; entries = [] }) (MixHash prologue)))
+    → four ≡ made has_psks first second name prologue initiator responder
+in-turn has_psks first second name prologue initiator responder none one two three four e0 e1 e2 e3 e4 =
     let r0 : History = record { name = name; entries = [] } in
     let r1 : History = and_then r0 (MixHash prologue) in
-    let last : List StartStep = key_steps psks Responder responder second (with_premessage psks initiator first r1) in
-    let keys : List StartStep = key_steps psks Initiator initiator first r1 in
+    let last : List StartStep = key_steps has_psks Responder responder second (with_premessage has_psks initiator first r1) in
+    let keys : List StartStep = key_steps has_psks Initiator initiator first r1 in
     e4 ∙ ap (λ (z : List StartStep). z ++ last) e3
     ∙ ap (λ (z : List StartStep). (z ++ keys) ++ last) e2
     ∙ ap (λ (z : List StartStep). ((z ++ start_step part.Prologue r1 ∷ []) ++ keys) ++ last) e1
@@ -148,16 +144,16 @@ after-append : (before : StateValues) (a b : List StartStep) → values_after be
 after-append before [] b = refl
 after-append before (s ∷ a) b = after-append s.state a b
 
-after-keys : (psks : Bool) (party : Role) (keys : Remote) (ts : List Token) (r : History)
-    → values_after (values_of r) (key_steps psks party keys ts r) ≡ values_of (with_premessage psks keys ts r)
-after-keys psks party keys [] r = refl
-after-keys psks party keys (E ∷ ts) r = after-keys psks party keys ts (with_ephemeral psks r (unwrap_or keys.e []))
-after-keys psks party keys (S ∷ ts) r = after-keys psks party keys ts (and_then r (MixHash (unwrap_or keys.s [])))
-after-keys psks party keys (Ee ∷ ts) r = after-keys psks party keys ts r
-after-keys psks party keys (Es ∷ ts) r = after-keys psks party keys ts r
-after-keys psks party keys (Se ∷ ts) r = after-keys psks party keys ts r
-after-keys psks party keys (Ss ∷ ts) r = after-keys psks party keys ts r
-after-keys psks party keys (Psk ∷ ts) r = after-keys psks party keys ts r
+after-keys : (has_psks : Bool) (party : Role) (keys : Remote) (ts : List Token) (r : History)
+    → values_after (values_of r) (key_steps has_psks party keys ts r) ≡ values_of (with_premessage has_psks keys ts r)
+after-keys has_psks party keys [] r = refl
+after-keys has_psks party keys (E ∷ ts) r = after-keys has_psks party keys ts (with_ephemeral has_psks r (unwrap_or keys.e []))
+after-keys has_psks party keys (S ∷ ts) r = after-keys has_psks party keys ts (and_then r (MixHash (unwrap_or keys.s [])))
+after-keys has_psks party keys (Ee ∷ ts) r = after-keys has_psks party keys ts r
+after-keys has_psks party keys (Es ∷ ts) r = after-keys has_psks party keys ts r
+after-keys has_psks party keys (Se ∷ ts) r = after-keys has_psks party keys ts r
+after-keys has_psks party keys (Ss ∷ ts) r = after-keys has_psks party keys ts r
+after-keys has_psks party keys (Psk ∷ ts) r = after-keys has_psks party keys ts r
 
 -- after the last step of the start the values are those of the start
 pub after-start : (p : Plan) (role : Role) (prologue : List ℕ) (own remote : Remote) (before : StateValues)
@@ -165,7 +161,7 @@ pub after-start : (p : Plan) (role : Role) (prologue : List ℕ) (own remote : R
 after-start p role prologue own remote before =
     let i : Remote = keys_of Initiator role own remote in
     let r : Remote = keys_of Responder role own remote in
-    let r1 : History = prologued p prologue in
+    let r1 : History = after_prologue p prologue in
     let r2 : History = with_premessage (has_psk p) i (pre_of Initiator p) r1 in
     after-append (values_of r1) (key_steps (has_psk p) Initiator i (pre_of Initiator p) r1) (key_steps (has_psk p) Responder r (pre_of Responder p) r2)
     ∙ ap (λ (z : StateValues). values_after z (key_steps (has_psk p) Responder r (pre_of Responder p) r2))

@@ -1,5 +1,8 @@
 pub mod Before
+pub mod Directions
+pub mod EndFollowing
 pub mod Following
+pub mod KeyUses
 pub mod Start
 pub mod Steps
 pub mod Values

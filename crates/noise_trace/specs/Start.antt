@@ -1,4 +1,4 @@
--- The steps of the start (Noise, 5.3): the name, the prologue, and each public key of the pre-messages, the initiator's first.
+-- The steps of the start (Noise, 5.3): the name, the prologue, and each public key of the pre-messages.
 use Rattle.std.specs.Prelude.{ℕ, List, [], ◌∷◌, ◌++◌, Bool, unwrap_or}
 use Rattle.noise_names.specs.declared.token.Token.{Token}
 use Rattle.noise_names.specs.declared.token.Token.TheVariants.{E, S}
@@ -10,7 +10,7 @@ use Rattle.noise_state.specs.History.{History, MixHash, and_then}
 use Rattle.noise_handshake.specs.declared.remote.Remote.{Remote}
 use Rattle.noise_handshake.specs.Message.{with_ephemeral}
 use Rattle.noise_handshake.specs.Setup.{keys_of}
-use Rattle.noise_handshake.specs.View.{with_premessage}
+use Rattle.noise_handshake.specs.Party.{with_premessage}
 use Rattle.noise_trace.specs.declared.start_step.StartPart.{StartPart}
 use Rattle.noise_trace.specs.declared.start_step.StartPart.TheVariants as part
 use Rattle.noise_trace.specs.declared.start_step.StartStep.{StartStep}
@@ -23,34 +23,35 @@ start_step which r = record { part = which; state = values_of r }
 
 -- the steps of the keys of a party's pre-message
 abbrev pub key_steps : Bool → Role → Remote → List Token → History → List StartStep
-key_steps psks party keys [] r = []
-key_steps psks party keys (E ∷ ts) r =
-    start_step (part.Key party E) (with_ephemeral psks r (unwrap_or keys.e []))
-    ∷ key_steps psks party keys ts (with_ephemeral psks r (unwrap_or keys.e []))
-key_steps psks party keys (S ∷ ts) r =
+key_steps has_psks party keys [] r = []
+key_steps has_psks party keys (E ∷ ts) r =
+    start_step (part.Key party E) (with_ephemeral has_psks r (unwrap_or keys.e []))
+    ∷ key_steps has_psks party keys ts (with_ephemeral has_psks r (unwrap_or keys.e []))
+key_steps has_psks party keys (S ∷ ts) r =
     start_step (part.Key party S) (and_then r (MixHash (unwrap_or keys.s [])))
-    ∷ key_steps psks party keys ts (and_then r (MixHash (unwrap_or keys.s [])))
-key_steps psks party keys (_ ∷ ts) r = key_steps psks party keys ts r
+    ∷ key_steps has_psks party keys ts (and_then r (MixHash (unwrap_or keys.s [])))
+key_steps has_psks party keys (_ ∷ ts) r = key_steps has_psks party keys ts r
 
 -- the history of a pattern's name alone
-abbrev pub named : Plan → History
-named p = record { name = name_bytes (record { base = p.base; places = p.places }); entries = [] }
+abbrev pub after_name : Plan → History
+after_name p = record { name = name_bytes (record { base = p.base; places = p.places }); entries = [] }
 
 -- the history after the prologue
-abbrev pub prologued : Plan → List ℕ → History
-prologued p prologue = and_then (named p) (MixHash prologue)
+abbrev pub after_prologue : Plan → List ℕ → History
+after_prologue p prologue = and_then (after_name p) (MixHash prologue)
 
--- the steps of the keys of both pre-messages
+-- the steps of the keys of both pre-messages, the initiator's first
 abbrev pub pre_steps : Plan → Remote → Remote → History → List StartStep
 pre_steps p initiator responder r =
     key_steps (has_psk p) Initiator initiator (pre_of Initiator p) r
-    ++ key_steps (has_psk p) Responder responder (pre_of Responder p) (with_premessage (has_psk p) initiator (pre_of Initiator p) r)
+    ++ key_steps (has_psk p) Responder responder (pre_of Responder p)
+    (with_premessage (has_psk p) initiator (pre_of Initiator p) r)
 
 -- the steps of the start, for a role with these keys of its own and these of the other party
 abbrev pub start_steps : Plan → Role → List ℕ → Remote → Remote → List StartStep
 start_steps p role prologue own remote =
-    start_step part.Name (named p) ∷ start_step part.Prologue (prologued p prologue)
-    ∷ pre_steps p (keys_of Initiator role own remote) (keys_of Responder role own remote) (prologued p prologue)
+    start_step part.Name (after_name p) ∷ start_step part.Prologue (after_prologue p prologue)
+    ∷ pre_steps p (keys_of Initiator role own remote) (keys_of Responder role own remote) (after_prologue p prologue)
 
 -- the values after steps, when these are the values before them
 abbrev pub values_after : StateValues → List StartStep → StateValues

@@ -1,15 +1,14 @@
-//! What is kept of a handshake before a message, to tell the steps of that message.
+//! A handshake before a message, from which the steps of that message are found.
 #![tactic(auto)]
 
-ghost use Rattle.std.specs.Prelude.{◌≡◌, ◌≤◌, ◌<◌, ◌+◌, ◌-◌, ◌^◌, ◌++◌, ℕ, List, length, take, count_by, not, IfSome};
+ghost use Rattle.std.specs.Prelude.{◌≡◌, ◌≤◌, ◌<◌, ◌+◌, ◌-◌, ◌^◌, ◌++◌, ℕ, List, length, take, count_by, IfSome};
 ghost use Rattle.noise_names.specs.Tokens.{is_psk};
 ghost use Rattle.noise_names.specs.Plan.{has_psk};
 ghost use Rattle.noise_state.specs.Standing.{nonce_now};
-ghost use Rattle.noise_handshake.specs.View.{View, Accepts, Refuses, reader, tokens_at, tokens_now};
-ghost use Rattle.noise_handshake.specs.Held.{is_turn};
-ghost use Rattle.noise_handshake.specs.Message.{before_payload, message_bytes};
+ghost use Rattle.noise_handshake.specs.Party.{Party, Accepts, Refuses, tokens_at, tokens_now};
+ghost use Rattle.noise_handshake.specs.Message.{before_payload};
 ghost use Rattle.noise_handshake.specs.Writing.{LacksAnswer, Writes};
-ghost use Rattle.noise_handshake.specs.Party.{Stands};
+ghost use Rattle.noise_handshake.specs.Matching.{Matches};
 ghost use Rattle.noise_handshake.specs.declared.faults.Cause.{Cause};
 
 use crate::own::{OwnMeans, give};
@@ -21,24 +20,24 @@ use noise_handshake::{Handshake, Keys, Remote};
 use noise_names::{Message, Role, Token};
 use noise_state::SymmetricState;
 
-/// A handshake as it is before a message, to tell the steps of that message once it was written or has come.
+/// A handshake before a message, from which the steps of that message are found once it was written or has come.
 ///
-/// It has the cipher key with its nonce: it is for showing what is mixed, and encrypts nothing.
+/// It has the cipher key with its nonce: it shows what is mixed, and encrypts nothing.
 #[derive(Drop)]
 pub struct BeforeMessage {
     role: Role,
-    psks: bool,
+    has_psks: bool,
     writes: bool,
     tokens: ArrayVec<Token, 10>,
     remote: Remote,
-    secrets: ArrayVec<[u8; 32], 9>,
+    psks: ArrayVec<[u8; 32], 9>,
     state: SymmetricState,
-    ghost secrets_due: { count_by is_psk tokens.items ≤ length secrets.items },
+    ghost psks_due: { count_by is_psk tokens.items ≤ length psks.items },
     ghost nonces: { nonce_now state + 11 < 2 ^ 64 - 1 },
 }
 
-// The steps of tokens, the state after them, and, if the tokens fit, where the bytes after them begin, and the keys of the other party
-// that are known then.
+// The steps of tokens, the state after them, and, if the tokens fit, where the bytes after them begin, and the other
+// party's keys that are known then.
 #[derive(Drop)]
 struct Front {
     steps: ArrayVec<Step, 11>,
@@ -66,24 +65,24 @@ pub(crate) fn tokens_at(messages: &[Message], i: usize) -> &[Token]
 }
 
 impl BeforeMessage {
-    ghost use Rattle.noise_trace.specs.Before.{StandsBefore};
-    ghost use Rattle.noise_trace.specs.inner.Carried.{Carries};
+    ghost use Rattle.noise_trace.specs.Before.{MatchesBefore};
+    ghost use Rattle.noise_trace.specs.inner.BeforeMessage.{IsBefore, IsNext};
+    ghost use Rattle.noise_trace.specs.inner.Carried.{CarriesNext, IsNextMessage};
     ghost use Rattle.noise_trace.specs.inner.Front.{IsFront, IsWhole};
-    ghost use Rattle.noise_trace.specs.inner.Kept.{IsKept, IsNext};
-    ghost use Rattle.noise_trace.specs.Steps.{message_steps, token_steps};
+    ghost use Rattle.noise_trace.specs.Steps.{next_steps, steps_before};
     ghost use Rattle.noise_trace.specs.Values.{values_of};
 
-    /// What is kept of a handshake before its next message.
+    /// A handshake before its next message.
     pub fn new<K: Keys>(handshake: &Handshake<K>) -> BeforeMessage
-        ensures { (v : View) → Stands K.public_of K.agreement handshake.now v → StandsBefore result v }
+        ensures { (v : Party) → Matches K.public_of K.agreement handshake.now v → MatchesBefore result v }
     {
         BeforeMessage::of_handshake(handshake)
     }
 
-    // The same, before which message it is kept.
+    // The same, with the number of that message.
     pub(crate) fn of_handshake<K: Keys>(handshake: &Handshake<K>) -> BeforeMessage
-        ensures stands { (v : View) → Stands K.public_of K.agreement handshake.now v → StandsBefore result v }
-        ensures kept { IsKept handshake.now.pattern handshake.now.passed result }
+        ensures matches { (v : Party) → Matches K.public_of K.agreement handshake.now v → MatchesBefore result v }
+        ensures before { IsBefore handshake.now.pattern handshake.now.passed result }
     {
         let progress = handshake.progress();
         let pattern = handshake.pattern().pattern();
@@ -91,20 +90,20 @@ impl BeforeMessage {
         tokens
             .try_extend_from_slice(tokens_at(pattern.messages(), progress.passed as usize))
             .unwrap();
-        let mut secrets = ArrayVec::new();
-        secrets.try_extend_from_slice(handshake.secrets()).unwrap();
+        let mut psks = ArrayVec::new();
+        psks.try_extend_from_slice(handshake.psks()).unwrap();
         BeforeMessage {
             role: handshake.role(),
-            psks: !pattern.is_plain(),
+            has_psks: !pattern.is_plain(),
             writes: handshake.writes_next(),
             tokens,
             remote: progress.remote,
-            secrets,
+            psks,
             state: SymmetricState::from_parts(progress.state),
         }
     }
 
-    // What is kept before the message after it, which has these tokens, where it leaves these keys of the other party and this state.
+    // The handshake before the message after it, with these tokens, keys of the other party and state.
     pub(crate) fn next(
         &self,
         tokens: &[Token],
@@ -112,24 +111,23 @@ impl BeforeMessage {
         state: SymmetricState,
     ) -> BeforeMessage
         requires few { length tokens.now ≤ 10 }
-        requires secrets { count_by is_psk self.now.tokens.items + count_by is_psk tokens.now ≤ length self.now.secrets.items }
+        requires psks { count_by is_psk self.now.tokens.items + count_by is_psk tokens.now
+            ≤ length self.now.psks.items }
         requires nonces { nonce_now state + 11 < 2 ^ 64 - 1 }
         ensures { IsNext self.now result tokens.now remote state }
     {
         let taken = psk_count(&self.tokens);
-        let mut secrets = ArrayVec::new();
-        secrets
-            .try_extend_from_slice(&self.secrets[taken..])
-            .unwrap();
+        let mut psks = ArrayVec::new();
+        psks.try_extend_from_slice(&self.psks[taken..]).unwrap();
         let mut due = ArrayVec::new();
         due.try_extend_from_slice(tokens).unwrap();
         BeforeMessage {
             role: self.role,
-            psks: self.psks,
+            has_psks: self.has_psks,
             writes: !self.writes,
             tokens: due,
             remote,
-            secrets,
+            psks,
             state,
         }
     }
@@ -143,7 +141,7 @@ impl BeforeMessage {
 
     // The values of the state.
     pub(crate) fn values(&self) -> StateValues
-        ensures { (v : View) → StandsBefore self.now v → result ≡ values_of v.history }
+        ensures { (v : Party) → MatchesBefore self.now v → result ≡ values_of v.history }
     {
         values_of(&self.state)
     }
@@ -154,15 +152,14 @@ impl BeforeMessage {
         ensures nonce { nonce_now result.state ≤ nonce_now self.now.state + 10 }
         ensures many { length result.steps.items ≤ count }
         ensures range { IfSome result.end (λ end. end.0 ≤ length message.now) }
-        ensures front { (v : View) (xs : List (List ℕ)) (more : List ℕ) → StandsBefore self.now v → K.agreement keys.now ≡ v.agree
-            → Carries (not (is_turn v.role v.passed)) (reader v) v.remote v.secrets (take count (tokens_now v)) xs
-            → message.now ≡ before_payload (has_psk v.pattern) v.history (take count (tokens_now v)) xs ++ more
-            → IsFront result (has_psk v.pattern) v.history (not (is_turn v.role v.passed)) v.remote (take count (tokens_now v)) xs }
+        ensures front { (v : Party) (xs : List (List ℕ)) (more : List ℕ) → let ts = take count (tokens_now v) in
+            MatchesBefore self.now v → K.agreement keys.now ≡ v.agree → CarriesNext v ts xs
+            → message.now ≡ before_payload (has_psk v.pattern) v.history ts xs ++ more → IsFront result v ts xs }
     {
         let means = Means {
             keys,
             role: self.role,
-            psks: self.psks,
+            has_psks: self.has_psks,
             reads: !self.writes,
             message,
         };
@@ -172,7 +169,7 @@ impl BeforeMessage {
             &mut state,
             &self.remote,
             &means,
-            &self.secrets,
+            &self.psks,
             &self.tokens[..count],
             0,
             &mut steps,
@@ -183,10 +180,8 @@ impl BeforeMessage {
     // Follows the whole message.
     pub(crate) fn whole<K: Keys>(&self, keys: &K, message: &[u8]) -> Whole
         ensures nonce { IfSome result.left (λ left. nonce_now left.1 ≤ nonce_now self.now.state + 11) }
-        ensures whole { (v : View) (xs : List (List ℕ)) (payload : List ℕ) → StandsBefore self.now v → K.agreement keys.now ≡ v.agree
-            → Carries (not (is_turn v.role v.passed)) (reader v) v.remote v.secrets (tokens_now v) xs
-            → message.now ≡ message_bytes (has_psk v.pattern) v.history (tokens_now v) xs payload
-            → IsWhole result (has_psk v.pattern) v.history (not (is_turn v.role v.passed)) v.remote (tokens_now v) xs payload }
+        ensures whole { (v : Party) (xs : List (List ℕ)) (payload : List ℕ) → MatchesBefore self.now v
+            → K.agreement keys.now ≡ v.agree → IsNextMessage v xs payload message.now → IsWhole result v xs payload }
     {
         let Front {
             mut steps,
@@ -209,48 +204,51 @@ impl BeforeMessage {
         }
     }
 
-    /// The steps of a message that this party then wrote or accepted: one for each of its tokens, and one for the payload.
+    /// The steps of a message that this party then wrote or accepted: one for each of its tokens, and one for the
+    /// payload.
     ///
-    /// `keys` are those of the handshake, and `message` is as it was sent, so a copy of one that was read in place. Of other
-    /// keys or messages the steps may end early.
+    /// `keys` are those of the handshake, and `message` is as it was sent, so a copy of one that was read in place. Of
+    /// other keys or messages the steps may end early.
     pub fn steps<K: Keys>(&self, keys: &K, message: &[u8]) -> ArrayVec<Step, 11>
-        ensures accepted { (v : View) (xs : List (List ℕ)) (payload : List ℕ) → StandsBefore self.now v → K.agreement keys.now ≡ v.agree
-            → Accepts v message.now xs payload → result.items ≡ message_steps (has_psk v.pattern) v.history (tokens_now v) xs payload }
-        ensures written { (v : View) (xs : List (List ℕ)) (payload : List ℕ) → StandsBefore self.now v → K.agreement keys.now ≡ v.agree
-            → Writes v payload xs message.now → result.items ≡ message_steps (has_psk v.pattern) v.history (tokens_now v) xs payload }
+        ensures accepted { (v : Party) (xs : List (List ℕ)) (payload : List ℕ) → MatchesBefore self.now v
+            → K.agreement keys.now ≡ v.agree → Accepts v message.now xs payload
+            → result.items ≡ next_steps v xs payload }
+        ensures written { (v : Party) (xs : List (List ℕ)) (payload : List ℕ) → MatchesBefore self.now v
+            → K.agreement keys.now ≡ v.agree → Writes v payload xs message.now
+            → result.items ≡ next_steps v xs payload }
     {
         let Whole { steps, .. } = self.whole(keys, message);
         steps
     }
 
-    /// The steps of a message that this party then refused at this token, counted from 0: those of the tokens before it. Where the
-    /// payload was refused, which counts as the token after the last, they are those of all tokens.
+    /// The steps of the tokens before this one, counted from 0, of a message that this party then refused at it. The
+    /// payload counts as the token after the last.
     ///
     /// `keys` are those of the handshake. Of other keys, messages or tokens the steps may end early.
     pub fn refused_steps<K: Keys>(&self, keys: &K, message: &[u8], token: u8) -> ArrayVec<Step, 11>
-        ensures refused { (v : View) (cause : Cause) → StandsBefore self.now v → K.agreement keys.now ≡ v.agree
+        ensures refused { (v : Party) (cause : Cause) → MatchesBefore self.now v → K.agreement keys.now ≡ v.agree
             → (refused : Refuses v message.now token cause)
-            → result.items ≡ token_steps (has_psk v.pattern) v.history 0 (take token (tokens_now v)) refused.stops.carried }
+            → result.items ≡ steps_before v token refused.stops.carried }
     {
         let count = self.tokens.len().min(token as usize);
         let Front { steps, .. } = self.front(keys, message, count);
         steps
     }
 
-    /// The steps of a message that this party then didn't write, for want of a DH answer at this token, counted from 0: those of the
-    /// tokens before it, at the places that they would have had.
+    /// The steps of the tokens before this one, counted from 0, of a message that this party then didn't write for want
+    /// of its DH result. They are at the places that they would have had.
     ///
     /// `keys` are those of the handshake. Of other keys or tokens the steps may end early.
     pub fn withheld_steps<K: Keys>(&self, keys: &K, token: u8) -> ArrayVec<Step, 11>
-        ensures withheld { (v : View) → StandsBefore self.now v → K.public_of keys.now ≡ v.own → K.agreement keys.now ≡ v.agree
-            → (lacks : LacksAnswer v token)
-            → result.items ≡ token_steps (has_psk v.pattern) v.history 0 (take token (tokens_now v)) lacks.lacks.before }
+        ensures withheld { (v : Party) → MatchesBefore self.now v → K.public_of keys.now ≡ v.own
+            → K.agreement keys.now ≡ v.agree → (lacks : LacksAnswer v token)
+            → result.items ≡ steps_before v token lacks.lacks.before }
     {
         let count = self.tokens.len().min(token as usize);
         let means = OwnMeans {
             keys,
             role: self.role,
-            psks: self.psks,
+            has_psks: self.has_psks,
             known: self.remote,
         };
         let mut state = self.state.for_trial();
@@ -258,7 +256,7 @@ impl BeforeMessage {
         give(
             &mut state,
             &means,
-            &self.secrets,
+            &self.psks,
             &self.tokens[..count],
             0,
             &mut steps,

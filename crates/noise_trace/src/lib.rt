@@ -1,9 +1,15 @@
-//! The key schedule of a handshake, token by token: after the name, the prologue and each key of the pre-messages, and after
-//! each token and the payload of a message (Noise, revision 34, 5.2 and 5.3).
+//! The key schedule of a handshake, token by token (Noise, revision 34, 5.2 and 5.3), and that of one end of a session,
+//! call by call: the steps of its handshake messages, its two transport keys, and the key of each transport message
+//! (11.3).
 #![tactic(auto)]
 
 mod before;
+mod direction;
+mod directions;
+mod end_trace;
+mod key_use;
 mod laws;
+mod opening;
 mod own;
 mod schedule;
 mod start;
@@ -13,7 +19,10 @@ mod tokens;
 mod values;
 
 pub use before::BeforeMessage;
-pub use laws::steps_tell;
+pub use end_trace::EndTrace;
+pub use key_use::KeyUse;
+pub use laws::{end_is_followed, steps_make_messages};
+pub use opening::Opening;
 pub use schedule::Following;
 pub use start::start_steps;
 pub use start_step::{StartPart, StartStep};

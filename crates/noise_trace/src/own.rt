@@ -5,12 +5,10 @@ ghost use Rattle.std.specs.Prelude.{◌≡◌, ◌≤◌, ◌<◌, ◌+◌, ◌-
 ghost use Rattle.noise_names.specs.declared.token.Token.{Token};
 ghost use Rattle.noise_names.specs.Tokens.{is_psk};
 ghost use Rattle.noise_state.specs.History.{History, Ciphertext, and_then, ciphertext};
-ghost use Rattle.noise_state.specs.Standing.{StateStands, nonce_now};
-ghost use Rattle.noise_handshake.specs.Message.{token_bytes, after_token};
-ghost use Rattle.noise_handshake.specs.Writing.{Writer, Gives, Given};
-ghost use Rattle.noise_trace.specs.Steps.{token_steps};
+ghost use Rattle.noise_state.specs.Standing.{StateMatches, nonce_now};
+ghost use Rattle.noise_trace.specs.inner.Means.{GivesToken, GivesTokens};
 
-use crate::tokens::{answer_at, mix_ephemeral, secrets_after};
+use crate::tokens::{answer_at, mix_ephemeral, psks_after};
 use crate::values::values_of;
 use crate::{Part, Step};
 use arrayvec::ArrayVec;
@@ -23,7 +21,7 @@ use noise_state::SymmetricState;
 pub(crate) struct OwnMeans<'a, K: Keys> {
     pub(crate) keys: &'a K,
     pub(crate) role: Role,
-    pub(crate) psks: bool,
+    pub(crate) has_psks: bool,
     pub(crate) known: Remote,
 }
 
@@ -41,8 +39,9 @@ fn send_s(state: &mut SymmetricState, key: &[u8; 32]) -> Option<usize>
     requires nonces { nonce_now state.old < 2 ^ 64 - 1 }
     ensures nonce { nonce_now state.new ≤ nonce_now state.old + 1 }
     ensures width { IfSome result (λ n. n ≤ 48) }
-    ensures sent { (r : History) → StateStands state.old r
-        → (result ≡ Some (length (ciphertext r key.now))) × StateStands state.new (and_then r (Ciphertext (ciphertext r key.now))) }
+    ensures sent { (r : History) → StateMatches state.old r
+        → (result ≡ Some (length (ciphertext r key.now)))
+        × StateMatches state.new (and_then r (Ciphertext (ciphertext r key.now))) }
 {
     let mut buffer = with_room(key);
     match state.encrypt_and_hash(&mut buffer, 32) {
@@ -51,31 +50,23 @@ fn send_s(state: &mut SymmetricState, key: &[u8; 32]) -> Option<usize>
     }
 }
 
-// Follows one token, and returns in how many bytes it travels, if it is no DH without an answer.
+// Follows one token, and returns in how many bytes it travels, if it is no DH without a result.
 fn give_token<K: Keys>(
     state: &mut SymmetricState,
     means: &OwnMeans<K>,
-    secrets: &[[u8; 32]],
+    psks: &[[u8; 32]],
     token: Token,
 ) -> Option<usize>
-    requires secret { token ≡ Token.Psk → 0 < length secrets.now }
+    requires psk { token ≡ Token.Psk → 0 < length psks.now }
     requires nonces { nonce_now state.old < 2 ^ 64 - 1 }
     ensures nonce { nonce_now state.new ≤ nonce_now state.old + 1 }
     ensures width { IfSome result (λ n. n ≤ 48) }
-    ensures given { (r : History) (x : List ℕ) → StateStands state.old r
-        → let w : Writer = record {
-          role = means.now.role;
-          psks = means.now.psks;
-          own = K.public_of means.now.keys.now;
-          agree = K.agreement means.now.keys.now;
-        } in
-        Gives w means.now.known secrets.now token x
-        → (result ≡ Some (length (token_bytes r token x))) × StateStands state.new (after_token means.now.psks r token x) }
+    ensures given { GivesToken K.public_of K.agreement means.now psks.now token state.old state.new result }
 {
     match token {
         Token::E => {
             let key = means.keys.public(Own::Ephemeral)?;
-            mix_ephemeral(state, means.psks, &key);
+            mix_ephemeral(state, means.has_psks, &key);
             Some(32)
         }
         Token::S => {
@@ -83,7 +74,7 @@ fn give_token<K: Keys>(
             send_s(state, &key)
         }
         Token::Psk => {
-            state.mix_key_and_hash(&secrets[0]);
+            state.mix_key_and_hash(&psks[0]);
             Some(0)
         }
         _ => {
@@ -94,33 +85,26 @@ fn give_token<K: Keys>(
     }
 }
 
-// Follows tokens from a place on, up to a DH without an answer, and adds a step for each.
+// Follows tokens from a place on, up to a DH without a result, and adds a step for each.
 pub(crate) fn give<K: Keys>(
     state: &mut SymmetricState,
     means: &OwnMeans<K>,
-    secrets: &[[u8; 32]],
+    psks: &[[u8; 32]],
     tokens: &[Token],
     from: usize,
     steps: &mut ArrayVec<Step, 11>,
 )
-    requires secrets { count_by is_psk tokens.now ≤ length secrets.now }
+    requires psks { count_by is_psk tokens.now ≤ length psks.now }
     requires nonces { nonce_now state.old + length tokens.now < 2 ^ 64 - 1 }
     requires room { length steps.old.items + length tokens.now ≤ 11 }
     requires within { from + 48 * length tokens.now ≤ 65535 }
-    ensures given { (r : History) (xs : List (List ℕ)) → StateStands state.old r
-        → let w : Writer = record {
-          role = means.now.role;
-          psks = means.now.psks;
-          own = K.public_of means.now.keys.now;
-          agree = K.agreement means.now.keys.now;
-        } in
-        Given w means.now.known secrets.now tokens.now xs
-        → steps.new.items ≡ steps.old.items ++ token_steps means.now.psks r from tokens.now xs }
+    ensures given { GivesTokens K.public_of K.agreement means.now psks.now tokens.now from state.old
+        steps.old.items steps.new.items }
 {
     let Some((token, later)) = tokens.split_first() else {
         return;
     };
-    let Some(width) = give_token(state, means, secrets, *token) else {
+    let Some(width) = give_token(state, means, psks, *token) else {
         return;
     };
     let to = from + width;
@@ -132,6 +116,6 @@ pub(crate) fn give<K: Keys>(
         to,
         state: values,
     });
-    let others = secrets_after(secrets, *token);
+    let others = psks_after(psks, *token);
     give(state, means, others, later, to, steps);
 }

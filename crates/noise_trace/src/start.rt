@@ -5,16 +5,18 @@ ghost use Rattle.std.specs.Prelude.{◌≡◌, ◌≤◌, ◌+◌, ◌++◌, ◌
 ghost use Rattle.noise_names.specs.declared.token.Token.TheVariants.{E, S};
 ghost use Rattle.noise_names.specs.Plan.{has_psk, pre_of};
 ghost use Rattle.noise_state.specs.History.{History};
-ghost use Rattle.noise_state.specs.Standing.{StateStands};
+ghost use Rattle.noise_state.specs.Standing.{StateMatches};
 ghost use Rattle.noise_handshake.specs.Setup.{has_token, keys_of, public_keys, setup_fault};
-ghost use Rattle.noise_handshake.specs.View.{with_premessage};
-ghost use Rattle.noise_trace.specs.Start.{key_steps, pre_steps, start_step, start_steps, named, prologued};
+ghost use Rattle.noise_handshake.specs.Party.{with_premessage};
+ghost use Rattle.noise_trace.specs.inner.PreMessages.{HasKeys, Mixes};
+ghost use Rattle.noise_trace.specs.Start.{key_steps, pre_steps, start_step, start_steps};
 
 use crate::tokens::mix_ephemeral;
 use crate::values::values_of;
 use crate::{StartPart, StartStep};
 use arrayvec::ArrayVec;
-use noise_handshake::{Keys, Own, Remote, setup_is_whole, tokens_stand};
+use noise_handshake::laws::{setup_is_whole, tokens_match};
+use noise_handshake::{Keys, Own, Remote};
 use noise_names::{Role, Token, ValidPattern};
 use noise_state::SymmetricState;
 
@@ -22,7 +24,8 @@ use noise_state::SymmetricState;
 fn add_step(steps: &mut ArrayVec<StartStep, 6>, part: StartPart, state: &SymmetricState)
     requires { length steps.old.items < 6 }
     ensures len { length steps.new.items ≡ length steps.old.items + 1 }
-    ensures added { (r : History) → StateStands state.now r → steps.new.items ≡ steps.old.items ++ start_step part r ∷ [] }
+    ensures added { (r : History) → StateMatches state.now r
+        → steps.new.items ≡ steps.old.items ++ start_step part r ∷ [] }
 {
     steps.push(StartStep {
         part,
@@ -33,7 +36,7 @@ fn add_step(steps: &mut ArrayVec<StartStep, 6>, part: StartPart, state: &Symmetr
 // Mixes the key of a pre-message's token, if it is there, and adds its step.
 fn mix_one(
     state: &mut SymmetricState,
-    psks: bool,
+    has_psks: bool,
     party: Role,
     keys: &Remote,
     token: Token,
@@ -41,14 +44,13 @@ fn mix_one(
 )
     requires room { length steps.old.items < 6 }
     ensures many { length steps.new.items ≤ length steps.old.items + 1 }
-    ensures mixed { (r : History) → StateStands state.old r
+    ensures mixed { (r : History) → StateMatches state.old r
         → (token ≡ E → is_some keys.now.e ≡ true) → (token ≡ S → is_some keys.now.s ≡ true)
-        → StateStands state.new (with_premessage psks keys.now (token ∷ []) r)
-        × (steps.new.items ≡ steps.old.items ++ key_steps psks party keys.now (token ∷ []) r) }
+        → Mixes has_psks party keys.now (token ∷ []) r state.new steps.old.items steps.new.items }
 {
     match (token, keys.e, keys.s) {
         (Token::E, Some(key), _) => {
-            mix_ephemeral(state, psks, &key);
+            mix_ephemeral(state, has_psks, &key);
             add_step(steps, StartPart::Key(party, token), state);
         }
         (Token::S, _, Some(key)) => {
@@ -62,7 +64,7 @@ fn mix_one(
 // Mixes the keys of a party's pre-message, and adds a step for each.
 fn mix_keys(
     state: &mut SymmetricState,
-    psks: bool,
+    has_psks: bool,
     party: Role,
     keys: &Remote,
     tokens: &[Token],
@@ -70,16 +72,15 @@ fn mix_keys(
 )
     requires room { length steps.old.items + length tokens.now ≤ 6 }
     ensures many { length steps.new.items ≤ length steps.old.items + length tokens.now }
-    ensures mixed { (r : History) → StateStands state.old r
-        → (has_token E tokens.now ≡ true → is_some keys.now.e ≡ true) → (has_token S tokens.now ≡ true → is_some keys.now.s ≡ true)
-        → StateStands state.new (with_premessage psks keys.now tokens.now r)
-        × (steps.new.items ≡ steps.old.items ++ key_steps psks party keys.now tokens.now r) }
+    ensures mixed { (r : History) → StateMatches state.old r
+        → HasKeys keys.now tokens.now
+        → Mixes has_psks party keys.now tokens.now r state.new steps.old.items steps.new.items }
 {
     let Some((token, later)) = tokens.split_first() else {
         return;
     };
-    mix_one(state, psks, party, keys, *token, steps);
-    mix_keys(state, psks, party, keys, later, steps);
+    mix_one(state, has_psks, party, keys, *token, steps);
+    mix_keys(state, has_psks, party, keys, later, steps);
 }
 
 // The public keys of a party, for a role with these keys of its own and these of the other party.
@@ -103,8 +104,8 @@ fn public_keys<K: Keys>(keys: &K) -> Remote
     }
 }
 
-/// The steps of a handshake's start, of a setup that `Handshake::new` takes: one for the protocol name, one for the prologue, an
-/// empty one too, and one for each public key of the pre-messages, the initiator's first.
+/// The steps of a handshake's start, of a setup that `Handshake::new` takes: one for the protocol name, one for the
+/// prologue, and one for each public key of the pre-messages, the initiator's first.
 ///
 /// Of another setup the steps may leave out keys.
 pub fn start_steps<K: Keys>(
@@ -114,13 +115,13 @@ pub fn start_steps<K: Keys>(
     keys: &K,
     remote: &Remote,
 ) -> ArrayVec<StartStep, 6>
-    ensures { (secrets : ℕ) → setup_fault pattern.now role (K.public_of keys.now) remote.now secrets ≡ None
+    ensures { (psks : ℕ) → setup_fault pattern.now role (K.public_of keys.now) remote.now psks ≡ None
         → result.items ≡ start_steps pattern.now role prologue.now (public_keys (K.public_of keys.now)) remote.now }
 {
     setup_is_whole();
-    tokens_stand();
+    tokens_match();
     let plan = pattern.pattern();
-    let psks = !plan.is_plain();
+    let has_psks = !plan.is_plain();
     let own = public_keys(keys);
     let initiator = keys_of(Role::Initiator, role, &own, remote);
     let responder = keys_of(Role::Responder, role, &own, remote);
@@ -133,7 +134,7 @@ pub fn start_steps<K: Keys>(
     let first = plan.pre(Role::Initiator);
     mix_keys(
         &mut state,
-        psks,
+        has_psks,
         Role::Initiator,
         &initiator,
         first,
@@ -142,7 +143,7 @@ pub fn start_steps<K: Keys>(
     let second = plan.pre(Role::Responder);
     mix_keys(
         &mut state,
-        psks,
+        has_psks,
         Role::Responder,
         &responder,
         second,

@@ -5,12 +5,10 @@ ghost use Rattle.std.specs.Prelude.{◌≡◌, ◌≤◌, ◌<◌, ◌+◌, ◌-
 ghost use Rattle.noise_names.specs.declared.token.Token.{Token};
 ghost use Rattle.noise_names.specs.Tokens.{is_psk};
 ghost use Rattle.noise_state.specs.History.{History, Ciphertext, and_then, ciphertext};
-ghost use Rattle.noise_state.specs.Standing.{StateStands, keyed, nonce_now};
-ghost use Rattle.noise_handshake.specs.Message.{with_ephemeral, token_bytes, after_token, before_payload, after_tokens};
-ghost use Rattle.noise_handshake.specs.View.{Reader, Fits, answered, own_at, remote_at, known_after, secrets_after};
-ghost use Rattle.noise_trace.specs.inner.Carried.{known_next, known_through, Carries};
-ghost use Rattle.noise_trace.specs.declared.step.Part.TheVariants as part;
-ghost use Rattle.noise_trace.specs.Steps.{step, token_steps};
+ghost use Rattle.noise_state.specs.Standing.{StateMatches, keyed, nonce_now};
+ghost use Rattle.noise_handshake.specs.Message.{with_ephemeral};
+ghost use Rattle.noise_handshake.specs.Party.{dh_result_of, own_at, remote_at, psks_after};
+ghost use Rattle.noise_trace.specs.inner.Means.{FollowsToken, FollowsOne, FollowsTokens};
 
 use crate::values::values_of;
 use crate::{Part, Step};
@@ -24,7 +22,7 @@ use noise_state::SymmetricState;
 pub(crate) struct Means<'a, K: Keys> {
     pub(crate) keys: &'a K,
     pub(crate) role: Role,
-    pub(crate) psks: bool,
+    pub(crate) has_psks: bool,
     pub(crate) reads: bool,
     pub(crate) message: &'a [u8],
 }
@@ -51,14 +49,14 @@ fn remote_at(role: Role, known: &Remote, token: Token) -> Option<[u8; 32]>
     }
 }
 
-// The answer at a DH token, where there is one.
+// The DH result at a DH token, where there is one.
 pub(crate) fn answer_at<K: Keys>(
     keys: &K,
     role: Role,
     known: &Remote,
     token: Token,
 ) -> Option<[u8; 32]>
-    ensures { result ≡ answered (K.agreement keys.now) (own_at role token) (remote_at role known.now token) }
+    ensures { result ≡ dh_result_of (K.agreement keys.now) (own_at role token) (remote_at role known.now token) }
 {
     match remote_at(role, known, token) {
         Some(key) => keys.agree(own_at(role, token), &key),
@@ -67,27 +65,28 @@ pub(crate) fn answer_at<K: Keys>(
 }
 
 // Mixes an ephemeral public key; in a psk pattern it is a key input too (Noise, 9.2).
-pub(crate) fn mix_ephemeral(state: &mut SymmetricState, psks: bool, key: &[u8; 32])
-    ensures mixed { (r : History) → StateStands state.old r → StateStands state.new (with_ephemeral psks r key.now) }
+pub(crate) fn mix_ephemeral(state: &mut SymmetricState, has_psks: bool, key: &[u8; 32])
+    ensures mixed { (r : History) → StateMatches state.old r
+        → StateMatches state.new (with_ephemeral has_psks r key.now) }
     ensures nonce { nonce_now state.new ≤ nonce_now state.old }
 {
     state.mix_hash(key);
-    if psks {
+    if has_psks {
         state.mix_key(key);
     }
 }
 
 // Takes a public key in the clear.
-fn take_e(state: &mut SymmetricState, psks: bool, rest: &[u8]) -> Option<(usize, [u8; 32])>
+fn take_e(state: &mut SymmetricState, has_psks: bool, rest: &[u8]) -> Option<(usize, [u8; 32])>
     ensures nonce { nonce_now state.new ≤ nonce_now state.old }
     ensures range { IfSome result (λ taken. taken.0 ≤ length rest.now) }
-    ensures taken { (r : History) (x more : List ℕ) → StateStands state.old r → length x ≡ 32 → rest.now ≡ x ++ more
-        → (result ≡ Some (length x, x)) × StateStands state.new (with_ephemeral psks r x) }
+    ensures taken { (r : History) (x more : List ℕ) → StateMatches state.old r → length x ≡ 32 → rest.now ≡ x ++ more
+        → (result ≡ Some (length x, x)) × StateMatches state.new (with_ephemeral has_psks r x) }
 {
     let Some((key, _)) = rest.split_first_chunk::<32>() else {
         return None;
     };
-    mix_ephemeral(state, psks, key);
+    mix_ephemeral(state, has_psks, key);
     Some((32, *key))
 }
 
@@ -106,8 +105,8 @@ fn open_key(state: &mut SymmetricState, buffer: &mut [u8]) -> Option<[u8; 32]>
     requires high { length buffer.old ≤ 48 }
     requires nonces { nonce_now state.old < 2 ^ 64 - 1 }
     ensures nonce { nonce_now state.new ≤ nonce_now state.old + 1 }
-    ensures opened { (r : History) (x : List ℕ) → StateStands state.old r → length x ≡ 32 → buffer.old ≡ ciphertext r x
-        → (result ≡ Some x) × StateStands state.new (and_then r (Ciphertext (ciphertext r x))) }
+    ensures opened { (r : History) (x : List ℕ) → StateMatches state.old r → length x ≡ 32 → buffer.old ≡ ciphertext r x
+        → (result ≡ Some x) × StateMatches state.new (and_then r (Ciphertext (ciphertext r x))) }
 {
     match state.decrypt_and_hash(buffer) {
         Ok(_) => Some(first_32(buffer)),
@@ -119,7 +118,8 @@ fn open_key(state: &mut SymmetricState, buffer: &mut [u8]) -> Option<[u8; 32]>
 fn width_of_s(state: &SymmetricState) -> usize
     ensures low { 32 ≤ result }
     ensures high { result ≤ 48 }
-    ensures width { (r : History) (x : List ℕ) → StateStands state.now r → length x ≡ 32 → result ≡ length (ciphertext r x) }
+    ensures width { (r : History) (x : List ℕ) → StateMatches state.now r → length x ≡ 32
+        → result ≡ length (ciphertext r x) }
 {
     if state.has_key() { 48 } else { 32 }
 }
@@ -129,8 +129,9 @@ fn take_s(state: &mut SymmetricState, rest: &[u8]) -> Option<(usize, [u8; 32])>
     requires nonces { nonce_now state.old < 2 ^ 64 - 1 }
     ensures nonce { nonce_now state.new ≤ nonce_now state.old + 1 }
     ensures range { IfSome result (λ taken. taken.0 ≤ length rest.now) }
-    ensures taken { (r : History) (x more : List ℕ) → StateStands state.old r → length x ≡ 32 → rest.now ≡ ciphertext r x ++ more
-        → (result ≡ Some (length (ciphertext r x), x)) × StateStands state.new (and_then r (Ciphertext (ciphertext r x))) }
+    ensures taken { (r : History) (x more : List ℕ) → StateMatches state.old r → length x ≡ 32
+        → rest.now ≡ ciphertext r x ++ more → (result ≡ Some (length (ciphertext r x), x))
+        × StateMatches state.new (and_then r (Ciphertext (ciphertext r x))) }
 {
     let width = width_of_s(state);
     if rest.len() < width {
@@ -143,29 +144,25 @@ fn take_s(state: &mut SymmetricState, rest: &[u8]) -> Option<(usize, [u8; 32])>
     Some((width, key))
 }
 
-// Follows one token: how many bytes it takes, and the keys of the other party that are known after it, where it is the other
-// party's.
+// Follows one token: how many bytes it takes, and the keys of the other party that are known after reading it.
 fn follow_token<K: Keys>(
     state: &mut SymmetricState,
     known: &Remote,
     means: &Means<K>,
-    secrets: &[[u8; 32]],
+    psks: &[[u8; 32]],
     token: Token,
     rest: &[u8],
 ) -> Option<(usize, Remote)>
-    requires secret { token ≡ Token.Psk → 0 < length secrets.now }
+    requires psk { token ≡ Token.Psk → 0 < length psks.now }
     requires nonces { nonce_now state.old < 2 ^ 64 - 1 }
     ensures nonce { nonce_now state.new ≤ nonce_now state.old + 1 }
     ensures range { IfSome result (λ taken. taken.0 ≤ length rest.now) }
-    ensures followed { (r : History) (x more : List ℕ) → StateStands state.old r
-        → let v : Reader = record { role = means.now.role; psks = means.now.psks; agree = K.agreement means.now.keys.now } in
-        Fits v known.now secrets.now token x → rest.now ≡ token_bytes r token x ++ more
-        → (result ≡ Some (length (token_bytes r token x), known_after known.now token x))
-        × StateStands state.new (after_token means.now.psks r token x) }
+    ensures followed { FollowsToken K.agreement means.now known.now psks.now token rest.now
+        state.old state.new result }
 {
     match token {
         Token::E => {
-            let (width, key) = take_e(state, means.psks, rest)?;
+            let (width, key) = take_e(state, means.has_psks, rest)?;
             Some((
                 width,
                 Remote {
@@ -185,7 +182,7 @@ fn follow_token<K: Keys>(
             ))
         }
         Token::Psk => {
-            state.mix_key_and_hash(&secrets[0]);
+            state.mix_key_and_hash(&psks[0]);
             Some((0, *known))
         }
         _ => {
@@ -203,18 +200,18 @@ fn known_next(reads: bool, known: &Remote, learned: Remote) -> Remote
     if reads { learned } else { *known }
 }
 
-// The secrets still to come after a token.
-pub(crate) fn secrets_after(secrets: &[[u8; 32]], token: Token) -> &[[u8; 32]]
-    requires { token ≡ Token.Psk → 0 < length secrets.now }
-    ensures { result.now ≡ secrets_after secrets.now token }
+// The psks still to come after a token.
+pub(crate) fn psks_after(psks: &[[u8; 32]], token: Token) -> &[[u8; 32]]
+    requires { token ≡ Token.Psk → 0 < length psks.now }
+    ensures { result.now ≡ psks_after psks.now token }
 {
     match token {
-        Token::Psk => &secrets[1..],
-        _ => secrets,
+        Token::Psk => &psks[1..],
+        _ => psks,
     }
 }
 
-// How many secrets tokens take.
+// How many psks tokens take.
 pub(crate) fn psk_count(tokens: &[Token]) -> usize
     ensures { result ≡ count_by is_psk tokens.now }
 {
@@ -232,34 +229,29 @@ pub(crate) fn bytes_from(message: &[u8], place: usize) -> &[u8]
     &message[place..]
 }
 
-// Follows one token from a place in the message on, adds its step, and returns where the bytes after it begin, and the keys of the
-// other party that are known after it.
+// Follows one token from a place in the message on, and adds its step: where the bytes after it begin, and the other
+// party's keys that are known then.
 fn follow_one<K: Keys>(
     state: &mut SymmetricState,
     known: &Remote,
     means: &Means<K>,
-    secrets: &[[u8; 32]],
+    psks: &[[u8; 32]],
     token: Token,
     from: usize,
     steps: &mut ArrayVec<Step, 11>,
 ) -> Option<(usize, Remote)>
-    requires secret { token ≡ Token.Psk → 0 < length secrets.now }
+    requires psk { token ≡ Token.Psk → 0 < length psks.now }
     requires nonces { nonce_now state.old < 2 ^ 64 - 1 }
     requires room { length steps.old.items < 11 }
     requires within { from ≤ length means.now.message.now }
     ensures nonce { nonce_now state.new ≤ nonce_now state.old + 1 }
     ensures many { length steps.new.items ≤ length steps.old.items + 1 }
     ensures range { IfSome result (λ next. next.0 ≤ length means.now.message.now) }
-    ensures followed { (r : History) (x more : List ℕ) → StateStands state.old r
-        → let v : Reader = record { role = means.now.role; psks = means.now.psks; agree = K.agreement means.now.keys.now } in
-        Fits v known.now secrets.now token x → drop from means.now.message.now ≡ token_bytes r token x ++ more
-        → (result ≡ Some (from + length (token_bytes r token x), known_next means.now.reads known.now token x))
-        × StateStands state.new (after_token means.now.psks r token x)
-        × (steps.new.items ≡ steps.old.items
-        ++ step (part.Token token) from (length (token_bytes r token x)) (after_token means.now.psks r token x) ∷ []) }
+    ensures followed { FollowsOne K.agreement means.now known.now psks.now token from
+        state.old state.new result steps.old.items steps.new.items }
 {
     let rest = bytes_from(means.message, from);
-    let (width, learned) = follow_token(state, known, means, secrets, token, rest)?;
+    let (width, learned) = follow_token(state, known, means, psks, token, rest)?;
     let to = from + width;
     let values = values_of(state);
     let part = Part::Token(token);
@@ -272,35 +264,30 @@ fn follow_one<K: Keys>(
     Some((to, known_next(means.reads, known, learned)))
 }
 
-// Follows tokens from a place in the message on, adds a step for each, and returns where the bytes after them begin, and the keys of the
-// other party that are known then.
+// The same of all these tokens.
 pub(crate) fn follow<K: Keys>(
     state: &mut SymmetricState,
     known: &Remote,
     means: &Means<K>,
-    secrets: &[[u8; 32]],
+    psks: &[[u8; 32]],
     tokens: &[Token],
     from: usize,
     steps: &mut ArrayVec<Step, 11>,
 ) -> Option<(usize, Remote)>
-    requires secrets { count_by is_psk tokens.now ≤ length secrets.now }
+    requires psks { count_by is_psk tokens.now ≤ length psks.now }
     requires nonces { nonce_now state.old + length tokens.now < 2 ^ 64 - 1 }
     requires room { length steps.old.items + length tokens.now ≤ 11 }
     requires within { from ≤ length means.now.message.now }
     ensures nonce { nonce_now state.new ≤ nonce_now state.old + length tokens.now }
     ensures many { length steps.new.items ≤ length steps.old.items + length tokens.now }
     ensures range { IfSome result (λ end. end.0 ≤ length means.now.message.now) }
-    ensures followed { (r : History) (xs : List (List ℕ)) (more : List ℕ) → StateStands state.old r
-        → let v : Reader = record { role = means.now.role; psks = means.now.psks; agree = K.agreement means.now.keys.now } in
-        Carries means.now.reads v known.now secrets.now tokens.now xs → drop from means.now.message.now ≡ before_payload means.now.psks r tokens.now xs ++ more
-        → (result ≡ Some (from + length (before_payload means.now.psks r tokens.now xs), known_through means.now.reads known.now tokens.now xs))
-        × StateStands state.new (after_tokens means.now.psks r tokens.now xs)
-        × (steps.new.items ≡ steps.old.items ++ token_steps means.now.psks r from tokens.now xs) }
+    ensures followed { FollowsTokens K.agreement means.now known.now psks.now tokens.now from
+        state.old state.new result steps.old.items steps.new.items }
 {
     let Some((token, later)) = tokens.split_first() else {
         return Some((from, *known));
     };
-    let (to, learned) = follow_one(state, known, means, secrets, *token, from, steps)?;
-    let others = secrets_after(secrets, *token);
+    let (to, learned) = follow_one(state, known, means, psks, *token, from, steps)?;
+    let others = psks_after(psks, *token);
     follow(state, &learned, means, others, later, to, steps)
 }

@@ -3,7 +3,7 @@
 
 ghost use Rattle.std.specs.Prelude.{◌≡◌, ◌≤◌, ◌<◌, ◌+◌, ◌-◌, ◌^◌};
 ghost use Rattle.noise_state.specs.History.{History, Ciphertext, and_then, initiator_key, responder_key};
-ghost use Rattle.noise_state.specs.Standing.{StateStands, nonce_now};
+ghost use Rattle.noise_state.specs.Standing.{StateMatches, nonce_now};
 ghost use Rattle.noise_trace.specs.Values.{values_of};
 
 use noise_kdf::expand2;
@@ -22,8 +22,8 @@ pub struct StateValues {
 }
 
 impl StateValues {
-    /// The keys of the transport where these are the values at the end of a handshake (Split): that of the messages from the
-    /// initiator to the responder first. Each is used from nonce 0 on.
+    /// The keys of the transport where these are the values at the end of a handshake (Split), the initiator's first.
+    /// Each is used from nonce 0 on.
     pub fn transport_keys(&self) -> ([u8; 32], [u8; 32])
         ensures initiator { (r : History) → self.now ≡ values_of r → result.0 ≡ initiator_key r }
         ensures responder { (r : History) → self.now ≡ values_of r → result.1 ≡ responder_key r }
@@ -34,7 +34,7 @@ impl StateValues {
 
 // The values of a state.
 pub(crate) fn values_of(state: &SymmetricState) -> StateValues
-    ensures { (r : History) → StateStands state.now r → result ≡ values_of r }
+    ensures { (r : History) → StateMatches state.now r → result ≡ values_of r }
 {
     let StateParts {
         chaining_key,
@@ -50,11 +50,12 @@ pub(crate) fn values_of(state: &SymmetricState) -> StateValues
     }
 }
 
-// Mixes what a text travels as into the hash, and counts a nonce where there is a key (EncryptAndHash and DecryptAndHash).
+// Mixes a ciphertext into the hash, and counts a nonce where there is a key (EncryptAndHash and DecryptAndHash).
 pub(crate) fn mix_piece(state: &mut SymmetricState, piece: &[u8])
     requires { nonce_now state.old < 2 ^ 64 - 1 }
     ensures nonce { nonce_now state.new ≤ nonce_now state.old + 1 }
-    ensures mixed { (r : History) → StateStands state.old r → StateStands state.new (and_then r (Ciphertext piece.now)) }
+    ensures mixed { (r : History) → StateMatches state.old r
+        → StateMatches state.new (and_then r (Ciphertext piece.now)) }
 {
     state.mix_hash(piece);
     let mut parts = state.for_trial().into_parts();

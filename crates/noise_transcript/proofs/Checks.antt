@@ -13,10 +13,10 @@ use Rattle.noise_keys.specs.declared.xor_keys.XorKeys.{XorKeys}
 use Rattle.noise_keys.specs.Keys.{key_of, xor_answer}
 use Rattle.noise_handshake.specs.Setup.{setup_fault}
 use Rattle.noise_events.specs.Events.{Event, Say, events_of}
-use Rattle.noise_duel.specs.Acts.{lines_of}
+use Rattle.noise_duel.specs.Acts.{roles_and_payloads}
 use Rattle.noise_duel.specs.Conversation.{say_events}
 use Rattle.noise_conversation.specs.Lines.{lines_fit_from}
-use Rattle.noise_conversation.specs.Setup.{Starts, fault_of, or_next, starts}
+use Rattle.noise_conversation.specs.Setup.{BothStarts, fault_of, or_next, starts}
 use Rattle.noise_vectors.specs.FileKeys.{public_of}
 use Rattle.noise_vectors.specs.VectorFile.{IsAllowedFile, IsAllowedVersion, IsVectorFile, say_of}
 use Rattle.noise_vectors.specs.declared.file_keys.FileKeys.{FileKeys}
@@ -29,20 +29,20 @@ use Rattle.noise_tool.specs.Ends.{IsPatternOf, known_before, setup_of}
 use Rattle.noise_tool.specs.Running.{datagrams_in}
 use Rattle.noise_transcript.specs.Fitting.{HasFittingLines, IsXor}
 
-said-lines : (lines : List (Role × Vec ℕ Global × List ℕ)) → events_of (map say_of lines) ≡ say_events (lines_of lines)
+said-lines : (lines : List (Role × Vec ℕ Global × List ℕ)) → events_of (map say_of lines) ≡ say_events (roles_and_payloads lines)
 said-lines [] = refl
 said-lines (l ∷ lines) = ap (λ (es : List Event). Say l.0 l.1.items ∷ es) (said-lines lines)
 
-none-over : (version : Version) → IsAllowedVersion SayOnly version → datagrams_in version ≡ None
-none-over One h = refl
-none-over (Two additions) h = h
+none-ended_party : (version : Version) → IsAllowedVersion SayOnly version → datagrams_in version ≡ None
+none-ended_party One h = refl
+none-ended_party (Two additions) h = h
 
 neither : (o u : Option SetupFault) → or_next o u ≡ None → (o ≡ None) × (u ≡ None)
 neither None u e = (refl, e)
 neither (Some why) u e = absurd (cc e)
 
 -- what both parties of two values of these keys start from
-abbrev pub xor_starts : Plan → List ℕ → List (List ℕ) → XorKeys → XorKeys → Starts
+abbrev pub xor_starts : Plan → List ℕ → List (List ℕ) → XorKeys → XorKeys → BothStarts
 xor_starts p prologue psks a b =
     starts (λ keys own. key_of own keys.e keys.s) (λ keys own remote. xor_answer (key_of own keys.e keys.s) remote) p prologue psks a b
 
@@ -55,8 +55,8 @@ by-role P i r Responder = r
 
 pub fit-file : (file : VectorFile) (p : Plan) (a b : XorKeys) (lines : List (Role × Vec ℕ Global × List ℕ)) → IsVectorFile file
     → IsAllowedFile SayOnly file → file.initiator ≡ Xor a → file.responder ≡ Xor b → IsPatternOf file.block file.protocol p → IsPattern p → IsValid p
-    → file.events.items ≡ map say_of lines → lines_fit_from p 0 (lines_of lines) ≡ true
-    → fault_of p (xor_starts p file.prologue.items file.psks.items a b) ≡ None → HasFittingLines file p (lines_of lines)
+    → file.events.items ≡ map say_of lines → lines_fit_from p 0 (roles_and_payloads lines) ≡ true
+    → fault_of p (xor_starts p file.prologue.items file.psks.items a b) ≡ None → HasFittingLines file p (roles_and_payloads lines)
 fit-file file p a b lines right allowed first second named pattern valid said fit none =
     let n : ℕ = length file.psks.items in
     let both = neither (setup_from p Initiator (Xor a) (Xor b) n) (setup_from p Responder (Xor b) (Xor a) n) none in
@@ -71,6 +71,6 @@ fit-file file p a b lines right allowed first second named pattern valid said fi
       valid = valid;
       set_up = by-role (λ role. setup_of file p role ≡ None) initiator responder;
       said = ap events_of said ∙ said-lines lines;
-      alone = none-over file.version allowed.1;
+      alone = none-ended_party file.version allowed.1;
       fit = fit;
     }

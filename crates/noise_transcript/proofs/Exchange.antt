@@ -8,7 +8,7 @@ use Rattle.noise_names.specs.declared.token.Role.TheVariants.{Initiator, Respond
 use Rattle.noise_names.specs.Plan.{Plan}
 use Rattle.noise_state.specs.History.{History}
 use Rattle.noise_session.specs.Frames.{frame}
-use Rattle.noise_duel.specs.Conversation.{KeyMaterial, InTurn, after_conversation, conversation, frames_by, in_turn, notes_of_lines, packets_of, payloads_in, start_in, transcript}
+use Rattle.noise_duel.specs.Conversation.{KeyMaterial, InTurn, after_conversation, conversation, frames_by, in_turn, notes_of_lines, transport_messages_of, payloads_in, start_in, transcript}
 use Rattle.noise_duel.specs.Messages.{HandshakeMessage, messages_of}
 use Rattle.noise_duel.specs.Sides.{Sides}
 use Rattle.noise_tool.specs.Printed.{note_line}
@@ -28,10 +28,10 @@ same-append [] ys (m ∷ ms) ns f g = absurd f
 same-append (x ∷ xs) ys [] ns f g = absurd f
 same-append (x ∷ xs) ys (m ∷ ms) ns f g = (f.0, same-append xs ys ms ns f.1 g)
 
-same-packets : (r : History) (interval i j : ℕ) (lines : List (Role × List ℕ)) → SameWriters lines (packets_of r interval i j lines)
-same-packets r interval i j [] = tt
-same-packets r interval i j ((Initiator, payload) ∷ lines) = (refl, same-packets r interval (i + 1) j lines)
-same-packets r interval i j ((Responder, payload) ∷ lines) = (refl, same-packets r interval i (j + 1) lines)
+same-transport_messages : (r : History) (interval i j : ℕ) (lines : List (Role × List ℕ)) → SameWriters lines (transport_messages_of r interval i j lines)
+same-transport_messages r interval i j [] = tt
+same-transport_messages r interval i j ((Initiator, payload) ∷ lines) = (refl, same-transport_messages r interval (i + 1) j lines)
+same-transport_messages r interval i j ((Responder, payload) ∷ lines) = (refl, same-transport_messages r interval i (j + 1) lines)
 
 first-of : (b : Bool) (A B : Type 0) → b ≡ true → MatchBool b A B → A
 first-of true A B e h = h
@@ -54,25 +54,25 @@ same-turns p n (suc k) (x ∷ lines) (m ∷ ms) e h l =
     let rest : length ms ≡ length (take k lines) = omega (arith, l) in
     (sym fits.0, same-turns p (n + 1) k lines ms more h.1 rest)
 
-many-messages : (w : KeyMaterial) (p : Plan) (n : ℕ) (secrets : List (List ℕ)) (r : History) (payloads : List (List ℕ))
-    → length (conversation w p n secrets r payloads) ≡ length payloads
-many-messages w p n secrets r [] = refl
-many-messages w p n secrets r (payload ∷ payloads) = ap suc (many-messages w p (n + 1) _ _ payloads)
+many-messages : (w : KeyMaterial) (p : Plan) (n : ℕ) (psks : List (List ℕ)) (r : History) (payloads : List (List ℕ))
+    → length (conversation w p n psks r payloads) ≡ length payloads
+many-messages w p n psks r [] = refl
+many-messages w p n psks r (payload ∷ payloads) = ap suc (many-messages w p (n + 1) _ _ payloads)
 
 pub same-writers : (w : KeyMaterial) (p : Plan) (prologue : List ℕ) (interval : ℕ) (lines : List (Role × List ℕ)) → InTurn p 0 lines
     → SameWriters lines (transcript w p prologue interval lines)
 same-writers w p prologue interval lines h =
     let k : ℕ = length p.messages in
-    let ms : List HandshakeMessage = conversation w p 0 w.secrets (start_in w p prologue) (payloads_in k lines) in
-    let last : History = after_conversation w p 0 w.secrets (start_in w p prologue) (payloads_in k lines) in
+    let ms : List HandshakeMessage = conversation w p 0 w.psks (start_in w p prologue) (payloads_in k lines) in
+    let last : History = after_conversation w p 0 w.psks (start_in w p prologue) (payloads_in k lines) in
     let many : length (messages_of ms) ≡ length (take k lines) =
     length-map ms (λ (m : HandshakeMessage). m.message)
-    ∙ many-messages w p 0 w.secrets (start_in w p prologue) (payloads_in k lines)
+    ∙ many-messages w p 0 w.psks (start_in w p prologue) (payloads_in k lines)
     ∙ length-map (take k lines) (λ (l : Role × List ℕ). l.1) in
     let all : 0 + k ≡ length p.messages = omega arith in
     subst (λ (ls : List (Role × List ℕ)). SameWriters ls (transcript w p prologue interval lines)) (take-append-drop k lines)
-    (same-append (take k lines) (drop k lines) (in_turn 0 (messages_of ms)) (packets_of last interval 0 0 (drop k lines))
-    (same-turns p 0 k lines (messages_of ms) all h many) (same-packets last interval 0 0 (drop k lines)))
+    (same-append (take k lines) (drop k lines) (in_turn 0 (messages_of ms)) (transport_messages_of last interval 0 0 (drop k lines))
+    (same-turns p 0 k lines (messages_of ms) all h many) (same-transport_messages last interval 0 0 (drop k lines)))
 
 -- ---- the notes of the lines
 

@@ -24,7 +24,7 @@ use Rattle.noise_tool.specs.Running.{IsRunOf, expected_in}
 use Rattle.noise_words.specs.declared.orders.Chosen.TheVariants.{Talk}
 use Rattle.noise_transcript.specs.Fitting.{HasFittingLines}
 use Rattle.noise_transcript.specs.Talked.{FittingLinesRun, talked_lines}
-use Rattle.noise_transcript.proofs.Refusals.{IsLeft, left-over}
+use Rattle.noise_transcript.proofs.Refusals.{IsLeft, left-ended_party}
 use Rattle.noise_transcript.proofs.Same.{expected-are, run-alike}
 
 -- a file has one text, and files of one text have one list of lines
@@ -101,7 +101,7 @@ module _ (laws : Once) (f : VectorFile) (p : Plan) (lines : List (Role × List �
           → Outcome before after (suc n)
       go (inl three) = inr (inr (inr three))
       go (inr (why, same, h)) =
-          of-fault before after why (suc n) same (left-over laws.unique f p lines before after why fits
+          of-fault before after why (suc n) same (left-ended_party laws.unique f p lines before after why fits
           (subst (λ (o : Option (List ℕ)). IfSome o (λ text. IsRunFault SayOnly text why ⊎ IsUnmet text before after why)) is h))
 
   -- each of its parts
@@ -140,7 +140,7 @@ module _ (laws : Once) (f : VectorFile) (p : Plan) (lines : List (Role × List �
 
   whole : (name : String Global) (text : List ℕ) → PrintsWhole (Talk name) (Some (text_of f)) text → text ≡ lines_text (talked_lines f p lines)
   whole name text (inl done) = (run-printed (Some []) (Some text) done).0
-  whole name text (inr (why, h)) = whole-fault name text why h (left-over laws.unique f p lines (Some []) (Some text) why fits (is-fault name text why h))
+  whole name text (inr (why, h)) = whole-fault name text why h (left-ended_party laws.unique f p lines (Some []) (Some text) why fits (is-fault name text why h))
 
   pub prefix-at : (name : String Global) (known before after : Option (List ℕ)) → known ≡ Some (text_of f) → PrintsPrefix (Talk name) known before after
       → AppendsPrefix before after (lines_text (talked_lines f p lines))

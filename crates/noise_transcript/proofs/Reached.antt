@@ -7,8 +7,8 @@ use Rattle.noise_names.specs.declared.token.Role.TheVariants.{Initiator, Respond
 use Rattle.noise_names.specs.Plan.{Plan, is_one_way}
 use Rattle.noise_names.specs.Tokens.{other}
 use Rattle.noise_state.specs.History.{History, hash}
-use Rattle.noise_session.specs.Ends.{EndView}
-use Rattle.noise_session.specs.Progress.Progress.{Handshaking, Open, Closed}
+use Rattle.noise_session.specs.Ends.{EndState}
+use Rattle.noise_session.specs.Progress.Progress.{Handshaking, Open, HasEnded}
 use Rattle.noise_duel.specs.Conversation.{end_after, lines_by}
 use Rattle.noise_duel.specs.Messages.{Start}
 use Rattle.noise_duel.specs.Sides.{Sides}
@@ -21,7 +21,7 @@ use Rattle.noise_transcript.specs.Talked.{reached_line}
 -- ---- the line of an end
 
 -- what is known of an end
-record IsThere (p : Plan) (lines : List (Role × List ℕ)) (h : List ℕ) (role : Role) (v : EndView) : Type 0 where
+record IsThere (p : Plan) (lines : List (Role × List ℕ)) (h : List ℕ) (role : Role) (v : EndState) : Type 0 where
   going : v.party.ended ≡ false
   pattern : v.party.pattern ≡ p
   passed : v.party.passed ≡ min (length p.messages) (length lines)
@@ -36,7 +36,7 @@ abbrev handshake_words : ℕ → List (List ℕ)
 handshake_words passed = codes "handshake" ∷ decimal passed ∷ []
 
 going-words : (ended all one_way : Bool) (plan : Plan) (role : Role) (passed sent received : ℕ) (h : List ℕ) → ended ≡ false
-    → progress_words (if ended then Closed role else if all then Open role one_way sent received else Handshaking plan role passed) h
+    → progress_words (if ended then HasEnded role else if all then Open role one_way sent received else Handshaking plan role passed) h
     ≡ (if all then transport_words sent received h else handshake_words passed)
 going-words true all one_way plan role passed sent received h e = absurd (cc)
 going-words false true one_way plan role passed sent received h e = refl
@@ -53,7 +53,7 @@ less-than-all n k passed e = grind (arith, nat_tests)
 all-of-them : (n k passed : ℕ) → passed ≡ min k n → (passed == k) ≡ false → passed ≡ n
 all-of-them n k passed e f = grind (arith, nat_tests)
 
-line-there : (p : Plan) (lines : List (Role × List ℕ)) (h : List ℕ) (role : Role) (v : EndView) → IsThere p lines h role v
+line-there : (p : Plan) (lines : List (Role × List ℕ)) (h : List ℕ) (role : Role) (v : EndState) → IsThere p lines h role v
     → state_line role v ≡ reached_line p lines h role
 line-there p lines h role v is =
     let k : ℕ = length p.messages in
@@ -74,7 +74,7 @@ line-there p lines h role v is =
 -- ---- both ends
 
 module _ (p : Plan) (a b : Start) (interval : ℕ) (r : History) (lines : List (Role × List ℕ)) (d : Sides)
-    (there : d.initiator.view ≡ end_after p Initiator a b interval r lines) (back : d.responder.view ≡ end_after p Responder b a interval r lines) where
+    (there : d.initiator.state ≡ end_after p Initiator a b interval r lines) (back : d.responder.state ≡ end_after p Responder b a interval r lines) where
   is-there : (role : Role) (s theirs : Start) → IsThere p lines (hash r) role (end_after p role s theirs interval r lines)
   is-there role s theirs = record { going = refl; pattern = refl; passed = refl; sent = refl; received = refl; hash_is = refl }
 

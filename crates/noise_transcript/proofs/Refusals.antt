@@ -99,9 +99,9 @@ setup-same f g p same Responder =
     ap₂ (λ (own theirs : FileKeys). setup_from p Responder own theirs (length f.psks.items)) same.responder same.initiator
     ∙ ap (λ (psks : List (List ℕ)). setup_from p Responder g.responder g.initiator (length psks)) same.psks
 
-none-over : (o u : Option FileDatagrams) → held_datagrams o ≡ held_datagrams u → o ≡ None → u ≡ None
-none-over o None e none = refl
-none-over o (Some x) e none =
+none-ended_party : (o u : Option FileDatagrams) → held_datagrams o ≡ held_datagrams u → o ≡ None → u ≡ None
+none-ended_party o None e none = refl
+none-ended_party o (Some x) e none =
     let bad : ◌≡◌ {A = Option (Window × List DatagramEvent)} None (Some (x.window, datagram_events_of x.events.items)) =
     sym (ap held_datagrams none) ∙ e in
     absurd (cc bad)
@@ -119,7 +119,7 @@ fits-too f g p lines same right fits = record {
   valid = fits.valid;
   set_up = λ role. sym (setup-same f g p same role) ∙ fits.set_up role;
   said = sym same.events ∙ fits.said;
-  alone = none-over (datagrams_in f.version) (datagrams_in g.version)
+  alone = none-ended_party (datagrams_in f.version) (datagrams_in g.version)
       (sym (datagrams-are f.version) ∙ same.datagrams ∙ datagrams-are g.version) fits.alone;
   fit = fits.fit;
 }
@@ -136,11 +136,11 @@ abbrev pub IsLeft : VectorFile → Option (List ℕ) → Option (List ℕ) → F
 IsLeft f before after why = (why ≡ fault.Memory) ⊎ ((why ≡ fault.TooLong) × (4194304 < length (text_of f)))
     ⊎ ((n : ℕ) × (why ≡ fault.Unmet n) × HasUnmet (text_of f) before after n)
 
-pub left-over : VectorTextsAreUnique → (f : VectorFile) (p : Plan) (lines : List (Role × List ℕ)) (before after : Option (List ℕ)) (why : Fault)
+pub left-ended_party : VectorTextsAreUnique → (f : VectorFile) (p : Plan) (lines : List (Role × List ℕ)) (before after : Option (List ℕ)) (why : Fault)
     → HasFittingLines f p lines → IsRunFault SayOnly (text_of f) why ⊎ IsUnmet (text_of f) before after why → IsLeft f before after why
-left-over unique f p lines before after why fits (inl (inl long)) = inr (inl long)
-left-over unique f p lines before after why fits (inl (inr (inl (vector.Memory, e, h, told)))) = inl e
-left-over unique f p lines before after why fits (inl (inr (inl (vector.Line n k, e, h, told)))) = absurd (h f fits.right (allowed f p lines fits) refl)
-left-over unique f p lines before after why fits (inl (inr (inr (g, right, same, start)))) =
+left-ended_party unique f p lines before after why fits (inl (inl long)) = inr (inl long)
+left-ended_party unique f p lines before after why fits (inl (inr (inl (vector.Memory, e, h, reported)))) = inl e
+left-ended_party unique f p lines before after why fits (inl (inr (inl (vector.Line n k, e, h, reported)))) = absurd (h f fits.right (allowed f p lines fits) refl)
+left-ended_party unique f p lines before after why fits (inl (inr (inr (g, right, same, start)))) =
     inl (no-start-fault g p lines why (fits-too f g p lines (unique f g fits.right right same) right fits) start)
-left-over unique f p lines before after why fits (inr h) = inr (inr (unmet-of (text_of f) before after why h))
+left-ended_party unique f p lines before after why fits (inr h) = inr (inr (unmet-of (text_of f) before after why h))

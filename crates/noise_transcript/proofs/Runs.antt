@@ -10,18 +10,18 @@ use Rattle.noise_keys.specs.declared.keys.Own.{Own}
 use Rattle.noise_handshake.specs.Counterparts.{is_dh}
 use Rattle.noise_handshake.specs.declared.remote.Remote.{Remote}
 use Rattle.noise_handshake.specs.Setup.{public_keys, setup_fault, token_of}
-use Rattle.noise_handshake.specs.View.{own_at, remote_at}
+use Rattle.noise_handshake.specs.Party.{own_at, remote_at}
 use Rattle.noise_events.specs.Events.{Event}
 use Rattle.noise_duel.specs.Conversation.{HaveParts, KeyMaterial, LinesComeThrough, LinesLeave, LinesRun, history_in, transcript}
 use Rattle.noise_duel.specs.Messages.{Start}
 use Rattle.noise_duel.specs.Notes.{Note}
 use Rattle.noise_duel.specs.Runs.{Run}
-use Rattle.noise_duel.specs.SetUpAlike.{AlikeAreParts, AreParts, AreSetUpAlike, HasAnswers, material_of}
+use Rattle.noise_duel.specs.SetUpAlike.{AlikeAreParts, HaveOneMaterial, AreSetUpAlike, HasAnswers, material_of}
 use Rattle.noise_duel.specs.Sides.{Sides}
 use Rattle.noise_conversation.specs.Turns.{LinesTakeTurns}
 use Rattle.noise_vectors.specs.declared.vector.FileDatagrams.{FileDatagrams}
 use Rattle.noise_vectors.specs.declared.vector.VectorFile.{VectorFile}
-use Rattle.noise_tool.specs.Ends.{facing_in, start_of}
+use Rattle.noise_tool.specs.Ends.{sides_of_file, start_of}
 use Rattle.noise_tool.specs.Printed.{note_line, state_lines}
 use Rattle.noise_tool.specs.Running.{AreLast}
 use Rattle.noise_tool.specs.Running.AreLast.{without}
@@ -52,8 +52,8 @@ module _ (laws : Laws) (file : VectorFile) (p : Plan) (lines : List (Role × Lis
 
   answers : HasAnswers p a b
   answers t d o =
-      let mine = laws.own p Initiator a.own a.remote (length a.secrets) (fits.set_up Initiator) (own_at Initiator t) (laws.keys p Initiator t fits.valid d o) in
-      let theirs = laws.own p Responder b.own b.remote (length b.secrets) (fits.set_up Responder) (own_at Responder t)
+      let mine = laws.own p Initiator a.own a.remote (length a.psks) (fits.set_up Initiator) (own_at Initiator t) (laws.keys p Initiator t fits.valid d o) in
+      let theirs = laws.own p Responder b.own b.remote (length b.psks) (fits.set_up Responder) (own_at Responder t)
       (laws.keys p Responder t fits.valid d o) in (
         xor-answers file.initiator fits.initiator (own_at Initiator t) (remote_at Initiator (public_keys b.own) t) mine
             (ap (λ (key : Option (List ℕ)). is_some key) (remote-own Initiator b.own t) ∙ theirs),
@@ -67,13 +67,13 @@ module _ (laws : Laws) (file : VectorFile) (p : Plan) (lines : List (Role × Lis
     responder = fits.set_up Responder;
     prologue_is = refl;
     prologue_too = refl;
-    secrets = refl;
+    psks = refl;
     known = refl;
     known_too = refl;
     keys = keys-agree file.initiator file.responder fits.initiator fits.responder;
   }
 
-  parts : AreParts p file.prologue.items a b
+  parts : HaveOneMaterial p file.prologue.items a b
   parts = laws.parts p file.prologue.items a b fits.valid alike (long-keys file.initiator fits.right.initiator)
       (long-keys file.responder fits.right.responder) answers
 
@@ -101,13 +101,11 @@ fitting-lines-run laws file p lines fits =
     let reached = both-there p a b i (history_in w p text lines) lines last left.0 left.1 in
     record {
       plan = p;
-      pattern = fits.named;
-      valid = fits.valid;
-      set_up = fits.set_up;
+      of_file = record { pattern = fits.named; valid = fits.valid; set_up = fits.set_up };
       notes = notes;
       last = last;
-      run = subst (λ (events : List Event). Run (facing_in file p) events notes last) (sym fits.said) made.2;
+      run = subst (λ (events : List Event). Run (sides_of_file file p) events notes last) (sym fits.said) made.2;
       after = state_lines last;
-      are_last = subst (λ (over : Option FileDatagrams). AreLast over last (state_lines last)) (sym fits.alone) (without last);
+      are_last = subst (λ (ended_party : Option FileDatagrams). AreLast ended_party last (state_lines last)) (sym fits.alone) (without last);
       lines_are = sym (ap (λ (ls : List (List ℕ)). ls ++ state_lines last) exchanged ∙ ap (λ (ls : List (List ℕ)). exchange_lines 0 0 lines said ++ ls) reached);
     }

@@ -10,7 +10,7 @@ use Rattle.noise_keys.specs.declared.keys.Own.{Own}
 use Rattle.noise_keys.specs.declared.keys.Own.TheVariants.{Ephemeral, Static}
 use Rattle.noise_keys.specs.Keys.{key_of, xor_answer, xor_answer-same}
 use Rattle.noise_handshake.specs.Setup.{public_keys}
-use Rattle.noise_handshake.specs.View.{answered, own_at, remote_at}
+use Rattle.noise_handshake.specs.Party.{dh_result_of, own_at, remote_at}
 use Rattle.noise_vectors.specs.FileKeys.{agreement_of, public_of}
 use Rattle.noise_vectors.specs.VectorFile.{AreKeys}
 use Rattle.noise_vectors.specs.Words.{IsKey}
@@ -48,12 +48,12 @@ gives None l h = absurd (cc)
 gives (Some k) l h = refl
 
 answers : (agree : Own → List ℕ → Option (List ℕ)) (x : Own) (l : Option (List ℕ)) → is_some l ≡ true
-    → ((k : List ℕ) → is_some (agree x k) ≡ true) → is_some (answered agree x l) ≡ true
+    → ((k : List ℕ) → is_some (agree x k) ≡ true) → is_some (dh_result_of agree x l) ≡ true
 answers agree x None h f = absurd (cc)
 answers agree x (Some l) h f = f l
 
 pub xor-answers : (keys : FileKeys) → IsXor keys → (x : Own) (l : Option (List ℕ)) → is_some (public_of keys x) ≡ true → is_some l ≡ true
-    → is_some (answered (agreement_of keys) x l) ≡ true
+    → is_some (dh_result_of (agreement_of keys) x l) ≡ true
 xor-answers (Xor keys) i x l h k = answers (agreement_of (Xor keys)) x l k (λ m. gives (key_of x keys.e keys.s) m h)
 xor-answers (Table keys) i x l h k = absurd i
 

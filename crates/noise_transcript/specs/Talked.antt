@@ -8,7 +8,7 @@ use Rattle.noise_state.specs.History.{hash}
 use Rattle.noise_session.specs.Frames.{frame}
 use Rattle.noise_duel.specs.Conversation.{KeyMaterial, history_in, lines_by}
 use Rattle.noise_duel.specs.SetUpAlike.{material_of}
-use Rattle.noise_conversation.specs.Setup.{Starts, transcript_of}
+use Rattle.noise_conversation.specs.Setup.{BothStarts, transcript_of}
 use Rattle.noise_vectors.specs.HexWord.{hex_of}
 use Rattle.noise_vectors.specs.VectorText.{role_word}
 use Rattle.noise_vectors.specs.declared.vector.VectorFile.{VectorFile}
@@ -47,7 +47,7 @@ abbrev pub reached_line : Plan → List (Role × List ℕ) → List ℕ → Role
 reached_line p lines h role = line_of (codes "state" ∷ role_word role ∷ reached_words p lines h role)
 
 -- what both parties of a file start from, and their key material
-abbrev pub starts_in : VectorFile → Plan → Starts
+abbrev pub starts_in : VectorFile → Plan → BothStarts
 starts_in file p = record { initiator = start_of file p Initiator; responder = start_of file p Responder }
 
 abbrev pub material_in : VectorFile → Plan → KeyMaterial
@@ -61,7 +61,7 @@ hash_after w p prologue lines = hash (history_in w p prologue lines)
 -- then one for each end.
 abbrev pub talked_lines : VectorFile → Plan → List (Role × List ℕ) → List (List ℕ)
 talked_lines file p lines =
-    exchange_lines 0 0 lines (transcript_of p (starts_in file p) file.prologue.items file.interval lines)
+    exchange_lines 0 0 lines (transcript_of p (starts_in file p) file.interval lines)
     ++ reached_line p lines (hash_after (material_in file p) p file.prologue.items lines) Initiator
     ∷ reached_line p lines (hash_after (material_in file p) p file.prologue.items lines) Responder ∷ []
 

@@ -5,7 +5,7 @@ ghost use Rattle.noise_transcript.specs.Talked.{FittingLinesRun};
 
 use noise_conversation::fitting_lines_take_turns;
 use noise_duel::{alike_are_parts, lines_come_through};
-use noise_handshake::{setup_is_whole, tokens_stand};
+use noise_handshake::laws::{setup_is_whole, tokens_match};
 
 /// The lines of a file's run, where the lines that it says fit: each message of the transcript as a frame, with its
 /// payload at the other end, and then how far each end has come. So all frames are accepted, none is refused or
@@ -14,7 +14,7 @@ pub fn fitting_lines_run()
     ensures { FittingLinesRun }
 {
     setup_is_whole();
-    tokens_stand();
+    tokens_match();
     alike_are_parts();
     lines_come_through();
     fitting_lines_take_turns();

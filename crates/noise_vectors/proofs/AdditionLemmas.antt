@@ -4,7 +4,7 @@ use Rattle.std.specs.Global.{Global}
 use Rattle.std.specs.Prelude.{decimal}
 use Rattle.std.specs.Bool.{nat_eq}
 use Rattle.std.specs.List.{All, starts_with}
-use Rattle.std.proofs.lemmas.Bool.{and_parts}
+use Rattle.std.proofs.lemmas.Bool.{and_parts, eq-eqb, eqb-true, false_from_ne_true}
 use Rattle.std.proofs.lemmas.Bool.Decides.{nat_tests}
 use Rattle.std.proofs.lemmas.List.Elements.{All-head, All-tail}
 use Rattle.noise_names.specs.declared.token.Role.{Role}
@@ -81,12 +81,6 @@ datagram_event_words-parts (Seal role payload) = refl
 datagram_event_words-parts (Open role number) = refl
 datagram_event_words-parts (Raw role bytes) = refl
 
--- the word of a kind has no space (32)
-pub datagram_kind_word-plain : (kind : DatagramKind) → lacks 32 (datagram_kind_word kind) ≡ true
-datagram_kind_word-plain kinds.Seal = refl
-datagram_kind_word-plain kinds.Open = refl
-datagram_kind_word-plain kinds.Foreign = refl
-
 -- ---- no line feed (10)
 
 operand-line : (role : Role) (operand : List ℕ) → lacks 10 operand ≡ true → lacks 10 (role_word role ++ 32 ∷ operand) ≡ true
@@ -127,15 +121,29 @@ printed-line (b ∷ bs) h =
 pub expected-line : (words : List ℕ) → IsExpected words → lacks 10 (codes "expect " ++ words) ≡ true
 expected-line words h = lacks-append 10 (codes "expect ") words refl (printed-line words h.1)
 
+-- ---- how what follows the events begins
+
+not-same : (m n : ℕ) → ¬ (m ≡ n) → nat_eq m n ≡ false
+not-same m n h = false_from_ne_true (nat_eq m n) (λ e. h (eqb-true m n e))
+
+other-byte : (x y : ℕ) (text front rest : List ℕ) → nat_eq x y ≡ false → starts_with nat_eq text (x ∷ front) ≡ true → starts_with nat_eq text (y ∷ rest) ≡ false
+other-byte x y [] front rest differ h = absurd (cc h)
+other-byte x y (b ∷ bs) front rest differ h =
+    let first : nat_eq x b ≡ true = (and_parts (nat_eq x b) _ h).0 in
+    let same : x ≡ b = eqb-true x b first in
+    let other : nat_eq y b ≡ false = not-same y b (λ e. true≢false (sym (eq-eqb x y (same ∙ sym e)) ∙ differ)) in
+    rw other refl
+
+pub after_events-no_answer : (rest : List ℕ) → AfterEvents rest → starts_with nat_eq rest (codes "answer ") ≡ false
+after_events-no_answer rest (inl none) = rw none refl
+after_events-no_answer rest (inr (inl begun)) = other-byte 100 97 rest (codes "atagrams ") (codes "nswer ") refl begun
+after_events-no_answer rest (inr (inr begun)) = other-byte 101 97 rest (codes "xpect ") (codes "nswer ") refl begun
+
 -- ---- what a version may have
 
 -- what is expected begins otherwise than the datagrams
 pub expect-begun : (rest : List ℕ) → starts_with nat_eq rest (codes "expect ") ≡ true → starts_with nat_eq rest (codes "datagrams ") ≡ false
-expect-begun [] h = absurd (cc h)
-expect-begun (b ∷ bs) h =
-    let first : nat_eq 101 b ≡ true = (and_parts (nat_eq 101 b) _ h).0 in
-    let other : nat_eq 100 b ≡ false = grind (arith, nat_tests) in
-    rw other refl
+expect-begun rest h = other-byte 101 100 rest (codes "xpect ") (codes "atagrams ") refl h
 
 after-begun : (rest : List ℕ) → AfterDatagrams rest → starts_with nat_eq rest (codes "datagrams ") ≡ false
 after-begun rest (inl none) = rw none refl

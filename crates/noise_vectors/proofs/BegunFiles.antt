@@ -1,14 +1,10 @@
 -- Right files that begin with the lines that are read, and what other right files have after those.
-use Rattle.std.proofs.Common.{arith, ◌≡◌, ◌∙◌, ◌<◌, inl, inr, ap, sym, refl, true, false, true≢false, Bool, ℕ, List, [], ◌∷◌, ◌++◌, codes, length}
+use Rattle.std.proofs.Common.{arith, ◌≡◌, ◌∙◌, ◌<◌, ap, refl, true, false, Bool, ℕ, List, [], ◌++◌, codes, length}
 use Rattle.std.proofs.Common.{Vec}
 use Rattle.std.specs.Prelude.{decimal}
-use Rattle.std.specs.Bool.{nat_eq}
-use Rattle.std.specs.List.{All, starts_with}
+use Rattle.std.specs.List.{All}
 use Rattle.std.specs.Global.{Global}
-use Rattle.std.proofs.lemmas.Bool.{and_parts, eq-eqb, eqb-true, false_from_ne_true}
-use Rattle.std.proofs.lemmas.List.{append_cancel_left}
 use Rattle.noise_events.specs.declared.event.Event.{Event}
-use Rattle.noise_events.specs.declared.event.Event.TheVariants.{Write, Say, Deliver, Raw}
 use Rattle.noise_keys.specs.Table.{TableEntry}
 use Rattle.noise_keys.specs.Table as Tables
 use Rattle.noise_names.specs.declared.token.Role.{Role}
@@ -17,31 +13,25 @@ use Rattle.noise_vectors.specs.HexWord.{hex_of}
 use Rattle.noise_vectors.specs.ReaderFaults.{answer_lines, event_lines, psk_lines}
 use Rattle.noise_vectors.specs.SameFile.{expected_of}
 use Rattle.noise_vectors.specs.VectorFile.{AreKeys, IsAllowed, IsAllowedFile, IsEntry, IsEvent, IsVectorFile}
-use Rattle.noise_vectors.specs.VectorText.{AfterEvents, answer_words, event_words, header_words, is_second, line, lines_of, party_text, psk_words, role_word, text_of, version_text}
+use Rattle.noise_vectors.specs.VectorText.{AfterEvents, answer_words, event_words, header_words, is_second, line, lines_of, party_text, psk_words, text_of, version_text}
 use Rattle.noise_vectors.specs.Words.{IsKey, lacks}
 use Rattle.noise_vectors.specs.WrongLine.{is_answer_line, is_psk_line, up_to_events, up_to_initiator, up_to_responder}
 use Rattle.noise_vectors.specs.declared.file_keys.FileKeys.{FileKeys}
 use Rattle.noise_vectors.specs.declared.file_keys.FileKeys.TheVariants.{Xor, Table}
 use Rattle.noise_vectors.specs.declared.vector.AllowedEvents.{AllowedEvents}
 use Rattle.noise_vectors.specs.declared.vector.VectorFile.{VectorFile}
-use Rattle.noise_vectors.proofs.AdditionLemmas.{event-stands, version-after}
-use Rattle.noise_vectors.proofs.EventLemmas.{all-right, event_words-line}
+use Rattle.noise_vectors.proofs.AdditionLemmas.{after_events-no_answer, event-stands, version-after}
+use Rattle.noise_vectors.proofs.EventLemmas.{IsRight, all-right, right-plain}
 use Rattle.noise_vectors.proofs.FrontLemmas.{up_to_version}
-use Rattle.noise_vectors.proofs.PartLemmas.{goes-on, header-one, lines-over}
-use Rattle.noise_vectors.proofs.PartyLemmas.{after_of, begins, lacks-answer_words, lacks-party, party_text-line, words_of}
-use Rattle.noise_vectors.proofs.ReadingLemmas.{interval-plain, prologue-plain, psk-plain}
-use Rattle.noise_vectors.proofs.ToldFiles.{after-block, header-lacks}
+use Rattle.noise_vectors.proofs.PartLemmas.{goes-on, header-lacks, header-one, lines-over}
+use Rattle.noise_vectors.proofs.PartyLemmas.{after_of, answer-stands, begins, lacks-answer_words, no-answer, words_of}
+use Rattle.noise_vectors.proofs.ReadingLemmas.{interval-plain, prologue-plain, psk-plain, psk-stands}
+use Rattle.noise_vectors.proofs.ReportedFiles.{after-block}
 use Rattle.noise_vectors.proofs.UniqueWords.{parted-one}
-use Rattle.noise_vectors.proofs.VectorLemmas.{after_header, after_initiator, after_interval, after_prologue, after_psks, after_responder, initiator-ends, psks-end, responder-ends}
-use Rattle.noise_vectors.proofs.UniqueTexts.{first-apart}
+use Rattle.noise_vectors.proofs.VectorLemmas.{after_header, after_initiator, after_interval, after_prologue, after_psks, after_responder, events-no_answer, initiator-ends, initiator-no_psk, psks-end, responder-ends, responder-no_answer}
+use Rattle.noise_vectors.proofs.UniqueTexts.{first-apart, party-one, party-parts}
 
 -- ---- what another right file has
-
-psk-stands : (psk rest : List ℕ) → ¬ (starts_with nat_eq (line (psk_words psk) rest) (codes "psk ") ≡ false)
-psk-stands psk rest h = true≢false h
-
-answer-stands : (entry : TableEntry) (rest : List ℕ) → ¬ (starts_with nat_eq (line (answer_words entry) rest) (codes "answer ") ≡ false)
-answer-stands entry rest h = true≢false h
 
 -- after the lines up to the psks' last one
 after-interval : (file other : VectorFile) (rest : List ℕ) → IsVectorFile file → IsVectorFile other → text_of other ≡ up_to_initiator file rest
@@ -63,56 +53,35 @@ at-initiator file other rest h k over e =
     (after-interval file other rest h k e)
 
 -- a psk more is among the other file's
-pub psk-more : (file other : VectorFile) (told rest : List ℕ) → IsVectorFile file → IsVectorFile other → lacks 10 told ≡ true
-    → ¬ (is_psk_line (line told rest) ≡ false) → text_of other ≡ up_to_initiator file (line told rest)
-    → (psk : List ℕ) × IsKey psk × (told ≡ psk_words psk) × (length file.psks.items < length other.psks.items)
-psk-more file other told rest h k plain bad e =
-    goes-on psk_lines psk-plain psk-stands file.psks.items other.psks.items told rest (after_psks other) h.psks.1 k.psks.1 plain (psks-end other) bad
-    (after-interval file other (line told rest) h k e)
-
-keys-goes : (a b : FileKeys) (u v : List ℕ) → AreKeys a → AreKeys b → begins u ≡ false → is_answer_line b v ≡ false
-    → words_of a ≡ words_of b → after_of a u ≡ after_of b v → u ≡ v
-keys-goes (Xor a) (Xor b) u v h k hu hv e after = after
-keys-goes (Table a) (Table b) u v h k hu hv e after =
-    lines-over answer_lines lacks-answer_words answer-stands a.entries b.entries u v h.3 k.3 hu hv after
-keys-goes a b u v h k hu hv e after = absurd (first-apart (words_of a) (words_of b) e refl)
-
-party-parts : (role : Role) (a b : FileKeys) (u v : List ℕ) → AreKeys a → AreKeys b → party_text role a u ≡ party_text role b v
-    → (words_of a ≡ words_of b) × (after_of a u ≡ after_of b v)
-party-parts role a b u v h k e =
-    let lines = sym (party_text-line role a u) ∙ e ∙ party_text-line role b v in
-    let parts = parted-one 10 (role_word role ++ 32 ∷ words_of a) (role_word role ++ 32 ∷ words_of b) (after_of a u) (after_of b v)
-    (lacks-party role a h) (lacks-party role b k) lines in
-    let front = append_cancel_left (role_word role) (32 ∷ words_of a) (32 ∷ words_of b) parts.0 in
-    (cc (front), parts.1)
+pub psk-more : (file other : VectorFile) (reported rest : List ℕ) → IsVectorFile file → IsVectorFile other → lacks 10 reported ≡ true
+    → ¬ (is_psk_line (line reported rest) ≡ false) → text_of other ≡ up_to_initiator file (line reported rest)
+    → (psk : List ℕ) × IsKey psk × (reported ≡ psk_words psk) × (length file.psks.items < length other.psks.items)
+psk-more file other reported rest h k plain bad e =
+    goes-on psk_lines psk-plain psk-stands file.psks.items other.psks.items reported rest (after_psks other) h.psks.1 k.psks.1 plain (psks-end other) bad
+    (after-interval file other (line reported rest) h k e)
 
 -- after a party's lines
 pub party-goes : (role : Role) (a b : FileKeys) (u v : List ℕ) → AreKeys a → AreKeys b → begins u ≡ false → is_answer_line b v ≡ false
     → party_text role a u ≡ party_text role b v → u ≡ v
 party-goes role a b u v h k hu hv e =
-    let parts = party-parts role a b u v h k e in
-    keys-goes a b u v h k hu hv parts.0 parts.1
+    (party-one role a b u v h k (no-answer a u hu) hv e).1
 
-keys-more : (a : FileKeys) (table : Tables.Table) (u told rest : List ℕ) → AreKeys a → AreKeys (Table table) → begins u ≡ false → lacks 10 told ≡ true
-    → ¬ (begins (line told rest) ≡ false) → words_of a ≡ words_of (Table table) → after_of a u ≡ after_of (Table table) (line told rest)
-    → (entry : TableEntry) × IsEntry entry × (told ≡ answer_words entry) × (length table.entries < 8)
-keys-more (Xor a) table u told rest h k hu plain bad e after = absurd (first-apart (words_of (Xor a)) (words_of (Table table)) e refl)
-keys-more (Table a) table u told rest h k hu plain bad e after =
-    let found = goes-on answer_lines lacks-answer_words answer-stands table.entries a.entries told rest u k.3 h.3 plain hu bad after in
+keys-more : (a : FileKeys) (table : Tables.Table) (u reported rest : List ℕ) → AreKeys a → AreKeys (Table table) → begins u ≡ false → lacks 10 reported ≡ true
+    → ¬ (begins (line reported rest) ≡ false) → words_of a ≡ words_of (Table table) → after_of a u ≡ after_of (Table table) (line reported rest)
+    → (entry : TableEntry) × IsEntry entry × (reported ≡ answer_words entry) × (length table.entries < 8)
+keys-more (Xor a) table u reported rest h k hu plain bad e after = absurd (first-apart (words_of (Xor a)) (words_of (Table table)) e refl)
+keys-more (Table a) table u reported rest h k hu plain bad e after =
+    let found = goes-on answer_lines lacks-answer_words answer-stands table.entries a.entries reported rest u k.3 h.3 plain hu bad after in
     let few = h.2 in
     (found.0, found.1, found.2, omega (arith, found.3, few))
 
 -- an answer more is among the other party's
-pub party-more : (role : Role) (a : FileKeys) (table : Tables.Table) (u told rest : List ℕ) → AreKeys a → AreKeys (Table table) → begins u ≡ false
-    → lacks 10 told ≡ true → ¬ (begins (line told rest) ≡ false) → party_text role a u ≡ party_text role (Table table) (line told rest)
-    → (entry : TableEntry) × IsEntry entry × (told ≡ answer_words entry) × (length table.entries < 8)
-party-more role a table u told rest h k hu plain bad e =
-    let parts = party-parts role a (Table table) u (line told rest) h k e in
-    keys-more a table u told rest h k hu plain bad parts.0 parts.1
-
-initiator-no_psk : (keys : FileKeys) (rest : List ℕ) → is_psk_line (party_text Initiator keys rest) ≡ false
-initiator-no_psk (Xor keys) rest = refl
-initiator-no_psk (Table keys) rest = refl
+pub party-more : (role : Role) (a : FileKeys) (table : Tables.Table) (u reported rest : List ℕ) → AreKeys a → AreKeys (Table table) → begins u ≡ false
+    → lacks 10 reported ≡ true → ¬ (begins (line reported rest) ≡ false) → party_text role a u ≡ party_text role (Table table) (line reported rest)
+    → (entry : TableEntry) × IsEntry entry × (reported ≡ answer_words entry) × (length table.entries < 8)
+party-more role a table u reported rest h k hu plain bad e =
+    let parts = party-parts role a (Table table) u (line reported rest) h k e in
+    keys-more a table u reported rest h k hu plain bad parts.0 parts.1
 
 -- the initiator's lines, with whatever follows them
 pub after-psks : (file other : VectorFile) (rest : List ℕ) → IsVectorFile file → IsVectorFile other → text_of other ≡ up_to_responder file rest
@@ -126,15 +95,10 @@ at-responder file other rest h k over e =
     party-goes Initiator other.initiator file.initiator (after_initiator other) rest k.initiator h.initiator (initiator-ends other) over
     (after-psks file other rest h k e)
 
-responder-no_answer : (keys other : FileKeys) (rest : List ℕ) → is_answer_line keys (party_text Responder other rest) ≡ false
-responder-no_answer (Xor keys) other rest = refl
-responder-no_answer (Table keys) (Xor other) rest = refl
-responder-no_answer (Table keys) (Table other) rest = refl
-
 pub after-initiator : (file other : VectorFile) (rest : List ℕ) → IsVectorFile file → IsVectorFile other → text_of other ≡ up_to_events file rest
     → after_initiator other ≡ party_text Responder file.responder rest
 after-initiator file other rest h k e =
-    at-responder file other (party_text Responder file.responder rest) h k (responder-no_answer file.initiator file.responder rest) e
+    at-responder file other (party_text Responder file.responder rest) h k (no-answer file.initiator (party_text Responder file.responder rest) (responder-no_answer file.responder rest)) e
 
 pub at-events : (file other : VectorFile) (rest : List ℕ) → IsVectorFile file → IsVectorFile other → is_answer_line file.responder rest ≡ false
     → text_of other ≡ up_to_events file rest → after_responder other ≡ rest
@@ -143,56 +107,32 @@ at-events file other rest h k over e =
     (after-initiator file other rest h k e)
 
 -- the events' lines begin otherwise than an answer
-events-no_answer : (keys : FileKeys) (events : List Event) (rest : List ℕ) → is_answer_line keys rest ≡ false
+events-other : (keys : FileKeys) (events : List Event) (rest : List ℕ) → is_answer_line keys rest ≡ false
     → is_answer_line keys (lines_of event_words events rest) ≡ false
-events-no_answer (Xor keys) events rest h = refl
-events-no_answer (Table keys) [] rest h = h
-events-no_answer (Table keys) (Say role payload cuts ∷ events) rest h = refl
-events-no_answer (Table keys) (Write role payload ∷ events) rest h = refl
-events-no_answer (Table keys) (Deliver role number cuts ∷ events) rest h = refl
-events-no_answer (Table keys) (Raw role bytes ∷ events) rest h = refl
-
-not-same : (m n : ℕ) → ¬ (m ≡ n) → nat_eq m n ≡ false
-not-same m n h = false_from_ne_true (nat_eq m n) (λ e. h (eqb-true m n e))
-
-other-byte : (x y : ℕ) (text front rest : List ℕ) → nat_eq x y ≡ false → starts_with nat_eq text (x ∷ front) ≡ true → starts_with nat_eq text (y ∷ rest) ≡ false
-other-byte x y [] front rest differ h = absurd (cc h)
-other-byte x y (b ∷ bs) front rest differ h =
-    let first : nat_eq x b ≡ true = (and_parts (nat_eq x b) _ h).0 in
-    let same : x ≡ b = eqb-true x b first in
-    let other : nat_eq y b ≡ false = not-same y b (λ e. true≢false (sym (eq-eqb x y (same ∙ sym e)) ∙ differ)) in
-    rw other refl
+events-other (Xor keys) events rest h = refl
+events-other (Table keys) events rest h = events-no_answer events rest h
 
 -- nor does what follows them
 pub after-no_answer : (keys : FileKeys) (rest : List ℕ) → AfterEvents rest → is_answer_line keys rest ≡ false
-after-no_answer (Xor keys) rest h = refl
-after-no_answer (Table keys) rest (inl none) = rw none refl
-after-no_answer (Table keys) rest (inr (inl begun)) = other-byte 100 97 rest (codes "atagrams ") (codes "nswer ") refl begun
-after-no_answer (Table keys) rest (inr (inr begun)) = other-byte 101 97 rest (codes "xpect ") (codes "nswer ") refl begun
-
-abbrev pub IsRight : AllowedEvents → Event → Type 0
-IsRight allowed event = IsEvent event × IsAllowed allowed event
-
-pub right-plain : (allowed : AllowedEvents) (event : Event) → IsRight allowed event → lacks 10 (event_words event) ≡ true
-right-plain allowed event h = event_words-line event h.0
+after-no_answer keys rest h = no-answer keys rest (after_events-no_answer rest h)
 
 -- after the events
 pub at-version : (allowed : AllowedEvents) (file other : VectorFile) (rest : List ℕ) → IsVectorFile file → IsVectorFile other
     → IsAllowedFile allowed file → IsAllowedFile allowed other → AfterEvents rest → text_of other ≡ up_to_version file rest → version_text other.version ≡ rest
 at-version allowed file other rest h k allow also over e =
     let events = at-events file other (lines_of event_words file.events.items rest) h k
-    (events-no_answer file.responder file.events.items rest (after-no_answer file.responder rest over)) e in
+    (events-other file.responder file.events.items rest (after-no_answer file.responder rest over)) e in
     lines-over (event_lines allowed) (right-plain allowed) event-stands other.events.items file.events.items (version_text other.version) rest
     (all-right allowed other.events.items k.events also.0) (all-right allowed file.events.items h.events allow.0) (version-after other.version) over events
 
 -- an event more is among the other file's
-pub event-more : (allowed : AllowedEvents) (file other : VectorFile) (told rest : List ℕ) → IsVectorFile file → IsVectorFile other
-    → IsAllowedFile allowed file → IsAllowedFile allowed other → is_answer_line file.responder (lines_of event_words file.events.items (line told rest)) ≡ false
-    → lacks 10 told ≡ true → ¬ AfterEvents (line told rest) → text_of other ≡ up_to_version file (line told rest)
-    → (event : Event) × IsRight allowed event × (told ≡ event_words event)
-event-more allowed file other told rest h k allow also none plain bad e =
-    let events = at-events file other (lines_of event_words file.events.items (line told rest)) h k none e in
-    let found = goes-on (event_lines allowed) (right-plain allowed) event-stands file.events.items other.events.items told rest (version_text other.version)
+pub event-more : (allowed : AllowedEvents) (file other : VectorFile) (reported rest : List ℕ) → IsVectorFile file → IsVectorFile other
+    → IsAllowedFile allowed file → IsAllowedFile allowed other → is_answer_line file.responder (lines_of event_words file.events.items (line reported rest)) ≡ false
+    → lacks 10 reported ≡ true → ¬ AfterEvents (line reported rest) → text_of other ≡ up_to_version file (line reported rest)
+    → (event : Event) × IsRight allowed event × (reported ≡ event_words event)
+event-more allowed file other reported rest h k allow also none plain bad e =
+    let events = at-events file other (lines_of event_words file.events.items (line reported rest)) h k none e in
+    let found = goes-on (event_lines allowed) (right-plain allowed) event-stands file.events.items other.events.items reported rest (version_text other.version)
     (all-right allowed file.events.items h.events allow.0) (all-right allowed other.events.items k.events also.0) plain (version-after other.version) bad
     events in
     (found.0, found.1, found.2)

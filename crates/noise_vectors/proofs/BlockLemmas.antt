@@ -1,5 +1,5 @@
 -- The text of a pattern as lines none of which is `end`, and such lines as they are read.
-use Rattle.std.proofs.Common.{arith, inl, inr, ◌≡◌, ◌∙◌, ◌+◌, ◌-◌, ◌==◌, not, Bool, true, false, ap, refl, subst, sym, ℕ, List, [], ◌∷◌, ◌++◌, codes, length, take}
+use Rattle.std.proofs.Common.{arith, inl, inr, ◌≡◌, ◌∙◌, ◌+◌, ◌-◌, ◌==◌, not, Bool, true, ap, refl, subst, sym, ℕ, List, [], ◌∷◌, ◌++◌, codes, length, take}
 use Rattle.std.specs.List.{All, list_all}
 use Rattle.std.proofs.Math.Seq.{take-append_seam}
 use Rattle.std.proofs.lemmas.Bool.{and_parts}
@@ -17,6 +17,7 @@ use Rattle.noise_names.specs.Text.{text_of as pattern_text}
 use Rattle.noise_names.specs.Tokens.{other}
 use Rattle.noise_names.specs.Facts.{section_bytes-all}
 use Rattle.noise_vectors.specs.Block.{IsInner, itself}
+use Rattle.noise_vectors.specs.Lines.{IsRead}
 use Rattle.noise_vectors.specs.OwnPattern.{HasName}
 use Rattle.noise_vectors.specs.ReaderFaults.{IsCutBlock}
 use Rattle.noise_vectors.specs.VectorText.{line, lines_of}
@@ -25,9 +26,10 @@ use Rattle.noise_vectors.specs.WrongLine.{Block, IsFirstLine}
 use Rattle.noise_vectors.specs.declared.faults.LineKind.TheVariants as kinds
 use Rattle.noise_vectors.specs.declared.faults.VectorFault.{VectorFault}
 use Rattle.noise_vectors.specs.declared.faults.VectorFault.TheVariants.{Line}
+use Rattle.noise_vectors.specs.declared.lines.Lines.{Lines}
 use Rattle.noise_vectors.proofs.LackLemmas.{all_weaker, lacks-append}
 use Rattle.noise_vectors.proofs.LineLemmas.{lines_of-more}
-use Rattle.noise_vectors.proofs.ToldLemmas.{first-line}
+use Rattle.noise_vectors.proofs.ReportedLemmas.{first-line}
 use Rattle.noise_vectors.proofs.ReadingLemmas.{no_line_feed}
 use Rattle.noise_vectors.proofs.UniqueWords.{parted-one}
 
@@ -235,18 +237,17 @@ Read-step start left words after r h e = record {
 }
 
 -- with `end` after them they are the block's
-pub Read-end : (start left words after : List ℕ) (is_ended : Bool) → Read start left → (is_ended ≡ true → left ≡ line words after)
-    → (is_ended ≡ false → (left ≡ words) × ¬ (words ≡ [])) → lacks 10 words ≡ true → words ≡ codes "end"
-    → (block : Block start) × (take (length start - length left) start ≡ lines_of itself block.lines [])
-Read-end start left words after is_ended r ended last plain is = (
+pub Read-end : (start : List ℕ) {before after : Lines} {text : List ℕ} → Read start before.rest.now → IsRead before text after → text ≡ codes "end"
+    → (block : Block start) × (take (length start - length before.rest.now) start ≡ lines_of itself block.lines [])
+Read-end start {before = before} r line is = (
   record {
     lines = r.lines;
     inner = r.inner;
-    after = left;
-    ends = subst (λ (t : List ℕ). IsFirstLine t left) is (first-line left words after is_ended ended last plain);
+    after = before.rest.now;
+    ends = subst (λ (t : List ℕ). IsFirstLine t before.rest.now) is (first-line line);
     left_is = r.start_is;
   },
-  front-before start left r.lines r.start_is,
+  front-before start before.rest.now r.lines r.start_is,
 )
 
 -- ---- where no line `end` is left
@@ -323,11 +324,11 @@ pub block-cut : (name : Section) (from text : List ℕ) (total number : ℕ) (fa
     → text ≡ pattern_text p → (block : Block from) × (text ≡ lines_of itself block.lines [])
     → ((before : List (List ℕ)) (rest : List ℕ) → All IsInner before → ¬ (from ≡ lines_of itself before (line (codes "end") rest)))
     → fault ≡ Line number kinds.Ending → number ≡ total + 1 → IsCutBlock name from total fault
-block-cut name from text total number fault p right named spelled (b, is) none told n = record {
+block-cut name from text total number fault p right named spelled (b, is) none reported n = record {
   pattern = p;
   right = right;
   named = named;
   text_is = cut-end from text b is (λ rest more. none b.lines rest b.inner (b.left_is ∙ ap (lines_of itself b.lines) more))
       ∙ ap (λ (t : List ℕ). t ++ codes "end") spelled;
-  fault_is = told ∙ ap (λ (k : ℕ). Line k kinds.Ending) n;
+  fault_is = reported ∙ ap (λ (k : ℕ). Line k kinds.Ending) n;
 }

@@ -43,13 +43,6 @@ event_words-parts (Write role payload) = refl
 event_words-parts (Deliver role number cuts) = refl
 event_words-parts (Raw role bytes) = refl
 
--- the word of a kind has no space (32)
-pub kind_word-plain : (kind : EventKind) → lacks 32 (kind_word kind) ≡ true
-kind_word-plain kinds.Say = refl
-kind_word-plain kinds.Write = refl
-kind_word-plain kinds.Deliver = refl
-kind_word-plain kinds.Raw = refl
-
 -- ---- its line
 
 pub line-of : (front : List ℕ) (role : Role) (operands : List ℕ) → lacks 10 front ≡ true → lacks 10 operands ≡ true
@@ -83,6 +76,9 @@ number-word number h = lacks-decimal 32 number (lit< tt) (omega (arith, h))
 -- an event that is allowed
 abbrev pub IsRight : AllowedEvents → Event → Type 0
 IsRight allowed event = IsEvent event × IsAllowed allowed event
+
+pub right-plain : (allowed : AllowedEvents) (event : Event) → IsRight allowed event → lacks 10 (event_words event) ≡ true
+right-plain allowed event h = event_words-line event h.0
 
 pub all-right : (allowed : AllowedEvents) (events : List Event) → All IsEvent events → All (IsAllowed allowed) events → All (IsRight allowed) events
 all-right allowed [] h g = All-nil (IsRight allowed)

@@ -4,13 +4,14 @@ use Rattle.std.specs.Prelude.{decimal}
 use Rattle.std.proofs.lemmas.List.{append_assoc, append-nil}
 use Rattle.noise_names.specs.declared.token.Role.{Role}
 use Rattle.noise_names.specs.declared.token.Role.TheVariants.{Initiator, Responder}
+use Rattle.noise_names.specs.FaultLines.{feeds-append}
 use Rattle.noise_names.specs.Names.{name_bytes}
 use Rattle.noise_names.specs.Plan.{Plan}
 use Rattle.noise_names.specs.Text.{text_of as pattern_text}
 use Rattle.noise_vectors.specs.HexWord.{hex_of}
 use Rattle.noise_vectors.specs.VectorFile.{IsAllowedFile, IsVectorFile}
 use Rattle.noise_vectors.specs.VectorText.{answer_words, block_text, datagram_event_words, datagrams_text, event_words, header_words, is_second, key_words, line, lines_of, party_text, psk_words, role_word, text_of, window_words}
-use Rattle.noise_vectors.specs.WrongLine.{IsCutShort, IsEnded, IsToldLine, line_feeds}
+use Rattle.noise_vectors.specs.WrongLine.{IsCutShort, IsEnded, IsReportedLine, line_feeds}
 use Rattle.noise_vectors.specs.WrongLine.{up_to_end, up_to_events, up_to_initiator, up_to_interval, up_to_prologue, up_to_protocol, up_to_responder}
 use Rattle.noise_vectors.specs.ReaderFaults.{IsWrongFirst}
 use Rattle.noise_vectors.specs.declared.faults.LineKind.{LineKind}
@@ -21,7 +22,6 @@ use Rattle.noise_vectors.specs.declared.vector.AllowedEvents.{AllowedEvents}
 use Rattle.noise_vectors.specs.declared.vector.FileDatagrams.{FileDatagrams}
 use Rattle.noise_vectors.specs.declared.vector.VectorFile.{VectorFile}
 use Rattle.noise_vectors.proofs.PartLemmas.{lines_of-after}
-use Rattle.noise_vectors.proofs.ToldLemmas.{feeds-append}
 
 -- what follows is added at the end
 abbrev pub IsFront : (List ℕ → List ℕ) → Type 0
@@ -93,7 +93,7 @@ front-datagrams (Some over) rest =
     front-both (line (window_words over.window)) (lines_of datagram_event_words over.events.items) (front-line (window_words over.window))
     (front-lines datagram_event_words over.events.items) rest
 
--- ---- the line that is told
+-- ---- the line that is reported
 
 pub feeds-front : (front : List ℕ → List ℕ) (left : List ℕ) → IsFront front → line_feeds (front left) ≡ line_feeds (front []) + line_feeds left
 feeds-front front left h = ap line_feeds (h left) ∙ feeds-append (front []) left
@@ -104,18 +104,18 @@ counted-front front text left number total h e all n =
     let whole : line_feeds text ≡ line_feeds (front []) + line_feeds left = ap line_feeds e ∙ feeds-front front left h in
     omega (arith, whole, all, n)
 
--- a line that no right file has there is told
-abbrev pub told-line : (allowed : AllowedEvents) (text left : List ℕ) (total : ℕ) (kind : LineKind) (fault : VectorFault)
+-- a line that no right file has there is reported
+abbrev pub reported-line : (allowed : AllowedEvents) (text left : List ℕ) (total : ℕ) (kind : LineKind) (fault : VectorFault)
     (up_to : VectorFile → List ℕ → List ℕ) (file : VectorFile) (rest : List ℕ) → IsVectorFile file → IsAllowedFile allowed file → IsFront (up_to file)
     → text_of file ≡ up_to file rest → text ≡ up_to file left → total ≡ line_feeds text → (it : IsWrongFirst left total kind fault)
-    → ((other : VectorFile) (more : List ℕ) → IsVectorFile other → IsAllowedFile allowed other → ¬ (text_of other ≡ up_to file (line it.told more)))
-    → IsToldLine allowed text it.number up_to
-told-line allowed text left total kind fault up_to file rest right allow front begun text_is all it wrong = record {
+    → ((other : VectorFile) (more : List ℕ) → IsVectorFile other → IsAllowedFile allowed other → ¬ (text_of other ≡ up_to file (line it.reported more)))
+    → IsReportedLine allowed text it.number up_to
+reported-line allowed text left total kind fault up_to file rest right allow front begun text_is all it wrong = record {
   file = file;
   is_file = right;
   is_allowed = allow;
   begun = (rest, begun);
-  told = it.told;
+  reported = it.reported;
   left = left;
   text_is = text_is;
   is_first = it.is_first;
@@ -144,6 +144,26 @@ ended-party role (Xor keys) rest h = ended-line (role_word role ++ (codes " xor 
 ended-party role (Table keys) rest h =
     ended-line (role_word role ++ (codes " table " ++ key_words keys.e keys.s)) (lines_of answer_words keys.entries rest)
     (ended-lines answer_words keys.entries rest h)
+
+pub ended-prologue : (file : VectorFile) (rest : List ℕ) → IsEnded rest → IsEnded (up_to_prologue file rest)
+ended-prologue file rest h =
+    let here = codes "protocol " ++ name_bytes file.protocol in
+    ended-line (header_words (is_second file.version)) (line here (block_text file.block rest))
+    (ended-line here (block_text file.block rest) (ended-block file.block rest h))
+
+pub ended-interval : (file : VectorFile) (rest : List ℕ) → IsEnded rest → IsEnded (up_to_interval file rest)
+ended-interval file rest h =
+    let here = codes "prologue " ++ hex_of file.prologue.items in
+    ended-prologue file (line here rest) (ended-line here rest h)
+
+pub ended-initiator : (file : VectorFile) (rest : List ℕ) → IsEnded rest → IsEnded (up_to_initiator file rest)
+ended-initiator file rest h =
+    let here = codes "interval " ++ decimal file.interval in
+    let psks = lines_of psk_words file.psks.items rest in
+    ended-interval file (line here psks) (ended-line here psks (ended-lines psk_words file.psks.items rest h))
+
+pub ended-responder : (file : VectorFile) (rest : List ℕ) → IsEnded rest → IsEnded (up_to_responder file rest)
+ended-responder file rest h = ended-initiator file (party_text Initiator file.initiator rest) (ended-party Initiator file.initiator rest h)
 
 -- the text ends before a line
 pub cut-before : (allowed : AllowedEvents) (text left : List ℕ) (number : ℕ) (file : VectorFile) (front : List ℕ → List ℕ) (next : ℕ) (rest : List ℕ)

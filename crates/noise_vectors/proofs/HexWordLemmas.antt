@@ -25,16 +25,17 @@ reads_at c None = false
 abbrev is_read : ℕ → Bool
 is_read c = not (is_lower_digit c) || reads_at c (hex_digit_value c)
 
-abbrev are_read : ℕ → Bool
-are_read zero = true
-are_read (suc n) = is_read n && are_read n
+-- the test holds of each number below this one
+abbrev holds_below : (ℕ → Bool) → ℕ → Bool
+holds_below test zero = true
+holds_below test (suc n) = test n && holds_below test n
 
-are_read-at : (n c : ℕ) → are_read n ≡ true → c < n → is_read c ≡ true
-are_read-at zero c h lt = absurd (omega arith)
-are_read-at (suc n) c h lt =
-    let parts = and_parts (is_read n) (are_read n) h in
+holds_below-at : (test : ℕ → Bool) (n c : ℕ) → holds_below test n ≡ true → c < n → test c ≡ true
+holds_below-at test zero c h lt = absurd (omega arith)
+holds_below-at test (suc n) c h lt =
+    let parts = and_parts (test n) (holds_below test n) h in
     elim (cases_lt c n) [
-      | inl below ↦ are_read-at n c parts.1 below
+      | inl below ↦ holds_below-at test n c parts.1 below
       | inr top ↦
           let e : c ≡ n = omega arith in
           rw e parts.0
@@ -58,26 +59,11 @@ digit_from c None e h = cc h
 -- a lower-case digit has a value, at which the table has it
 pub digit_of : (c : ℕ) → is_lower_digit c ≡ true → Digit c
 digit_of c h =
-    let read : is_read c ≡ true = are_read-at 103 c refl (below_103 c h) in
+    let read : is_read c ≡ true = holds_below-at is_read 103 c refl (below_103 c h) in
     digit_from c (hex_digit_value c) refl (rw h at read)
 
 abbrev is_lower_at : ℕ → Bool
 is_lower_at d = is_lower_digit (slice_index lower_digits d)
-
-abbrev are_lower : ℕ → Bool
-are_lower zero = true
-are_lower (suc n) = is_lower_at n && are_lower n
-
-are_lower-at : (n d : ℕ) → are_lower n ≡ true → d < n → is_lower_at d ≡ true
-are_lower-at zero d h lt = absurd (omega arith)
-are_lower-at (suc n) d h lt =
-    let parts = and_parts (is_lower_at n) (are_lower n) h in
-    elim (cases_lt d n) [
-      | inl below ↦ are_lower-at n d parts.1 below
-      | inr top ↦
-          let e : d ≡ n = omega arith in
-          rw e parts.0
-    ]
 
 -- ---- whole words
 
@@ -125,9 +111,9 @@ AllPass-encode_lower [] h = All-nil lower_holds
 AllPass-encode_lower (b ∷ rest) h =
     let fits : b < 256 = All-head byte_holds b rest h in
     All-cons lower_holds (slice_index lower_digits (b / 16)) (slice_index lower_digits (b % 16) ∷ encode_lower rest)
-    (are_lower-at 16 (b / 16) refl (omega arith))
+    (holds_below-at is_lower_at 16 (b / 16) refl (omega arith))
     (All-cons lower_holds (slice_index lower_digits (b % 16)) (encode_lower rest)
-    (are_lower-at 16 (b % 16) refl (omega arith))
+    (holds_below-at is_lower_at 16 (b % 16) refl (omega arith))
     (AllPass-encode_lower rest (All-tail byte_holds b rest h)))
 
 -- a word of digits is that of its bytes
@@ -145,12 +131,6 @@ word_of-decoded word bytes h e =
     let back : encode_lower bytes ≡ word = rw (← bytes_are) s.back in
     let long : 0 < length (encode_lower bytes) = rw back h.0 in
     sym (hex_of-digits bytes long ∙ back)
-
--- digits are decoded
-pub decode_of-word : (word : List ℕ) → IsDigits word → (bytes : List ℕ) × (decode_of word ≡ Ok bytes)
-decode_of-word word h =
-    let s = spelled 0 word h.1 h.2 in
-    (s.bytes, decode_of-even word h.1 ∙ s.decoded)
 
 -- digits are a word of some bytes
 pub IsHexWord-digits : (word : List ℕ) → IsDigits word → IsHexWord word

@@ -13,12 +13,12 @@ pub mod LackLemmas
 pub mod LineLemmas
 pub mod PartLemmas
 pub mod PartyLemmas
-pub mod PartyTold
+pub mod PartyReported
 pub mod ReadingLemmas
-pub mod ToldFiles
-pub mod ToldLater
-pub mod ToldLemmas
-pub mod ToldVersion
+pub mod ReportedFiles
+pub mod ReportedLater
+pub mod ReportedLemmas
+pub mod ReportedVersion
 pub mod UniqueLines
 pub mod UniqueTexts
 pub mod UniqueWords

@@ -1,5 +1,5 @@
 -- The lines that give a party its keys, as they are read.
-use Rattle.std.proofs.Common.{arith, ◌≡◌, ◌∙◌, ◌≤◌, ◌<◌, ap, sym, refl, lit<, Bool, true, false, ℕ, List, ◌∷◌, ◌++◌, Option, codes, length, get_or}
+use Rattle.std.proofs.Common.{arith, ◌≡◌, ◌∙◌, ◌≤◌, ◌<◌, ap, sym, refl, lit<, Bool, true, false, true≢false, ℕ, List, ◌∷◌, ◌++◌, Option, codes, length, get_or}
 use Rattle.std.specs.Prelude.{nat_eq, IfSome}
 use Rattle.std.specs.List.{All, starts_with}
 use Rattle.std.proofs.lemmas.List.{append_cancel_left}
@@ -10,6 +10,7 @@ use Rattle.noise_keys.specs.Table as Tables
 use Rattle.noise_vectors.specs.VectorFile.{AreKeys, IsEntry}
 use Rattle.noise_vectors.specs.VectorText.{answer_words, key_word, key_words, line, lines_of, own_word, party_text, role_word}
 use Rattle.noise_vectors.specs.Words.{IsKey, lacks}
+use Rattle.noise_vectors.specs.WrongLine.{is_answer_line}
 use Rattle.noise_vectors.specs.declared.file_keys.FileKeys.{FileKeys}
 use Rattle.noise_vectors.specs.declared.file_keys.FileKeys.TheVariants.{Xor, Table}
 use Rattle.noise_vectors.proofs.LackLemmas.{lacks-append, lacks-encode_lower, lacks-key_word, own_word-plain, role_word-plain}
@@ -52,6 +53,14 @@ answer-keys line front rest own keys entry front_is split every e =
 -- whether the text begins as an answer's line does
 abbrev pub begins : List ℕ → Bool
 begins text = starts_with nat_eq text (codes "answer ")
+
+pub answer-stands : (entry : TableEntry) (rest : List ℕ) → ¬ (begins (line (answer_words entry) rest) ≡ false)
+answer-stands entry rest h = true≢false h
+
+-- where no answer comes, none does after these keys
+pub no-answer : (keys : FileKeys) (rest : List ℕ) → begins rest ≡ false → is_answer_line keys rest ≡ false
+no-answer (Xor keys) rest h = refl
+no-answer (Table keys) rest h = h
 
 -- ---- a party's line
 

@@ -1,13 +1,12 @@
 -- No lines of a vector file are those of two values.
-use Rattle.std.proofs.Common.{arith, ◌≡◌, ◌∙◌, ◌<◌, ◌≤◌, ◌^◌, ◌==◌, ◌||◌, ap, sym, refl, lit<, Bool, true, false, true≢false}
+use Rattle.std.proofs.Common.{arith, ◌≡◌, ◌∙◌, ◌<◌, ◌^◌, ap, sym, refl, lit<, true, false}
 use Rattle.std.proofs.Common.{ℕ, List, [], ◌∷◌, ◌++◌, map, codes, get_or, Option}
 use Rattle.std.specs.Prelude.{decimal, IfSome, Vec}
 use Rattle.std.specs.Global.{Global}
-use Rattle.std.specs.List.{All}
-use Rattle.std.proofs.lemmas.Bool.Decides.{nat_tests}
+use Rattle.std.specs.Bool.{nat_eq}
+use Rattle.std.specs.List.{All, starts_with}
 use Rattle.std.proofs.lemmas.Fmt.{decimal_injective}
-use Rattle.std.proofs.lemmas.List.{append_cancel_left}
-use Rattle.std.proofs.lemmas.List.Elements.{All-head, All-tail}
+use Rattle.std.proofs.lemmas.List.{append_cancel_left, map-id}
 use Rattle.hex.specs.Hex.{encode_lower}
 use Rattle.noise_names.specs.declared.token.Role.{Role}
 use Rattle.noise_events.specs.Events.{event_of}
@@ -20,70 +19,31 @@ use Rattle.noise_keys.specs.Table.{TableEntry}
 use Rattle.noise_vectors.specs.HexWord.{hex_of}
 use Rattle.noise_vectors.specs.SameFile.{cuts_of}
 use Rattle.noise_vectors.specs.VectorFile.{IsDatagramEvent, IsEntry, IsEvent, IsExpected}
-use Rattle.noise_vectors.specs.VectorText.{answer_words, datagram_event_words, event_words, expect_words, key_word, key_words, lengths_word, line, lines_of}
+use Rattle.noise_vectors.specs.VectorText.{AfterDatagrams, AfterEvents, answer_words, datagram_event_words, event_words, expect_words, key_word, key_words, lengths_word, lines_of}
 use Rattle.noise_vectors.specs.VectorText.{own_word, psk_words, role_word}
 use Rattle.noise_vectors.specs.Words.{IsKey, lacks}
+use Rattle.noise_vectors.proofs.AdditionLemmas.{datagram_event-stands, datagram_event_words-line, event-stands, expected-line}
 use Rattle.noise_vectors.proofs.EventLemmas.{event_words-line}
 use Rattle.noise_vectors.proofs.LackLemmas.{lacks-encode_lower, lacks-hex_of, lacks-key_word, own_word-plain, role_word-plain}
-use Rattle.noise_vectors.proofs.PartyLemmas.{lacks-answer_words}
-use Rattle.noise_vectors.proofs.ReadingLemmas.{psk-plain}
+use Rattle.noise_vectors.proofs.PartLemmas.{lines-same}
+use Rattle.noise_vectors.proofs.PartyLemmas.{answer-stands, begins, lacks-answer_words}
+use Rattle.noise_vectors.proofs.ReadingLemmas.{psk-plain, psk-stands}
 use Rattle.noise_vectors.proofs.UniqueWords.{first-byte, hex-one, key-one, key_word-one, lengths-one, numbers-apart, own-one, parted-one, role-one}
 use Rattle.noise_vectors.proofs.WordLemmas.{lacks-decimal}
-use Rattle.noise_vectors.proofs.AdditionLemmas.{datagram_event_words-line}
-
--- ---- lists of lines
-
--- Good lines of one kind, after which no such line stands, are those of one list, as far as it is seen.
-pub lines-one : {A B : Type 0} (words : A → List ℕ) (Good : A → Type 0) (view : A → B) (begins : List ℕ → Bool)
-    → ((x : A) → Good x → lacks 10 (words x) ≡ true) → ((x : A) (rest : List ℕ) → begins (line (words x) rest) ≡ true)
-    → ((x y : A) → Good x → Good y → words x ≡ words y → view x ≡ view y)
-    → (xs ys : List A) (u v : List ℕ) → All Good xs → All Good ys → begins u ≡ false → begins v ≡ false
-    → lines_of words xs u ≡ lines_of words ys v → (map view xs ≡ map view ys) × (u ≡ v)
-lines-one words Good view begins plain front one [] [] u v h k hu hv e = (refl, e)
-lines-one words Good view begins plain front one [] (y ∷ ys) u v h k hu hv e =
-    absurd (true≢false (sym (front y (lines_of words ys v)) ∙ ap begins (sym e) ∙ hu))
-lines-one words Good view begins plain front one (x ∷ xs) [] u v h k hu hv e =
-    absurd (true≢false (sym (front x (lines_of words xs u)) ∙ ap begins e ∙ hv))
-lines-one words Good view begins plain front one (x ∷ xs) (y ∷ ys) u v h k hu hv e =
-    let good = All-head Good x xs h in
-    let also = All-head Good y ys k in
-    let parts = parted-one 10 (words x) (words y) (lines_of words xs u) (lines_of words ys v) (plain x good) (plain y also) e in
-    let first = one x y good also parts.0 in
-    let more = lines-one words Good view begins plain front one xs ys u v (All-tail Good x xs h) (All-tail Good y ys k) hu hv parts.1 in
-    (cc (first, more.0), more.1)
-
-abbrev pub itself : List ℕ → List ℕ
-itself text = text
-
-pub map-itself : (xs : List (List ℕ)) → map itself xs ≡ xs
-map-itself [] = refl
-map-itself (x ∷ xs) = ap (λ (ys : List (List ℕ)). x ∷ ys) (map-itself xs)
-
-abbrev entry_itself : TableEntry → TableEntry
-entry_itself entry = entry
-
-map-entries : (xs : List TableEntry) → map entry_itself xs ≡ xs
-map-entries [] = refl
-map-entries (x ∷ xs) = ap (λ (ys : List TableEntry). x ∷ ys) (map-entries xs)
 
 -- ---- psks
-
-abbrev pub begins_psk : List ℕ → Bool
-begins_psk text = get_or text 0 0 == 112
 
 psk-one : (a b : List ℕ) → IsKey a → IsKey b → psk_words a ≡ psk_words b → a ≡ b
 psk-one a b h k e = key-one a b h k (append_cancel_left (codes "psk ") (encode_lower a) (encode_lower b) e)
 
-pub psks-one : (xs bs : List (List ℕ)) (u v : List ℕ) → All IsKey xs → All IsKey bs → begins_psk u ≡ false → begins_psk v ≡ false
+pub psks-one : (xs bs : List (List ℕ)) (u v : List ℕ) → All IsKey xs → All IsKey bs → starts_with nat_eq u (codes "psk ") ≡ false
+    → starts_with nat_eq v (codes "psk ") ≡ false
     → lines_of psk_words xs u ≡ lines_of psk_words bs v → (xs ≡ bs) × (u ≡ v)
 psks-one xs bs u v h k hu hv e =
-    let parts = lines-one psk_words IsKey itself begins_psk psk-plain (λ x rest. refl) psk-one xs bs u v h k hu hv e in
-    (sym (map-itself xs) ∙ parts.0 ∙ map-itself bs, parts.1)
+    let parts = lines-same psk_words IsKey (λ (rest : List ℕ). starts_with nat_eq rest (codes "psk ") ≡ false) (λ x. x) psk-plain psk-stands psk-one xs bs u v h k hu hv e in
+    (sym (map-id xs) ∙ parts.0 ∙ map-id bs, parts.1)
 
 -- ---- answers
-
-abbrev pub begins_answer : List ℕ → Bool
-begins_answer text = get_or text 0 0 == 97
 
 answer-one : (a b : TableEntry) → IsEntry a → IsEntry b → answer_words a ≡ answer_words b → a ≡ b
 answer-one a b h k e =
@@ -99,11 +59,11 @@ answer-one a b h k e =
     ap (λ (o : _). record a { own = o }) own ∙ ap (λ (t : List ℕ). record a { own = b.own; remote = t }) remote
     ∙ ap (λ (t : List ℕ). record b { answer = t }) answer
 
-pub answers-one : (xs bs : List TableEntry) (u v : List ℕ) → All IsEntry xs → All IsEntry bs → begins_answer u ≡ false → begins_answer v ≡ false
+pub answers-one : (xs bs : List TableEntry) (u v : List ℕ) → All IsEntry xs → All IsEntry bs → begins u ≡ false → begins v ≡ false
     → lines_of answer_words xs u ≡ lines_of answer_words bs v → (xs ≡ bs) × (u ≡ v)
 answers-one xs bs u v h k hu hv e =
-    let parts = lines-one answer_words IsEntry entry_itself begins_answer lacks-answer_words (λ x rest. refl) answer-one xs bs u v h k hu hv e in
-    (sym (map-entries xs) ∙ parts.0 ∙ map-entries bs, parts.1)
+    let parts = lines-same answer_words IsEntry (λ (rest : List ℕ). begins rest ≡ false) (λ x. x) lacks-answer_words answer-stands answer-one xs bs u v h k hu hv e in
+    (sym (map-id xs) ∙ parts.0 ∙ map-id bs, parts.1)
 
 -- two keys
 pub keys-one : (e s f t : Option (List ℕ)) → IfSome e IsKey → IfSome s IsKey → IfSome f IsKey → IfSome t IsKey → key_words e s ≡ key_words f t
@@ -156,22 +116,12 @@ event-one (Raw r p) (Raw s q) h k e =
     (cc (roles.0, bytes), refl)
 event-one x y h k e = absurd (numbers-apart _ _ (third (event_words x) (event_words y) e) refl)
 
--- the third byte of such a line is that of say, write, deliver or raw
-abbrev pub begins_event : List ℕ → Bool
-begins_event text = (get_or text 2 0 == 121) || ((get_or text 2 0 == 105) || ((get_or text 2 0 == 108) || (get_or text 2 0 == 119)))
-
-event-begins : (x : Event) (rest : List ℕ) → begins_event (line (event_words x) rest) ≡ true
-event-begins (Say r p c) rest = refl
-event-begins (Write r p) rest = refl
-event-begins (Deliver r n c) rest = refl
-event-begins (Raw r p) rest = refl
-
-pub events-one : (xs ys : List Event) (u v : List ℕ) → All IsEvent xs → All IsEvent ys → begins_event u ≡ false → begins_event v ≡ false
+pub events-one : (xs ys : List Event) (u v : List ℕ) → All IsEvent xs → All IsEvent ys → AfterEvents u → AfterEvents v
     → lines_of event_words xs u ≡ lines_of event_words ys v → (map event_of xs ≡ map event_of ys) × (map cuts_of xs ≡ map cuts_of ys) × (u ≡ v)
 events-one xs ys u v h k hu hv e =
-    let events = lines-one event_words IsEvent event_of begins_event event_words-line event-begins (λ x y hx hy s. (event-one x y hx hy s).0)
+    let events = lines-same event_words IsEvent AfterEvents event_of event_words-line event-stands (λ x y hx hy s. (event-one x y hx hy s).0)
     xs ys u v h k hu hv e in
-    let cuts = lines-one event_words IsEvent cuts_of begins_event event_words-line event-begins (λ x y hx hy s. (event-one x y hx hy s).1)
+    let cuts = lines-same event_words IsEvent AfterEvents cuts_of event_words-line event-stands (λ x y hx hy s. (event-one x y hx hy s).1)
     xs ys u v h k hu hv e in
     (events.0, cuts.0, events.1)
 
@@ -193,42 +143,16 @@ datagram-one (datagram.Raw r p) (datagram.Raw s q) h k e =
     cc (roles.0, bytes)
 datagram-one x y h k e = absurd (numbers-apart _ _ (first-byte (datagram_event_words x) (datagram_event_words y) e) refl)
 
--- the first byte of such a line is that of seal, open or foreign
-abbrev pub begins_datagram : List ℕ → Bool
-begins_datagram text = (get_or text 0 0 == 115) || ((get_or text 0 0 == 111) || (get_or text 0 0 == 102))
-
-datagram-begins : (x : DatagramEvent) (rest : List ℕ) → begins_datagram (line (datagram_event_words x) rest) ≡ true
-datagram-begins (datagram.Seal r p) rest = refl
-datagram-begins (datagram.Open r n) rest = refl
-datagram-begins (datagram.Raw r p) rest = refl
-
-pub datagrams-one : (xs ys : List DatagramEvent) (u v : List ℕ) → All IsDatagramEvent xs → All IsDatagramEvent ys → begins_datagram u ≡ false
-    → begins_datagram v ≡ false → lines_of datagram_event_words xs u ≡ lines_of datagram_event_words ys v
+pub datagrams-one : (xs ys : List DatagramEvent) (u v : List ℕ) → All IsDatagramEvent xs → All IsDatagramEvent ys → AfterDatagrams u
+    → AfterDatagrams v → lines_of datagram_event_words xs u ≡ lines_of datagram_event_words ys v
     → (map datagram_event_of xs ≡ map datagram_event_of ys) × (u ≡ v)
 datagrams-one xs ys u v h k hu hv e =
-    lines-one datagram_event_words IsDatagramEvent datagram_event_of begins_datagram datagram_event_words-line datagram-begins datagram-one xs ys u v h k hu hv e
+    lines-same datagram_event_words IsDatagramEvent AfterDatagrams datagram_event_of datagram_event_words-line datagram_event-stands datagram-one xs ys u v h k hu hv e
 
 -- ---- lines that are expected
 
 abbrev pub IsExpectedLine : Vec ℕ Global → Type 0
 IsExpectedLine words = IsExpected words.items
-
-abbrev is_printed : ℕ → Type 0
-is_printed b = (32 ≤ b) × (b ≤ 126)
-
-printed-plain : (bytes : List ℕ) → All (λ b. (32 ≤ b) × (b ≤ 126)) bytes → lacks 10 bytes ≡ true
-printed-plain [] h = refl
-printed-plain (b ∷ bs) h =
-    let first = All-head is_printed b bs h in
-    let more = printed-plain bs (All-tail is_printed b bs h) in
-    let low : 32 ≤ b = first.0 in
-    let other : (b == 10) ≡ false = no-feed b low in
-    rw (other, more) refl where
-      no-feed : (n : ℕ) → 32 ≤ n → (n == 10) ≡ false
-      no-feed n h = grind (arith, nat_tests)
-
-abbrev pub begins_expect : List ℕ → Bool
-begins_expect text = get_or text 0 0 == 101
 
 expect-one : (a b : Vec ℕ Global) → IsExpectedLine a → IsExpectedLine b → expect_words a ≡ expect_words b → a.items ≡ b.items
 expect-one a b h k e = after-front (codes "expect ") a.items b.items e
@@ -236,5 +160,5 @@ expect-one a b h k e = after-front (codes "expect ") a.items b.items e
 pub expected-one : (xs bs : List (Vec ℕ Global)) → All (λ words. IsExpected words.items) xs → All (λ words. IsExpected words.items) bs
     → lines_of expect_words xs [] ≡ lines_of expect_words bs [] → map (λ l. l.items) xs ≡ map (λ l. l.items) bs
 expected-one xs bs h k e =
-    (lines-one expect_words IsExpectedLine (λ l. l.items) begins_expect (λ x g. printed-plain x.items g.1) (λ x rest. refl) expect-one xs bs [] [] h k
-    refl refl e).0
+    (lines-same expect_words IsExpectedLine (λ (rest : List ℕ). rest ≡ []) (λ l. l.items) (λ x g. expected-line x.items g) (λ x rest none. absurd (cc none))
+    expect-one xs bs [] [] h k refl refl e).0

@@ -1,5 +1,5 @@
 -- No text is that of two vector files that say different things.
-use Rattle.std.proofs.Common.{◌≡◌, ◌∙◌, ap, sym, refl, subst, true, false, ◌==◌, ℕ, List, [], ◌∷◌, ◌++◌, codes, get_or, Option, Some, None}
+use Rattle.std.proofs.Common.{◌≡◌, ◌∙◌, ap, sym, refl, subst, false, ◌==◌, ℕ, List, [], ◌∷◌, ◌++◌, codes, get_or, Option, Some, None}
 use Rattle.std.specs.Prelude.{decimal, IfSome, Vec}
 use Rattle.std.specs.Global.{Global}
 use Rattle.std.specs.List.{All}
@@ -13,31 +13,32 @@ use Rattle.noise_names.specs.Names.{Section, name_bytes}
 use Rattle.noise_names.specs.Plan.{Plan}
 use Rattle.noise_names.specs.Text.{Spells}
 use Rattle.noise_names.specs.Text.{text_of as pattern_text}
-use Rattle.noise_events.specs.declared.event.Event.{Event}
-use Rattle.noise_events.specs.declared.event.Event.TheVariants.{Write, Say, Deliver, Raw}
 use Rattle.noise_events.specs.Windows.{width_of}
 use Rattle.noise_vectors.specs.Block.{IsInner}
 use Rattle.noise_vectors.specs.Block as Blocks
 use Rattle.noise_vectors.specs.HexWord.{hex_of}
 use Rattle.noise_vectors.specs.SameFile.{VectorTextsAreUnique, datagrams_of, expected_of, held_datagrams, number_of}
 use Rattle.noise_vectors.specs.VectorFile.{AreKeys, IsDatagramEvent, IsOwn, IsVectorFile, IsVersion}
-use Rattle.noise_vectors.specs.VectorText.{block_text, datagram_event_words, datagrams_text, event_words, expect_words, header_words, is_second, key_words}
-use Rattle.noise_vectors.specs.VectorText.{line, lines_of, party_text, psk_words}
+use Rattle.noise_vectors.specs.VectorText.{block_text, datagram_event_words, datagrams_text, expect_words, header_words, is_second, key_words}
+use Rattle.noise_vectors.specs.VectorText.{line, lines_of, party_text}
 use Rattle.noise_vectors.specs.VectorText.{role_word, text_of, version_text, window_words}
-use Rattle.noise_vectors.specs.Words.{lacks}
+use Rattle.noise_vectors.specs.WrongLine.{is_answer_line}
 use Rattle.noise_vectors.specs.declared.file_keys.FileKeys.{FileKeys}
 use Rattle.noise_vectors.specs.declared.file_keys.FileKeys.TheVariants.{Xor, Table}
 use Rattle.noise_vectors.specs.declared.vector.FileDatagrams.{FileDatagrams}
 use Rattle.noise_vectors.specs.declared.vector.VectorFile.{VectorFile}
 use Rattle.noise_vectors.specs.declared.vector.Version.{Version}
 use Rattle.noise_vectors.specs.declared.vector.Version.TheVariants.{One, Two}
+use Rattle.noise_vectors.proofs.AdditionLemmas.{expected-after, version-after, window_words-line}
 use Rattle.noise_vectors.proofs.BlockLemmas.{block-lines, lined-pattern}
-use Rattle.noise_vectors.proofs.PartyLemmas.{after_of, lacks-party, party_text-line, words_of}
+use Rattle.noise_vectors.proofs.PartLemmas.{header-lacks}
+use Rattle.noise_vectors.proofs.PartyLemmas.{after_of, lacks-party, no-answer, party_text-line, words_of}
 use Rattle.noise_vectors.proofs.ReadingLemmas.{interval-plain, prologue-plain, protocol-plain}
-use Rattle.noise_vectors.proofs.UniqueLines.{answers-one, begins_answer, begins_datagram, begins_event, begins_psk, datagrams-one}
+use Rattle.noise_vectors.proofs.UniqueLines.{answers-one, datagrams-one}
 use Rattle.noise_vectors.proofs.UniqueLines.{events-one, expected-one, keys-one}
 use Rattle.noise_vectors.proofs.UniqueLines.{psks-one}
-use Rattle.noise_vectors.proofs.UniqueWords.{first-byte, hex-one, name-one, numbers-apart, parted-one, window-one, window-plain}
+use Rattle.noise_vectors.proofs.UniqueWords.{first-byte, hex-one, name-one, numbers-apart, parted-one, window-one}
+use Rattle.noise_vectors.proofs.VectorLemmas.{after_block, after_header, after_initiator, after_interval, after_prologue, after_protocol, after_psks, after_responder, initiator-ends, psks-end, responder-ends}
 
 -- ---- the pattern that a file spells
 
@@ -104,7 +105,7 @@ pub first-apart : (x y : List ℕ) → x ≡ y → (get_or x 0 0 == get_or y 0 0
 first-apart x y e differ = numbers-apart (get_or x 0 0) (get_or y 0 0) (first-byte x y e) differ
 
 -- of the same words both are keys of one kind, and what follows the answers is one
-keys-after : (a b : FileKeys) (u v : List ℕ) → AreKeys a → AreKeys b → begins_answer u ≡ false → begins_answer v ≡ false
+keys-after : (a b : FileKeys) (u v : List ℕ) → AreKeys a → AreKeys b → is_answer_line a u ≡ false → is_answer_line b v ≡ false
     → words_of a ≡ words_of b → after_of a u ≡ after_of b v → (a ≡ b) × (u ≡ v)
 keys-after (Xor a) (Xor b) u v h k hu hv e after =
     let keys = append_cancel_left (codes "xor ") (key_words a.e a.s) (key_words b.e b.s) e in
@@ -120,62 +121,23 @@ keys-after (Table a) (Table b) u v h k hu hv e after =
     )
 keys-after a b u v h k hu hv e after = absurd (first-apart (words_of a) (words_of b) e refl)
 
-party-one : (role : Role) (a b : FileKeys) (u v : List ℕ) → AreKeys a → AreKeys b → begins_answer u ≡ false → begins_answer v ≡ false
-    → party_text role a u ≡ party_text role b v → (a ≡ b) × (u ≡ v)
-party-one role a b u v h k hu hv e =
+-- the words and the answers of one party's text
+pub party-parts : (role : Role) (a b : FileKeys) (u v : List ℕ) → AreKeys a → AreKeys b → party_text role a u ≡ party_text role b v
+    → (words_of a ≡ words_of b) × (after_of a u ≡ after_of b v)
+party-parts role a b u v h k e =
     let lines = sym (party_text-line role a u) ∙ e ∙ party_text-line role b v in
     let parts = parted-one 10 (role_word role ++ 32 ∷ words_of a) (role_word role ++ 32 ∷ words_of b) (after_of a u) (after_of b v)
     (lacks-party role a h) (lacks-party role b k) lines in
     let front = append_cancel_left (role_word role) (32 ∷ words_of a) (32 ∷ words_of b) parts.0 in
-    let words : words_of a ≡ words_of b = cc (front) in
-    keys-after a b u v h k hu hv words parts.1
+    (cc (front), parts.1)
 
--- ---- how the rest begins
-
-initiator-no_psk : (keys : FileKeys) (rest : List ℕ) → begins_psk (party_text Initiator keys rest) ≡ false
-initiator-no_psk (Xor keys) rest = refl
-initiator-no_psk (Table keys) rest = refl
-
-responder-no_answer : (keys : FileKeys) (rest : List ℕ) → begins_answer (party_text Responder keys rest) ≡ false
-responder-no_answer (Xor keys) rest = refl
-responder-no_answer (Table keys) rest = refl
-
-datagrams-no_answer : (over : Option FileDatagrams) (expected : List (Vec ℕ Global))
-    → begins_answer (datagrams_text over (lines_of expect_words expected [])) ≡ false
-datagrams-no_answer None [] = refl
-datagrams-no_answer None (x ∷ xs) = refl
-datagrams-no_answer (Some over) xs = refl
-
-version-no_answer : (version : Version) → begins_answer (version_text version) ≡ false
-version-no_answer One = refl
-version-no_answer (Two additions) = datagrams-no_answer additions.datagrams additions.expected.items
-
-events-no_answer : (events : List Event) (version : Version) → begins_answer (lines_of event_words events (version_text version)) ≡ false
-events-no_answer [] version = version-no_answer version
-events-no_answer (Say role payload cuts ∷ events) version = refl
-events-no_answer (Write role payload ∷ events) version = refl
-events-no_answer (Deliver role number cuts ∷ events) version = refl
-events-no_answer (Raw role bytes ∷ events) version = refl
-
-datagrams-no_event : (over : Option FileDatagrams) (expected : List (Vec ℕ Global))
-    → begins_event (datagrams_text over (lines_of expect_words expected [])) ≡ false
-datagrams-no_event None [] = refl
-datagrams-no_event None (x ∷ xs) = refl
-datagrams-no_event (Some over) xs = refl
-
-version-no_event : (version : Version) → begins_event (version_text version) ≡ false
-version-no_event One = refl
-version-no_event (Two additions) = datagrams-no_event additions.datagrams additions.expected.items
-
-expected-no_datagram : (expected : List (Vec ℕ Global)) → begins_datagram (lines_of expect_words expected []) ≡ false
-expected-no_datagram [] = refl
-expected-no_datagram (x ∷ xs) = refl
+pub party-one : (role : Role) (a b : FileKeys) (u v : List ℕ) → AreKeys a → AreKeys b → is_answer_line a u ≡ false → is_answer_line b v ≡ false
+    → party_text role a u ≡ party_text role b v → (a ≡ b) × (u ≡ v)
+party-one role a b u v h k hu hv e =
+    let parts = party-parts role a b u v h k e in
+    keys-after a b u v h k hu hv parts.0 parts.1
 
 -- ---- versions
-
-pub header-plain : (version : Version) → lacks 10 (header_words (is_second version)) ≡ true
-header-plain One = refl
-header-plain (Two additions) = refl
 
 header-one : (a b : Version) → header_words (is_second a) ≡ header_words (is_second b) → number_of a ≡ number_of b
 header-one One One e = refl
@@ -198,10 +160,10 @@ over-one (Some a) (Some b) xs ys h k e =
     let u = lines_of expect_words xs [] in
     let v = lines_of expect_words ys [] in
     let parts = parted-one 10 (window_words a.window) (window_words b.window) (lines_of datagram_event_words a.events.items u)
-    (lines_of datagram_event_words b.events.items v) (window-plain a.window) (window-plain b.window) e in
+    (lines_of datagram_event_words b.events.items v) (window_words-line a.window) (window_words-line b.window) e in
     let window = window-one a.window b.window
     (append_cancel_left (codes "datagrams ") (decimal (width_of a.window)) (decimal (width_of b.window)) parts.0) in
-    let events = datagrams-one a.events.items b.events.items u v h k (expected-no_datagram xs) (expected-no_datagram ys) parts.1 in
+    let events = datagrams-one a.events.items b.events.items u v h k (expected-after xs) (expected-after ys) parts.1 in
     (cc (window, events.0), events.1)
 
 version-one : (a b : Version) → IsVersion a → IsVersion b → number_of a ≡ number_of b → version_text a ≡ version_text b
@@ -214,30 +176,6 @@ version-one a b h k n e = absurd (numbers-apart (number_of a) (number_of b) n re
 
 -- ---- whole files
 
-abbrev after_responder : VectorFile → List ℕ
-after_responder f = lines_of event_words f.events.items (version_text f.version)
-
-abbrev after_initiator : VectorFile → List ℕ
-after_initiator f = party_text Responder f.responder (after_responder f)
-
-abbrev after_psks : VectorFile → List ℕ
-after_psks f = party_text Initiator f.initiator (after_initiator f)
-
-abbrev after_interval : VectorFile → List ℕ
-after_interval f = lines_of psk_words f.psks.items (after_psks f)
-
-abbrev after_prologue : VectorFile → List ℕ
-after_prologue f = line (codes "interval " ++ decimal f.interval) (after_interval f)
-
-abbrev after_block : VectorFile → List ℕ
-after_block f = line (codes "prologue " ++ hex_of f.prologue.items) (after_prologue f)
-
-abbrev after_protocol : VectorFile → List ℕ
-after_protocol f = block_text f.block (after_block f)
-
-abbrev after_header : VectorFile → List ℕ
-after_header f = line (codes "protocol " ++ name_bytes f.protocol) (after_protocol f)
-
 -- the first lines
 record Heads (f g : VectorFile) : Type 0 where
   number : number_of f.version ≡ number_of g.version
@@ -247,8 +185,8 @@ record Heads (f g : VectorFile) : Type 0 where
 
 heads-one : PatternsOnce → (f g : VectorFile) → IsVectorFile f → IsVectorFile g → text_of f ≡ text_of g → Heads f g
 heads-one once f g h k e =
-    let header = parted-one 10 (header_words (is_second f.version)) (header_words (is_second g.version)) (after_header f) (after_header g) (header-plain f.version)
-    (header-plain g.version) e in
+    let header = parted-one 10 (header_words (is_second f.version)) (header_words (is_second g.version)) (after_header f) (after_header g) (header-lacks (is_second f.version))
+    (header-lacks (is_second g.version)) e in
     let names = parted-one 10 (codes "protocol " ++ name_bytes f.protocol) (codes "protocol " ++ name_bytes g.protocol) (after_protocol f)
     (after_protocol g) (protocol-plain f.protocol h.protocol) (protocol-plain g.protocol k.protocol) header.1 in
     let protocol = name-one f.protocol g.protocol h.protocol k.protocol
@@ -280,7 +218,7 @@ middles-one f g h k e =
     let interval = decimal_injective f.interval g.interval h.interval k.interval
     (append_cancel_left (codes "interval ") (decimal f.interval) (decimal g.interval) second.0) in
     let psks = psks-one f.psks.items g.psks.items (after_psks f) (after_psks g) h.psks.1 k.psks.1
-    (initiator-no_psk f.initiator (after_initiator f)) (initiator-no_psk g.initiator (after_initiator g)) second.1 in
+    (psks-end f) (psks-end g) second.1 in
     record { prologue = prologue; interval = interval; psks = psks.0; after = psks.1 }
 
 pub texts-one : PatternsOnce → VectorTextsAreUnique
@@ -288,11 +226,11 @@ texts-one once f g h k e =
     let heads = heads-one once f g h k e in
     let middles = middles-one f g h k heads.after in
     let initiators = party-one Initiator f.initiator g.initiator (after_initiator f) (after_initiator g) h.initiator k.initiator
-    (responder-no_answer f.responder (after_responder f)) (responder-no_answer g.responder (after_responder g)) middles.after in
+    (no-answer f.initiator (after_initiator f) (initiator-ends f)) (no-answer g.initiator (after_initiator g) (initiator-ends g)) middles.after in
     let responders = party-one Responder f.responder g.responder (after_responder f) (after_responder g) h.responder k.responder
-    (events-no_answer f.events.items f.version) (events-no_answer g.events.items g.version) initiators.1 in
+    (no-answer f.responder (after_responder f) (responder-ends f)) (no-answer g.responder (after_responder g) (responder-ends g)) initiators.1 in
     let events = events-one f.events.items g.events.items (version_text f.version) (version_text g.version) h.events k.events
-    (version-no_event f.version) (version-no_event g.version) responders.1 in
+    (version-after f.version) (version-after g.version) responders.1 in
     let versions = version-one f.version g.version h.version k.version heads.number events.2 in
     record {
       protocol = heads.protocol;

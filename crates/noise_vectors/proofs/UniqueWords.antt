@@ -1,5 +1,5 @@
 -- No word or line of a vector file is that of two values.
-use Rattle.std.proofs.Common.{arith, ◌≡◌, ◌∙◌, ◌+◌, ◌<◌, ◌==◌, ap, sym, refl, subst, lit<, true, false, true≢false, not, ◌&&◌}
+use Rattle.std.proofs.Common.{arith, ◌≡◌, ◌∙◌, ◌+◌, ◌<◌, ◌==◌, ap, sym, refl, subst, true, false, true≢false, not, ◌&&◌}
 use Rattle.std.proofs.Common.{ℕ, List, [], ◌∷◌, ◌++◌, map, codes, length, get_or, Option, Some, None}
 use Rattle.std.specs.Prelude.{decimal, nat_lt, IfSome}
 use Rattle.std.specs.List.{All, join_with_byte, list_all}
@@ -23,7 +23,7 @@ use Rattle.noise_vectors.specs.VectorText.{key_word, lengths_word, own_word, rol
 use Rattle.noise_vectors.specs.Words.{IsKey, lacks}
 use Rattle.noise_vectors.proofs.CutLemmas.{hyphen-cuts, lacks-comma}
 use Rattle.noise_vectors.proofs.KeyLemmas.{decoded-key, length-key, bytes-at}
-use Rattle.noise_vectors.proofs.WordLemmas.{lacks-decimal, not_lacks}
+use Rattle.noise_vectors.proofs.WordLemmas.{not_lacks}
 use Rattle.noise_vectors.proofs.AdditionLemmas.{width-small}
 
 -- ---- texts parted by a byte
@@ -138,9 +138,6 @@ width-one a b e = absurd (numbers-apart (width_of a) (width_of b) e refl)
 
 pub window-one : (a b : Window) → decimal (width_of a) ≡ decimal (width_of b) → a ≡ b
 window-one a b e = width-one a b (decimal_injective (width_of a) (width_of b) (width-small a) (width-small b) e)
-
-pub window-plain : (a : Window) → lacks 10 (decimal (width_of a)) ≡ true
-window-plain a = lacks-decimal 10 (width_of a) (lit< tt) (width-small a)
 
 -- ---- protocol names
 

@@ -1,6 +1,5 @@
 -- What is left of a vector file's text where its lines are read one after the other.
-use Rattle.std.proofs.Common.{◌≡◌, refl, subst, sym, false, ℕ, Vec, List, [], ◌∷◌, ◌++◌, Option, Some, None, codes, decimal}
-use Rattle.std.specs.Global.{Global}
+use Rattle.std.proofs.Common.{◌≡◌, refl, subst, sym, false, ℕ, List, [], ◌∷◌, ◌++◌, Option, codes, decimal}
 use Rattle.std.specs.Bool.{nat_eq}
 use Rattle.std.specs.List.{starts_with}
 use Rattle.noise_names.specs.declared.token.Role.TheVariants.{Initiator, Responder}
@@ -10,13 +9,11 @@ use Rattle.noise_events.specs.declared.event.Event.{Event}
 use Rattle.noise_events.specs.declared.event.Event.TheVariants.{Write, Say, Deliver, Raw}
 use Rattle.noise_vectors.specs.HexWord.{hex_of}
 use Rattle.noise_vectors.specs.VectorFile.{IsOwn}
-use Rattle.noise_vectors.specs.VectorText.{block_text, datagrams_text, event_words, expect_words, line, lines_of, party_text, psk_words, version_text}
+use Rattle.noise_vectors.specs.VectorText.{block_text, event_words, line, lines_of, party_text, psk_words, version_text}
 use Rattle.noise_vectors.specs.declared.file_keys.FileKeys.{FileKeys}
 use Rattle.noise_vectors.specs.declared.file_keys.FileKeys.TheVariants.{Xor, Table}
-use Rattle.noise_vectors.specs.declared.vector.FileDatagrams.{FileDatagrams}
 use Rattle.noise_vectors.specs.declared.vector.VectorFile.{VectorFile}
-use Rattle.noise_vectors.specs.declared.vector.Version.{Version}
-use Rattle.noise_vectors.specs.declared.vector.Version.TheVariants.{One, Two}
+use Rattle.noise_vectors.proofs.AdditionLemmas.{after_events-no_answer, version-after}
 
 -- ---- what follows each part of the text
 
@@ -46,34 +43,21 @@ after_header file = line (codes "protocol " ++ name_bytes file.protocol) (after_
 
 -- ---- how the rest begins
 
-initiator-no_psk : (keys : FileKeys) (rest : List ℕ) → starts_with nat_eq (party_text Initiator keys rest) (codes "psk ") ≡ false
+pub initiator-no_psk : (keys : FileKeys) (rest : List ℕ) → starts_with nat_eq (party_text Initiator keys rest) (codes "psk ") ≡ false
 initiator-no_psk (Xor keys) rest = refl
 initiator-no_psk (Table keys) rest = refl
 
-responder-no_answer : (keys : FileKeys) (rest : List ℕ) → starts_with nat_eq (party_text Responder keys rest) (codes "answer ") ≡ false
+pub responder-no_answer : (keys : FileKeys) (rest : List ℕ) → starts_with nat_eq (party_text Responder keys rest) (codes "answer ") ≡ false
 responder-no_answer (Xor keys) rest = refl
 responder-no_answer (Table keys) rest = refl
 
-expected-no_answer : (expected : List (Vec ℕ Global)) → starts_with nat_eq (lines_of expect_words expected []) (codes "answer ") ≡ false
-expected-no_answer [] = refl
-expected-no_answer (words ∷ more) = refl
-
-datagrams-no_answer : (over : Option FileDatagrams) (expected : List (Vec ℕ Global))
-    → starts_with nat_eq (datagrams_text over (lines_of expect_words expected [])) (codes "answer ") ≡ false
-datagrams-no_answer None expected = expected-no_answer expected
-datagrams-no_answer (Some over) expected = refl
-
-version-no_answer : (version : Version) → starts_with nat_eq (version_text version) (codes "answer ") ≡ false
-version-no_answer One = refl
-version-no_answer (Two additions) = datagrams-no_answer additions.datagrams additions.expected.items
-
-events-no_answer : (events : List Event) (version : Version)
-    → starts_with nat_eq (lines_of event_words events (version_text version)) (codes "answer ") ≡ false
-events-no_answer [] version = version-no_answer version
-events-no_answer (Say role payload cuts ∷ events) version = refl
-events-no_answer (Write role payload ∷ events) version = refl
-events-no_answer (Deliver role number cuts ∷ events) version = refl
-events-no_answer (Raw role bytes ∷ events) version = refl
+pub events-no_answer : (events : List Event) (rest : List ℕ) → starts_with nat_eq rest (codes "answer ") ≡ false
+    → starts_with nat_eq (lines_of event_words events rest) (codes "answer ") ≡ false
+events-no_answer [] rest h = h
+events-no_answer (Say role payload cuts ∷ events) rest h = refl
+events-no_answer (Write role payload ∷ events) rest h = refl
+events-no_answer (Deliver role number cuts ∷ events) rest h = refl
+events-no_answer (Raw role bytes ∷ events) rest h = refl
 
 -- no psk line stands after the psk lines
 pub psks-end : (file : VectorFile) → starts_with nat_eq (after_psks file) (codes "psk ") ≡ false
@@ -85,7 +69,8 @@ initiator-ends file = responder-no_answer file.responder (after_responder file)
 
 -- nor after the responder's
 pub responder-ends : (file : VectorFile) → starts_with nat_eq (after_responder file) (codes "answer ") ≡ false
-responder-ends file = events-no_answer file.events.items file.version
+responder-ends file =
+    events-no_answer file.events.items (version_text file.version) (after_events-no_answer (version_text file.version) (version-after file.version))
 
 -- ---- the pattern
 

@@ -3,7 +3,7 @@ pub mod Cuts
 pub mod Expectations
 pub mod FileKeys
 pub mod HexWord
-pub mod LineNumbers
+pub mod Lines
 pub mod OwnPattern
 pub mod ReaderFaults
 pub mod SameFile

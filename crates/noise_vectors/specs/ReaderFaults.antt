@@ -1,4 +1,4 @@
--- What the readers of a file's parts tell.
+-- What the readers of a file's parts report.
 use Rattle.std.specs.Prelude.{◌≡◌, ◌⊎◌, ◌+◌, ◌<◌, ◌≤◌, ◌^◌, IsFalse, IsTrue, ℕ, List, [], ◌∷◌, ◌++◌, Bool, true, false, codes, decimal, length, nat_eq, IfSome, Option, None}
 use Rattle.std.specs.List.{All, starts_with}
 use Rattle.noise_events.specs.declared.datagram_event.DatagramEvent.{DatagramEvent}
@@ -34,8 +34,8 @@ use Rattle.noise_vectors.specs.declared.vector.FileDatagrams.{FileDatagrams}
 
 -- the text's first line is the one of this number, and wrong, so that the fault is of this kind
 pub record IsWrongFirst (left : List ℕ) (total : ℕ) (kind : LineKind) (fault : VectorFault) : Type 0 where
-  pub told : List ℕ
-  pub is_first : IsFirstLine told left
+  pub reported : List ℕ
+  pub is_first : IsFirstLine reported left
   pub number : ℕ
   pub counted : number + line_feeds left ≡ total + 1
   pub fault_is : fault ≡ Line number kind
@@ -59,10 +59,10 @@ abbrev pub IsCutLine : (List ℕ → Type 0) → List ℕ → Type 0
 IsCutLine IsGood text = (text ≡ []) ⊎ IsGood text
 
 -- the text's first line is no such line; or the text ends there, or memory ran out
-abbrev pub TellsLine : (List ℕ → Type 0) → List ℕ → ℕ → LineKind → VectorFault → Type 0
-TellsLine IsGood text total kind fault =
+abbrev pub ReportsLine : (List ℕ → Type 0) → List ℕ → ℕ → LineKind → VectorFault → Type 0
+ReportsLine IsGood text total kind fault =
     (fault ≡ Memory) ⊎ ((fault ≡ Line (total + 1) kinds.Ending) × IsCutLine IsGood text)
-    ⊎ ((it : IsWrongFirst text total kind fault) × ¬ IsGood it.told)
+    ⊎ ((it : IsWrongFirst text total kind fault) × ¬ IsGood it.reported)
 
 -- ---- lines of one kind
 
@@ -84,7 +84,7 @@ pub record IsWrongAfter {A : Type 0} (of : Listed A) (from : List ℕ) (total : 
   pub text_is : from ≡ lines_of of.words done left
   pub stands : ¬ of.Over left
   pub it : IsWrongFirst left total (of.kind done) fault
-  pub full : (x : A) → of.Good x → it.told ≡ of.words x → of.Full (length done)
+  pub full : (x : A) → of.Good x → it.reported ≡ of.words x → of.Full (length done)
 
 -- the text ends within the last of these
 pub record IsCutAfter {A : Type 0} (of : Listed A) (from : List ℕ) : Type 0 where
@@ -93,8 +93,8 @@ pub record IsCutAfter {A : Type 0} (of : Listed A) (from : List ℕ) : Type 0 wh
   pub few : of.Few (length done)
   pub text_is : from ++ codes "\n" ≡ lines_of of.words done []
 
-abbrev pub TellsAfter : {A : Type 0} → Listed A → List ℕ → ℕ → VectorFault → Type 0
-TellsAfter of from total fault =
+abbrev pub ReportsAfter : {A : Type 0} → Listed A → List ℕ → ℕ → VectorFault → Type 0
+ReportsAfter of from total fault =
     (fault ≡ Memory) ⊎ ((fault ≡ Line (total + 1) kinds.Ending) × IsCutAfter of from) ⊎ IsWrongAfter of from total fault
 
 abbrev pub psk_lines : Listed (List ℕ)
@@ -137,7 +137,7 @@ datagram_lines = record {
   kind = λ done. kinds.Event;
 }
 
--- the first wrong line of what is expected is told as one of the events
+-- the first wrong line of what is expected is reported as one of the events
 abbrev pub expect_kind : List (List ℕ) → LineKind
 expect_kind [] = kinds.Event
 expect_kind (words ∷ more) = kinds.Expect
@@ -162,20 +162,20 @@ pub record IsWrongAnswer (role : Role) (from : List ℕ) (total : ℕ) (fault : 
   pub text_is : from ≡ party_text role (Table table) left
   pub begun : IsTrue (starts_with nat_eq left (codes "answer "))
   pub it : IsWrongFirst left total kinds.Answer fault
-  pub full : (entry : TableEntry) → IsEntry entry → it.told ≡ answer_words entry → length table.entries ≡ 8
+  pub full : (entry : TableEntry) → IsEntry entry → it.reported ≡ answer_words entry → length table.entries ≡ 8
 
 -- the text's first line is none of the party's
 abbrev pub IsWrongParty : Role → List ℕ → ℕ → VectorFault → Type 0
 IsWrongParty role from total fault =
     (it : IsWrongFirst from total kinds.Keys fault)
-    × ((keys : FileKeys) (rest after : List ℕ) → AreKeys keys → ¬ (line it.told after ≡ party_text role keys rest))
+    × ((keys : FileKeys) (rest after : List ℕ) → AreKeys keys → ¬ (line it.reported after ≡ party_text role keys rest))
 
 -- the text ends before the party's lines, or within the last of them
 abbrev pub IsCutParty : Role → List ℕ → Type 0
 IsCutParty role from = (from ≡ []) ⊎ ((keys : FileKeys) × AreKeys keys × (from ++ codes "\n" ≡ party_text role keys []))
 
-abbrev pub TellsParty : Role → List ℕ → ℕ → VectorFault → Type 0
-TellsParty role from total fault =
+abbrev pub ReportsParty : Role → List ℕ → ℕ → VectorFault → Type 0
+ReportsParty role from total fault =
     (fault ≡ Memory)
     ⊎ ((fault ≡ Line (total + 1) kinds.Ending) × IsCutParty role from)
     ⊎ IsWrongParty role from total fault
@@ -187,7 +187,7 @@ TellsParty role from total fault =
 pub record IsWrongWindow (allowed : AllowedEvents) (from : List ℕ) (total : ℕ) (fault : VectorFault) : Type 0 where
   pub begun : IsTrue (starts_with nat_eq from (codes "datagrams "))
   pub it : IsWrongFirst from total kinds.Event fault
-  pub none : (window : Window) → it.told ≡ window_words window → allowed ≡ SayOnly
+  pub none : (window : Window) → it.reported ≡ window_words window → allowed ≡ SayOnly
 
 -- an event of the datagrams is
 pub record IsWrongDatagram (allowed : AllowedEvents) (from : List ℕ) (total : ℕ) (fault : VectorFault) : Type 0 where
@@ -206,32 +206,32 @@ pub record IsCutDatagrams (allowed : AllowedEvents) (from : List ℕ) : Type 0 w
   pub few : length events < 2 ^ 63
   pub text_is : from ++ codes "\n" ≡ line (window_words window) (lines_of datagram_event_words events [])
 
-abbrev pub TellsDatagrams : AllowedEvents → List ℕ → ℕ → VectorFault → Type 0
-TellsDatagrams allowed from total fault =
+abbrev pub ReportsDatagrams : AllowedEvents → List ℕ → ℕ → VectorFault → Type 0
+ReportsDatagrams allowed from total fault =
     (fault ≡ Memory) ⊎ ((fault ≡ Line (total + 1) kinds.Ending) × IsCutDatagrams allowed from)
     ⊎ IsWrongWindow allowed from total fault ⊎ IsWrongDatagram allowed from total fault
 
--- a line of what is expected is told, after these datagrams
-pub record TellsExpected (allowed : AllowedEvents) (from : List ℕ) (total : ℕ) (fault : VectorFault) : Type 0 where
+-- a line of what is expected is reported, after these datagrams
+pub record ReportsExpected (allowed : AllowedEvents) (from : List ℕ) (total : ℕ) (fault : VectorFault) : Type 0 where
   pub over : Option FileDatagrams
   pub are : IfSome over (λ over. All IsDatagramEvent over.events.items)
   pub is_allowed : allowed ≡ SayOnly → over ≡ None
   pub after : List ℕ
   pub text_is : from ≡ datagrams_text over after
   pub stands : AfterDatagrams after
-  pub it : TellsAfter expect_lines after total fault
+  pub it : ReportsAfter expect_lines after total fault
 
 -- in version 1 any line is wrong
-abbrev pub TellsVersion : AllowedEvents → Bool → List ℕ → ℕ → VectorFault → Type 0
-TellsVersion allowed second from total fault =
+abbrev pub ReportsVersion : AllowedEvents → Bool → List ℕ → ℕ → VectorFault → Type 0
+ReportsVersion allowed second from total fault =
     ((second ≡ false) × ¬ (from ≡ []) × IsWrongFirst from total kinds.Event fault)
-    ⊎ ((second ≡ true) × (TellsDatagrams allowed from total fault ⊎ TellsExpected allowed from total fault))
+    ⊎ ((second ≡ true) × (ReportsDatagrams allowed from total fault ⊎ ReportsExpected allowed from total fault))
 
 -- ---- the pattern
 
 -- the text ends where no line `end` is left
-abbrev pub TellsOpen : List ℕ → ℕ → VectorFault → Type 0
-TellsOpen from total fault = (fault ≡ Line (total + 1) kinds.Ending) × ¬ Block from
+abbrev pub ReportsOpen : List ℕ → ℕ → VectorFault → Type 0
+ReportsOpen from total fault = (fault ≡ Line (total + 1) kinds.Ending) × ¬ Block from
 
 -- the text ends with the line `end` of this name's pattern, without its line feed
 pub record IsCutBlock (name : Section) (from : List ℕ) (total : ℕ) (fault : VectorFault) : Type 0 where
@@ -250,6 +250,6 @@ pub record IsWrongBlock (name : Section) (from : List ℕ) (total : ℕ) (fault 
   pub counted : number + line_feeds from ≡ total + place
   pub fault_is : fault ≡ Line number kinds.Pattern
 
-abbrev pub TellsBlock : Section → List ℕ → ℕ → VectorFault → Type 0
-TellsBlock name from total fault =
-    TellsOpen from total fault ⊎ IsCutBlock name from total fault ⊎ IsWrongBlock name from total fault
+abbrev pub ReportsBlock : Section → List ℕ → ℕ → VectorFault → Type 0
+ReportsBlock name from total fault =
+    ReportsOpen from total fault ⊎ IsCutBlock name from total fault ⊎ IsWrongBlock name from total fault

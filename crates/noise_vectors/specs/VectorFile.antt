@@ -40,7 +40,7 @@ AreBytes most bytes = (length bytes ≤ most) × All (λ b. b < 256) bytes
 abbrev pub IsShort : List ℕ → Type 0
 IsShort bytes = AreBytes 65535 bytes
 
--- at most 9 pre-shared secrets
+-- at most 9 pre-shared keys
 abbrev pub ArePsks : List (List ℕ) → Type 0
 ArePsks psks = (length psks ≤ 9) × All IsKey psks
 

@@ -1,4 +1,4 @@
--- What the words of a vector file stand for.
+-- What the words of a vector file match.
 use Rattle.std.specs.Prelude.{◌≡◌, ℕ, ◌<◌, ◌==◌, Bool, not, List, length}
 use Rattle.std.specs.List.{All, list_all}
 

@@ -1,4 +1,5 @@
--- Which line of a wrong file is told. A line of the pattern that a file spells is told as it is of a pattern text.
+-- Which line of a wrong file is reported. A line of the pattern that a file spells is reported as it is of a pattern
+-- text.
 use Rattle.std.specs.Prelude.{⊤, ◌≡◌, ◌≢◌, ◌⊎◌, ◌+◌, ◌==◌, IsFalse, IsTrue, ℕ, List, [], ◌∷◌, ◌++◌, Bool, false, codes, count_by, decimal, nat_eq, None}
 use Rattle.std.specs.List.{All, starts_with}
 use Rattle.noise_names.specs.declared.faults.TextFault.{TextFault}
@@ -75,45 +76,47 @@ abbrev pub is_answer_line : FileKeys → List ℕ → Bool
 is_answer_line (Xor keys) words = false
 is_answer_line (Table keys) words = starts_with nat_eq words (codes "answer ")
 
--- ---- the line that is told
+-- ---- the line that is reported
 
 -- Some right file begins with the lines before the line of this number, up to where the line of the fault's kind has to
 -- stand. With that line too no right file begins.
-pub record IsToldLine (allowed : AllowedEvents) (text : List ℕ) (number : ℕ)
+pub record IsReportedLine (allowed : AllowedEvents) (text : List ℕ) (number : ℕ)
     (up_to : VectorFile → List ℕ → List ℕ) : Type 0 where
   pub file : VectorFile
   pub is_file : IsVectorFile file
   pub is_allowed : IsAllowedFile allowed file
   pub begun : (rest : List ℕ) × (text_of file ≡ up_to file rest)
-  pub told : List ℕ  -- the line
+  pub reported : List ℕ  -- the line
   pub left : List ℕ  -- the text from that line on
   pub text_is : text ≡ up_to file left
-  pub is_first : IsFirstLine told left
+  pub is_first : IsFirstLine reported left
   pub counted : number ≡ line_feeds (up_to file []) + 1
   pub wrong : (other : VectorFile) (rest : List ℕ) → IsVectorFile other → IsAllowedFile allowed other
-      → ¬ (text_of other ≡ up_to file (line told rest))
+      → ¬ (text_of other ≡ up_to file (line reported rest))
 
 -- the keys of a party, where neither a psk nor an answer begins
-abbrev pub IsToldKeys : AllowedEvents → List ℕ → ℕ → Type 0
-IsToldKeys allowed text number =
-    ((it : IsToldLine allowed text number up_to_initiator) × IsFalse (is_psk_line it.told))
-    ⊎ ((it : IsToldLine allowed text number up_to_responder) × IsFalse (is_answer_line it.file.initiator it.told))
+abbrev pub IsReportedKeys : AllowedEvents → List ℕ → ℕ → Type 0
+IsReportedKeys allowed text number =
+    ((it : IsReportedLine allowed text number up_to_initiator) × IsFalse (is_psk_line it.reported))
+    ⊎ ((it : IsReportedLine allowed text number up_to_responder)
+    × IsFalse (is_answer_line it.file.initiator it.reported))
 
 -- an answer of a party's table
-abbrev pub IsToldAnswer : AllowedEvents → List ℕ → ℕ → Type 0
-IsToldAnswer allowed text number =
-    ((it : IsToldLine allowed text number up_to_responder) × IsTrue (is_answer_line it.file.initiator it.told))
-    ⊎ ((it : IsToldLine allowed text number up_to_events) × IsTrue (is_answer_line it.file.responder it.told))
+abbrev pub IsReportedAnswer : AllowedEvents → List ℕ → ℕ → Type 0
+IsReportedAnswer allowed text number =
+    ((it : IsReportedLine allowed text number up_to_responder) × IsTrue (is_answer_line it.file.initiator it.reported))
+    ⊎ ((it : IsReportedLine allowed text number up_to_events) × IsTrue (is_answer_line it.file.responder it.reported))
 
 -- a line after the responder's that is no answer of its table, before any line of what is expected
-pub record IsToldEvent (allowed : AllowedEvents) (text : List ℕ) (number : ℕ) : Type 0 where
-  pub it : IsToldLine allowed text number up_to_end
+pub record IsReportedEvent (allowed : AllowedEvents) (text : List ℕ) (number : ℕ) : Type 0 where
+  pub it : IsReportedLine allowed text number up_to_end
   pub none_expected : expected_of it.file.version ≡ []
-  pub no_answer : text_of it.file ≡ up_to_events it.file [] → IsFalse (is_answer_line it.file.responder it.told)
+  pub no_answer : text_of it.file ≡ up_to_events it.file [] → IsFalse (is_answer_line it.file.responder it.reported)
 
 -- a line after one of what is expected
-abbrev pub IsToldExpect : AllowedEvents → List ℕ → ℕ → Type 0
-IsToldExpect allowed text number = (it : IsToldLine allowed text number up_to_end) × (expected_of it.file.version ≢ [])
+abbrev pub IsReportedExpect : AllowedEvents → List ℕ → ℕ → Type 0
+IsReportedExpect allowed text number =
+    (it : IsReportedLine allowed text number up_to_end) × (expected_of it.file.version ≢ [])
 
 -- The text ends too early: some right file begins with it and goes on, with the line feed of the text's last line or
 -- with a further line. The number is that of this line.
@@ -166,25 +169,25 @@ IsWrongIn name block number =
     ⊎ (HasHeading name block × ((fault : TextFault) × IsTextFault block fault × (number ≡ fault.line)))
 
 -- A line of that pattern is wrong. The header and the line of the protocol stand before its lines.
-pub record IsToldPattern (allowed : AllowedEvents) (text : List ℕ) (number : ℕ) : Type 0 where
+pub record IsReportedPattern (allowed : AllowedEvents) (text : List ℕ) (number : ℕ) : Type 0 where
   pub it : HasOwnName allowed text
   pub block : Block it.left
   pub place : ℕ
   pub wrong : IsWrongIn it.name (lines_of itself block.lines []) place
   pub counted : number ≡ 2 + place
 
--- what a fault tells of the text
-abbrev pub IsTold : AllowedEvents → List ℕ → VectorFault → Type 0
-IsTold allowed text (Line number kinds.Header) = IsToldLine allowed text number (λ file rest. rest)
-IsTold allowed text (Line number kinds.Protocol) = IsToldLine allowed text number up_to_protocol
-IsTold allowed text (Line number kinds.Pattern) = IsToldPattern allowed text number
-IsTold allowed text (Line number kinds.Prologue) = IsToldLine allowed text number up_to_prologue
-IsTold allowed text (Line number kinds.Interval) = IsToldLine allowed text number up_to_interval
-IsTold allowed text (Line number kinds.Psk) =
-    (it : IsToldLine allowed text number up_to_initiator) × IsTrue (is_psk_line it.told)
-IsTold allowed text (Line number kinds.Keys) = IsToldKeys allowed text number
-IsTold allowed text (Line number kinds.Answer) = IsToldAnswer allowed text number
-IsTold allowed text (Line number kinds.Event) = IsToldEvent allowed text number
-IsTold allowed text (Line number kinds.Expect) = IsToldExpect allowed text number
-IsTold allowed text (Line number kinds.Ending) = IsCutShort allowed text number ⊎ IsOpenBlock allowed text number
-IsTold allowed text Memory = ⊤
+-- what a fault reports of the text
+abbrev pub IsReported : AllowedEvents → List ℕ → VectorFault → Type 0
+IsReported allowed text (Line number kinds.Header) = IsReportedLine allowed text number (λ file rest. rest)
+IsReported allowed text (Line number kinds.Protocol) = IsReportedLine allowed text number up_to_protocol
+IsReported allowed text (Line number kinds.Pattern) = IsReportedPattern allowed text number
+IsReported allowed text (Line number kinds.Prologue) = IsReportedLine allowed text number up_to_prologue
+IsReported allowed text (Line number kinds.Interval) = IsReportedLine allowed text number up_to_interval
+IsReported allowed text (Line number kinds.Psk) =
+    (it : IsReportedLine allowed text number up_to_initiator) × IsTrue (is_psk_line it.reported)
+IsReported allowed text (Line number kinds.Keys) = IsReportedKeys allowed text number
+IsReported allowed text (Line number kinds.Answer) = IsReportedAnswer allowed text number
+IsReported allowed text (Line number kinds.Event) = IsReportedEvent allowed text number
+IsReported allowed text (Line number kinds.Expect) = IsReportedExpect allowed text number
+IsReported allowed text (Line number kinds.Ending) = IsCutShort allowed text number ⊎ IsOpenBlock allowed text number
+IsReported allowed text Memory = ⊤

@@ -1,11 +1,11 @@
 //! What version 2 adds, after the events.
 
-ghost use Rattle.std.specs.Prelude.{◌≡◌, ◌+◌, ◌<◌, ◌^◌, ℕ, List, Option, Some, None, Bool, false, IfErr, IfOk, IfSome, MatchOption, MatchResult};
+ghost use Rattle.std.specs.Prelude.{◌≡◌, ℕ, List, Option, Some, None, false, IfErr, IfOk, IfSome, MatchResult};
 ghost use Rattle.std.specs.List.{All};
 ghost use Rattle.noise_events.specs.declared.window.Window.{Window};
-ghost use Rattle.noise_vectors.specs.LineNumbers.{last_number};
+ghost use Rattle.noise_vectors.specs.Lines.{last_number};
 ghost use Rattle.noise_vectors.specs.VectorFile.{IsAllowedVersion, IsDatagramEvent, IsVersion};
-ghost use Rattle.noise_vectors.specs.ReaderFaults.{TellsDatagrams, TellsVersion};
+ghost use Rattle.noise_vectors.specs.ReaderFaults.{ReportsDatagrams, ReportsVersion};
 ghost use Rattle.noise_vectors.specs.VectorText.{AfterDatagrams, AfterEvents, datagrams_text, is_second, version_text, window_words};
 ghost use Rattle.noise_vectors.specs.declared.faults.VectorFault.TheVariants.{Memory};
 ghost use Rattle.noise_vectors.specs.declared.vector.AllowedEvents.TheVariants.{SayOnly, VersionOne};
@@ -33,8 +33,8 @@ pub(crate) fn read_version(
     ensures which { IfOk result (λ version. is_second version ≡ second) }
     ensures right { IfOk result IsVersion }
     ensures allowed { IfOk result (IsAllowedVersion allowed) }
-    ensures told { last_number lines.old < 2 ^ 63 → AfterEvents lines.old.rest.now
-        → IfErr result (TellsVersion allowed second lines.old.rest.now (last_number lines.old)) }
+    ensures reported { AfterEvents lines.old.rest.now
+        → IfErr result (ReportsVersion allowed second lines.old.rest.now (last_number lines.old)) }
     ensures every { (version : Version) → IsVersion version → IsAllowedVersion allowed version
         → is_second version ≡ second
         → lines.old.rest.now ≡ version_text version
@@ -64,11 +64,9 @@ fn read_datagrams(
     ensures text { IfOk result (λ found. lines.old.rest.now ≡ datagrams_text found lines.new.rest.now) }
     ensures right { IfOk result (λ found. IfSome found (λ over. All IsDatagramEvent over.events.items)) }
     ensures allowed { IfOk result (λ found. allowed ≡ SayOnly → found ≡ None) }
-    ensures over { AfterEvents lines.old.rest.now → IfOk result (λ found. AfterDatagrams lines.new.rest.now) }
-    ensures counted { last_number lines.old < 2 ^ 63
-        → IfOk result (λ found. last_number lines.new ≡ last_number lines.old) }
-    ensures told { last_number lines.old < 2 ^ 63
-        → IfErr result (TellsDatagrams allowed lines.old.rest.now (last_number lines.old)) }
+    ensures ended { AfterEvents lines.old.rest.now → IfOk result (λ found. AfterDatagrams lines.new.rest.now) }
+    ensures counted { IfOk result (λ found. last_number lines.new ≡ last_number lines.old) }
+    ensures reported { IfErr result (ReportsDatagrams allowed lines.old.rest.now (last_number lines.old)) }
     ensures every { (over : Option FileDatagrams) (rest : List ℕ) → IfSome over
         (λ over. All IsDatagramEvent over.events.items)
         → (allowed ≡ SayOnly → over ≡ None) → AfterDatagrams rest → lines.old.rest.now ≡ datagrams_text over rest

@@ -1,14 +1,14 @@
 //! The pattern that a file spells itself.
 
-ghost use Rattle.std.specs.Prelude.{◌≡◌, ◌↔◌, ◌+◌, ◌<◌, ◌^◌, ◌++◌, [], ℕ, List, IfErr, IfOk, IsFalse, IsTrue, MatchResult, Ok, codes};
+ghost use Rattle.std.specs.Prelude.{◌≡◌, ◌↔◌, ◌+◌, ◌++◌, [], ℕ, List, IfErr, IfOk, IsFalse, IsTrue, MatchResult, Ok, codes};
 ghost use Rattle.std.specs.List.{All};
 ghost use Rattle.noise_names.specs.Limits.{IsPattern};
 ghost use Rattle.noise_names.specs.Names.{IsSection};
 ghost use Rattle.noise_names.specs.Plan.{Plan};
 ghost use Rattle.noise_names.specs.Text.{text_of as pattern_text};
-ghost use Rattle.noise_vectors.specs.LineNumbers.{last_number};
+ghost use Rattle.noise_vectors.specs.Lines.{last_number};
 ghost use Rattle.noise_vectors.specs.Block.{IsInner, itself};
-ghost use Rattle.noise_vectors.specs.ReaderFaults.{TellsBlock, TellsOpen};
+ghost use Rattle.noise_vectors.specs.ReaderFaults.{ReportsBlock, ReportsOpen};
 ghost use Rattle.noise_vectors.specs.VectorText.{line, lines_of};
 ghost use Rattle.noise_vectors.specs.WrongLine.{Block, HasHeading, IsWrongIn};
 ghost use Rattle.noise_vectors.specs.OwnPattern.{HasName};
@@ -27,10 +27,9 @@ pub(crate) fn read_block(
         (λ pattern. lines.old.rest.now ≡ pattern_text pattern ++ line (codes "end") lines.new.rest.now) }
     ensures right { IfOk result IsPattern }
     ensures named { IfOk result (λ pattern. HasName pattern protocol.now) }
-    ensures counted { last_number lines.old < 2 ^ 63
-        → IfOk result (λ pattern. last_number lines.new ≡ last_number lines.old) }
-    ensures told { last_number lines.old < 2 ^ 63 → IsSection protocol.now
-        → IfErr result (TellsBlock protocol.now lines.old.rest.now (last_number lines.old)) }
+    ensures counted { IfOk result (λ pattern. last_number lines.new ≡ last_number lines.old) }
+    ensures reported { IsSection protocol.now
+        → IfErr result (ReportsBlock protocol.now lines.old.rest.now (last_number lines.old)) }
     ensures every { (pattern : Plan) (rest : List ℕ) → IsPattern pattern → HasName pattern protocol.now
         → lines.old.rest.now ≡ pattern_text pattern ++ line (codes "end") rest
         → MatchResult result (λ read. (read ≡ pattern) × (lines.new.rest.now ≡ rest)) (λ fault. ⊥) }
@@ -52,12 +51,9 @@ fn take_block<'a>(lines: &mut Lines<'a>) -> Result<&'a [u8], VectorFault>
         (λ text. IsTrue lines.new.is_ended → lines.old.rest.now ≡ text.now ++ line (codes "end") lines.new.rest.now) }
     ensures block { IfOk result
         (λ text. (block : Block lines.old.rest.now) × (text.now ≡ lines_of itself block.lines [])) }
-    ensures counted { last_number lines.old < 2 ^ 63
-        → IfOk result (λ text. IsTrue lines.new.is_ended → last_number lines.new ≡ last_number lines.old) }
-    ensures last { last_number lines.old < 2 ^ 63
-        → IfOk result (λ text. IsFalse lines.new.is_ended → lines.new.number ≡ last_number lines.old + 1) }
-    ensures told { last_number lines.old < 2 ^ 63
-        → IfErr result (TellsOpen lines.old.rest.now (last_number lines.old)) }
+    ensures counted { IfOk result (λ text. IsTrue lines.new.is_ended → last_number lines.new ≡ last_number lines.old) }
+    ensures last { IfOk result (λ text. IsFalse lines.new.is_ended → lines.new.number ≡ last_number lines.old + 1) }
+    ensures reported { IfErr result (ReportsOpen lines.old.rest.now (last_number lines.old)) }
     ensures every { (before : List (List ℕ)) (rest : List ℕ) → All IsInner before
         → lines.old.rest.now ≡ lines_of itself before (line (codes "end") rest)
         → MatchResult result (λ text. (text.now ≡ lines_of itself before []) × (lines.new.rest.now ≡ rest)
@@ -81,7 +77,7 @@ fn pattern_of(text: &[u8], protocol: &ProtocolName) -> Result<Pattern, usize>
     ensures every { (pattern : Plan) → IsPattern pattern → HasName pattern protocol.now
         → text.now ≡ pattern_text pattern
         → result ≡ Ok pattern }
-    ensures told { IsSection protocol.now → IfErr result (IsWrongIn protocol.now text.now) }
+    ensures reported { IsSection protocol.now → IfErr result (IsWrongIn protocol.now text.now) }
 {
     match Pattern::parse_text(text) {
         Ok(pattern) if pattern.name() == *protocol => Ok(pattern),

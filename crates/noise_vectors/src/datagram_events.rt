@@ -1,12 +1,12 @@
 //! The lines of events after `datagrams`.
 
-ghost use Rattle.std.specs.Prelude.{◌≡◌, ◌+◌, ◌<◌, ◌^◌, ◌∷◌, ◌++◌, ◌↔◌, ℕ, List, IfErr, IfOk, IfSome, IsSome, IsTrue, MatchOption, MatchResult};
+ghost use Rattle.std.specs.Prelude.{◌≡◌, ◌∷◌, ◌++◌, ◌↔◌, ℕ, List, IfErr, IfOk, IfSome, IsSome, IsTrue, MatchOption, MatchResult};
 ghost use Rattle.std.specs.List.{All};
 ghost use Rattle.noise_names.specs.declared.token.Role.{Role};
 ghost use Rattle.noise_events.specs.declared.datagram_event.DatagramEvent.{DatagramEvent};
-ghost use Rattle.noise_vectors.specs.LineNumbers.{last_number};
+ghost use Rattle.noise_vectors.specs.Lines.{last_number};
 ghost use Rattle.noise_vectors.specs.VectorFile.{IsDatagramEvent};
-ghost use Rattle.noise_vectors.specs.ReaderFaults.{TellsAfter, datagram_lines};
+ghost use Rattle.noise_vectors.specs.ReaderFaults.{ReportsAfter, datagram_lines};
 ghost use Rattle.noise_vectors.specs.VectorText.{AfterDatagrams, datagram_event_words, datagram_kind_word, lines_of, role_word};
 ghost use Rattle.noise_vectors.specs.declared.faults.VectorFault.TheVariants.{Memory};
 ghost use Rattle.noise_vectors.specs.declared.words.DatagramKind.{DatagramKind};
@@ -28,11 +28,9 @@ pub(crate) fn read_datagram_events(
     ensures text { IfOk result
         (λ events. lines.old.rest.now ≡ lines_of datagram_event_words events.items lines.new.rest.now) }
     ensures right { IfOk result (λ events. All IsDatagramEvent events.items) }
-    ensures over { IfOk result (λ events. AfterDatagrams lines.new.rest.now) }
-    ensures counted { last_number lines.old < 2 ^ 63
-        → IfOk result (λ events. last_number lines.new ≡ last_number lines.old) }
-    ensures told { last_number lines.old < 2 ^ 63
-        → IfErr result (TellsAfter datagram_lines lines.old.rest.now (last_number lines.old)) }
+    ensures ended { IfOk result (λ events. AfterDatagrams lines.new.rest.now) }
+    ensures counted { IfOk result (λ events. last_number lines.new ≡ last_number lines.old) }
+    ensures reported { IfErr result (ReportsAfter datagram_lines lines.old.rest.now (last_number lines.old)) }
     ensures every { (events : List DatagramEvent) (rest : List ℕ) → All IsDatagramEvent events → AfterDatagrams rest
         → lines.old.rest.now ≡ lines_of datagram_event_words events rest
         → MatchResult result (λ read. lines.new.rest.now ≡ rest) (λ fault. fault ≡ Memory) }

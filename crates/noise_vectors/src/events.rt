@@ -1,14 +1,14 @@
 //! The lines of events.
 
-ghost use Rattle.std.specs.Prelude.{◌≡◌, ◌+◌, ◌<◌, ◌^◌, ◌∷◌, ◌++◌, ◌↔◌, ℕ, List, IfErr, IfOk, IfSome, IsSome, IsTrue, MatchOption, MatchResult, decimal};
+ghost use Rattle.std.specs.Prelude.{◌≡◌, ◌<◌, ◌^◌, ◌∷◌, ◌++◌, ◌↔◌, ℕ, List, IfErr, IfOk, IfSome, IsSome, IsTrue, MatchOption, MatchResult, decimal};
 ghost use Rattle.std.specs.List.{All};
 ghost use Rattle.noise_names.specs.declared.token.Role.{Role};
 ghost use Rattle.noise_events.specs.declared.event.Event.{Event};
-ghost use Rattle.noise_vectors.specs.LineNumbers.{last_number};
+ghost use Rattle.noise_vectors.specs.Lines.{last_number};
 ghost use Rattle.noise_vectors.specs.Cuts.{AreCuts};
 ghost use Rattle.noise_vectors.specs.HexWord.{hex_of};
 ghost use Rattle.noise_vectors.specs.VectorFile.{IsAllowed, IsEvent, IsShort};
-ghost use Rattle.noise_vectors.specs.ReaderFaults.{TellsAfter, event_lines};
+ghost use Rattle.noise_vectors.specs.ReaderFaults.{ReportsAfter, event_lines};
 ghost use Rattle.noise_vectors.specs.VectorText.{AfterEvents, event_words, kind_word, lengths_word, lines_of, role_word};
 ghost use Rattle.noise_vectors.specs.declared.words.EventKind.{EventKind};
 ghost use Rattle.noise_vectors.specs.declared.faults.VectorFault.TheVariants.{Memory};
@@ -32,11 +32,9 @@ pub(crate) fn read_events(
     ensures text { IfOk result (λ events. lines.old.rest.now ≡ lines_of event_words events.items lines.new.rest.now) }
     ensures right { IfOk result (λ events. All IsEvent events.items) }
     ensures allowed { IfOk result (λ events. All (IsAllowed allowed) events.items) }
-    ensures over { IfOk result (λ events. AfterEvents lines.new.rest.now) }
-    ensures counted { last_number lines.old < 2 ^ 63
-        → IfOk result (λ events. last_number lines.new ≡ last_number lines.old) }
-    ensures told { last_number lines.old < 2 ^ 63
-        → IfErr result (TellsAfter (event_lines allowed) lines.old.rest.now (last_number lines.old)) }
+    ensures ended { IfOk result (λ events. AfterEvents lines.new.rest.now) }
+    ensures counted { IfOk result (λ events. last_number lines.new ≡ last_number lines.old) }
+    ensures reported { IfErr result (ReportsAfter (event_lines allowed) lines.old.rest.now (last_number lines.old)) }
     ensures every { (events : List Event) (rest : List ℕ) → All IsEvent events → All (IsAllowed allowed) events
         → AfterEvents rest
         → lines.old.rest.now ≡ lines_of event_words events rest

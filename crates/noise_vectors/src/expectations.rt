@@ -20,7 +20,7 @@ pub fn first_unmet(lines: &[Vec<u8>], expected: &[Vec<u8>]) -> Option<usize>
 // How many lines both lists begin with.
 fn same_lines(lines: &[Vec<u8>], expected: &[Vec<u8>]) -> usize
     ensures within { (result ≤ length lines.now) × (result ≤ length expected.now) }
-    ensures same { (i : ℕ) → i < result → slice_get (bytes_of lines.now) i ≡ slice_get (bytes_of expected.now) i }
+    ensures value { (i : ℕ) → i < result → slice_get (bytes_of lines.now) i ≡ slice_get (bytes_of expected.now) i }
     ensures differ { result < length lines.now → result < length expected.now
         → slice_get (bytes_of lines.now) result ≢ slice_get (bytes_of expected.now) result }
 {

@@ -1,11 +1,11 @@
 //! The lines of what is expected.
 
-ghost use Rattle.std.specs.Prelude.{◌≡◌, ◌+◌, ◌<◌, ◌^◌, ◌++◌, ◌↔◌, ◌≤◌, [], ℕ, List, Vec, IfErr, IfOk, IfSome, IsTrue, MatchOption, codes};
+ghost use Rattle.std.specs.Prelude.{◌≡◌, ◌++◌, ◌↔◌, [], ℕ, List, Vec, IfErr, IfOk, IfSome, IsTrue, MatchOption, codes};
 ghost use Rattle.std.specs.Global.{Global};
 ghost use Rattle.std.specs.List.{All};
-ghost use Rattle.noise_vectors.specs.LineNumbers.{last_number};
+ghost use Rattle.noise_vectors.specs.Lines.{last_number};
 ghost use Rattle.noise_vectors.specs.VectorFile.{IsExpected};
-ghost use Rattle.noise_vectors.specs.ReaderFaults.{TellsAfter, expect_lines};
+ghost use Rattle.noise_vectors.specs.ReaderFaults.{ReportsAfter, expect_lines};
 ghost use Rattle.noise_vectors.specs.VectorText.{expect_words, lines_of};
 ghost use Rattle.noise_vectors.specs.declared.faults.VectorFault.TheVariants.{Memory};
 
@@ -21,8 +21,7 @@ pub(crate) fn read_expected(
 ) -> Result<Vec<Vec<u8>>, VectorFault>
     ensures text { IfOk result (λ expected. lines.old.rest.now ≡ lines_of expect_words expected.items []) }
     ensures right { IfOk result (λ expected. All (λ words. IsExpected words.items) expected.items) }
-    ensures told { last_number lines.old < 2 ^ 63
-        → IfErr result (TellsAfter expect_lines lines.old.rest.now (last_number lines.old)) }
+    ensures reported { IfErr result (ReportsAfter expect_lines lines.old.rest.now (last_number lines.old)) }
     ensures every { (expected : List (Vec ℕ Global)) → All (λ words. IsExpected words.items) expected
         → lines.old.rest.now ≡ lines_of expect_words expected []
         → IfErr result (λ fault. fault ≡ Memory) }

@@ -26,7 +26,7 @@ pub fn hex_word(bytes: &[u8], out: &mut Vec<u8>) -> Result<(), AllocError>
     Ok(())
 }
 
-/// The bytes that a word stands for, or None where it is no word of any bytes: `-` is no bytes, and upper-case digits
+/// The bytes that a word matches, or None where it is no word of any bytes: `-` is no bytes, and upper-case digits
 /// are not taken.
 pub fn read_hex(alloc: Global, word: &[u8]) -> Result<Option<Vec<u8>>, AllocError>
     ensures value { IfOk result (λ found. IfSome found (λ bytes. word.now ≡ hex_of bytes.items)) }
@@ -51,11 +51,11 @@ pub fn read_hex(alloc: Global, word: &[u8]) -> Result<Option<Vec<u8>>, AllocErro
 pub(crate) fn is_digits(word: &[u8]) -> bool
     ensures { IsTrue result ↔ IsDigits word.now }
 {
-    !word.is_empty() && word.len() % 2 == 0 && word.iter().all(|digit| is_digit(*digit))
+    !word.is_empty() && word.len() % 2 == 0 && word.iter().all(|digit| is_lower_digit(*digit))
 }
 
-// Whether it is a lower-case hex digit.
-fn is_digit(byte: u8) -> bool
+/// Whether it is a lower-case hex digit.
+pub fn is_lower_digit(byte: u8) -> bool
     ensures { result ≡ is_lower_digit byte }
 {
     matches!(byte, b'0'..=b'9' | b'a'..=b'f')

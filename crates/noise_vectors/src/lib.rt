@@ -22,7 +22,7 @@ mod words;
 pub use expectations::first_unmet;
 pub use faults::{LineKind, VectorFault};
 pub use file_keys::FileKeys;
-pub use hex_words::{hex_word, read_hex};
+pub use hex_words::{hex_word, is_lower_digit, read_hex};
 pub use laws::vector_texts_are_unique;
 pub use reading::read_vector;
 pub use says::said_lines;

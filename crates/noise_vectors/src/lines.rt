@@ -1,8 +1,6 @@
 //! The lines of a text.
 
-ghost use Rattle.std.specs.Prelude.{◌≡◌, ◌↔◌, ◌+◌, ◌<◌, ◌^◌, [], List, ℕ, IsTrue, IsFalse, IsOk, IfOk, IfErr, IsErrOf, MatchBool, MatchResult, length};
-ghost use Rattle.noise_vectors.specs.VectorText.{line};
-ghost use Rattle.noise_vectors.specs.Words.{lacks};
+ghost use Rattle.std.specs.Prelude.{◌+◌, ◌<◌, ◌^◌, length};
 
 use crate::faults::{LineKind, VectorFault};
 use crate::words::split_once;
@@ -16,9 +14,16 @@ pub(crate) struct Lines<'a> {
     pub number: usize,
     /// Whether that line has an LF after it.
     pub is_ended: bool,
+    // Each line has at least one byte of the text.
+    pub ghost few: { number + length rest.now < 2 ^ 63 },
 }
 
 impl<'a> Lines<'a> {
+    ghost use Rattle.std.specs.Prelude.{◌≡◌, ◌↔◌, [], List, ℕ, IsTrue, IsFalse, IsOk, IfOk, IfErr, MatchResult};
+    ghost use Rattle.noise_vectors.specs.Lines.{IsRead, last_number};
+    ghost use Rattle.noise_vectors.specs.VectorText.{line};
+    ghost use Rattle.noise_vectors.specs.Words.{lacks};
+
     /// The text from its first line on.
     pub fn new(text: &'a [u8]) -> Lines<'a>
         ensures { (result.rest.now ≡ text.now) × (result.number ≡ 0) }
@@ -32,32 +37,29 @@ impl<'a> Lines<'a> {
 
     /// The next line without its LF, or the fault that there is none.
     pub fn next(&mut self) -> Result<&'a [u8], VectorFault>
-        ensures ended { IfOk result
-            (λ text. IsTrue self.new.is_ended → self.old.rest.now ≡ line text.now self.new.rest.now) }
-        ensures last { IfOk result
-            (λ text. IsFalse self.new.is_ended → (self.old.rest.now ≡ text.now) × ¬ (text.now ≡ [])) }
-        ensures plain { IfOk result (λ text. IsTrue (lacks 10 text.now)) }
-        ensures number { self.old.number + 1 < 2 ^ 64 → self.new.number ≡ self.old.number + 1 }
+        ensures read { IfOk result (λ text. IsRead self.old text.now self.new) }
         ensures every { (words after : List ℕ) → IsTrue (lacks 10 words) → self.old.rest.now ≡ line words after
             → MatchResult result (λ text. (text.now ≡ words) × (self.new.rest.now ≡ after) × IsTrue self.new.is_ended)
             (λ fault. ⊥) }
         ensures shorter { IfOk result (λ text. length self.new.rest.now < length self.old.rest.now) }
         ensures missing { IfErr result
-            (λ fault. (self.old.rest.now ≡ []) × (fault ≡ VectorFault.Line self.new.number LineKind.Ending)) }
+            (λ fault. (self.old.rest.now ≡ [])
+            × (fault ≡ VectorFault.Line (last_number self.old + 1) LineKind.Ending)) }
     {
-        self.number = self.number.saturating_add(1);
-        if self.rest.is_empty() {
-            return Err(self.fault(LineKind::Ending));
-        }
         let rest = self.rest;
+        if rest.is_empty() {
+            return Err(VectorFault::Line(self.number + 1, LineKind::Ending));
+        }
         match split_once(rest, b'\n') {
             Some((line, after)) => {
-                self.is_ended = true;
                 self.rest = after;
+                self.number += 1;
+                self.is_ended = true;
                 Ok(line)
             }
             None => {
                 self.rest = &rest[rest.len()..];
+                self.number += 1;
                 self.is_ended = false;
                 Ok(rest)
             }
@@ -81,7 +83,8 @@ impl<'a> Lines<'a> {
     /// The fault that the line that was read last has no LF after it, if it hasn't.
     pub fn end(&self) -> Result<(), VectorFault>
         ensures ended { IsOk result ↔ IsTrue self.now.is_ended }
-        ensures fault { IfErr result (λ fault. fault ≡ VectorFault.Line self.now.number LineKind.Ending) }
+        ensures fault { IfErr result
+            (λ fault. IsFalse self.now.is_ended × (fault ≡ VectorFault.Line self.now.number LineKind.Ending)) }
     {
         if self.is_ended {
             Ok(())

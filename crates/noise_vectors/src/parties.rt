@@ -1,13 +1,13 @@
 //! The lines that give a party its keys.
 
-ghost use Rattle.std.specs.Prelude.{◌≡◌, ◌+◌, ◌<◌, ◌≤◌, ◌^◌, ◌∷◌, ◌++◌, ℕ, List, Option, IfErr, IfOk, IfSome, IsFalse, IsOk, IsSome, MatchOption, codes, length};
+ghost use Rattle.std.specs.Prelude.{◌≡◌, ◌≤◌, ◌∷◌, ◌++◌, ℕ, List, Option, IfErr, IfOk, IfSome, IsFalse, IsOk, IsSome, MatchOption, codes, length};
 ghost use Rattle.std.specs.Bool.{nat_eq};
 ghost use Rattle.std.specs.List.{All, starts_with};
 ghost use Rattle.noise_keys.specs.Table.{TableEntry};
-ghost use Rattle.noise_vectors.specs.LineNumbers.{last_number};
+ghost use Rattle.noise_vectors.specs.Lines.{last_number};
 ghost use Rattle.noise_vectors.specs.VectorFile.{AreKeys, IsEntry};
 ghost use Rattle.noise_vectors.specs.WrongLine.{is_answer_line};
-ghost use Rattle.noise_vectors.specs.ReaderFaults.{TellsAfter, TellsParty, answer_lines};
+ghost use Rattle.noise_vectors.specs.ReaderFaults.{ReportsAfter, ReportsParty, answer_lines};
 ghost use Rattle.noise_vectors.specs.Words.{IsKey};
 ghost use Rattle.noise_vectors.specs.VectorText.{answer_words, key_words, lines_of, party_text, role_word};
 
@@ -22,11 +22,9 @@ use noise_names::Role;
 pub(crate) fn read_party(lines: &mut Lines<'_>, role: Role) -> Result<FileKeys, VectorFault>
     ensures text { IfOk result (λ keys. lines.old.rest.now ≡ party_text role keys lines.new.rest.now) }
     ensures right { IfOk result AreKeys }
-    ensures over { IfOk result (λ keys. IsFalse (is_answer_line keys lines.new.rest.now)) }
-    ensures counted { last_number lines.old < 2 ^ 63
-        → IfOk result (λ keys. last_number lines.new ≡ last_number lines.old) }
-    ensures told { last_number lines.old < 2 ^ 63
-        → IfErr result (TellsParty role lines.old.rest.now (last_number lines.old)) }
+    ensures ended { IfOk result (λ keys. IsFalse (is_answer_line keys lines.new.rest.now)) }
+    ensures counted { IfOk result (λ keys. last_number lines.new ≡ last_number lines.old) }
+    ensures reported { IfErr result (ReportsParty role lines.old.rest.now (last_number lines.old)) }
     ensures every { (keys : FileKeys) (rest : List ℕ) → AreKeys keys
         → IsFalse (starts_with nat_eq rest (codes "answer "))
         → lines.old.rest.now ≡ party_text role keys rest
@@ -80,11 +78,9 @@ fn read_table(
     ensures keys { IfOk result (λ table. (table.e ≡ e) × (table.s ≡ s)) }
     ensures text { IfOk result (λ table. lines.old.rest.now ≡ lines_of answer_words table.entries lines.new.rest.now) }
     ensures right { IfOk result (λ table. (length table.entries ≤ 8) × All IsEntry table.entries) }
-    ensures over { IfOk result (λ table. IsFalse (starts_with nat_eq lines.new.rest.now (codes "answer "))) }
-    ensures counted { last_number lines.old < 2 ^ 63
-        → IfOk result (λ table. last_number lines.new ≡ last_number lines.old) }
-    ensures told { last_number lines.old < 2 ^ 63
-        → IfErr result (TellsAfter answer_lines lines.old.rest.now (last_number lines.old)) }
+    ensures ended { IfOk result (λ table. IsFalse (starts_with nat_eq lines.new.rest.now (codes "answer "))) }
+    ensures counted { IfOk result (λ table. last_number lines.new ≡ last_number lines.old) }
+    ensures reported { IfErr result (ReportsAfter answer_lines lines.old.rest.now (last_number lines.old)) }
     ensures every { (entries : List TableEntry) (rest : List ℕ) → length entries ≤ 8 → All IsEntry entries
         → IsFalse (starts_with nat_eq rest (codes "answer "))
         → lines.old.rest.now ≡ lines_of answer_words entries rest

@@ -1,18 +1,17 @@
 //! Reading a vector file: the order of its lines.
 
-ghost use Rattle.std.specs.Prelude.{◌≡◌, ◌<◌, ◌≤◌, ◌^◌, ◌+◌, ◌++◌, ◌↔◌, ℕ, List, [], Option, Some, None, Bool, false, codes, decimal, length, vec_len};
-ghost use Rattle.std.specs.Prelude.{IfErr, IfOk, IfSome, IsFalse, IsOk, IsSome, MatchResult, OnOk};
+ghost use Rattle.std.specs.Prelude.{◌≡◌, ◌<◌, ◌≤◌, ◌^◌, ◌++◌, ℕ, List, Option, Some, None, Bool, false, codes, decimal, vec_len};
+ghost use Rattle.std.specs.Prelude.{IfErr, IfOk, IfSome, IsFalse, IsOk, IsSome, MatchResult};
 ghost use Rattle.std.specs.Bool.{nat_eq};
-ghost use Rattle.std.specs.List.{All, starts_with};
+ghost use Rattle.std.specs.List.{starts_with};
 ghost use Rattle.noise_names.specs.Names.{IsSection, Section, name_bytes};
 ghost use Rattle.noise_names.specs.Plan.{Plan};
 ghost use Rattle.noise_names.specs.Fundamental.{fundamental_of};
-ghost use Rattle.noise_vectors.specs.LineNumbers.{last_number};
+ghost use Rattle.noise_vectors.specs.Lines.{last_number};
 ghost use Rattle.noise_vectors.specs.HexWord.{hex_of};
-ghost use Rattle.noise_vectors.specs.ReaderFaults.{IsHeaderLine, IsIntervalLine, IsPrologueLine, IsProtocolLine, TellsAfter, TellsBlock, TellsLine, psk_lines};
+ghost use Rattle.noise_vectors.specs.ReaderFaults.{IsHeaderLine, IsIntervalLine, IsPrologueLine, IsProtocolLine, ReportsAfter, ReportsBlock, ReportsLine, psk_lines};
 ghost use Rattle.noise_vectors.specs.VectorText.{block_text, header_words, line, lines_of, psk_words, text_of};
-ghost use Rattle.noise_vectors.specs.OwnPattern.{HasName};
-ghost use Rattle.noise_vectors.specs.WrongLine.{IsTold};
+ghost use Rattle.noise_vectors.specs.WrongLine.{IsReported};
 ghost use Rattle.noise_vectors.specs.VectorFile.{ArePsks, IsAllowedFile, IsOwn, IsShort, IsVectorFile};
 ghost use Rattle.noise_vectors.specs.Words.{IsKey};
 ghost use Rattle.noise_vectors.specs.declared.faults.VectorFault.TheVariants.{Memory};
@@ -40,8 +39,8 @@ pub fn read_vector(
     ensures right { IfOk result IsVectorFile }
     ensures allowed { IfOk result (IsAllowedFile allowed) }
 
-    // The line that is told is the first that isn't as it has to be.
-    ensures told { IfErr result (IsTold allowed text.now) }
+    // The line that is reported is the first that isn't as it has to be.
+    ensures reported { IfErr result (IsReported allowed text.now) }
 
     // The text of a right file is refused only for lack of memory.
     ensures every { (file : VectorFile) → IsVectorFile file → IsAllowedFile allowed file → text.now ≡ text_of file
@@ -75,10 +74,9 @@ pub fn read_vector(
 fn read_header(lines: &mut Lines<'_>, allowed: AllowedEvents) -> Result<bool, VectorFault>
     ensures text { IfOk result (λ second. lines.old.rest.now ≡ line (header_words second) lines.new.rest.now) }
     ensures allowed { IfOk result (λ second. allowed ≡ VersionOne → second ≡ false) }
-    ensures counted { last_number lines.old < 2 ^ 63
-        → IfOk result (λ second. last_number lines.new ≡ last_number lines.old) }
-    ensures told { last_number lines.old < 2 ^ 63
-        → IfErr result (TellsLine (IsHeaderLine allowed) lines.old.rest.now (last_number lines.old) LineKind.Header) }
+    ensures counted { IfOk result (λ second. last_number lines.new ≡ last_number lines.old) }
+    ensures reported { IfErr result
+        (ReportsLine (IsHeaderLine allowed) lines.old.rest.now (last_number lines.old) LineKind.Header) }
     ensures every { (second : Bool) (rest : List ℕ) → (allowed ≡ VersionOne → second ≡ false)
         → lines.old.rest.now ≡ line (header_words second) rest
         → MatchResult result (λ read. (read ≡ second) × (lines.new.rest.now ≡ rest)) (λ fault. ⊥) }
@@ -112,10 +110,9 @@ fn read_protocol(lines: &mut Lines<'_>) -> Result<ProtocolName, VectorFault>
     ensures text { IfOk result
         (λ name. lines.old.rest.now ≡ line (codes "protocol " ++ name_bytes name) lines.new.rest.now) }
     ensures right { IfOk result IsSection }
-    ensures counted { last_number lines.old < 2 ^ 63
-        → IfOk result (λ name. last_number lines.new ≡ last_number lines.old) }
-    ensures told { last_number lines.old < 2 ^ 63
-        → IfErr result (TellsLine IsProtocolLine lines.old.rest.now (last_number lines.old) LineKind.Protocol) }
+    ensures counted { IfOk result (λ name. last_number lines.new ≡ last_number lines.old) }
+    ensures reported { IfErr result
+        (ReportsLine IsProtocolLine lines.old.rest.now (last_number lines.old) LineKind.Protocol) }
     ensures every { (name : Section) (rest : List ℕ) → IsSection name
         → lines.old.rest.now ≡ line (codes "protocol " ++ name_bytes name) rest
         → MatchResult result (λ read. (read ≡ name) × (lines.new.rest.now ≡ rest)) (λ fault. ⊥) }
@@ -145,10 +142,9 @@ fn read_own_pattern(
 ) -> Result<Option<Pattern>, VectorFault>
     ensures text { IfOk result (λ block. lines.old.rest.now ≡ block_text block lines.new.rest.now) }
     ensures right { IfOk result (IsOwn protocol.now) }
-    ensures counted { last_number lines.old < 2 ^ 63
-        → IfOk result (λ block. last_number lines.new ≡ last_number lines.old) }
-    ensures told { last_number lines.old < 2 ^ 63 → IsSection protocol.now
-        → IfErr result (TellsBlock protocol.now lines.old.rest.now (last_number lines.old)) }
+    ensures counted { IfOk result (λ block. last_number lines.new ≡ last_number lines.old) }
+    ensures reported { IsSection protocol.now
+        → IfErr result (ReportsBlock protocol.now lines.old.rest.now (last_number lines.old)) }
     ensures own { IfErr result (λ fault. fundamental_of protocol.now.base ≡ None) }
     ensures every { (block : Option Plan) (rest : List ℕ) → IsOwn protocol.now block
         → lines.old.rest.now ≡ block_text block rest
@@ -165,10 +161,9 @@ fn read_prologue(alloc: Global, lines: &mut Lines<'_>) -> Result<Vec<u8>, Vector
         (λ bytes. lines.old.rest.now ≡ line (codes "prologue " ++ hex_of bytes.items) lines.new.rest.now) }
     ensures bound { IfOk result (λ bytes. vec_len bytes ≤ 65535) }
     ensures right { IfOk result (λ bytes. IsShort bytes.items) }
-    ensures counted { last_number lines.old < 2 ^ 63
-        → IfOk result (λ bytes. last_number lines.new ≡ last_number lines.old) }
-    ensures told { last_number lines.old < 2 ^ 63
-        → IfErr result (TellsLine IsPrologueLine lines.old.rest.now (last_number lines.old) LineKind.Prologue) }
+    ensures counted { IfOk result (λ bytes. last_number lines.new ≡ last_number lines.old) }
+    ensures reported { IfErr result
+        (ReportsLine IsPrologueLine lines.old.rest.now (last_number lines.old) LineKind.Prologue) }
     ensures every { (bytes rest : List ℕ) → IsShort bytes
         → lines.old.rest.now ≡ line (codes "prologue " ++ hex_of bytes) rest
         → MatchResult result (λ read. lines.new.rest.now ≡ rest) (λ fault. fault ≡ Memory) }
@@ -198,10 +193,9 @@ fn prologue_of(alloc: Global, line: &[u8]) -> Result<Option<Vec<u8>>, AllocError
 fn read_interval(lines: &mut Lines<'_>) -> Result<u64, VectorFault>
     ensures text { IfOk result
         (λ interval. lines.old.rest.now ≡ line (codes "interval " ++ decimal interval) lines.new.rest.now) }
-    ensures counted { last_number lines.old < 2 ^ 63
-        → IfOk result (λ interval. last_number lines.new ≡ last_number lines.old) }
-    ensures told { last_number lines.old < 2 ^ 63
-        → IfErr result (TellsLine IsIntervalLine lines.old.rest.now (last_number lines.old) LineKind.Interval) }
+    ensures counted { IfOk result (λ interval. last_number lines.new ≡ last_number lines.old) }
+    ensures reported { IfErr result
+        (ReportsLine IsIntervalLine lines.old.rest.now (last_number lines.old) LineKind.Interval) }
     ensures every { (interval : ℕ) (rest : List ℕ) → interval < 2 ^ 64
         → lines.old.rest.now ≡ line (codes "interval " ++ decimal interval) rest
         → IsOk result × (lines.new.rest.now ≡ rest) }
@@ -226,11 +220,9 @@ fn interval_of(line: &[u8]) -> Option<u64>
 fn read_psks(lines: &mut Lines<'_>) -> Result<ArrayVec<[u8; 32], 9>, VectorFault>
     ensures text { IfOk result (λ psks. lines.old.rest.now ≡ lines_of psk_words psks.items lines.new.rest.now) }
     ensures right { IfOk result (λ psks. ArePsks psks.items) }
-    ensures over { IfOk result (λ psks. IsFalse (starts_with nat_eq lines.new.rest.now (codes "psk "))) }
-    ensures counted { last_number lines.old < 2 ^ 63
-        → IfOk result (λ psks. last_number lines.new ≡ last_number lines.old) }
-    ensures told { last_number lines.old < 2 ^ 63
-        → IfErr result (TellsAfter psk_lines lines.old.rest.now (last_number lines.old)) }
+    ensures ended { IfOk result (λ psks. IsFalse (starts_with nat_eq lines.new.rest.now (codes "psk "))) }
+    ensures counted { IfOk result (λ psks. last_number lines.new ≡ last_number lines.old) }
+    ensures reported { IfErr result (ReportsAfter psk_lines lines.old.rest.now (last_number lines.old)) }
     ensures every { (psks : List (List ℕ)) (rest : List ℕ) → ArePsks psks
         → IsFalse (starts_with nat_eq rest (codes "psk "))
         → lines.old.rest.now ≡ lines_of psk_words psks rest

@@ -17,7 +17,7 @@ pub struct VectorFile {
     pub prologue: Vec<u8>,
     /// After how many transport messages a key is renewed, 0 for never.
     pub interval: u64,
-    /// The pre-shared secrets, in their order.
+    /// The pre-shared keys, in their order.
     pub psks: ArrayVec<[u8; 32], 9>,
     pub initiator: FileKeys,
     pub responder: FileKeys,

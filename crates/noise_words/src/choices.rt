@@ -1,4 +1,5 @@
-//! The options of `trace`, whose values are judged here, the flags of `trace` and `test`, and the files of `explain` and `compare`.
+//! The options of `trace`, whose values are judged here, the flags of `trace` and `test`, and the files of `explain`
+//! and `compare`.
 
 ghost use Rattle.std.specs.Prelude.{◌≡◌, IfOk, codes, option_map};
 ghost use Rattle.clap.specs.Words.{found_of, rows_of};
@@ -47,7 +48,8 @@ pub fn tested(alloc: Global, found: &ArgMatches<'_>) -> Result<Option<Tested>, A
 
 /// What is explained, where the matches of `explain` have files.
 pub fn explained(alloc: Global, found: &ArgMatches<'_>) -> Result<Option<Vec<String>>, AllocError>
-    ensures { IfOk result (λ files. option_map named_explain files ≡ stated_by (codes "explain") (rows_of (found_of found.now))) }
+    ensures { IfOk result (λ files. option_map named_explain files
+        ≡ stated_by (codes "explain") (rows_of (found_of found.now))) }
 {
     match values(alloc, found, "FILE")? {
         Some(files) => Ok(Some(files)),
@@ -57,7 +59,8 @@ pub fn explained(alloc: Global, found: &ArgMatches<'_>) -> Result<Option<Vec<Str
 
 /// What is compared, where the matches of `compare` have a log and a file.
 pub fn compared(alloc: Global, found: &ArgMatches<'_>) -> Result<Option<Compared>, AllocError>
-    ensures { IfOk result (λ c. option_map named_compare c ≡ stated_by (codes "compare") (rows_of (found_of found.now))) }
+    ensures { IfOk result (λ c. option_map named_compare c ≡ stated_by (codes "compare") (rows_of
+        (found_of found.now))) }
 {
     let Some(log) = value(alloc, found, "LOG")? else {
         return Ok(None);

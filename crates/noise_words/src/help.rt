@@ -93,7 +93,7 @@ pub const TEST: Subcommand<'static> = Subcommand {
     value: "FILE",
     several: true,
     about: "Run vector files and say of each whether its run is what it expects",
-    meaning: "Vector files of version 2 with expect lines",
+    meaning: "Vector files of version 2 with expect lines; of a frame that differs the piece is named",
     example: "Example: noise test examples/vectors/xx.vector examples/vectors/ik.vector",
 };
 
@@ -112,7 +112,8 @@ pub const COMPARE: Subcommand<'static> = Subcommand {
     name: "compare",
     value: "LOG",
     several: false,
-    about: "Print the first place where a logged key schedule parts from that of a vector file: what it prints are secrets",
+    about: "Print the first place where a logged key schedule parts from that of a vector file: \
+            what it prints are secrets",
     meaning: "Lines of a key schedule in the form of trace, logged by another implementation",
     example: "Example: noise compare yours.log examples/vectors/xx.vector",
 };

@@ -63,7 +63,8 @@ pub enum Chosen {
     Show(String),
     /// Judge the pattern text in the file of this name.
     Check(String),
-    /// Print a vector file, with placeholders for its keys, for the pattern of this protocol name, or in the file of this name.
+    /// Print a vector file, with placeholders for its keys, for the pattern of this protocol name, or in the file of
+    /// this name.
     Template(String),
     /// Run two ends on the vector file of this name, in which they only say things to one another.
     Talk(String),

@@ -49,18 +49,18 @@ static void drop(channel *c, size_t count) {
 }
 
 static void pass_message(channel *c, noise_handshake *h, bool writes, const key_pair *ephemeral, const key_pair *own, double deadline) {
-    noise_told told;
-    noise_stream_told frame;
+    noise_result result;
+    noise_stream_result frame;
     uint32_t code;
     if (writes) {
         static uint8_t out[NOISE_MAX_FRAME];
-        code = write_message(h, ephemeral, own, out + 2, sizeof out - 2, &told);
-        if (code == NOISE_OK) code = noise_frame_message(out, sizeof out, told.len, &frame);
+        code = write_message(h, ephemeral, own, out + 2, sizeof out - 2, &result);
+        if (code == NOISE_OK) code = noise_frame_message(out, sizeof out, result.len, &frame);
         if (code == NOISE_OK) send_all(c->socket, out, frame.len, deadline);
     } else {
         while (noise_frame_find(c->buffer, c->held, &frame) == NOISE_MORE)
             if (!receive_some(c, deadline)) die("the connection ended in the handshake");
-        code = read_message(h, ephemeral, own, c->buffer + frame.from, frame.len, &told);
+        code = read_message(h, ephemeral, own, c->buffer + frame.from, frame.len, &result);
         drop(c, frame.used);
     }
     if (code != NOISE_OK) die("the handshake was refused");  // tell nobody else why
@@ -68,7 +68,7 @@ static void pass_message(channel *c, noise_handshake *h, bool writes, const key_
 
 void open_channel(channel *c, int socket, const char *pattern, uint8_t responder, const key_pair *own, const uint8_t *remote, noise_key *remote_key) {
     noise_handshake h;
-    noise_stage_told stage;
+    noise_stage_result stage;
     double deadline = now() + HANDSHAKE_SECONDS;
     key_pair ephemeral = draw_pair();                    // a new one for each handshake
     *c = (channel){.socket = socket};
@@ -85,35 +85,35 @@ void open_channel(channel *c, int socket, const char *pattern, uint8_t responder
 void send_bytes(channel *c, const void *bytes, size_t len) {
     uint8_t out[PART + NOISE_STREAM_OVERHEAD];
     const uint8_t *at = bytes;
-    noise_stream_told told;
+    noise_stream_result result;
     while (len) {
-        uint32_t code = noise_stream_write(&c->sender, at, len < PART ? len : PART, out, sizeof out, &told);
+        uint32_t code = noise_stream_write(&c->sender, at, len < PART ? len : PART, out, sizeof out, &result);
         if (code != NOISE_OK) die(noise_text(code));
-        send_all(c->socket, out, told.len, NO_DEADLINE);
-        at += told.used, len -= told.used;
+        send_all(c->socket, out, result.len, NO_DEADLINE);
+        at += result.used, len -= result.used;
     }
 }
 
 void end_bytes(channel *c) {
     uint8_t out[NOISE_STREAM_OVERHEAD];
-    noise_stream_told told;
-    uint32_t code = noise_stream_end(&c->sender, out, sizeof out, &told);
+    noise_stream_result result;
+    uint32_t code = noise_stream_end(&c->sender, out, sizeof out, &result);
     if (code != NOISE_OK) die(noise_text(code));
-    send_all(c->socket, out, told.len, NO_DEADLINE);
+    send_all(c->socket, out, result.len, NO_DEADLINE);
 }
 
 // Opens the next payload. False at the end of the other party's bytes.
 static bool open_next(channel *c) {
-    noise_stream_told told;
+    noise_stream_result result;
     for (;;) {
-        uint32_t code = noise_stream_read(&c->receiver, c->buffer, c->held, &told);
+        uint32_t code = noise_stream_read(&c->receiver, c->buffer, c->held, &result);
         if (code == NOISE_OK) {
-            c->from = told.from, c->left = told.len, c->used = told.used;
+            c->from = result.from, c->left = result.len, c->used = result.used;
             return true;
         }
         if (code == NOISE_CLOSED) return false;          // the end came at an earlier call
         if (code == NOISE_END) {
-            drop(c, told.used);
+            drop(c, result.used);
             return false;
         }
         if (code != NOISE_MORE) die("a message was changed, or came twice");  // and nothing more is read or sent: no end either

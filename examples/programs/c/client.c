@@ -36,7 +36,7 @@ int main(int count, char **words) {
     char text[1000];
     printf("client: the server says: ");
     for (size_t len; (len = receive_bytes(&c, text, sizeof text)) > 0;) fwrite(text, 1, len, stdout);
-    printf("\n");                                        // all of it came: receive_bytes has told the end
+    printf("\n");                                        // all of it came: receive_bytes has reported the end
     close_channel(&c);
     forget_pair(&own);
     return 0;

@@ -85,30 +85,30 @@ void start(noise_handshake *h, const char *pattern, uint8_t responder, const key
 }
 
 // Hands in the result that a call has asked for. False where there is none: OpenSSL refuses zeros, which come of a public key that no honest party has.
-static bool answer(noise_handshake *h, const key_pair *ephemeral, const key_pair *own, const noise_told *told) {
-    uint8_t result[32];
+static bool answer(noise_handshake *h, const key_pair *ephemeral, const key_pair *own, const noise_result *result) {
+    uint8_t dh_result[32];
     size_t len = 32;
-    EVP_PKEY *other = EVP_PKEY_new_raw_public_key(EVP_PKEY_X25519, NULL, told->remote, 32);
-    EVP_PKEY_CTX *context = EVP_PKEY_CTX_new(told->of_static ? own->secret : ephemeral->secret, NULL);
+    EVP_PKEY *other = EVP_PKEY_new_raw_public_key(EVP_PKEY_X25519, NULL, result->remote, 32);
+    EVP_PKEY_CTX *context = EVP_PKEY_CTX_new(result->of_static ? own->secret : ephemeral->secret, NULL);
     if (!other || !context || EVP_PKEY_derive_init(context) != 1 || EVP_PKEY_derive_set_peer(context, other) != 1) die("no X25519");
-    bool is_one = EVP_PKEY_derive(context, result, &len) == 1;
-    if (is_one && noise_answer(h, told->of_static, told->remote, result) != NOISE_OK) die("too many results");
-    noise_wipe(result, sizeof result);
+    bool is_one = EVP_PKEY_derive(context, dh_result, &len) == 1;
+    if (is_one && noise_answer(h, result->of_static, result->remote, dh_result) != NOISE_OK) die("too many results");
+    noise_wipe(dh_result, sizeof dh_result);
     EVP_PKEY_CTX_free(context);
     EVP_PKEY_free(other);
     return is_one;
 }
 
-uint32_t write_message(noise_handshake *h, const key_pair *ephemeral, const key_pair *own, uint8_t *out, size_t out_len, noise_told *told) {
+uint32_t write_message(noise_handshake *h, const key_pair *ephemeral, const key_pair *own, uint8_t *out, size_t out_len, noise_result *result) {
     uint32_t code;
-    while ((code = noise_write(h, NULL, 0, out, out_len, told)) == NOISE_WANTED)
-        if (!answer(h, ephemeral, own, told)) break;
+    while ((code = noise_write(h, NULL, 0, out, out_len, result)) == NOISE_WANTED)
+        if (!answer(h, ephemeral, own, result)) break;
     return code;
 }
 
-uint32_t read_message(noise_handshake *h, const key_pair *ephemeral, const key_pair *own, uint8_t *message, size_t len, noise_told *told) {
+uint32_t read_message(noise_handshake *h, const key_pair *ephemeral, const key_pair *own, uint8_t *message, size_t len, noise_result *result) {
     uint32_t code;
-    while ((code = noise_read(h, message, len, told)) == NOISE_WANTED)
-        if (!answer(h, ephemeral, own, told)) break;
+    while ((code = noise_read(h, message, len, result)) == NOISE_WANTED)
+        if (!answer(h, ephemeral, own, result)) break;
     return code;
 }

@@ -32,8 +32,8 @@ static size_t receive_one(int socket, uint8_t bytes[LONGEST], int ms) {
 // Reads a message if it is the right one, and else leaves the handshake as it was.
 static bool try_message(noise_handshake *h, const key_pair *ephemeral, const key_pair *own, uint8_t *message, size_t len) {
     noise_handshake copy = *h;
-    noise_told told;
-    bool is_right = read_message(&copy, ephemeral, own, message, len, &told) == NOISE_OK;
+    noise_result result;
+    bool is_right = read_message(&copy, ephemeral, own, message, len, &result) == NOISE_OK;
     if (is_right) *h = copy;
     noise_wipe(&copy, sizeof copy);
     return is_right;
@@ -49,31 +49,31 @@ static void finish(noise_handshake *h, key_pair *ephemeral, network *n) {
 
 static void send_text(int socket, network *n, const uint8_t *text, size_t len) {
     uint8_t out[LONGEST];
-    noise_told told;
-    uint32_t code = noise_datagram_seal(&n->sender, text, len, out, sizeof out, &told);
+    noise_result result;
+    uint32_t code = noise_datagram_seal(&n->sender, text, len, out, sizeof out, &result);
     if (code != NOISE_OK) die(noise_text(code));
-    send(socket, out, told.len, 0);                      // it may be lost
+    send(socket, out, result.len, 0);                      // it may be lost
 }
 
 // Opens a datagram, if it is one of the other party that wasn't opened before. Any other one is dropped.
-static bool take_text(network *n, uint8_t *datagram, size_t len, noise_told *told) {
-    return noise_datagram_open(&n->receiver, datagram, len, told) == NOISE_OK;
+static bool take_text(network *n, uint8_t *datagram, size_t len, noise_result *result) {
+    return noise_datagram_open(&n->receiver, datagram, len, result) == NOISE_OK;
 }
 
 static void run_client(int socket, const char *text) {
     noise_handshake h;
-    noise_told told;
+    noise_result result;
     network n;
     uint8_t expected[32], first[LONGEST], bytes[LONGEST];
     double deadline = now() + SECONDS;
     key_pair own = pair_in("client.secret"), ephemeral = draw_pair();
     load_public("server.public", expected);
     start(&h, "IK", 0, &ephemeral, &own, expected);      // with IK only the server that has the expected key can answer
-    if (write_message(&h, &ephemeral, &own, first, sizeof first, &told) != NOISE_OK) die("no first message");
+    if (write_message(&h, &ephemeral, &own, first, sizeof first, &result) != NOISE_OK) die("no first message");
     size_t len;
     do {
         if (now() > deadline) die("no answer");
-        send(socket, first, told.len, 0);
+        send(socket, first, result.len, 0);
         len = receive_one(socket, bytes, RESEND_MS);
     } while (!len || !try_message(&h, &ephemeral, &own, bytes, len));
     finish(&h, &ephemeral, &n);
@@ -81,8 +81,8 @@ static void run_client(int socket, const char *text) {
         if (now() > deadline) die("no answer");
         send_text(socket, &n, (const uint8_t *)text, strlen(text));
         len = receive_one(socket, bytes, RESEND_MS);
-    } while (!len || !take_text(&n, bytes, len, &told));
-    printf("client: the server says: %.*s\n", (int)told.len, (const char *)bytes + told.from);
+    } while (!len || !take_text(&n, bytes, len, &result));
+    printf("client: the server says: %.*s\n", (int)result.len, (const char *)bytes + result.from);
     noise_wipe(&n, sizeof n);
     forget_pair(&own);
 }
@@ -93,22 +93,22 @@ static size_t answer_client(int socket, const key_pair *own, network *n, uint8_t
         struct sockaddr_in from;
         socklen_t size = sizeof from;
         noise_handshake h;
-        noise_told told;
+        noise_result result;
         uint8_t message[LONGEST];
         ssize_t len = recvfrom(socket, first, LONGEST, 0, (struct sockaddr *)&from, &size);
         if (len < 0) die("no datagram");
         key_pair ephemeral = draw_pair();
         start(&h, "IK", 1, &ephemeral, own, NULL);
         memcpy(message, first, (size_t)len);             // reading changes it
-        if (read_message(&h, &ephemeral, own, message, (size_t)len, &told) != NOISE_OK) {
+        if (read_message(&h, &ephemeral, own, message, (size_t)len, &result) != NOISE_OK) {
             forget_pair(&ephemeral);
             continue;
         }
-        if (write_message(&h, &ephemeral, own, second, LONGEST, &told) != NOISE_OK) die("no second message");
+        if (write_message(&h, &ephemeral, own, second, LONGEST, &result) != NOISE_OK) die("no second message");
         finish(&h, &ephemeral, n);
         if (connect(socket, (struct sockaddr *)&from, sizeof from)) die("no way back");
         *first_len = (size_t)len;
-        return told.len;
+        return result.len;
     }
 }
 
@@ -116,7 +116,7 @@ static void run_server(int socket) {
     network n;
     uint8_t first[LONGEST], second[LONGEST], bytes[LONGEST];
     size_t first_len, len;
-    noise_told told;
+    noise_result result;
     key_pair own = pair_in("server.secret");
     save_public("server.public", own.public);
     size_t second_len = answer_client(socket, &own, &n, first, &first_len, second);
@@ -127,16 +127,16 @@ static void run_server(int socket) {
         len = receive_one(socket, bytes, RESEND_MS);
         // The client sends its first message again where the second was lost: so the server does too.
         if (len == first_len && !memcmp(bytes, first, len)) send(socket, second, second_len, 0);
-    } while (!len || !take_text(&n, bytes, len, &told));
-    printf("server: a client says: %.*s\n", (int)told.len, (const char *)bytes + told.from);
+    } while (!len || !take_text(&n, bytes, len, &result));
+    printf("server: a client says: %.*s\n", (int)result.len, (const char *)bytes + result.from);
     // Until the client is content, which it doesn't say: so for a second after its last datagram.
     uint8_t text[LONGEST];
-    size_t text_len = told.len;
-    memcpy(text, bytes + told.from, text_len);
+    size_t text_len = result.len;
+    memcpy(text, bytes + result.from, text_len);
     do {
         send_text(socket, &n, text, text_len);
         do len = receive_one(socket, bytes, 1000);
-        while (len && !take_text(&n, bytes, len, &told));
+        while (len && !take_text(&n, bytes, len, &result));
     } while (len);
     noise_wipe(&n, sizeof n);
     forget_pair(&own);

@@ -475,16 +475,16 @@ func TestKeys(t *testing.T) {
 	if info.Mode() != 0o600 {
 		t.Errorf("mode %v", info.Mode())
 	}
-	kept, err := os.ReadFile(name)
+	first, err := os.ReadFile(name)
 	if err != nil {
 		t.Fatal(err)
 	}
 	cat("keygen", "-o", "k").Run()
-	if again, err := os.ReadFile(name); err != nil || !bytes.Equal(again, kept) {
+	if again, err := os.ReadFile(name); err != nil || !bytes.Equal(again, first) {
 		t.Error("a key was overwritten")
 	}
 	cmd := cat("pubkey")
-	cmd.Stdin = bytes.NewReader(kept)
+	cmd.Stdin = bytes.NewReader(first)
 	if got, err := cmd.Output(); err != nil || string(got) != public+"\n" {
 		t.Errorf("%q, %v, want %s", got, err, public)
 	}

@@ -14,12 +14,12 @@ package cloop
 // // The answer of X25519 is a constant: what a message costs doesn't depend on it.
 // static uint32_t passed(noise_handshake *h, int writes, size_t *len) {
 //     static const uint8_t answer[32] = {1};
-//     noise_told told;
+//     noise_result result;
 //     for (;;) {
-//         uint32_t code = writes ? noise_write(h, payload, 0, message, sizeof message, &told) : noise_read(h, message, *len, &told);
-//         if (code == NOISE_OK && writes) *len = told.len;
+//         uint32_t code = writes ? noise_write(h, payload, 0, message, sizeof message, &result) : noise_read(h, message, *len, &result);
+//         if (code == NOISE_OK && writes) *len = result.len;
 //         if (code != NOISE_WANTED) return code;
-//         noise_answer(h, told.of_static, told.remote, answer);
+//         noise_answer(h, result.of_static, result.remote, answer);
 //     }
 // }
 //
@@ -41,10 +41,10 @@ package cloop
 // }
 //
 // static int run(size_t count, size_t size) {
-//     noise_told told;
+//     noise_result result;
 //     for (size_t i = 0; i < count; i++)
-//         if (noise_seal(&sending, payload, size, message, size + NOISE_TAG_LEN, &told) != NOISE_OK ||
-//             noise_open(&receiving, message, size + NOISE_TAG_LEN, &told) != NOISE_OK) return 0;
+//         if (noise_seal(&sending, payload, size, message, size + NOISE_TAG_LEN, &result) != NOISE_OK ||
+//             noise_open(&receiving, message, size + NOISE_TAG_LEN, &result) != NOISE_OK) return 0;
 //     return 1;
 // }
 import "C"

@@ -143,7 +143,7 @@ def _join(options: argparse.Namespace) -> None:
 
 
 class _Handshakes:
-    """The handshakes of those who connect to a listener, side by side. Those that fail are told on standard error."""
+    """The handshakes of those who connect to a listener, side by side. Failures are reported on standard error."""
 
     def __init__(self, listener: socket.socket, config: Config) -> None:
         self._listener, self._config = listener, config

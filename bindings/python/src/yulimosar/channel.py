@@ -12,7 +12,7 @@ from .codes import MAX_PAYLOAD, STREAM_OVERHEAD, Code
 from .config import Config
 from .errors import CallError, ChannelCut, MessageRefused
 from .handshake import Handshake, Steps
-from .memory import Buffer, Kept
+from .memory import Buffer, Struct
 from .pattern import layout
 
 T = TypeVar("T")
@@ -65,8 +65,8 @@ class Channel:
         self._config = config
         self._initiator = initiator
         self._handshake: Handshake | None = None
-        self._sender: Kept | None = None
-        self._receiver: Kept | None = None
+        self._sender: Struct | None = None
+        self._receiver: Struct | None = None
         self._agreed: Agreed | None = None
         self._fault: Exception | None = None
         self._answer: Any = None
@@ -129,24 +129,24 @@ class Channel:
         """Writes to the stream, once the handshake is done: `data_to_send` has the frames."""
         with self._out, ffi.from_buffer(payload) as data:
             sender = self._sends()
-            told, start, size = ffi.new("noise_stream_told *"), 0, len(data)
+            result, start, size = ffi.new("noise_stream_result *"), 0, len(data)
             while start < size:
                 frame = bytearray(min(size - start, MAX_PAYLOAD) + STREAM_OVERHEAD)
                 with ffi.from_buffer(frame) as room:
-                    code = lib.noise_stream_write(sender, data + start, size - start, room, len(room), told)
+                    code = lib.noise_stream_write(sender, data + start, size - start, room, len(room), result)
                 if code:
                     raise CallError(Code(code))
-                self._to_send.append(bytes(frame) if told.len == len(frame) else bytes(frame[:told.len]))
-                start += told.used
+                self._to_send.append(bytes(frame) if result.len == len(frame) else bytes(frame[:result.len]))
+                start += result.used
 
     def write_eof(self) -> None:
         """Writes the end of the stream: call it after the last `write`, and only if nothing went wrong."""
         with self._out:
             sender = self._sends()
-            told, room = ffi.new("noise_stream_told *"), ffi.new("char[]", STREAM_OVERHEAD)
-            if code := lib.noise_stream_end(sender, room, STREAM_OVERHEAD, told):
+            result, room = ffi.new("noise_stream_result *"), ffi.new("char[]", STREAM_OVERHEAD)
+            if code := lib.noise_stream_end(sender, room, STREAM_OVERHEAD, result):
                 raise CallError(Code(code))
-            self._to_send.append(ffi.unpack(room, told.len))
+            self._to_send.append(ffi.unpack(room, result.len))
 
     def _sends(self) -> Any:
         """The struct that sends, if anything may be sent."""
@@ -173,9 +173,9 @@ class Channel:
             if not self._events.gi_running:    # else a function of the Config calls this
                 self._events.close()
             self._came.drop()
-            for kept in (self._handshake, self._sender, self._receiver):
-                if kept is not None:
-                    kept.close()
+            for struct in (self._handshake, self._sender, self._receiver):
+                if struct is not None:
+                    struct.close()
 
     def _break(self, fault: Exception) -> None:
         with self._out:
@@ -227,22 +227,22 @@ class Channel:
         payload = payloads[index] if index < len(payloads) else b""
         message = yield from self._pend(handshake.writing(payload))
         frame = bytearray(2) + message
-        told = ffi.new("noise_stream_told *")
+        result = ffi.new("noise_stream_result *")
         with ffi.from_buffer(frame) as room:
-            if code := lib.noise_frame_message(room, len(room), len(message), told):
+            if code := lib.noise_frame_message(room, len(room), len(message), result):
                 raise CallError(Code(code))
         with self._out:
-            self._to_send.append(bytes(frame[:told.len]))
+            self._to_send.append(bytes(frame[:result.len]))
 
     def _read_message(self, handshake: Handshake) -> _Events[bytes]:
         """Waits for the frame of a message, and reads it."""
-        told = ffi.new("noise_stream_told *")
+        result = ffi.new("noise_stream_result *")
         index = handshake.message
         most = handshake.longest_read(index)
         while True:
             place, left = self._came.left()
-            code = lib.noise_frame_find(place, left, told)
-            size = told.len if code == Code.OK else left + told.wanted - 2
+            code = lib.noise_frame_find(place, left, result)
+            size = result.len if code == Code.OK else left + result.wanted - 2
             if size > most and (code == Code.OK or left >= 2):
                 raise MessageRefused(index + 1, None, Code.TOO_LONG)
             if code == Code.OK:
@@ -250,19 +250,19 @@ class Channel:
             if self._eof:
                 raise ChannelCut
             yield None
-        message = ffi.unpack(place + getattr(told, "from"), told.len)
-        self._came.use(told.used)
+        message = ffi.unpack(place + getattr(result, "from"), result.len)
+        self._came.use(result.used)
         return (yield from self._pend(handshake.reading(message)))
 
-    def _read_stream(self, receiver: Kept) -> _Events[None]:
+    def _read_stream(self, receiver: Struct) -> _Events[None]:
         """Gives out the stream of the other party."""
-        told = ffi.new("noise_stream_told *")
+        result = ffi.new("noise_stream_result *")
         while receiver._at is not None:
             place, left = self._came.left()
-            code = lib.noise_stream_read(receiver._at[0], place, left, told)
+            code = lib.noise_stream_read(receiver._at[0], place, left, result)
             if code == Code.OK:
-                payload = ffi.unpack(place + getattr(told, "from"), told.len)
-                self._came.use(told.used)
+                payload = ffi.unpack(place + getattr(result, "from"), result.len)
+                self._came.use(result.used)
                 yield Data(payload)
             elif code == Code.END:
                 self._reads_no_more = True

@@ -9,7 +9,7 @@ from .codes import KEY_LEN, Code
 from .config import Config
 from .errors import CallError, ConfigError, LowOrderKey, MessageRefused, PeerRefused, PskWanted
 from .keys import DH, KeyPair
-from .memory import Buffer, Kept, copied, pointer
+from .memory import Buffer, Struct, copied, pointer
 from .pattern import pattern_text
 from .transport import CipherState, Datagrams, Receiver, Sender
 
@@ -47,7 +47,7 @@ def _refuse(steps: Steps[T], error: BaseException) -> T:
     raise error
 
 
-class Handshake(Kept):
+class Handshake(Struct):
     """Runs a handshake message by message. The parties write in turn, the initiator first.
 
     After the last message one of `split`, `datagrams` and `ciphers` uses it up; `hash` and `peer_key` stay. A refused
@@ -55,7 +55,7 @@ class Handshake(Kept):
     passes the secrets.
     """
 
-    __slots__ = ("config", "initiator", "_layout", "_told", "_stage", "_ephemeral", "_judged", "_agreed")
+    __slots__ = ("config", "initiator", "_layout", "_result", "_stage", "_ephemeral", "_judged", "_agreed")
 
     def __init__(self, config: Config, initiator: bool, *, late_psks: bool = True) -> None:
         self._layout = config.checked(initiator, late_psks)
@@ -63,8 +63,8 @@ class Handshake(Kept):
         self.initiator = initiator
         self._agreed: tuple[bytes, bytes | None] | None = None    # the hash and the key, once it is used up
         self._judged = False    # whether the other party's static key was, if it is known from the start
-        self._told = ffi.new("noise_told *")
-        self._stage = ffi.new("noise_stage_told *")
+        self._result = ffi.new("noise_result *")
+        self._stage = ffi.new("noise_stage_result *")
         draws = any(message.initiator == initiator and "e" in message.tokens for message in self._layout.messages)
         self._ephemeral: DH | None = (config.ephemeral or KeyPair.generate)() if draws else None
         super().__init__("noise_handshake")
@@ -188,7 +188,7 @@ class Handshake(Kept):
         code = yield from self._called(lib.noise_write, data, length, room, size[0])
         if code:
             raise CallError(Code(code))
-        return ffi.unpack(room, self._told.len)    # type: ignore[no-any-return]
+        return ffi.unpack(room, self._result.len)    # type: ignore[no-any-return]
 
     def reading(self, message: Buffer) -> Steps[bytes]:
         """`read`, where functions of the Config may be asynchronous."""
@@ -202,7 +202,7 @@ class Handshake(Kept):
         code = yield from self._called(lib.noise_read, room, size)
         if code:
             raise self._refused(index, code)
-        payload: bytes = ffi.unpack(room + getattr(self._told, "from"), self._told.len)
+        payload: bytes = ffi.unpack(room + getattr(self._result, "from"), self._result.len)
         if index == self._layout.learns(self.initiator):
             yield from self._judge(index + 1)
         return payload
@@ -210,14 +210,14 @@ class Handshake(Kept):
     def _refused(self, index: int, code: int) -> MessageRefused:
         """Ends the handshake at a message."""
         tokens = (*self._layout.messages[index].tokens, "payload")
-        token = tokens[self._told.token] if code in (Code.SHORT, Code.TAG) else None
+        token = tokens[self._result.token] if code in (Code.SHORT, Code.TAG) else None
         self._overwrite()
         return MessageRefused(index + 1, token, Code(code))
 
     def _called(self, call: Callable[..., int], *words: Any) -> Steps[int]:
-        """Makes a call of the library, and supplies the results of X25519 and the secrets that it asks for."""
+        """Makes a call of the library, and supplies the results of X25519 and the psks that it asks for."""
         while True:
-            code = call(self._open(), *words, self._told)
+            code = call(self._open(), *words, self._result)
             if code == Code.WANTED:
                 yield from self._guarded(self._supply())
             elif code == Code.WANTED_PSK:
@@ -241,7 +241,7 @@ class Handshake(Kept):
             raise
 
     def _supply(self) -> Steps[None]:
-        of_static, remote = self._told.of_static, bytes(self._told.remote)
+        of_static, remote = self._result.of_static, bytes(self._result.remote)
         own = self.config.key if of_static else self._ephemeral
         assert own is not None
         result = yield from settled(own.agree(remote))
@@ -253,7 +253,7 @@ class Handshake(Kept):
             raise CallError(Code(code))
 
     def _choose(self) -> Steps[None]:
-        remote = bytes(self._told.remote) if self._told.remote_known else None
+        remote = bytes(self._result.remote) if self._result.remote_known else None
         if self.config.psk_for is None or remote is None:
             raise PskWanted(remote)
         psks = yield from settled(self.config.psk_for(remote))
@@ -282,10 +282,10 @@ class Handshake(Kept):
                 raise PeerRefused(f"Config.verify didn't accept the other party's static key: {key.hex()}")
             self._open()    # `verify` may have closed it
 
-    def _finish(self, call: Callable[..., int], number: int | None, *kept: Kept) -> None:
+    def _finish(self, call: Callable[..., int], number: int | None, *structs: Struct) -> None:
         """Makes the structs of what comes after the handshake, which is used up."""
         words = [] if number is None else [number]
-        places = [place for it in kept for place in it._at or ()]
+        places = [place for it in structs for place in it._at or ()]
         with self._lock:
             if code := call(self._open(), *words, *places):
                 raise CallError(Code(code))
@@ -312,9 +312,9 @@ class Handshake(Kept):
         self._finish(lib.noise_finish_ciphers, None, send, receive)
         return send, receive
 
-    def stream(self) -> tuple[Kept, Kept]:
+    def stream(self) -> tuple[Struct, Struct]:
         """The two directions of a channel, for Channel."""
-        sender, receiver = Kept("noise_stream_sender"), Kept("noise_stream_receiver")
+        sender, receiver = Struct("noise_stream_sender"), Struct("noise_stream_receiver")
         self._finish(lib.noise_finish_stream, self.config.interval, sender, receiver)
         return sender, receiver
 

@@ -12,14 +12,14 @@ from .errors import CallError
 
 Buffer: TypeAlias = bytes | bytearray | memoryview
 
-SMALL = 2048    # how many bytes of a buffer are kept from call to call
+SMALL = 2048    # how many bytes of a buffer stay from call to call
 
 _size_of = ffi.sizeof
 _CHARS = ffi.typeof("char[]")
 _new = ffi.new_allocator(should_clear_after_alloc=False)    # what isn't written isn't read
 _wipe = lib.noise_wipe
 _wipe_stack = lib.wipe_stack
-_all: weakref.WeakSet[Kept] = weakref.WeakSet()
+_all: weakref.WeakSet[Struct] = weakref.WeakSet()
 
 
 def pointer(data: Buffer) -> tuple[Any, int]:
@@ -38,7 +38,7 @@ def copied(data: Buffer) -> tuple[Any, int]:
     return copy, size
 
 
-class Kept:
+class Struct:
     """Structs of the library with one owner. They are overwritten by `close`, at the end of a `with`, when Python frees
     them, and in a process that is forked: a key must not seal two messages with one nonce. Threads may share one."""
 
@@ -99,9 +99,9 @@ class Kept:
 
 def _close_in_child() -> None:
     """Closes everything in a process that was forked: the keys are the parent's."""
-    for kept in list(_all):
-        kept._lock = threading.RLock()    # a thread that isn't in this process may hold it
-        kept._overwrite()
+    for struct in list(_all):
+        struct._lock = threading.RLock()    # a thread that isn't in this process may hold it
+        struct._overwrite()
 
 
 if hasattr(os, "register_at_fork"):

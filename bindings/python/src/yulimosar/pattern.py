@@ -49,14 +49,14 @@ class Fault:
 
 def check_pattern(text: str) -> Fault | None:
     """The first fault of a pattern text, whose lines all end with a line feed; None if it has none."""
-    told = ffi.new("noise_pattern_told *")
+    result = ffi.new("noise_pattern_result *")
     data = text.encode("utf-8", "replace")
-    code = lib.noise_check_pattern(data, len(data), told)
+    code = lib.noise_check_pattern(data, len(data), result)
     if code == Code.OK:
         return None
     if code == Code.RULE:
-        return Fault(Code.RULE, 0, told.rule, told.message, told.token + 1)
-    return Fault(Code(code), told.line, 0, 0, 0)
+        return Fault(Code.RULE, 0, result.rule, result.message, result.token + 1)
+    return Fault(Code(code), result.line, 0, 0, 0)
 
 
 @dataclass(frozen=True, slots=True)

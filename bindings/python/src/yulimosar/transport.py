@@ -6,7 +6,7 @@ from typing import Any
 from ._noise import ffi, lib
 from .codes import DATAGRAM_OVERHEAD, TAG_LEN, Code
 from .errors import CallError, MessageRefused
-from .memory import SMALL, Buffer, Kept, pointer
+from .memory import SMALL, Buffer, Struct, pointer
 
 _REFUSALS = {Code.SHORT, Code.TAG, Code.TOO_LONG, Code.LENGTH, Code.RESERVED, Code.OLD, Code.REPEATED}
 
@@ -31,14 +31,14 @@ def _unopened(code: int) -> Exception:
     return CallError(Code(code))
 
 
-class Sender(Kept):
+class Sender(Struct):
     """Seals messages, which have to arrive in their order."""
 
-    __slots__ = ("_told",)
+    __slots__ = ("_result",)
 
     def __init__(self) -> None:
         super().__init__("noise_sender")
-        self._told = ffi.new("noise_told *")
+        self._result = ffi.new("noise_result *")
 
     def seal(self, payload: Buffer) -> bytes:
         """The next message: 16 bytes longer than the payload, which has at most 65519."""
@@ -49,7 +49,7 @@ class Sender(Kept):
             if at is None:
                 raise CallError(None)
             room = self._spare if self._spare and length <= SMALL else self._room(length)
-            if code := _seal(at[0], data, size, room, length, self._told):
+            if code := _seal(at[0], data, size, room, length, self._result):
                 raise _unsealed(code)
             return _unpack(room, length)    # type: ignore[no-any-return]
 
@@ -60,10 +60,10 @@ class Sender(Kept):
         with self._lock, ffi.from_buffer(buffer, require_writable=True) as room:
             if self._at is None:
                 raise CallError(None)
-            code = _seal_in_place(self._at[0], room, len(room), size, self._told)
+            code = _seal_in_place(self._at[0], room, len(room), size, self._result)
             if code:
                 raise _unsealed(code)
-            return self._told.len    # type: ignore[no-any-return]
+            return self._result.len    # type: ignore[no-any-return]
 
     @property
     def nonce(self) -> int:
@@ -71,14 +71,14 @@ class Sender(Kept):
         return _nonce(self, lib.noise_sender_nonce)
 
 
-class Receiver(Kept):
+class Receiver(Struct):
     """Opens messages, in the order in which they were sealed."""
 
-    __slots__ = ("_told",)
+    __slots__ = ("_result",)
 
     def __init__(self) -> None:
         super().__init__("noise_receiver")
-        self._told = ffi.new("noise_told *")
+        self._result = ffi.new("noise_result *")
 
     def open(self, message: Buffer) -> bytes:
         """The payload of the next message. MessageRefused changes nothing; over a stream close at the first."""
@@ -88,7 +88,7 @@ class Receiver(Kept):
             if at is None:
                 raise CallError(None)
             room = self._spare if self._spare and size <= SMALL else self._room(size)
-            if code := _open_copy(at[0], data, size, room, self._told):
+            if code := _open_copy(at[0], data, size, room, self._result):
                 raise _unopened(code)
             return _unpack(room, size - TAG_LEN)    # type: ignore[no-any-return]
 
@@ -97,11 +97,11 @@ class Receiver(Kept):
         with self._lock, ffi.from_buffer(message, require_writable=True) as room:
             if self._at is None:
                 raise CallError(None)
-            code = _open(self._at[0], room, len(room), self._told)
+            code = _open(self._at[0], room, len(room), self._result)
             if code:
                 raise _unopened(code)
-            start = getattr(self._told, "from")
-            return memoryview(message).cast("B")[start:start + self._told.len]
+            start = getattr(self._result, "from")
+            return memoryview(message).cast("B")[start:start + self._result.len]
 
     @property
     def nonce(self) -> int:
@@ -109,24 +109,24 @@ class Receiver(Kept):
         return _nonce(self, lib.noise_receiver_nonce)
 
 
-def _nonce(kept: Kept, call: Any) -> int:
+def _nonce(struct: Struct, call: Any) -> int:
     number = ffi.new("uint64_t *")
-    with kept._lock:
-        if kept._at is None:
+    with struct._lock:
+        if struct._at is None:
             raise CallError(None)
-        if code := call(kept._at[0], number):
+        if code := call(struct._at[0], number):
             raise CallError(Code(code))
     return number[0]    # type: ignore[no-any-return]
 
 
-class Datagrams(Kept):
+class Datagrams(Struct):
     """Seals and opens datagrams, which may be lost, repeated and reordered."""
 
-    __slots__ = ("_told",)
+    __slots__ = ("_result",)
 
     def __init__(self) -> None:
         super().__init__("noise_datagram_sender", "noise_datagram_receiver")
-        self._told = ffi.new("noise_told *")
+        self._result = ffi.new("noise_result *")
 
     def seal(self, payload: Buffer) -> bytes:
         """A datagram: 24 bytes longer than the payload, which has at most 65519."""
@@ -137,7 +137,7 @@ class Datagrams(Kept):
             if at is None:
                 raise CallError(None)
             room = self._spare if self._spare and length <= SMALL else self._room(length)
-            if code := _datagram_seal(at[0], data, size, room, length, self._told):
+            if code := _datagram_seal(at[0], data, size, room, length, self._result):
                 raise _unsealed(code)
             return _unpack(room, length)    # type: ignore[no-any-return]
 
@@ -149,7 +149,7 @@ class Datagrams(Kept):
             if at is None:
                 raise CallError(None)
             room = self._spare if self._spare and size <= SMALL else self._room(size)
-            if code := _datagram_open_copy(at[1], data, size, room, self._told):
+            if code := _datagram_open_copy(at[1], data, size, room, self._result):
                 raise _unopened(code)
             return _unpack(room + 8, size - DATAGRAM_OVERHEAD)    # type: ignore[no-any-return]
 
@@ -159,14 +159,14 @@ class Datagrams(Kept):
         return _nonce(self, lib.noise_datagram_sender_nonce)
 
 
-class CipherState(Kept):
+class CipherState(Struct):
     """A cipher state of the standard (Noise, 5.1), for packets of your own. Never encrypt twice at one nonce."""
 
-    __slots__ = ("_told",)
+    __slots__ = ("_result",)
 
     def __init__(self) -> None:
         super().__init__("noise_cipher")
-        self._told = ffi.new("noise_told *")
+        self._result = ffi.new("noise_result *")
 
     def encrypt_with_ad(self, ad: Buffer, plaintext: Buffer) -> bytes:
         """Encrypts, with associated data, at the next nonce: 16 bytes longer than the plaintext. Neither is in it."""
@@ -177,10 +177,10 @@ class CipherState(Kept):
                 raise CallError(None)
             room = self._room(size + TAG_LEN)
             ffi.memmove(room, data, size)
-            code = _encrypt(self._at[0], ad_data, ad_size, room, size + TAG_LEN, size, self._told)
+            code = _encrypt(self._at[0], ad_data, ad_size, room, size + TAG_LEN, size, self._result)
             if code:
                 raise _unsealed(code)
-            return _unpack(room, self._told.len)    # type: ignore[no-any-return]
+            return _unpack(room, self._result.len)    # type: ignore[no-any-return]
 
     def decrypt_with_ad(self, ad: Buffer, ciphertext: Buffer) -> bytes:
         """Decrypts, with associated data, at the next nonce. MessageRefused leaves the nonce as it was."""
@@ -191,10 +191,10 @@ class CipherState(Kept):
                 raise CallError(None)
             room = self._room(size)
             ffi.memmove(room, data, size)
-            code = _decrypt(self._at[0], ad_data, ad_size, room, size, self._told)
+            code = _decrypt(self._at[0], ad_data, ad_size, room, size, self._result)
             if code:
                 raise _unopened(code)
-            return _unpack(room + getattr(self._told, "from"), self._told.len)    # type: ignore[no-any-return]
+            return _unpack(room + getattr(self._result, "from"), self._result.len)    # type: ignore[no-any-return]
 
     @property
     def nonce(self) -> int:

@@ -1,4 +1,4 @@
-use super::{bytes_of, Run, Told};
+use super::{bytes_of, Report, Run};
 use std::io;
 use tokio::io::{AsyncRead, AsyncReadExt, AsyncWrite, AsyncWriteExt};
 use tokio::net::{TcpListener, TcpStream};
@@ -6,7 +6,7 @@ use tokio::sync::oneshot;
 use yulimosar::AsyncStream;
 
 #[tokio::main]
-pub async fn run(run: Run) -> io::Result<Told> {
+pub async fn run(run: Run) -> io::Result<Report> {
     let below = if run.is_initiator {
         TcpStream::connect(&run.address).await?
     } else {
@@ -29,7 +29,7 @@ pub async fn run(run: Run) -> io::Result<Told> {
     let (read, end) = read(reads, &bytes_of(!run.is_initiator, run.size)).await;
     let _ = says.send(end.is_ok());
     let (wrote, has_ended) = writer.await?;
-    Ok(Told { wrote, has_ended, read, end })
+    Ok(Report { wrote, has_ended, read, end })
 }
 
 // Writes, and returns how many bytes, with those of a write that has failed after a part of them was sent; and whether none has.
@@ -41,7 +41,7 @@ async fn write(writes: &mut (impl AsyncWrite + Unpin), bytes: &[u8]) -> (usize, 
             return (wrote, false);
         }
     }
-    // What was taken may still be kept.
+    // What was taken may still wait.
     (wrote, writes.flush().await.is_ok())
 }
 

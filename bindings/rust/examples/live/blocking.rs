@@ -1,11 +1,11 @@
-use super::{bytes_of, Run, Told};
+use super::{bytes_of, Report, Run};
 use std::io::{self, Read, Write};
 use std::net::{TcpListener, TcpStream};
 use std::sync::mpsc;
 use std::thread;
 use yulimosar::{ReadHalf, Stream};
 
-pub fn run(run: Run) -> io::Result<Told> {
+pub fn run(run: Run) -> io::Result<Report> {
     let below = if run.is_initiator {
         TcpStream::connect(&run.address)?
     } else {
@@ -28,7 +28,7 @@ pub fn run(run: Run) -> io::Result<Told> {
     let (read, end) = read(&mut reads, &bytes_of(!run.is_initiator, run.size));
     let _ = says.send(end.is_ok());
     let (wrote, has_ended) = writer.join().expect("no panic");
-    Ok(Told { wrote, has_ended, read, end })
+    Ok(Report { wrote, has_ended, read, end })
 }
 
 // Writes, and returns how many bytes, with those of a write that has failed after a part of them was sent; and whether none has.

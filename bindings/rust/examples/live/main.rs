@@ -61,14 +61,14 @@ pub fn bytes_of(is_initiator: bool, size: usize) -> Vec<u8> {
 }
 
 // What a party tells of its two directions.
-pub struct Told {
+pub struct Report {
     pub wrote: usize,
     pub has_ended: bool,
     pub read: usize,
     pub end: io::Result<()>,
 }
 
-impl Told {
+impl Report {
     fn print(&self) {
         let end = match self.end.as_ref().map_err(io::Error::kind) {
             Ok(()) => "end",
@@ -83,11 +83,11 @@ impl Told {
 
 fn main() -> io::Result<()> {
     let words: Vec<String> = std::env::args().collect();
-    let told = match words.last().map(String::as_str) {
+    let report = match words.last().map(String::as_str) {
         Some("async") => asynchronous::run(Run::new(words)),
         Some("websocket") => without_io::run(Run::new(words)),
         _ => blocking::run(Run::new(words)),
     };
-    told.unwrap_or_else(|end| Told { wrote: 0, has_ended: false, read: 0, end: Err(end) }).print();
+    report.unwrap_or_else(|end| Report { wrote: 0, has_ended: false, read: 0, end: Err(end) }).print();
     Ok(())
 }

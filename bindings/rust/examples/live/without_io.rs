@@ -1,13 +1,13 @@
 // A channel over a WebSocket, by the types without IO: each message of the channel is one of the WebSocket, without its length.
 use super::websocket::WebSocket;
-use super::{bytes_of, Run, Told};
+use super::{bytes_of, Report, Run};
 use std::io;
 use std::net::{TcpListener, TcpStream};
 use std::sync::mpsc;
 use std::thread;
 use yulimosar::{Connecting, Connection, Error, Event, Step, StreamReceiver, StreamSender};
 
-pub fn run(run: Run) -> io::Result<Told> {
+pub fn run(run: Run) -> io::Result<Report> {
     let mut socket = if run.is_initiator {
         WebSocket::client(TcpStream::connect(&run.address)?)?
     } else {
@@ -29,7 +29,7 @@ pub fn run(run: Run) -> io::Result<Told> {
     if ended.is_ok() && has_ended {
         let _ = socket.close();
     }
-    Ok(Told { wrote, has_ended, read, end: ended })
+    Ok(Report { wrote, has_ended, read, end: ended })
 }
 
 // Passes the handshake.

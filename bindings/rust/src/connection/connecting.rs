@@ -1,7 +1,7 @@
 use super::buffers::{Incoming, Outgoing};
 use super::Connection;
 use crate::header::{MAX_FRAME, MAX_MESSAGE, MORE, OK};
-use crate::raw::{frame_find, frame_message, StreamTold};
+use crate::raw::{frame_find, frame_message, StreamResult};
 use crate::{Dh, Ephemeral, Error, Handshake};
 use core::fmt;
 
@@ -129,9 +129,9 @@ impl<S: Dh, E: Ephemeral> Connecting<S, E> {
         let len = self.handshake.message_len(0).unwrap_or(MAX_MESSAGE);
         let room = self.outgoing.room(LENGTH + len);
         let len = self.handshake.write(&[], &mut room[LENGTH..])?;
-        let mut told = StreamTold::default();
-        match frame_message(room, len, &mut told) {
-            OK => self.outgoing.put(told.len),
+        let mut result = StreamResult::default();
+        match frame_message(room, len, &mut result) {
+            OK => self.outgoing.put(result.len),
             code => return Err(Error::of(code, None)),
         }
         Ok(())
@@ -139,19 +139,19 @@ impl<S: Dh, E: Ephemeral> Connecting<S, E> {
 
     // Reads the message that is due, or says how many bytes more are wanted.
     fn read(&mut self) -> Result<(), Error> {
-        let mut told = StreamTold::default();
-        if frame_find(self.incoming.bytes(), &mut told) == MORE {
-            if self.incoming.len() + told.wanted > LENGTH.saturating_add(self.handshake.max_message()) {
+        let mut result = StreamResult::default();
+        if frame_find(self.incoming.bytes(), &mut result) == MORE {
+            if self.incoming.len() + result.wanted > LENGTH.saturating_add(self.handshake.max_message()) {
                 return Err(Error::TooLong);
             }
             if self.is_closed {
                 return Err(Error::Cut);
             }
-            self.wanted = told.wanted;
+            self.wanted = result.wanted;
             return Ok(());
         }
-        self.handshake.read(&mut self.incoming.bytes_mut()[told.from..told.from + told.len])?;
-        self.incoming.remove(told.used);
+        self.handshake.read(&mut self.incoming.bytes_mut()[result.from..result.from + result.len])?;
+        self.incoming.remove(result.used);
         Ok(())
     }
 

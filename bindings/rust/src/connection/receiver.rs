@@ -1,7 +1,7 @@
 use super::buffers::Incoming;
 use super::Over;
 use crate::header::{CLOSED, END, MORE, OK};
-use crate::raw::{self, StreamTold};
+use crate::raw::{self, StreamResult};
 use crate::Error;
 use core::fmt;
 use core::mem::take;
@@ -84,19 +84,19 @@ impl StreamReceiver {
             return Err(Error::OneWay);
         }
         self.incoming.remove(take(&mut self.used));
-        let mut told = StreamTold::default();
+        let mut result = StreamResult::default();
         loop {
-            match self.memory.read(self.incoming.bytes_mut(), &mut told) {
+            match self.memory.read(self.incoming.bytes_mut(), &mut result) {
                 OK => {
-                    self.opened = told.from..told.from + told.len;
-                    self.used = told.used;
+                    self.opened = result.from..result.from + result.len;
+                    self.used = result.used;
                     return Ok(Due::Data);
                 }
                 MORE if !self.is_closed => {
-                    self.wanted = told.wanted;
+                    self.wanted = result.wanted;
                     return Ok(Due::Receive);
                 }
-                END => self.incoming.remove(told.used),
+                END => self.incoming.remove(result.used),
                 MORE | CLOSED => return self.ended(),
                 code => return Err(self.fail(Error::of(code, None))),
             }

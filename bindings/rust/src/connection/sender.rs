@@ -1,7 +1,7 @@
 use super::buffers::Outgoing;
 use super::Over;
 use crate::header::{CLOSED, MAX_FRAME, OK, STREAM_OVERHEAD};
-use crate::raw::{self, StreamTold};
+use crate::raw::{self, StreamResult};
 use crate::Error;
 use core::fmt;
 
@@ -24,12 +24,12 @@ impl StreamSender {
         if !self.outgoing.rest().is_empty() {
             return Ok(0);
         }
-        let mut told = StreamTold::default();
+        let mut result = StreamResult::default();
         let room = self.outgoing.room(bytes.len().saturating_add(STREAM_OVERHEAD).min(MAX_FRAME));
-        match self.memory.write(bytes, room, &mut told) {
+        match self.memory.write(bytes, room, &mut result) {
             OK => {
-                self.outgoing.put(told.len);
-                Ok(told.used)
+                self.outgoing.put(result.len);
+                Ok(result.used)
             }
             code => Err(Error::of(code, None)),
         }
@@ -38,9 +38,9 @@ impl StreamSender {
     /// Ends this party's stream: its last frame is to be sent. A second time it changes nothing.
     pub fn end(&mut self) -> Result<(), Error> {
         self.check()?;
-        let mut told = StreamTold::default();
-        match self.memory.end(self.outgoing.room(STREAM_OVERHEAD), &mut told) {
-            OK => self.outgoing.put(told.len),
+        let mut result = StreamResult::default();
+        match self.memory.end(self.outgoing.room(STREAM_OVERHEAD), &mut result) {
+            OK => self.outgoing.put(result.len),
             CLOSED => {}
             code => return Err(Error::of(code, None)),
         }

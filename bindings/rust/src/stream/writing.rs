@@ -16,7 +16,7 @@ impl Writing {
         let count = self.0.write(bytes)?;
         match self.send(below) {
             Err(error) if !is_wait(&error) => Err(error),
-            _ => Ok(count), // what isn't written below is kept
+            _ => Ok(count), // what isn't written below waits
         }
     }
 
@@ -32,7 +32,7 @@ impl Writing {
         self.flush(below)
     }
 
-    // Sends what is kept. After an error of time a later call continues.
+    // Sends what waits. After an error of time a later call continues.
     fn send(&mut self, below: &mut impl Write) -> io::Result<()> {
         self.0.check()?;
         while !self.0.outgoing().is_empty() {

@@ -49,7 +49,7 @@ async function connection() {
   return socket;
 }
 
-function told(error) {
+function nameOf(error) {
   if ([code.TAG, code.SHORT, code.TOO_LONG].includes(error.code)) return 'refused';
   return error.code === code.CLOSED ? 'cut' : 'lost';
 }
@@ -78,7 +78,7 @@ async function read(channel) {
     }
     return { count, end: 'end' };
   } catch (error) {
-    return { count, end: told(error) };
+    return { count, end: nameOf(error) };
   }
 }
 
@@ -110,6 +110,6 @@ const options = {
 try {
   await run(await NoiseSocket.open(await connection(), options));    // at once: what a WebSocket gets before isn't seen
 } catch (error) {
-  console.log(`wrote 0 open, read 0 ${told(error)}`);
+  console.log(`wrote 0 open, read 0 ${nameOf(error)}`);
 }
 process.exit(0);

@@ -94,7 +94,7 @@ def stream(initiator, size):
     return (bytes((i * 7 + initiator) % 251 for i in range(251)) * (size // 251 + 1))[:size]
 
 
-def told(error):
+def name_of(error):
     return "refused" if isinstance(error, Refused) else "cut" if isinstance(error, Cut) else "lost"
 
 
@@ -131,7 +131,7 @@ class Session:
                 got += part
             self.whole = True
         except (Refused, Cut, OSError) as error:
-            what = told(error)
+            what = name_of(error)
         self.can_end.set()
         writer.join()
         assert stream(not self.initiator, self.size).startswith(got), "other bytes"
@@ -156,7 +156,7 @@ def main():
             secret = None if psk == "-" else bytes.fromhex(psk)
             end = End(connection, name, initiator, pair, PublicKey(bytes.fromhex(peer)), secret)
         except (Refused, Cut, OSError) as error:
-            print(f"wrote 0 open, read 0 {told(error)}")
+            print(f"wrote 0 open, read 0 {name_of(error)}")
             return
         Session(end, initiator, order == "first", int(size)).run()
 

@@ -107,7 +107,7 @@ def with_shutdown(connection):
         pass
 
 
-class Told:
+class Report:
     """The last line that an end has printed."""
 
     def __init__(self, line):
@@ -126,7 +126,7 @@ def key():
 
 
 def pass_session(programs, pattern, orders, size, directions):
-    """Passes a session of an initiator and a responder, and returns what each has told."""
+    """Passes a session of an initiator and a responder, and returns what each has reported."""
     pairs, psk = [key(), key()], secrets.token_hex(32) if "psk" in pattern else "-"
     words = [[*shlex.split(program)] for program in programs]
     tail = [[order, str(size)] + [it for it in word[-1:] if it in MODES] for order, word in zip(orders, words)]
@@ -143,14 +143,14 @@ def pass_session(programs, pattern, orders, size, directions):
             responder.kill()
             relay.listener.close()
     relay.thread.join(SECONDS)
-    return Told(initiator.stdout.strip()), Told(said.strip())
+    return Report(initiator.stdout.strip()), Report(said.strip())
 
 
-def compare(told, orders, size, directions, is_framed):
+def compare(reports, orders, size, directions, is_framed):
     """Compares what the ends tell with the law. A WebSocket has bytes that aren't the channel's: a fault there may damage nothing."""
     is_damaged = any(direction.is_struck for direction in directions)  # a byte after the end may reset the connection
-    for index, own in enumerate(told):
-        other, came = told[1 - index], directions[1 - index]
+    for index, own in enumerate(reports):
+        other, came = reports[1 - index], directions[1 - index]
         assert own.read <= other.wrote, "it has read what wasn't written"
         if own.end == "end":
             assert other.wrote == size and own.read == size and (came.is_whole or is_framed), "an end that isn't one"
@@ -164,13 +164,13 @@ def session(names, programs, pattern, orders, size, faults=(None, None)):
     directions = [Direction(*(fault or ())) for fault in faults]
     what = f"{names[0]} and {names[1]}, {pattern}, {orders}, {size} bytes, {faults}"
     try:
-        told = pass_session(programs, pattern, orders, size, directions)
+        reports = pass_session(programs, pattern, orders, size, directions)
     except Exception as error:
         raise AssertionError(f"{what}: {error}") from error
     try:
-        compare(told, orders, size, directions, all(program.endswith("websocket") for program in programs))
+        compare(reports, orders, size, directions, all(program.endswith("websocket") for program in programs))
     except AssertionError as error:
-        raise AssertionError(f"{what}: {error}: {told[0]}; {told[1]}") from error
+        raise AssertionError(f"{what}: {error}: {reports[0]}; {reports[1]}") from error
     return [direction.sent for direction in directions]
 
 

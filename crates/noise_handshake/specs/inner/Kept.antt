@@ -4,19 +4,19 @@ use Rattle.noise_names.specs.Plan.{has_psk}
 use Rattle.noise_names.specs.Validity.{IsValid}
 use Rattle.noise_keys.specs.declared.keys.Own.{Own}
 use Rattle.noise_handshake.specs.declared.handshake.Handshake.TheInside.{Inside}
-use Rattle.noise_handshake.specs.Held.{Held}
+use Rattle.noise_handshake.specs.HandshakeValue.{HandshakeValue}
 use Rattle.noise_handshake.specs.inner.Known.{KnowsRemote}
 use Rattle.noise_handshake.specs.inner.Layout.{LaysNext}
 use Rattle.noise_handshake.specs.inner.Sound.{IsSound}
 
 -- the handshake as contracts see it
-abbrev pub held_in : {K : Type 0} → Inside K → Held K
+abbrev pub held_in : {K : Type 0} → Inside K → HandshakeValue K
 held_in a = record {
   pattern = a.pattern;
-  role = a.role;
-  keys = a.keys;
+  role = a.means.role;
+  keys = a.means.keys;
   remote = a.remote;
-  secrets = drop a.used a.secrets.items;
+  psks = drop a.used a.psks.items;
   passed = a.passed;
   ended = a.ended;
   state = a.state;
@@ -24,5 +24,5 @@ held_in a = record {
 
 -- What holds of them between two calls.
 abbrev pub IsKept : {K : Type 0} → (K → Own → Option (List ℕ)) → Inside K → Type 0
-IsKept public_of a = (a.psks ≡ has_psk a.pattern) × (a.used ≤ length a.secrets.items) × IsSound public_of (held_in a)
-    × KnowsRemote (held_in a) × LaysNext a.pattern a.passed a.next × IsValid a.pattern
+IsKept public_of a = (a.means.has_psks ≡ has_psk a.pattern) × (a.used ≤ length a.psks.items)
+    × IsSound public_of (held_in a) × KnowsRemote (held_in a) × LaysNext a.pattern a.passed a.next × IsValid a.pattern

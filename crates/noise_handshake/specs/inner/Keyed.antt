@@ -5,5 +5,5 @@ use Rattle.noise_handshake.specs.Length.{keyed_after_tokens}
 
 -- where there is one before them or not
 abbrev pub keyed_after_messages : Bool → Bool → List (List Token) → Bool
-keyed_after_messages psks keyed [] = keyed
-keyed_after_messages psks keyed (ts ∷ ms) = keyed_after_messages psks (keyed_after_tokens psks keyed ts) ms
+keyed_after_messages has_psks keyed [] = keyed
+keyed_after_messages has_psks keyed (ts ∷ ms) = keyed_after_messages has_psks (keyed_after_tokens has_psks keyed ts) ms

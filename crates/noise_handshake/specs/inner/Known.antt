@@ -6,7 +6,7 @@ use Rattle.noise_names.specs.declared.token.Token.{Token}
 use Rattle.noise_names.specs.declared.token.Token.TheVariants.{E, S, Es, Se, Ss, Psk}
 use Rattle.noise_names.specs.Tokens.{other}
 use Rattle.noise_names.specs.Validity.{is_among}
-use Rattle.noise_handshake.specs.Held.{Held}
+use Rattle.noise_handshake.specs.HandshakeValue.{HandshakeValue}
 use Rattle.noise_handshake.specs.Passed.{passed_places}
 
 -- whether the remote key of a DH is known, where an ephemeral and a static key of the other party are known or not
@@ -48,6 +48,6 @@ are_known role e s [] = true
 are_known role e s (t ∷ ts) = is_known role e s t && are_known role (e_after e t) (s_after s t) ts
 
 -- A key of the other party is known exactly if its token stands in its pre-message or in a message that has passed.
-pub record KnowsRemote {K : Type 0} (h : Held K) : Type 0 where
+pub record KnowsRemote {K : Type 0} (h : HandshakeValue K) : Type 0 where
   pub e : is_some h.remote.e ≡ is_among (other h.role) E (passed_places h.pattern h.passed)
   pub s : is_some h.remote.s ≡ is_among (other h.role) S (passed_places h.pattern h.passed)

@@ -1,5 +1,5 @@
 -- What the private functions of reading say of a party that listens.
-use Rattle.std.specs.Prelude.{◌≡◌, ℕ, List, ◌++◌, take, Bool, Option, is_some, if◌then◌else◌}
+use Rattle.std.specs.Prelude.{◌≡◌, ℕ, List, ◌++◌, take, Bool, Option, is_some, if◌then◌else◌, MatchOption}
 use Rattle.noise_names.specs.declared.token.Token.{Token}
 use Rattle.noise_names.specs.declared.token.Role.{Role}
 use Rattle.noise_names.specs.Plan.{has_psk}
@@ -7,43 +7,47 @@ use Rattle.noise_state.specs.History.{History, cipher_key}
 use Rattle.noise_keys.specs.declared.keys.Own.{Own}
 use Rattle.noise_handshake.specs.declared.remote.Remote.{Remote}
 use Rattle.noise_handshake.specs.declared.faults.Cause.{Cause}
+use Rattle.noise_handshake.specs.declared.faults.Cause.TheVariants.{Agreement}
 use Rattle.noise_handshake.specs.Message.{token_bytes}
-use Rattle.noise_handshake.specs.View.{View, Reader, Fits, BeginsAs, Listens, Stops, learned, tokens_now}
-
--- what reading asks of a party with these keys
-abbrev pub reader_of : {K : Type 0} → (K → Own → List ℕ → Option (List ℕ)) → Role → Bool → K → Reader
-reader_of agreement role psks keys = record { role = role; psks = psks; agree = agreement keys }
+use Rattle.noise_handshake.specs.Party.{Party, Reader, Fits, BeginsAs, Listens, Stops, remote_after, tokens_now}
+use Rattle.noise_handshake.specs.Wanting.{StopsFor}
 
 -- no text of token t fits here
 abbrev pub Fails : Reader → Remote → List (List ℕ) → History → Token → List ℕ → Type 0
-Fails v known secrets r t m = (x rest : List ℕ) → Fits v known secrets t x → m ≡ token_bytes r t x ++ rest → ⊥
+Fails v known psks r t m = (x rest : List ℕ) → Fits v known psks t x → m ≡ token_bytes r t x ++ rest → ⊥
 
 -- Reading stops at token k for this cause, and these keys of the other party are known there.
 abbrev pub StopsKnowing : Reader → Remote → List (List ℕ) → History → List Token → List ℕ → ℕ → Cause → Remote → Type 0
-StopsKnowing v known secrets r ts m k cause here = (s : Stops v known secrets r ts m k cause)
-    × (here ≡ learned known (take k ts) s.carried)
+StopsKnowing v known psks r ts m k cause here = (s : Stops v known psks r ts m k cause)
+    × (here ≡ remote_after known (take k ts) s.carried)
+
+-- Reading stops because it lacks this DH result; or it doesn't stop for that.
+abbrev pub ReaderWants : Reader → Remote → List (List ℕ) → History → List Token → List ℕ → Option (Own × List ℕ)
+    → Type 0
+ReaderWants v known psks r ts m want = MatchOption want ((k : ℕ) → Stops v known psks r ts m k Agreement → ⊥)
+    (λ w. StopsFor v known psks r ts m w.0 w.1)
 
 -- The message begins as some sender's tokens before token k would, and this static key of the other party is known
 -- there.
-pub record BeginsBefore (v : Reader) (known : Remote) (secrets : List (List ℕ)) (r : History) (ts : List Token)
+pub record BeginsBefore (v : Reader) (known : Remote) (psks : List (List ℕ)) (r : History) (ts : List Token)
     (m : List ℕ) (k : ℕ)
     (remote : Option (List ℕ)) : Type 0 where
   pub carried : List (List ℕ)
   pub rest : List ℕ
-  pub leads : BeginsAs v known secrets r (take k ts) carried m rest
-  pub remote_is : remote ≡ (learned known (take k ts) carried).s
+  pub leads : BeginsAs v known psks r (take k ts) carried m rest
+  pub remote_is : remote ≡ (remote_after known (take k ts) carried).s
 
 -- how many bytes a static key takes
 abbrev pub width_of_key : History → ℕ
 width_of_key r = if is_some (cipher_key r) then 48 else 32
 
--- A party that listens, with these parts, for a view.
-pub record Listening (v : View) (role : Role) (psks : Bool) (agree : Own → List ℕ → Option (List ℕ))
-    (secrets : List (List ℕ)) (known : Remote) (tokens : List Token) : Type 0 where
+-- A party that listens, with these parts, for a party.
+pub record Listening (v : Party) (role : Role) (has_psks : Bool) (agree : Own → List ℕ → Option (List ℕ))
+    (psks : List (List ℕ)) (known : Remote) (tokens : List Token) : Type 0 where
   pub listens : Listens v
   pub role_is : role ≡ v.role
-  pub psks_is : psks ≡ has_psk v.pattern
+  pub psks_is : has_psks ≡ has_psk v.pattern
   pub agree_is : agree ≡ v.agree
-  pub secrets_are : secrets ≡ v.secrets
+  pub psks_are : psks ≡ v.psks
   pub known_is : known ≡ v.remote
   pub tokens_are : tokens ≡ tokens_now v

@@ -7,18 +7,18 @@ use Rattle.noise_names.specs.Overhead.{has_key}
 use Rattle.noise_state.specs.Standing.{keyed, nonce_now}
 use Rattle.noise_keys.specs.declared.keys.Own.{Own}
 use Rattle.noise_keys.specs.declared.keys.Own.TheVariants.{Ephemeral, Static}
-use Rattle.noise_handshake.specs.Held.{Held}
+use Rattle.noise_handshake.specs.HandshakeValue.{HandshakeValue}
 use Rattle.noise_handshake.specs.Nonces.{nonce_due}
-use Rattle.noise_handshake.specs.Setup.{secrets_of}
+use Rattle.noise_handshake.specs.Setup.{psks_of}
 use Rattle.noise_handshake.specs.Passed.{passed_places}
 
--- No more messages have passed than there are, a secret is left for each psk token that is still to come, the party has
+-- No more messages have passed than there are, a psk is left for each psk token that is still to come, the party has
 -- each key of its own that the pattern has a token for, there is a key exactly where the pattern says so, and its nonce
 -- counts the texts that were encrypted under it, at most one for each token and one for each payload.
-pub record IsSound {K : Type 0} (public_of : K → Own → Option (List ℕ)) (h : Held K) : Type 0 where
+pub record IsSound {K : Type 0} (public_of : K → Own → Option (List ℕ)) (h : HandshakeValue K) : Type 0 where
   pub within : h.passed ≤ length h.pattern.messages
   pub few : length h.pattern.messages ≤ 8
-  pub secrets : length h.secrets ≡ secrets_of (drop h.passed h.pattern.messages)
+  pub psks : length h.psks ≡ psks_of (drop h.passed h.pattern.messages)
   pub has_e : is_among h.role E (places_of h.pattern) ≡ true → is_some (public_of h.keys Ephemeral) ≡ true
   pub has_s : is_among h.role S (places_of h.pattern) ≡ true → is_some (public_of h.keys Static) ≡ true
   pub nonce : nonce_now h.state ≡ nonce_due h.pattern h.passed

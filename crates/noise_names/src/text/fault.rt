@@ -12,7 +12,7 @@ ghost use Rattle.noise_names.specs.Names.{Section, IsSection, are_places};
 ghost use Rattle.noise_names.specs.Text.{line, words};
 ghost use Rattle.noise_names.specs.Tokens.{is_psk, own_tokens, turn_from};
 ghost use Rattle.noise_names.specs.WrongText.{IsTextFault, arrow_then, dots, first_line, has_dots, heading_of};
-ghost use Rattle.noise_names.specs.Judging.{HasTokens, IsFirstLine, IsJudged, IsPassed, Passed, Stands};
+ghost use Rattle.noise_names.specs.Judging.{HasTokens, IsFirstLine, IsJudged, IsPassed, Passed, Matches};
 
 use super::read::{first_word, is_pre_message, read_arrow, read_heading};
 use crate::psks::message_with_psks;
@@ -149,7 +149,7 @@ impl Judged {
 
     // What was judged after one more line, or what is wrong in it.
     fn judge(self, places: &[u8], bytes: &[u8]) -> Result<Judged, TextFaultKind>
-        ensures { (s : Passed) (dotted : Bool) → Stands self s → IsPassed places.now dotted s
+        ensures { (s : Passed) (dotted : Bool) → Matches self s → IsPassed places.now dotted s
             → IsJudged places.now dotted s bytes.now result }
     {
         if is_dots(bytes) {
@@ -169,7 +169,7 @@ impl Judged {
     }
 
     fn judge_dots(self) -> Result<Judged, TextFaultKind>
-        ensures { (places : List ℕ) (s : Passed) (dotted : Bool) → Stands self s → IsPassed places dotted s
+        ensures { (places : List ℕ) (s : Passed) (dotted : Bool) → Matches self s → IsPassed places dotted s
             → IsJudged places dotted s dots result }
     {
         if self.dots_ahead && self.has_begun() {
@@ -191,7 +191,7 @@ impl Judged {
 
     fn judge_pre_message(self, role: Role, list: &Words) -> Result<Judged, TextFaultKind>
         requires { IsTrue self.dots_ahead }
-        ensures { (places : List ℕ) (s : Passed) (dotted : Bool) (tokens : List Token) → Stands self s
+        ensures { (places : List ℕ) (s : Passed) (dotted : Bool) (tokens : List Token) → Matches self s
             → IsPassed places dotted s → HasTokens list.now tokens
             → IsJudged places dotted s (arrow_then role (words tokens)) result }
     {
@@ -222,7 +222,7 @@ impl Judged {
 
     fn judge_message(self, places: &[u8], role: Role, list: &Words) -> Result<Judged, TextFaultKind>
         requires { IsFalse self.dots_ahead }
-        ensures { (s : Passed) (dotted : Bool) (tokens : List Token) → Stands self s
+        ensures { (s : Passed) (dotted : Bool) (tokens : List Token) → Matches self s
             → IsPassed places.now dotted s → HasTokens list.now tokens
             → IsJudged places.now dotted s (arrow_then role (words tokens)) result }
     {
@@ -318,7 +318,7 @@ impl Words {
     // Whether the tokens other than psk are those of a message: one to eight.
     fn has_few(&self) -> bool
         ensures few { (tokens : List Token) → HasTokens self.now tokens → result ≡ has_few_tokens tokens }
-        ensures kept { IsTrue result → array_vec_len self.now.own ≤ 8 }
+        ensures bound { IsTrue result → array_vec_len self.now.own ≤ 8 }
     {
         !self.own.is_empty() && !self.own.is_full()
     }

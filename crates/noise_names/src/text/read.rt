@@ -198,7 +198,7 @@ fn read_words(list: &[u8]) -> (ArrayVec<Token, 8>, &[u8])
     let mut tokens = ArrayVec::new();
     let mut left = list;
     while let Some((token, after)) = first_word(left) {
-        keep(&mut tokens, token);
+        push_own(&mut tokens, token);
         let Some(more) = after.strip_prefix(b", ") else {
             return (tokens, after);
         };
@@ -207,10 +207,10 @@ fn read_words(list: &[u8]) -> (ArrayVec<Token, 8>, &[u8])
     (tokens, left)
 }
 
-// Keeps the token, unless it is psk or there is no room.
-fn keep(tokens: &mut ArrayVec<Token, 8>, token: Token)
+// Appends the token, unless it is psk or there is no room.
+fn push_own(tokens: &mut ArrayVec<Token, 8>, token: Token)
     ensures plain { list_any is_psk tokens.old.items ≡ false → list_any is_psk tokens.new.items ≡ false }
-    ensures kept { array_vec_len tokens.old + length (own_tokens (token ∷ [])) ≤ 8
+    ensures pushed { array_vec_len tokens.old + length (own_tokens (token ∷ [])) ≤ 8
         → tokens.new.items ≡ tokens.old.items ++ own_tokens (token ∷ []) }
 {
     if let Token::Psk = token {

@@ -129,7 +129,7 @@ fn push_words(out: &mut Text, tokens: &[Token])
 impl Role {
     // The arrow of the party's messages.
     pub(crate) fn arrow(self) -> &'static [u8]
-        ensures same { result.now ≡ arrow_of self }
+        ensures value { result.now ≡ arrow_of self }
         ensures len { length result.now ≡ 2 }
     {
         match self {
@@ -142,7 +142,7 @@ impl Role {
 impl Token {
     // The token's word.
     pub(crate) fn word(self) -> &'static [u8]
-        ensures same { result.now ≡ word_of self }
+        ensures value { result.now ≡ word_of self }
         ensures few { length result.now ≤ 3 }
     {
         match self {

@@ -1,7 +1,7 @@
 -- How the filling of a buffer from a reader came to its end.
 use Rattle.std.specs.Prelude.{ℕ, List}
-use Rattle.noise_session.specs.declared.filling.Filling.{Filling}
-use Rattle.noise_session.specs.declared.filling.Filling.TheVariants.{Filled, End, Failed}
+use Rattle.noise_session.specs.declared.counted.Filling.{Filling}
+use Rattle.noise_session.specs.declared.counted.Filling.TheVariants.{Filled, End, Failed}
 use Rattle.noise_session.specs.Counting.{one_more}
 use Rattle.noise_session.specs.Frames.{IsPartial, IsWhole}
 

@@ -73,8 +73,8 @@ fn comes_through(rt: &impl Abort, alloc: Global, pattern: ValidPattern, psks: &[
     let (duel, report) = conversed(rt, alloc, pattern, psks, &lines);
     let open = duel.responder().hash().is_some();
     assert!(rt; open);
-    let told = report.entries.len() / 2;
-    assert!(rt; told == lines.len());
+    let reported = report.entries.len() / 2;
+    assert!(rt; reported == lines.len());
 }
 
 // A fundamental pattern with psk tokens at these places.
@@ -171,8 +171,8 @@ fn over_a_network(rt: HostRuntime) {
         &events,
     );
     let (duel, report) = made.expect(&rt, "a run");
-    let told = report.entries.len();
-    assert!(rt; told == 7);
+    let reported = report.entries.len();
+    assert!(rt; reported == 7);
     let hash = duel.initiator().hash();
     assert!(rt; hash.is_some());
     assert!(rt; hash == duel.responder().hash());

@@ -8,7 +8,8 @@ ghost use Rattle.noise_session.specs.Datagrams.{datagrams_of};
 ghost use Rattle.noise_session.specs.EndDatagrams.{is_datagram_ready};
 ghost use Rattle.noise_session.specs.Ends.{hash_in};
 ghost use Rattle.noise_duel.specs.Sides.{Sides};
-ghost use Rattle.noise_conversation.specs.Datagrams.{DatagramsOverNetwork, HistoriesClash};
+ghost use Rattle.noise_conversation.specs.Clash.{HistoriesClash};
+ghost use Rattle.noise_conversation.specs.Datagrams.{DatagramsOverNetwork};
 
 use super::conversations::{both_keys, pattern};
 use noise_conversation::{run_datagrams, run_events};
@@ -18,7 +19,7 @@ use noise_names::{Role, ValidPattern};
 use noise_session::Window;
 use std::alloc::Global;
 
-// Any events between two ends of equal setup, and then datagrams, where both tell one hash and may go over.
+// Any events between two ends of equal setup, and then datagrams, where both report one hash and may go over.
 fn over_datagrams(
     alloc: Global,
     pattern: ValidPattern,
@@ -26,7 +27,7 @@ fn over_datagrams(
     datagrams: &[DatagramEvent],
 ) -> Option<(DatagramDuel, DatagramReport)>
     ensures { IfSome result (λ r. (d : Sides)
-        × (DatagramsOverNetwork (datagrams_of d.initiator.view.party W64) (datagrams_of d.responder.view.party W64)
+        × (DatagramsOverNetwork (datagrams_of d.initiator.state.party W64) (datagrams_of d.responder.state.party W64)
         (datagram_events_of datagrams.now) r.0 r.1 ⊎ HistoriesClash d)) }
 {
     let initiator = both_keys(0x11, 0x22);
@@ -53,7 +54,7 @@ fn over_datagrams(
     }
 }
 
-// The hash that both ends tell, where it is one and both may go over to datagrams.
+// The hash that both ends report, where it is one and both may go over to datagrams.
 fn common_hash(duel: &Duel<XorKeys, XorKeys>) -> Option<[u8; 32]>
     ensures first { IfSome result (λ hash. hash_in duel.now.initiator.phase ≡ Some hash) }
     ensures second { IfSome result (λ hash. hash_in duel.now.responder.phase ≡ Some hash) }
@@ -84,6 +85,6 @@ fn come_after_the_handshake(rt: HostRuntime) {
     ];
     let ran = over_datagrams(rt.alloc(), pattern, &events, &datagrams);
     let (_, report) = ran.expect(&rt, "datagrams");
-    let told = report.entries.len();
-    assert!(rt; told == 3);
+    let reported = report.entries.len();
+    assert!(rt; reported == 3);
 }

@@ -62,7 +62,7 @@ fn events(rt: &impl Abort, alloc: Global) -> Vec<DatagramEvent> {
 }
 
 #[test]
-fn tells_of_each_datagram(rt: HostRuntime) {
+fn reports_of_each_datagram(rt: HostRuntime) {
     let alloc = rt.alloc();
     let events = events(&rt, alloc);
     let duel = open_ends(&rt, alloc).expect(&rt, "memory");

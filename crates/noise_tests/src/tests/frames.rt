@@ -14,7 +14,7 @@ fn the_first_frame_is_written_and_taken(rt: HostRuntime) {
     assert!(rt; initiator.write_into(payload, &mut frame) == Ok(36));
     assert!(rt; frame == first_frame());
     let mut responder = end(&rt, rt.alloc(), Role::Responder, &[]);
-    let (taken, told) = responder.take(&frame);
+    let (taken, reported) = responder.take(&frame);
     assert!(rt; taken == 36);
-    assert!(rt; told == Step::Payload(payload));
+    assert!(rt; reported == Step::Payload(payload));
 }

@@ -111,15 +111,15 @@ fn goes_on_after_a_failed_read(rt: HostRuntime) {
 }
 
 #[test]
-fn tells_where_the_input_ends(rt: HostRuntime) {
+fn reports_where_the_input_ends(rt: HostRuntime) {
     for place in 0..36 {
         let mut responder = end(&rt, rt.alloc(), Role::Responder, &[]);
         let mut from = failing_reader(place, None);
-        let told = match place {
+        let reported = match place {
             0 => Ok(None),
             _ => Err(ReceiveFault::CutShort),
         };
-        let ended = responder.receive(&mut from) == told;
+        let ended = responder.receive(&mut from) == reported;
         assert!(rt; ended, "at {place}");
         assert!(rt; responder.held() == place);
         assert!(rt; from.failures() == 0);
@@ -130,8 +130,8 @@ fn tells_where_the_input_ends(rt: HostRuntime) {
 fn ends_at(rt: &impl Abort, alloc: Global, place: usize, failure: Option<ErrorKind>) {
     let mut initiator = end(rt, alloc, Role::Initiator, &[]);
     let mut out = failing_writer(place, failure);
-    let told = initiator.write_to(b"hi", &mut out);
-    assert!(rt; told == Err(SendFault::Output { written: place }));
+    let reported = initiator.write_to(b"hi", &mut out);
+    assert!(rt; reported == Err(SendFault::Output { written: place }));
     assert!(rt; initiator.stage() == Stage::Ended);
     assert!(rt; out.failures() == 1);
     let out = out.into_inner();

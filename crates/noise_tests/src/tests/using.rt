@@ -87,15 +87,15 @@ pub fn say_hello(alloc: Global) -> Result<Vec<u8>, Failure> {
     };
     let mut initiator = new_end(alloc, Role::Initiator, first)?;
     let mut responder = new_end(alloc, Role::Responder, second)?;
-    let mut told = Vec::new(alloc);
-    pass(alloc, &mut initiator, &mut responder, b"", &mut told)?;
-    pass(alloc, &mut responder, &mut initiator, b"", &mut told)?;
-    pass(alloc, &mut initiator, &mut responder, b"", &mut told)?;
-    pass(alloc, &mut initiator, &mut responder, b"hello", &mut told)?;
-    Ok(told)
+    let mut texts = Vec::new(alloc);
+    pass(alloc, &mut initiator, &mut responder, b"", &mut texts)?;
+    pass(alloc, &mut responder, &mut initiator, b"", &mut texts)?;
+    pass(alloc, &mut initiator, &mut responder, b"", &mut texts)?;
+    pass(alloc, &mut initiator, &mut responder, b"hello", &mut texts)?;
+    Ok(texts)
 }
 
-/// The pattern IK with a pre-shared secret at the end of its second message.
+/// The pattern IK with a pre-shared key at the end of its second message.
 pub fn ikpsk2() -> Result<ValidPattern, Failure> {
     let Some(plain) = fundamental(b"IK") else {
         return Err(Failure::NoPattern);
@@ -136,7 +136,8 @@ pub fn open_session<K: Keys, R: Read, W: Write>(
     Err(Failure::Refused)
 }
 
-/// Takes bytes as they come, and appends the payloads of the frames that are whole with them. It gives the bytes that weren't taken.
+/// Takes bytes as they come, and appends the payloads of the frames that are whole with them. It gives the bytes that
+/// weren't taken.
 pub fn take_bytes<'a, K: Keys>(
     end: &mut End<K>,
     bytes: &'a [u8],
@@ -178,7 +179,8 @@ pub fn seal_hello(transport: &mut Transport, message: &mut [u8; 21]) -> Result<u
     transport.seal(b"hello", message)
 }
 
-/// The payload of a datagram that has come, or none where it is refused: such a datagram is dropped, and the next one is waited for.
+/// The payload of a datagram that has come, or none where it is refused: such a datagram is dropped, and the next one
+/// is waited for.
 pub fn datagram_payload<'a>(
     datagrams: &mut Datagrams,
     bytes: &'a mut [u8],
@@ -207,12 +209,12 @@ fn makes_patterns() -> Result<(), Fail> {
 
 #[test]
 fn hello_comes_through(rt: HostRuntime) -> Result<(), Fail> {
-    let told = say_hello(rt.alloc())?;
-    assert!(rt; told.as_slice() == b"hello".as_slice());
+    let texts = say_hello(rt.alloc())?;
+    assert!(rt; texts.as_slice() == b"hello".as_slice());
     Ok(())
 }
 
-// The responder's answer to the first message of an initiator.
+// The responder's DH result to the first message of an initiator.
 fn answer(alloc: Global) -> Result<Vec<u8>, Failure> {
     let mut first = new_end(alloc, Role::Initiator, FIRST)?;
     let mut second = new_end(alloc, Role::Responder, SECOND)?;

@@ -54,7 +54,7 @@ func main() {
 	}
 	c, err := open(conn, w)
 	if err != nil {
-		fmt.Printf("wrote 0 open, read 0 %s\n", told(err))
+		fmt.Printf("wrote 0 open, read 0 %s\n", nameOf(err))
 		return
 	}
 	run(c, w)
@@ -116,7 +116,7 @@ func run(c channel, w words) {
 	count, err := read(c, w)
 	hears <- err == nil
 	<-done
-	fmt.Printf("wrote %d %s, read %d %s\n", wrote, map[bool]string{true: "ended", false: "open"}[ended], count, told(err))
+	fmt.Printf("wrote %d %s, read %d %s\n", wrote, map[bool]string{true: "ended", false: "open"}[ended], count, nameOf(err))
 }
 
 func write(c channel, w words) (int, bool) {
@@ -153,7 +153,7 @@ func read(c channel, w words) (int, error) {
 	}
 }
 
-func told(err error) string {
+func nameOf(err error) string {
 	switch {
 	case err == nil:
 		return "end"

@@ -1,7 +1,7 @@
 use Rattle.std.proofs.Common.{◌≡◌, List, ℕ, ap, sym, refl, ◌∙◌}
 use Rattle.std.proofs.lemmas.Bool.{false≢true}
 use Rattle.rand_chacha.specs.ChaCha.{ChaCha}
-use Rattle.noise_aead.specs.Sealing.{byte_from, generator_at, stream_bytes, xored, masked, seal_tag, sealed}
+use Rattle.noise_aead.specs.Sealing.{byte_from, generator_at, stream_bytes, xored, keystream_xor, seal_tag, sealed}
 use Rattle.noise_aead.proofs.Beginning.{key-first, block-next}
 use Rattle.noise_aead.specs.Sealed.{tag_of-seal, sealed-parts, sealed-masked}
 use Rattle.noise_aead.proofs.decryption.open_in_place.Goals as goal
@@ -33,7 +33,7 @@ returns-then-is_same-clause-accepts c =
     let buf : List ℕ = c.args.buf.now in
     let expected : c.tag-expected.result ≡ seal_tag key nonce ad buf =
     c.tag-expected.ensures ∙ tag_of-seal key nonce ad buf c.half_block-one_time_key.result first in (
-      λ _. (masked key nonce buf, sealed-masked key nonce ad buf c.args.tag.now (sym (c.is_same.ensures.0 c.if-is_same.true) ∙ expected)),
+      λ _. (keystream_xor key nonce buf, sealed-masked key nonce ad buf c.args.tag.now (sym (c.is_same.ensures.0 c.if-is_same.true) ∙ expected)),
       λ _. refl,
     )
 
@@ -48,7 +48,7 @@ returns-then-is_same-clause-ok c =
     let buf : List ℕ = c.args.buf.now in
     let expected : c.tag-expected.result ≡ seal_tag key nonce ad buf =
     c.tag-expected.ensures ∙ tag_of-seal key nonce ad buf c.half_block-one_time_key.result first in
-    let text : c.apply.new.text ≡ masked key nonce buf =
+    let text : c.apply.new.text ≡ keystream_xor key nonce buf =
     c.apply.ensures ∙ ap (λ (g : ChaCha). xored (byte_from g) 0 buf) second in
     sealed-masked key nonce ad buf c.args.tag.now (sym (c.is_same.ensures.0 c.if-is_same.true) ∙ expected)
     ∙ ap (sealed key nonce ad) (sym text)

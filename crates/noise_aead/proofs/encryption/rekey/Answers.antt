@@ -1,7 +1,7 @@
 use Rattle.std.proofs.Common.{◌≡◌, List, ℕ, [], replicate, refl, sym, ap, ◌∙◌}
 use Rattle.std.proofs.lemmas.List.{take_at}
 use Rattle.rand_chacha.specs.ChaCha.{ChaCha}
-use Rattle.noise_aead.specs.Sealing.{bytes_from, generator_at, stream_byte, masked, seal_tag, nonce_of, rekeyed}
+use Rattle.noise_aead.specs.Sealing.{bytes_from, generator_at, stream_byte, keystream_xor, seal_tag, nonce_of, rekeyed}
 use Rattle.noise_aead.proofs.Masking.{xored-zeros}
 use Rattle.noise_aead.specs.Sealed.{length-masked}
 use Rattle.noise_aead.proofs.encryption.rekey.Goals as goal
@@ -11,7 +11,7 @@ unfolding bytes_from rekeyed
 returns c =
     let key : List ℕ = c.args.key.now in
     let nonce : List ℕ = nonce_of 0xffffffffffffffff in
-    let front : List ℕ = masked key nonce (replicate 32 0) in
+    let front : List ℕ = keystream_xor key nonce (replicate 32 0) in
     let shown : front ≡ bytes_from (generator_at key nonce 1) 32 = xored-zeros (stream_byte key nonce 1) 0 32 in
     c.half_block.ensures.bytes
     ∙ ap (λ (g : ChaCha). bytes_from g 32)

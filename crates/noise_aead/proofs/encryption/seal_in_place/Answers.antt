@@ -1,6 +1,6 @@
 use Rattle.std.proofs.Common.{◌≡◌, List, ℕ, ◌++◌, refl, ap, ◌∙◌}
 use Rattle.rand_chacha.specs.ChaCha.{ChaCha}
-use Rattle.noise_aead.specs.Sealing.{byte_from, generator_at, stream_bytes, xored, masked, seal_tag}
+use Rattle.noise_aead.specs.Sealing.{byte_from, generator_at, stream_bytes, xored, keystream_xor, seal_tag}
 use Rattle.noise_aead.proofs.Beginning.{key-first, block-next}
 use Rattle.noise_aead.specs.Sealed.{tag_of-seal}
 use Rattle.noise_aead.proofs.encryption.seal_in_place.Goals as goal
@@ -14,7 +14,7 @@ returns c =
     let first : c.half_block-one_time_key.result ≡ stream_bytes key nonce 0 32 = key-first key nonce _ _ at c.half_block-one_time_key.ensures.bytes in
     let second : c.half_block-one_time_key.new.words ≡ generator_at key nonce 1 = block-next key nonce _ _ at c.half_block-one_time_key.ensures.words in
     let text : List ℕ = c.apply.new.text in
-    let ciphertext : text ≡ masked key nonce c.args.buf.now =
+    let ciphertext : text ≡ keystream_xor key nonce c.args.buf.now =
     c.apply.ensures ∙ ap (λ (g : ChaCha). xored (byte_from g) 0 c.args.buf.now) second in
     let tag : c.tag.result ≡ seal_tag key nonce ad text =
     c.tag.ensures ∙ tag_of-seal key nonce ad text c.half_block-one_time_key.result first in

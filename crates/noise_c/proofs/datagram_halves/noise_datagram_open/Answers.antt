@@ -2,8 +2,8 @@ use Rattle.std.proofs.Common.{◌≡◌, ℕ, List, inl, inr, refl, ap, sym, sub
 use Rattle.std.specs.Prelude.{Ok}
 use Rattle.std.proofs.lemmas.Bool.{false≢true}
 use Rattle.noise_session.specs.Datagrams.{Opens, accepting, nonce_named}
-use Rattle.noise_session.specs.DatagramHalves.{HeldDatagramReceiver, DatagramReceiverStands}
-use Rattle.noise_c.specs.KeptDatagramHalves.{datagram_receiver_from_c}
+use Rattle.noise_session.specs.Datagrams.{DatagramReceiverValue, DatagramReceiverMatches}
+use Rattle.noise_c.specs.DatagramStructs.{datagram_receiver_from_c}
 use Rattle.noise_c.proofs.Numbers.{other, above, not-before}
 use Rattle.noise_c.proofs.Opening.{declined-from, declined-not-struct, declined-among, from-ninth}
 use Rattle.noise_c.proofs.datagram_halves.noise_datagram_open.Goals as goal
@@ -22,60 +22,51 @@ returns-in-None c = record {
 }
 
 -- but for the nonces that were opened it is as it was
-recent-alone : (new left h old : HeldDatagramReceiver) → new ≡ left → left ≡ record h { recent = left.recent } → h ≡ old
+recent-alone : (new left h old : DatagramReceiverValue) → new ≡ left → left ≡ record h { recent = left.recent } → h ≡ old
     → new ≡ record old { recent = new.recent }
 recent-alone new left h old e f g =
-    e ∙ f ∙ ap (λ (z : HeldDatagramReceiver). record z { recent = left.recent }) g ∙ ap (λ (z : HeldDatagramReceiver). record old { recent = z.recent }) (sym e)
+    e ∙ f ∙ ap (λ (z : DatagramReceiverValue). record z { recent = left.recent }) g ∙ ap (λ (z : DatagramReceiverValue). record old { recent = z.recent }) (sym e)
 
 pub returns : goal.returns
 returns c =
-    let old = c.args.kept.now in
+    let old = c.args.half.now in
     let bytes = c.args.datagram.now in
     let left = c.open_within.new.self in
     let new = c.datagram_receiver_to_c.result in
     record {
       unusable = (other 0 23 refl, λ none. absurd (false≢true (sym none ∙ sym c.in-Some.ensures.known)));
-      place = λ _. (refl, c.in-Ok.ensures.len);
+      place = λ _. (refl, c.in-Ok.ensures.place.len);
       opens = λ _ v s.
-          let r = c.in-Ok.ensures.opens v (subst (λ (z : HeldDatagramReceiver). DatagramReceiverStands z v) (sym c.in-Some.ensures.same) s) in (
+          let r = c.in-Ok.ensures.opens.opens v (subst (λ (z : DatagramReceiverValue). DatagramReceiverMatches z v) (sym c.in-Some.ensures.same) s) in (
             subst (λ (payload : List ℕ). Opens v bytes (Ok payload) (accepting v (nonce_named bytes))) (from-ninth c.open_within.new.datagram c.in-Ok.value) r.0,
-            subst (λ (z : HeldDatagramReceiver). DatagramReceiverStands z (accepting v (nonce_named bytes))) (sym c.datagram_receiver_to_c.ensures.same) r.1,
+            subst (λ (z : DatagramReceiverValue). DatagramReceiverMatches z (accepting v (nonce_named bytes))) (sym c.datagram_receiver_to_c.ensures.same) r.1,
           );
       declined = above 1 0 refl;
-      beyond = λ _. c.in-Ok.ensures.beyond;
+      beyond = λ _. c.in-Ok.ensures.place.beyond;
       same = λ _. recent-alone (datagram_receiver_from_c new) left c.in-Some.value (datagram_receiver_from_c old)
-          c.datagram_receiver_to_c.ensures.same c.in-Ok.ensures.same c.in-Some.ensures.same;
+          c.datagram_receiver_to_c.ensures.same c.in-Ok.ensures.opens.same c.in-Some.ensures.same;
       known = λ _. c.datagram_receiver_to_c.ensures.known;
       unchanged = above 1 0 refl;
       codes = inl refl;
     }
 
--- Each clause by itself, but for those that need no answer.
-pub returns-in-Err-clause-unusable : goal.returns-in-Err-clause-unusable
-returns-in-Err-clause-unusable c =
-    (declined-not-struct c.in-Err.fault c.datagram_code.result c.datagram_code.ensures, λ none. absurd (false≢true (sym none ∙ sym c.in-Some.ensures.known)))
-
-pub returns-in-Err-clause-place : goal.returns-in-Err-clause-place
-returns-in-Err-clause-place c = not-before c.datagram_code.result 11 0 (declined-from c.in-Err.fault c.datagram_code.result c.datagram_code.ensures) refl
-
-pub returns-in-Err-clause-opens : goal.returns-in-Err-clause-opens
-returns-in-Err-clause-opens c = not-before c.datagram_code.result 11 0 (declined-from c.in-Err.fault c.datagram_code.result c.datagram_code.ensures) refl
-
-pub returns-in-Err-clause-declined : goal.returns-in-Err-clause-declined
-returns-in-Err-clause-declined c = λ _ _. (
-  c.in-Err.fault,
-  c.datagram_code.ensures,
-  λ v s. c.in-Err.ensures.opens v (subst (λ (z : HeldDatagramReceiver). DatagramReceiverStands z v) (sym c.in-Some.ensures.same) s),
-)
-
-pub returns-in-Err-clause-beyond : goal.returns-in-Err-clause-beyond
-returns-in-Err-clause-beyond c = not-before c.datagram_code.result 11 0 (declined-from c.in-Err.fault c.datagram_code.result c.datagram_code.ensures) refl
-
-pub returns-in-Err-clause-same : goal.returns-in-Err-clause-same
-returns-in-Err-clause-same c = not-before c.datagram_code.result 11 0 (declined-from c.in-Err.fault c.datagram_code.result c.datagram_code.ensures) refl
-
-pub returns-in-Err-clause-known : goal.returns-in-Err-clause-known
-returns-in-Err-clause-known c = not-before c.datagram_code.result 11 0 (declined-from c.in-Err.fault c.datagram_code.result c.datagram_code.ensures) refl
-
-pub returns-in-Err-clause-codes : goal.returns-in-Err-clause-codes
-returns-in-Err-clause-codes c = declined-among c.in-Err.fault c.datagram_code.result c.datagram_code.ensures
+pub returns-in-Err : goal.returns-in-Err
+returns-in-Err c =
+    let code = c.datagram_code.result in
+    let is = c.datagram_code.ensures in
+    let from = declined-from c.in-Err.fault code is in
+    record {
+      unusable = (declined-not-struct c.in-Err.fault code is, λ none. absurd (false≢true (sym none ∙ sym c.in-Some.ensures.known)));
+      place = not-before code 11 0 from refl;
+      opens = not-before code 11 0 from refl;
+      declined = λ _ _. (
+        c.in-Err.fault,
+        is,
+        λ v s. c.in-Err.ensures.opens.opens v (subst (λ (z : DatagramReceiverValue). DatagramReceiverMatches z v) (sym c.in-Some.ensures.same) s),
+      );
+      beyond = not-before code 11 0 from refl;
+      same = not-before code 11 0 from refl;
+      known = not-before code 11 0 from refl;
+      unchanged = λ _. (refl, c.in-Err.ensures.place.unchanged, refl);
+      codes = declined-among c.in-Err.fault code is;
+    }

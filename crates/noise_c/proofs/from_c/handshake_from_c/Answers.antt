@@ -1,24 +1,24 @@
 use Rattle.std.proofs.Common.{◌≡◌, List, ℕ, sym, ap, ◌∙◌, subst, arith}
 use Rattle.std.specs.Prelude.{Option, Some, None, IfSome}
 use Rattle.noise_names.specs.Plan.{Plan}
-use Rattle.noise_handshake.specs.Held.{Held}
+use Rattle.noise_handshake.specs.HandshakeValue.{HandshakeValue}
 use Rattle.noise_handshake.specs.Late.{IsLateWhole}
-use Rattle.noise_c.specs.declared.kept.NoiseHandshake.{NoiseHandshake}
+use Rattle.noise_c.specs.declared.structs.NoiseHandshake.{NoiseHandshake}
 use Rattle.noise_keys.specs.Table.{Table}
-use Rattle.noise_c.specs.Kept.{public_in, text_in, handshake_from_c, IsPatternOf}
+use Rattle.noise_c.specs.HandshakeStructs.{public_in, text_in, handshake_from_c, IsPatternOf}
 use Rattle.noise_c.proofs.from_c.handshake_from_c.Goals as goal
 
-one-of : (o : Option (Held Table)) (name : List ℕ) (k : NoiseHandshake) (p : Plan) → ((q : Plan) → IsPatternOf name q → q ≡ p)
+one-of : (o : Option (HandshakeValue Table)) (name : List ℕ) (k : NoiseHandshake) (p : Plan) → ((q : Plan) → IsPatternOf name q → q ≡ p)
     → IfSome o (λ z. z ≡ handshake_from_c p k) → IfSome o (λ z. (q : Plan) → IsPatternOf name q → q ≡ z.pattern)
 one-of None name k p one s = tt
-one-of (Some z) name k p one s = λ q i. one q i ∙ sym (ap (λ (y : Held Table). y.pattern) s)
+one-of (Some z) name k p one s = λ q i. one q i ∙ sym (ap (λ (y : HandshakeValue Table). y.pattern) s)
 
-same-in : (o : Option (Held Table)) (k : NoiseHandshake) (p : Plan) → IfSome o (λ z. z ≡ handshake_from_c p k) → IfSome o (λ z. z ≡ handshake_from_c z.pattern k)
+same-in : (o : Option (HandshakeValue Table)) (k : NoiseHandshake) (p : Plan) → IfSome o (λ z. z ≡ handshake_from_c p k) → IfSome o (λ z. z ≡ handshake_from_c z.pattern k)
 same-in None k p s = tt
-same-in (Some z) k p s = s ∙ ap (λ (q : Plan). handshake_from_c q k) (sym (ap (λ (y : Held Table). y.pattern) s))
+same-in (Some z) k p s = s ∙ ap (λ (q : Plan). handshake_from_c q k) (sym (ap (λ (y : HandshakeValue Table). y.pattern) s))
 
-pub returns-clause-same : goal.returns-clause-same
-returns-clause-same c = same-in c.restored.result c.args.kept.now c.in-Ok.pattern c.restored.ensures.same
+pub returns-clause-value : goal.returns-clause-value
+returns-clause-value c = same-in c.restored.result c.args.handshake.now c.in-Ok.pattern c.restored.ensures.value
 
 pub returns-in_default-clause-usable : goal.returns-in_default-clause-usable
 returns-in_default-clause-usable c = (λ e. absurd (cc), λ u. c.in_default.ensures.found u.pattern u.named u.valid)
@@ -26,17 +26,17 @@ returns-in_default-clause-usable c = (λ e. absurd (cc), λ u. c.in_default.ensu
 pub returns-clause-usable : goal.returns-clause-usable
 returns-clause-usable c = (
   λ some. record {
-    mark = c.if-kept-ne-HANDSHAKE.false;
-    text = omega (arith, c.if-kept-gt416.false);
-    answers = omega (arith, c.if-kept-gt8.false);
-    secrets = omega (arith, c.if-kept-gt9.false);
+    mark = c.if-handshake-ne-HANDSHAKE.false;
+    text = omega (arith, c.if-handshake-gt416.false);
+    answers = omega (arith, c.if-handshake-gt8.false);
+    psks = omega (arith, c.if-handshake-gt9.false);
     pattern = c.in-Ok.pattern;
     named = c.in-Ok.ensures.named;
     valid = c.in-Ok.ensures.valid;
     whole = c.restored.ensures.whole.0 some;
   },
-  λ u. c.restored.ensures.whole.1 (subst (λ (q : Plan). IsLateWhole public_in (handshake_from_c q c.args.kept.now)) (c.in-Ok.ensures.one u.pattern u.named) u.whole),
+  λ u. c.restored.ensures.whole.1 (subst (λ (q : Plan). IsLateWhole public_in (handshake_from_c q c.args.handshake.now)) (c.in-Ok.ensures.one u.pattern u.named) u.whole),
 )
 
 pub returns-clause-one : goal.returns-clause-one
-returns-clause-one c = one-of c.restored.result (text_in c.args.kept.now) c.args.kept.now c.in-Ok.pattern c.in-Ok.ensures.one c.restored.ensures.same
+returns-clause-one c = one-of c.restored.result (text_in c.args.handshake.now) c.args.handshake.now c.in-Ok.pattern c.in-Ok.ensures.one c.restored.ensures.value

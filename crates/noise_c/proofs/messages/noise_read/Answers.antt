@@ -1,5 +1,5 @@
 use Rattle.std.specs.Prelude.{Result, Ok, Err, drop, ◌+◌, ◌-◌}
-use Rattle.std.proofs.Common.{◌≡◌, ◌≤◌, ◌⊎◌, ℕ, List, inl, inr, length, refl, ap, sym, subst, ◌∙◌, arith}
+use Rattle.std.proofs.Common.{◌≡◌, ◌≤◌, ◌⊎◌, ℕ, List, inr, length, refl, ap, sym, subst, ◌∙◌, arith}
 use Rattle.std.proofs.lemmas.Bool.{false≢true}
 use Rattle.noise_keys.specs.Table.{Table}
 use Rattle.noise_handshake.specs.declared.faults.Cause.TheVariants.{Short, Tag, Agreement}
@@ -8,24 +8,24 @@ use Rattle.noise_handshake.specs.declared.faults.ReadFault.TheVariants as read
 use Rattle.noise_handshake.specs.declared.late_faults.LateUnread.{LateUnread}
 use Rattle.noise_handshake.specs.declared.late_faults.LateUnread.TheVariants as unread
 use Rattle.noise_handshake.specs.declared.late_faults.Want.{Want}
-use Rattle.noise_handshake.specs.declared.late_faults.Want.TheVariants.{Secret}
-use Rattle.noise_handshake.specs.Held.{Held, ended_as}
-use Rattle.noise_handshake.specs.Late.{with_later, LeavesLateUnread, after_late_declined, WantsSecretToRead}
-use Rattle.noise_handshake.specs.Party.{Stands, DoesNotRead}
-use Rattle.noise_handshake.specs.View.{View, Refuses}
+use Rattle.noise_handshake.specs.declared.late_faults.Want.TheVariants.{Psk}
+use Rattle.noise_handshake.specs.HandshakeValue.{HandshakeValue, ended_as}
+use Rattle.noise_handshake.specs.Late.{with_later, LeavesLateUnread, after_late_declined, WantsPskToRead}
+use Rattle.noise_handshake.specs.Matching.{Matches, DoesNotRead}
+use Rattle.noise_handshake.specs.Party.{Party, Refuses}
 use Rattle.noise_c.specs.Codes.{read_code, token_in}
-use Rattle.noise_c.specs.declared.kept.NoiseTold.{NoiseTold}
-use Rattle.noise_c.specs.Outcomes.{IsAround}
+use Rattle.noise_c.specs.declared.structs.NoiseResult.{NoiseResult}
+use Rattle.noise_c.specs.HalfStructs.{IsAround}
 use Rattle.noise_c.specs.Outcomes.ReadOutcome.{accepted, declined, too_long, unusable}
-use Rattle.noise_c.specs.Kept.{public_in, agreement_in, handshake_from_c, IsUsable, ReportsWant}
-use Rattle.noise_c.proofs.Keeps.{secrets-left, ended-kept, plain-leaves, refused-leaves, usable-after, usable-ended, was-declined, opened, was-read, stands-for}
+use Rattle.noise_c.specs.HandshakeStructs.{public_in, agreement_in, handshake_from_c, IsUsable, ReportsWant}
+use Rattle.noise_c.proofs.Stored.{psks-left, ended-stored, plain-leaves, refused-leaves, usable-after, usable-ended, was-declined, opened, was-read, matches-for}
 use Rattle.noise_c.proofs.Numbers.{IsPlain, other, above, not-after, too-long, wants-other, plain-among, plain-within, plain-sort, refused-within, refused-between, refused-among}
 use Rattle.noise_c.proofs.Wanting.{reads-outcome}
 use Rattle.noise_c.proofs.messages.noise_read.Goals as goal
 
 pub returns-in-None : goal.returns-in-None
 returns-in-None c =
-    let none : IsUsable c.args.kept.now → ⊥ = λ u. false≢true (c.in-None.ensures.usable.1 u) in
+    let none : IsUsable c.args.handshake.now → ⊥ = λ u. false≢true (c.in-None.ensures.usable.1 u) in
     record {
       unusable = (λ _. none, λ _. refl);
       length = (other 23 24 refl, λ w. absurd (none w.1));
@@ -57,8 +57,8 @@ around old new start end r both =
 
 pub returns-in-Ok : goal.returns-in-Ok
 returns-in-Ok c =
-    let old = c.args.kept.now in
-    let new = c.keep.new.kept in
+    let old = c.args.handshake.now in
+    let new = c.store_progress.new.handshake in
     let m = c.read_or_ask.new.message in
     let start : ℕ = c.in-Ok.start in
     let end : ℕ = c.in-Ok.end in
@@ -67,13 +67,13 @@ returns-in-Ok c =
     let before = c.in-Some.ensures.usable.0 refl in
     let stays : h2.pattern ≡ h.pattern = c.in-Ok.ensures.state.pattern in
     let same : handshake_from_c h2.pattern new ≡ h2 =
-    c.keep.ensures.same h2 c.progress.ensures.same
-    (c.in-Ok.ensures.state.keys ∙ ap (λ (z : Held Table). z.keys) c.in-Some.ensures.same)
-    (c.in-Ok.ensures.state.role ∙ ap (λ (z : Held Table). z.role) c.in-Some.ensures.same)
-    (secrets-left old h h2 c.in-Ok.ensures.state.taken _ before.secrets
-    c.in-Some.ensures.count c.in-Some.ensures.same c.in-Ok.ensures.state.secrets c.secrets.ensures.same) in
-    let usable : IsUsable new = usable-after old new h h2 before c.keep.ensures.mark c.keep.ensures.text_len c.keep.ensures.answers
-    (omega (arith, c.keep.ensures.secrets, c.secrets.ensures.few)) c.keep.ensures.text c.in-Some.ensures.named stays
+    c.store_progress.ensures.same h2 c.progress.ensures.value
+    (c.in-Ok.ensures.state.keys ∙ ap (λ (z : HandshakeValue Table). z.keys) c.in-Some.ensures.value)
+    (c.in-Ok.ensures.state.role ∙ ap (λ (z : HandshakeValue Table). z.role) c.in-Some.ensures.value)
+    (psks-left old h h2 c.in-Ok.ensures.state.taken _ before.psks
+    c.in-Some.ensures.count c.in-Some.ensures.value c.in-Ok.ensures.state.psks c.psks.ensures.value) in
+    let usable : IsUsable new = usable-after old new h h2 before c.store_progress.ensures.mark c.store_progress.ensures.text_len c.store_progress.ensures.answers
+    (omega (arith, c.store_progress.ensures.psks, c.psks.ensures.few)) c.store_progress.ensures.text c.in-Some.ensures.named stays
     c.progress.ensures.valid same c.progress.ensures.whole in
     record {
       unusable = (other 0 23 refl, λ none. absurd (none before));
@@ -81,14 +81,14 @@ returns-in-Ok c =
       outcome = accepted usable refl (omega (arith, c.in-Ok.ensures.range.0, c.in-Ok.ensures.range.1))
           (around c.args.message.now m start end c.in-Ok.ensures.range.0 c.in-Ok.ensures.beyond)
           (λ p v k.
-          let s = opened old new h h2 p v c.in-Some.ensures.one c.in-Some.ensures.same stays c.keep.ensures.text same k in
+          let s = opened old new h h2 p v c.in-Some.ensures.one c.in-Some.ensures.value stays c.store_progress.ensures.text same k in
           let r = c.in-Ok.ensures.reads v k.later s in
-          was-read old new h h2 p v c.in-Some.ensures.one c.in-Some.ensures.same stays c.keep.ensures.text same k
+          was-read old new h h2 p v c.in-Some.ensures.one c.in-Some.ensures.value stays c.store_progress.ensures.text same k
           c.args.message.now m start end c.in-Ok.ensures.range.0 r.0 r.1 r.2);
       left = λ _. above 1 0 refl;
       asked = λ _ _ p v k remote asks.
-          let s = stands-for old h p v c.in-Some.ensures.one c.in-Some.ensures.same k in
-          let w = subst (λ (i : ℕ). WantsSecretToRead v i c.args.message.now remote) (sym c.in-Some.ensures.count) asks in
+          let s = matches-for old h p v c.in-Some.ensures.one c.in-Some.ensures.value k in
+          let w = subst (λ (i : ℕ). WantsPskToRead v i c.args.message.now remote) (sym c.in-Some.ensures.count) asks in
           ok-err (c.in-Ok.start, c.in-Ok.end) _ (c.in-Ok.ensures.asked v k.later s remote w);
     }
 
@@ -97,7 +97,7 @@ declined-not : {A : Type 0} (u : LateUnread) (fault : ReadFault) (b : Want) → 
 declined-not u fault b e f = cc
 
 -- the fault of that number
-agreement-of : (v : View) (m : List ℕ) (fault : ReadFault) → read_code fault ≡ 14 → DoesNotRead v m fault → (token : ℕ) × Refuses v m token Agreement
+agreement-of : (v : Party) (m : List ℕ) (fault : ReadFault) → read_code fault ≡ 14 → DoesNotRead v m fault → (token : ℕ) × Refuses v m token Agreement
 agreement-of v m read.Ended e d = other 13 14 refl e
 agreement-of v m read.Done e d = other 12 14 refl e
 agreement-of v m read.NotYourTurn e d = other 10 14 refl e
@@ -107,7 +107,7 @@ agreement-of v m (read.Refused token Agreement) e d = (token, d)
 
 pub returns-in-Refused : goal.returns-in-Refused
 returns-in-Refused c =
-    let old = c.args.kept.now in
+    let old = c.args.handshake.now in
     let new = record old { ended = 1 } in
     let h = c.in-Some.value in
     let h2 = c.read_or_ask.new.self in
@@ -123,27 +123,27 @@ returns-in-Refused c =
       outcome = declined code (inr (refused-among code within)) refl (usable-ended old) c.in-Err-Declined.ensures.unchanged
           (λ p v k.
           let over : h2 ≡ ended_as h = refused-leaves h h2 _ fault _ _ c.in-Err-Declined.ensures.state c.in-Err-Declined.field-0-is refused in
-          let same : handshake_from_c h2.pattern new ≡ h2 = ended-kept old new h h2 refl c.in-Some.ensures.same over in
-          let stays : h2.pattern ≡ h.pattern = ap (λ (z : Held Table). z.pattern) over in
-          let s = opened old new h h2 p v c.in-Some.ensures.one c.in-Some.ensures.same stays refl same k in
-          let r = subst (λ (z : LateUnread). LeavesLateUnread v (length h.secrets) c.args.message.now z
-          × Stands public_in agreement_in (with_later h2 k.later) (after_late_declined v z))
+          let same : handshake_from_c h2.pattern new ≡ h2 = ended-stored old new h h2 refl c.in-Some.ensures.value over in
+          let stays : h2.pattern ≡ h.pattern = ap (λ (z : HandshakeValue Table). z.pattern) over in
+          let s = opened old new h h2 p v c.in-Some.ensures.one c.in-Some.ensures.value stays refl same k in
+          let r = subst (λ (z : LateUnread). LeavesLateUnread v (length h.psks) c.args.message.now z
+          × Matches public_in agreement_in (with_later h2 k.later) (after_late_declined v z))
           c.in-Err-Declined.field-0-is (c.in-Err-Declined.ensures.reads v k.later s) in
           let far : code ≡ 14 → ⊥ = λ e. let why = agreement-of v c.args.message.now fault (sym is ∙ e) r.0.0 in r.0.1 why.0 why.1 in (
             far,
-            was-declined old new h h2 p v c.in-Some.ensures.one c.in-Some.ensures.same stays refl same k
+            was-declined old new h h2 p v c.in-Some.ensures.one c.in-Some.ensures.value stays refl same k
                 c.args.message.now fault code c.read_code-code.result.1 is
                 (c.read_code-code.ensures.token ∙ ap token_in c.in-Err-Declined.fault-is) r.0.0 r.1,
           ));
       asked = λ _ _ p v k remote asks.
-          let s = stands-for old h p v c.in-Some.ensures.one c.in-Some.ensures.same k in
-          let w = subst (λ (i : ℕ). WantsSecretToRead v i c.args.message.now remote) (sym c.in-Some.ensures.count) asks in
-          declined-not c.in-Err-Declined.field-0 fault (Secret remote) (c.in-Err-Declined.ensures.asked v k.later s remote w) c.in-Err-Declined.field-0-is;
+          let s = matches-for old h p v c.in-Some.ensures.one c.in-Some.ensures.value k in
+          let w = subst (λ (i : ℕ). WantsPskToRead v i c.args.message.now remote) (sym c.in-Some.ensures.count) asks in
+          declined-not c.in-Err-Declined.field-0 fault (Psk remote) (c.in-Err-Declined.ensures.asked v k.later s remote w) c.in-Err-Declined.field-0-is;
     }
 
 pub returns-in_default : goal.returns-in_default
 returns-in_default c =
-    let old = c.args.kept.now in
+    let old = c.args.handshake.now in
     let h = c.in-Some.value in
     let h2 = c.read_or_ask.new.self in
     let fault = c.in-Err-Declined.fault in
@@ -159,58 +159,58 @@ returns-in_default c =
       outcome = declined code (plain-sort code among) refl (λ u. u) c.in-Err-Declined.ensures.unchanged
           (λ p v k.
           let as_was : h2 ≡ h = plain-leaves h h2 _ fault plain c.in-Err-Declined.ensures.state c.in-Err-Declined.field-0-is in
-          let same : handshake_from_c h2.pattern old ≡ h2 = subst (λ (z : Held Table). handshake_from_c z.pattern old ≡ z) (sym as_was) (sym c.in-Some.ensures.same) in
-          let stays : h2.pattern ≡ h.pattern = ap (λ (z : Held Table). z.pattern) as_was in
-          let s = opened old old h h2 p v c.in-Some.ensures.one c.in-Some.ensures.same stays refl same k in
-          let r = subst (λ (z : LateUnread). LeavesLateUnread v (length h.secrets) c.args.message.now z
-          × Stands public_in agreement_in (with_later h2 k.later) (after_late_declined v z))
+          let same : handshake_from_c h2.pattern old ≡ h2 = subst (λ (z : HandshakeValue Table). handshake_from_c z.pattern old ≡ z) (sym as_was) (sym c.in-Some.ensures.value) in
+          let stays : h2.pattern ≡ h.pattern = ap (λ (z : HandshakeValue Table). z.pattern) as_was in
+          let s = opened old old h h2 p v c.in-Some.ensures.one c.in-Some.ensures.value stays refl same k in
+          let r = subst (λ (z : LateUnread). LeavesLateUnread v (length h.psks) c.args.message.now z
+          × Matches public_in agreement_in (with_later h2 k.later) (after_late_declined v z))
           c.in-Err-Declined.field-0-is (c.in-Err-Declined.ensures.reads v k.later s) in (
             not-after code 13 14 within.1 refl,
-            was-declined old old h h2 p v c.in-Some.ensures.one c.in-Some.ensures.same stays refl same k
+            was-declined old old h h2 p v c.in-Some.ensures.one c.in-Some.ensures.value stays refl same k
                 c.args.message.now fault code c.read_code-code.result.1 is
                 (c.read_code-code.ensures.token ∙ ap token_in c.in-Err-Declined.fault-is) r.0.0 r.1,
           ));
       asked = λ _ _ p v k remote asks.
-          let s = stands-for old h p v c.in-Some.ensures.one c.in-Some.ensures.same k in
-          let w = subst (λ (i : ℕ). WantsSecretToRead v i c.args.message.now remote) (sym c.in-Some.ensures.count) asks in
-          declined-not c.in-Err-Declined.field-0 fault (Secret remote) (c.in-Err-Declined.ensures.asked v k.later s remote w) c.in-Err-Declined.field-0-is;
+          let s = matches-for old h p v c.in-Some.ensures.one c.in-Some.ensures.value k in
+          let w = subst (λ (i : ℕ). WantsPskToRead v i c.args.message.now remote) (sym c.in-Some.ensures.count) asks in
+          declined-not c.in-Err-Declined.field-0 fault (Psk remote) (c.in-Err-Declined.ensures.asked v k.later s remote w) c.in-Err-Declined.field-0-is;
     }
 
 want-same : (u : LateUnread) (a b : Want) → ◌≡◌ {A = Result (ℕ × ℕ) LateUnread} (Err u) (Err (unread.Wants b)) → u ≡ unread.Wants a → a ≡ b
 want-same u a b e f = cc
 
 -- what is wanted, with its number
-wanted : (a b : Want) (told : NoiseTold) (code : ℕ) → b ≡ a → ReportsWant b told code → ReportsWant a told code
-wanted a b told code e t = subst (λ (w : Want). ReportsWant w told code) e t
+wanted : (a b : Want) (results : NoiseResult) (code : ℕ) → b ≡ a → ReportsWant b results code → ReportsWant a results code
+wanted a b results code e t = subst (λ (w : Want). ReportsWant w results code) e t
 
 pub returns-in-Err-Wants-clause-unusable : goal.returns-in-Err-Wants-clause-unusable
 returns-in-Err-Wants-clause-unusable c = (
-  wants-other c.in-Err-Wants.want c.report_want.new.told c.report_want.result 23
-      (wanted c.in-Err-Wants.want _ c.report_want.new.told c.report_want.result c.in-Err-Wants.want-is c.report_want.ensures.want) refl refl,
+  wants-other c.in-Err-Wants.want c.report_want.new.results c.report_want.result 23
+      (wanted c.in-Err-Wants.want _ c.report_want.new.results c.report_want.result c.in-Err-Wants.want-is c.report_want.ensures.want) refl refl,
   λ none. absurd (none (c.in-Some.ensures.usable.0 refl)),
 )
 
 pub returns-in-Err-Wants-clause-length : goal.returns-in-Err-Wants-clause-length
 returns-in-Err-Wants-clause-length c = (
-  wants-other c.in-Err-Wants.want c.report_want.new.told c.report_want.result 24
-      (wanted c.in-Err-Wants.want _ c.report_want.new.told c.report_want.result c.in-Err-Wants.want-is c.report_want.ensures.want) refl refl,
+  wants-other c.in-Err-Wants.want c.report_want.new.results c.report_want.result 24
+      (wanted c.in-Err-Wants.want _ c.report_want.new.results c.report_want.result c.in-Err-Wants.want-is c.report_want.ensures.want) refl refl,
   λ w. too-long (length c.args.message.now) 65535 w.0 c.if-message-gt-MESSAGE_MAX.false,
 )
 
 pub returns-in-Err-Wants-clause-outcome : goal.returns-in-Err-Wants-clause-outcome
 returns-in-Err-Wants-clause-outcome c =
     let h = c.in-Some.value in
-    reads-outcome c.args.kept.now _ c.args.message.now c.read_or_ask.new.message c.args.told.now (length h.secrets)
-    c.in-Err-Wants.want c.report_want.new.told c.report_want.result
-    (wanted c.in-Err-Wants.want _ c.report_want.new.told c.report_want.result c.in-Err-Wants.want-is c.report_want.ensures.want)
+    reads-outcome c.args.handshake.now _ c.args.message.now c.read_or_ask.new.message c.args.results.now (length h.psks)
+    c.in-Err-Wants.want c.report_want.new.results c.report_want.result
+    (wanted c.in-Err-Wants.want _ c.report_want.new.results c.report_want.result c.in-Err-Wants.want-is c.report_want.ensures.want)
     c.report_want.ensures.answer c.report_want.ensures.remote c.in-Some.ensures.count c.in-Err-Wants.ensures.unchanged
-    (λ p v k. subst (λ (u : LateUnread). LeavesLateUnread v (length h.secrets) c.args.message.now u) c.in-Err-Wants.field-0-is
-    (c.in-Err-Wants.ensures.reads v k.later (stands-for c.args.kept.now h p v c.in-Some.ensures.one c.in-Some.ensures.same k)).0)
+    (λ p v k. subst (λ (u : LateUnread). LeavesLateUnread v (length h.psks) c.args.message.now u) c.in-Err-Wants.field-0-is
+    (c.in-Err-Wants.ensures.reads v k.later (matches-for c.args.handshake.now h p v c.in-Some.ensures.one c.in-Some.ensures.value k)).0)
 
 pub returns-in-Err-Wants-clause-asked : goal.returns-in-Err-Wants-clause-asked
 returns-in-Err-Wants-clause-asked c usable len p v k remote asks =
-    let s = stands-for c.args.kept.now c.in-Some.value p v c.in-Some.ensures.one c.in-Some.ensures.same k in
-    let w = subst (λ (i : ℕ). WantsSecretToRead v i c.args.message.now remote) (sym c.in-Some.ensures.count) asks in
-    let same : c.in-Err-Wants.want ≡ Secret remote =
-    want-same c.in-Err-Wants.field-0 c.in-Err-Wants.want (Secret remote) (c.in-Err-Wants.ensures.asked v k.later s remote w) c.in-Err-Wants.field-0-is in
-    subst (λ (z : Want). ReportsWant z c.report_want.new.told c.report_want.result) (c.in-Err-Wants.want-is ∙ same) c.report_want.ensures.want
+    let s = matches-for c.args.handshake.now c.in-Some.value p v c.in-Some.ensures.one c.in-Some.ensures.value k in
+    let w = subst (λ (i : ℕ). WantsPskToRead v i c.args.message.now remote) (sym c.in-Some.ensures.count) asks in
+    let same : c.in-Err-Wants.want ≡ Psk remote =
+    want-same c.in-Err-Wants.field-0 c.in-Err-Wants.want (Psk remote) (c.in-Err-Wants.ensures.asked v k.later s remote w) c.in-Err-Wants.field-0-is in
+    subst (λ (z : Want). ReportsWant z c.report_want.new.results c.report_want.result) (c.in-Err-Wants.want-is ∙ same) c.report_want.ensures.want

@@ -9,13 +9,13 @@ use Rattle.noise_handshake.specs.declared.faults.WriteFault.TheVariants as write
 use Rattle.noise_handshake.specs.declared.late_faults.LateUnwritten.{LateUnwritten}
 use Rattle.noise_handshake.specs.declared.late_faults.LateUnwritten.TheVariants as unwritten
 use Rattle.noise_handshake.specs.declared.late_faults.Want.{Want}
-use Rattle.noise_handshake.specs.declared.late_faults.Want.TheVariants.{Secret}
-use Rattle.noise_handshake.specs.Held.{Held, length_unless, message_len_of, write_fault}
-use Rattle.noise_handshake.specs.Late.{LeavesLateUnwritten, IsLateOfTurn, IsLateWant, WantsSecretToWrite}
-use Rattle.noise_handshake.specs.View.{View}
+use Rattle.noise_handshake.specs.declared.late_faults.Want.TheVariants.{Psk}
+use Rattle.noise_handshake.specs.HandshakeValue.{HandshakeValue, length_unless, message_len_of, write_fault}
+use Rattle.noise_handshake.specs.Late.{LeavesLateUnwritten, IsLateOfTurn, IsLateWant, WantsPskToWrite}
+use Rattle.noise_handshake.specs.Party.{Party}
 use Rattle.noise_c.specs.Codes.{write_code}
-use Rattle.noise_c.specs.Kept.{handshake_from_c, text_in, IsPatternOf, IsUsable, KeepsView, ReportsWant}
-use Rattle.noise_c.proofs.Keeps.{secrets-left, opened, usable-after, was-written, stands-for, length-for}
+use Rattle.noise_c.specs.HandshakeStructs.{handshake_from_c, text_in, IsPatternOf, IsUsable, KeepsParty, ReportsWant}
+use Rattle.noise_c.proofs.Stored.{psks-left, opened, usable-after, was-written, matches-for, length-for}
 use Rattle.noise_c.specs.Outcomes.WriteOutcome.{written, withheld, no_room, unusable}
 use Rattle.noise_c.proofs.Numbers.{other, not-after, too-long, under, wants-other}
 use Rattle.noise_c.proofs.Numbers.{withheld-within, withheld-agreement}
@@ -25,7 +25,7 @@ use goal.{in-Some-message_len+else-needed-out, in_default}
 
 pub returns-in-None : goal.returns-in-None
 returns-in-None c =
-    let none : IsUsable c.args.kept.now → ⊥ = λ u. false≢true (c.in-None.ensures.usable.1 u) in
+    let none : IsUsable c.args.handshake.now → ⊥ = λ u. false≢true (c.in-None.ensures.usable.1 u) in
     record {
       unusable = (λ _. none, λ _. refl);
       outcome = unusable none refl refl refl;
@@ -39,12 +39,12 @@ same-len o m n e f = same_Some m n (sym e ∙ f)
 
 pub returns-then-needed-out : goal.returns-then-needed-out
 returns-then-needed-out c =
-    let old = c.args.kept.now in
+    let old = c.args.handshake.now in
     let h = c.in-Some.value in
     let n : ℕ = length c.args.payload.now in
     let needed : ℕ = c.in-Some-message_len.needed in
     let len : (p : Plan) → IsPatternOf (text_in old) p → message_len_of (handshake_from_c p old) n ≡ Some needed =
-    λ p named. length-for old h p n c.in-Some.ensures.one c.in-Some.ensures.same named ∙ sym c.message_len.ensures ∙ c.in-Some-message_len.is in
+    λ p named. length-for old h p n c.in-Some.ensures.one c.in-Some.ensures.value named ∙ sym c.message_len.ensures ∙ c.in-Some-message_len.is in
     record {
       unusable = (other 18 23 refl, λ none. absurd (none (c.in-Some.ensures.usable.0 refl)));
       outcome = no_room len c.if-needed-out.true refl refl refl;
@@ -77,75 +77,75 @@ withheld-not u fault b e f = cc
 
 pub returns-in-Ok : goal.returns-in-Ok
 returns-in-Ok c =
-    let old = c.args.kept.now in
-    let new = c.keep.new.kept in
+    let old = c.args.handshake.now in
+    let new = c.store_progress.new.handshake in
     let h = c.in-Some.value in
     let h2 = c.write_or_ask.new.self in
     let n : ℕ = length c.args.payload.now in
     let usable = c.in-Some.ensures.usable.0 refl in
     let stays : h2.pattern ≡ h.pattern = c.in-Ok.ensures.state.pattern in
     let same : handshake_from_c h2.pattern new ≡ h2 =
-    c.keep.ensures.same h2 c.progress.ensures.same
-    (c.in-Ok.ensures.state.keys ∙ ap (λ (z : Held Table). z.keys) c.in-Some.ensures.same)
-    (c.in-Ok.ensures.state.role ∙ ap (λ (z : Held Table). z.role) c.in-Some.ensures.same)
-    (secrets-left old h h2 c.in-Ok.ensures.state.taken _ usable.secrets
-    c.in-Some.ensures.count c.in-Some.ensures.same c.in-Ok.ensures.state.secrets c.secrets.ensures.same) in
+    c.store_progress.ensures.same h2 c.progress.ensures.value
+    (c.in-Ok.ensures.state.keys ∙ ap (λ (z : HandshakeValue Table). z.keys) c.in-Some.ensures.value)
+    (c.in-Ok.ensures.state.role ∙ ap (λ (z : HandshakeValue Table). z.role) c.in-Some.ensures.value)
+    (psks-left old h h2 c.in-Ok.ensures.state.taken _ usable.psks
+    c.in-Some.ensures.count c.in-Some.ensures.value c.in-Ok.ensures.state.psks c.psks.ensures.value) in
     record {
       unusable = (other 0 23 refl, λ none. absurd (none usable));
       outcome = written
-          (usable-after old new h h2 usable c.keep.ensures.mark c.keep.ensures.text_len c.keep.ensures.answers
-          (omega (arith, c.keep.ensures.secrets, c.secrets.ensures.few)) c.keep.ensures.text c.in-Some.ensures.named stays
+          (usable-after old new h h2 usable c.store_progress.ensures.mark c.store_progress.ensures.text_len c.store_progress.ensures.answers
+          (omega (arith, c.store_progress.ensures.psks, c.psks.ensures.few)) c.store_progress.ensures.text c.in-Some.ensures.named stays
           c.progress.ensures.valid same c.progress.ensures.whole)
-          (λ p named. length-for old h p n c.in-Some.ensures.one c.in-Some.ensures.same named ∙ c.in-Ok.ensures.len.0)
+          (λ p named. length-for old h p n c.in-Some.ensures.one c.in-Some.ensures.value named ∙ c.in-Ok.ensures.len.0)
           refl c.in-Ok.ensures.len.1 c.in-Ok.ensures.beyond
           (λ p v k.
-          let s = opened old new h h2 p v c.in-Some.ensures.one c.in-Some.ensures.same stays c.keep.ensures.text same k in
+          let s = opened old new h h2 p v c.in-Some.ensures.one c.in-Some.ensures.value stays c.store_progress.ensures.text same k in
           let r = c.in-Ok.ensures.writes v k.later s in
-          was-written old new h h2 p v c.in-Some.ensures.one c.in-Some.ensures.same stays c.keep.ensures.text same k
+          was-written old new h h2 p v c.in-Some.ensures.one c.in-Some.ensures.value stays c.store_progress.ensures.text same k
           c.args.payload.now (take c.in-Ok.len c.write_or_ask.new.out) r.0 r.1 r.2);
       short = λ p named m e more.
-          let f : message_len_of h n ≡ Some m = sym (length-for old h p n c.in-Some.ensures.one c.in-Some.ensures.same named) ∙ e in
+          let f : message_len_of h n ≡ Some m = sym (length-for old h p n c.in-Some.ensures.one c.in-Some.ensures.value named) ∙ e in
           too-long m (length c.args.out.now) more (elim c.match-message_len.branch [
             | in-Some-message_len+else-needed-out w ↦ some-fits _ _ _ w.in-Some-message_len.is w.if-needed-out.false m (c.message_len.ensures ∙ f)
             | in_default w ↦ none-fits _ _ w.in_default.is m (c.message_len.ensures ∙ f)
           ]);
       asked = λ _ p v k w m e _.
-          let f : message_len_of h n ≡ Some m = sym (length-for old h p n c.in-Some.ensures.one c.in-Some.ensures.same k.pattern) ∙ e in
-          let s = stands-for old h p v c.in-Some.ensures.one c.in-Some.ensures.same k in
-          let x = subst (λ (i : ℕ). WantsSecretToWrite v i) (sym c.in-Some.ensures.count) w in
+          let f : message_len_of h n ≡ Some m = sym (length-for old h p n c.in-Some.ensures.one c.in-Some.ensures.value k.pattern) ∙ e in
+          let s = matches-for old h p v c.in-Some.ensures.one c.in-Some.ensures.value k in
+          let x = subst (λ (i : ℕ). WantsPskToWrite v i) (sym c.in-Some.ensures.count) w in
           ok-err c.in-Ok.len _ (c.in-Ok.ensures.asked (due _ _ m f) v k.later s x);
     }
 
 pub returns-in-Err-Wants : goal.returns-in-Err-Wants
 returns-in-Err-Wants c =
-    let old = c.args.kept.now in
+    let old = c.args.handshake.now in
     let h = c.in-Some.value in
     let n : ℕ = length c.args.payload.now in
     let want = c.in-Err-Wants.want in
-    let told = c.report_want.new.told in
+    let results = c.report_want.new.results in
     let code : ℕ = c.report_want.result in
-    let t : ReportsWant want told code = subst (λ (w : Want). ReportsWant w told code) c.in-Err-Wants.want-is c.report_want.ensures.want in
-    let leaves : (p : Plan) (v : View) → KeepsView old p v → LeavesLateUnwritten v (length h.secrets) n (unwritten.Wants want) =
-    λ p v k. subst (λ (u : LateUnwritten). LeavesLateUnwritten v (length h.secrets) n u) c.in-Err-Wants.field-0-is
-    (c.in-Err-Wants.ensures.writes v k.later (stands-for old h p v c.in-Some.ensures.one c.in-Some.ensures.same k)).0 in
+    let t : ReportsWant want results code = subst (λ (w : Want). ReportsWant w results code) c.in-Err-Wants.want-is c.report_want.ensures.want in
+    let leaves : (p : Plan) (v : Party) → KeepsParty old p v → LeavesLateUnwritten v (length h.psks) n (unwritten.Wants want) =
+    λ p v k. subst (λ (u : LateUnwritten). LeavesLateUnwritten v (length h.psks) n u) c.in-Err-Wants.field-0-is
+    (c.in-Err-Wants.ensures.writes v k.later (matches-for old h p v c.in-Some.ensures.one c.in-Some.ensures.value k)).0 in
     record {
-      unusable = (wants-other want told code 23 t refl refl, λ none. absurd (none (c.in-Some.ensures.usable.0 refl)));
-      outcome = writes-outcome old _ c.args.payload.now c.args.out.now c.write_or_ask.new.out c.args.told.now (length h.secrets) want told code t
+      unusable = (wants-other want results code 23 t refl refl, λ none. absurd (none (c.in-Some.ensures.usable.0 refl)));
+      outcome = writes-outcome old _ c.args.payload.now c.args.out.now c.write_or_ask.new.out c.args.results.now (length h.psks) want results code t
           c.report_want.ensures.answer c.report_want.ensures.remote c.in-Some.ensures.count refl
           (c.in-Err-Wants.ensures.asks (subst IsLateWant (sym c.in-Err-Wants.field-0-is) tt)) leaves;
       short = λ p named m e more.
-          let f : message_len_of h n ≡ Some m = sym (length-for old h p n c.in-Some.ensures.one c.in-Some.ensures.same named) ∙ e in
+          let f : message_len_of h n ≡ Some m = sym (length-for old h p n c.in-Some.ensures.one c.in-Some.ensures.value named) ∙ e in
           too-long m (length c.args.out.now) more (elim c.match-message_len.branch [
             | in-Some-message_len+else-needed-out w ↦ some-fits _ _ _ w.in-Some-message_len.is w.if-needed-out.false m (c.message_len.ensures ∙ f)
             | in_default w ↦ none-fits _ _ w.in_default.is m (c.message_len.ensures ∙ f)
           ]);
       asked = λ _ p v k w m e _.
-          let f : message_len_of h n ≡ Some m = sym (length-for old h p n c.in-Some.ensures.one c.in-Some.ensures.same k.pattern) ∙ e in
-          let s = stands-for old h p v c.in-Some.ensures.one c.in-Some.ensures.same k in
-          let x = subst (λ (i : ℕ). WantsSecretToWrite v i) (sym c.in-Some.ensures.count) w in
-          let same : want ≡ Secret h.remote.s = want-same c.in-Err-Wants.field-0 want _
+          let f : message_len_of h n ≡ Some m = sym (length-for old h p n c.in-Some.ensures.one c.in-Some.ensures.value k.pattern) ∙ e in
+          let s = matches-for old h p v c.in-Some.ensures.one c.in-Some.ensures.value k in
+          let x = subst (λ (i : ℕ). WantsPskToWrite v i) (sym c.in-Some.ensures.count) w in
+          let same : want ≡ Psk h.remote.s = want-same c.in-Err-Wants.field-0 want _
           (c.in-Err-Wants.ensures.asked (due _ _ m f) v k.later s x) c.in-Err-Wants.field-0-is in
-          (subst (λ (z : Want). ReportsWant z told code) same t).0;
+          (subst (λ (z : Want). ReportsWant z results code) same t).0;
     }
 
 -- only for want of an answer something is written
@@ -160,16 +160,16 @@ unchanged-out (Some f) u fault Q e x differs = x.1
 
 pub returns-in-Err-Withheld : goal.returns-in-Err-Withheld
 returns-in-Err-Withheld c =
-    let old = c.args.kept.now in
+    let old = c.args.handshake.now in
     let h = c.in-Some.value in
     let n : ℕ = length c.args.payload.now in
     let fault = c.in-Err-Withheld.fault in
     let code : ℕ = c.write_code.result in
     let is : code ≡ write_code fault = c.write_code.ensures ∙ ap write_code c.in-Err-Withheld.fault-is in
     let within : (10 ≤ code) × (code ≤ 14) = withheld-within fault code is in
-    let leaves : (p : Plan) (v : View) → KeepsView old p v → LeavesLateUnwritten v (length h.secrets) n (unwritten.Withheld fault) =
-    λ p v k. subst (λ (u : LateUnwritten). LeavesLateUnwritten v (length h.secrets) n u) c.in-Err-Withheld.field-0-is
-    (c.in-Err-Withheld.ensures.writes v k.later (stands-for old h p v c.in-Some.ensures.one c.in-Some.ensures.same k)).0 in
+    let leaves : (p : Plan) (v : Party) → KeepsParty old p v → LeavesLateUnwritten v (length h.psks) n (unwritten.Withheld fault) =
+    λ p v k. subst (λ (u : LateUnwritten). LeavesLateUnwritten v (length h.psks) n u) c.in-Err-Withheld.field-0-is
+    (c.in-Err-Withheld.ensures.writes v k.later (matches-for old h p v c.in-Some.ensures.one c.in-Some.ensures.value k)).0 in
     record {
       unusable = (not-after code 14 23 within.1 refl, λ none. absurd (none (c.in-Some.ensures.usable.0 refl)));
       outcome = withheld code within.0 within.1 refl refl
@@ -179,14 +179,14 @@ returns-in-Err-Withheld c =
           let far : code ≡ 14 → ⊥ = λ e. (leaves p v k).1 (withheld-agreement fault (sym is ∙ e)) in
           (under code 14 within.1 far, record { fault = fault; code_is = is; withholds = (leaves p v k).0 }));
       short = λ p named m e more.
-          let f : message_len_of h n ≡ Some m = sym (length-for old h p n c.in-Some.ensures.one c.in-Some.ensures.same named) ∙ e in
+          let f : message_len_of h n ≡ Some m = sym (length-for old h p n c.in-Some.ensures.one c.in-Some.ensures.value named) ∙ e in
           too-long m (length c.args.out.now) more (elim c.match-message_len.branch [
             | in-Some-message_len+else-needed-out w ↦ some-fits _ _ _ w.in-Some-message_len.is w.if-needed-out.false m (c.message_len.ensures ∙ f)
             | in_default w ↦ none-fits _ _ w.in_default.is m (c.message_len.ensures ∙ f)
           ]);
       asked = λ _ p v k w m e _.
-          let f : message_len_of h n ≡ Some m = sym (length-for old h p n c.in-Some.ensures.one c.in-Some.ensures.same k.pattern) ∙ e in
-          let s = stands-for old h p v c.in-Some.ensures.one c.in-Some.ensures.same k in
-          let x = subst (λ (i : ℕ). WantsSecretToWrite v i) (sym c.in-Some.ensures.count) w in
+          let f : message_len_of h n ≡ Some m = sym (length-for old h p n c.in-Some.ensures.one c.in-Some.ensures.value k.pattern) ∙ e in
+          let s = matches-for old h p v c.in-Some.ensures.one c.in-Some.ensures.value k in
+          let x = subst (λ (i : ℕ). WantsPskToWrite v i) (sym c.in-Some.ensures.count) w in
           withheld-not c.in-Err-Withheld.field-0 fault _ (c.in-Err-Withheld.ensures.asked (due _ _ m f) v k.later s x) c.in-Err-Withheld.field-0-is;
     }

@@ -3,33 +3,33 @@ use Rattle.std.proofs.lemmas.Result.{err_from_is_err_and}
 use Rattle.noise_names.specs.declared.token.Role.TheVariants.{Initiator, Responder}
 use Rattle.noise_names.specs.Plan.{Plan}
 use Rattle.noise_handshake.specs.declared.remote.Remote.{Remote}
-use Rattle.noise_handshake.specs.Setup.{begun}
+use Rattle.noise_handshake.specs.Setup.{party_at_start}
 use Rattle.noise_keys.specs.declared.faults.SetupFault.{SetupFault}
-use Rattle.noise_session.specs.Ends.{EndStands, end_of}
-use Rattle.noise_duel.specs.Conversation.{facing}
-use Rattle.noise_duel.specs.HeldDuel.{HeldDuel, DuelStands}
+use Rattle.noise_session.specs.Ends.{EndMatches, end_of}
+use Rattle.noise_duel.specs.Conversation.{sides_at_start}
+use Rattle.noise_duel.specs.DuelValue.{DuelValue, DuelMatches}
 use Rattle.noise_duel.specs.Messages.{Start}
-use Rattle.noise_conversation.specs.Setup.{start_by, IsFault}
+use Rattle.noise_conversation.specs.Setup.{start_by, IsReportedFault}
 use Rattle.noise_conversation.proofs.Alike.{fault-same}
-use Rattle.noise_conversation.proofs.Faults.{first-told, next-told, none-told}
+use Rattle.noise_conversation.proofs.Faults.{first-reported, next-reported, none-reported}
 use Rattle.noise_conversation.proofs.ends.make_ends.Goals as goal
 
-pub returns-in_err-first-clause-setup : goal.returns-in_err-first-clause-setup
-returns-in_err-first-clause-setup g c =
+pub returns-in_err-first : goal.returns-in_err-first
+returns-in_err-first g c =
     let n : ℕ = length c.args.psks.now in
     let q = err_from_is_err_and c.from_residual-in_err-first.result c.from_residual-in_err-first.ensures.1 in
     let known = fault-same Initiator (g.K.Keys.public_of c.args.initiator) c.args.pattern c.args.pattern _ _ n refl c.shown-of_responder.ensures in
-    rw (q.1, q.2) (first-told _ _ _ (subst (λ (found : Option SetupFault). IsFault found c.in_err-first.field-0.0) known c.in_err-first.ensures.setup))
+    rw (q.1, q.2) (first-reported _ _ _ (subst (λ (found : Option SetupFault). IsReportedFault found c.in_err-first.field-0.0) known c.in_err-first.ensures.setup))
 
-pub returns-in_err-second-clause-setup : goal.returns-in_err-second-clause-setup
-returns-in_err-second-clause-setup g c =
+pub returns-in_err-second : goal.returns-in_err-second
+returns-in_err-second g c =
     let n : ℕ = length c.args.psks.now in
     let q = err_from_is_err_and c.from_residual-in_err-second.result c.from_residual-in_err-second.ensures.1 in
     let known = fault-same Initiator (g.K.Keys.public_of c.args.initiator) c.args.pattern c.args.pattern _ _ n refl c.shown-of_responder.ensures in
     let known-2 = fault-same Responder (g.K.Keys.public_of c.args.responder) c.in_ok-same.same c.args.pattern _ _ n c.in_ok-same.ensures
     c.shown-of_initiator.ensures in
-    rw (q.1, q.2) (next-told _ _ _ (sym known ∙ c.in_ok-first.ensures.setup)
-    (subst (λ (found : Option SetupFault). IsFault found c.in_err-second.field-0.0) known-2 c.in_err-second.ensures.setup))
+    rw (q.1, q.2) (next-reported _ _ _ (sym known ∙ c.in_ok-first.ensures.setup)
+    (subst (λ (found : Option SetupFault). IsReportedFault found c.in_err-second.field-0.0) known-2 c.in_err-second.ensures.setup))
 
 pub returns : goal.returns
 returns g c =
@@ -44,30 +44,29 @@ returns g c =
     let copy : c.in_ok-same.same ≡ p = c.in_ok-same.ensures in
     let none = sym (fault-same Initiator a.own p p _ a.remote n refl known) ∙ c.in_ok-first.ensures.setup in
     let none-2 = sym (fault-same Responder b.own c.in_ok-same.same p _ b.remote n copy known-2) ∙ c.in_ok-second.ensures.setup in
-    let first = subst (λ (r : Remote). EndStands g.K.Keys.public_of g.K.Keys.agreement c.in_ok-first.first
-    (end_of (begun p Initiator text a.own a.agree r psks) c.args.interval)) known c.in_ok-first.ensures.stands in
-    let second = subst (λ (r : Remote). EndStands g.K.Keys.public_of g.K.Keys.agreement c.in_ok-second.second
-    (end_of (begun p Responder text b.own b.agree r psks) c.args.interval)) known-2
-    (subst (λ (q : Plan). EndStands g.K.Keys.public_of g.K.Keys.agreement c.in_ok-second.second
-    (end_of (begun q Responder text b.own b.agree c.shown-of_initiator.result psks) c.args.interval)) copy c.in_ok-second.ensures.stands) in
-    record {
-      setup = none-told _ _ none none-2;
-      stands = subst (λ (d : HeldDuel g.row.K.Denot g.row.K.Denot). DuelStands g.K.Keys.public_of g.K.Keys.agreement g.K.Keys.public_of g.K.Keys.agreement d
-          (facing p a b c.args.interval c.args.interval)) (sym c.new.ensures) (record { initiator = first; responder = second });
-      alike = (
-        record {
+    let first = subst (λ (r : Remote). EndMatches g.K.Keys.public_of g.K.Keys.agreement c.in_ok-first.first
+    (end_of (party_at_start p Initiator text a.own a.agree r psks) c.args.interval)) known c.in_ok-first.ensures.matches in
+    let second = subst (λ (r : Remote). EndMatches g.K.Keys.public_of g.K.Keys.agreement c.in_ok-second.second
+    (end_of (party_at_start p Responder text b.own b.agree r psks) c.args.interval)) known-2
+    (subst (λ (q : Plan). EndMatches g.K.Keys.public_of g.K.Keys.agreement c.in_ok-second.second
+    (end_of (party_at_start q Responder text b.own b.agree c.shown-of_initiator.result psks) c.args.interval)) copy c.in_ok-second.ensures.matches) in (
+      none-reported _ _ none none-2,
+      record {
+        matches = subst (λ (d : DuelValue g.row.K.Denot g.row.K.Denot). DuelMatches g.K.Keys.public_of g.K.Keys.agreement g.K.Keys.public_of g.K.Keys.agreement d
+            (sides_at_start p a b c.args.interval c.args.interval)) (sym c.new.ensures) (record { initiator = first; responder = second });
+        alike = record {
           initiator = none;
           responder = none-2;
           prologue_is = refl;
           prologue_too = refl;
-          secrets = refl;
+          psks = refl;
           known = refl;
           known_too = refl;
           keys = g.met.K.Agreeing.commutes c.args.initiator c.args.responder;
-        },
-        c.long_keys.ensures,
-        c.long_keys-2.ensures,
-        c.in_ok-first.ensures.valid.0,
-        c.in_ok-first.ensures.valid.1,
-      );
-    }
+        };
+        initiator_keys = c.long_keys.ensures;
+        responder_keys = c.long_keys-2.ensures;
+        pattern = c.in_ok-first.ensures.valid.0;
+        valid = c.in_ok-first.ensures.valid.1;
+      },
+    )

@@ -2,4 +2,4 @@ use Rattle.noise_conversation.proofs.Fronts.{entries-come}
 use Rattle.noise_conversation.proofs.entries.entries_agree.Goals as goal
 
 pub returns : goal.returns
-returns c = entries-come c.ends_stand.ensures.frame c.ends_agree.ensures.one c.ends_agree.ensures.payloads
+returns c = entries-come c.ends_match.ensures.frame c.ends_agree.ensures.one c.ends_agree.ensures.payloads

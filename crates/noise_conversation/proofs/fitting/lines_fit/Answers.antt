@@ -3,7 +3,7 @@ use Rattle.std.specs.Prelude.{true}
 use Rattle.std.proofs.lemmas.List.{drop_more}
 use Rattle.noise_names.specs.declared.token.Role.TheVariants.{Initiator}
 use Rattle.noise_names.specs.Tokens.{other}
-use Rattle.noise_duel.specs.Acts.{lines_of}
+use Rattle.noise_duel.specs.Acts.{roles_and_payloads}
 use Rattle.noise_conversation.specs.Lines.{lines_fit_from}
 use Rattle.noise_conversation.proofs.Fit.{one-line, turn-next}
 use Rattle.noise_conversation.proofs.fitting.lines_fit.Goals as goal
@@ -16,7 +16,7 @@ loop-role-preserved c =
     let i : ℕ = c.loop-role.role-index in
     let n : ℕ = c.loop-role.place in
     let x = c.loop-role-item.result in
-    let rest = lines_of (drop (i + 1) lines) in
+    let rest = roles_and_payloads (drop (i + 1) lines) in
     let front = drop_more lines i x c.loop-role-test.true ∙ ap (λ y. y ∷ drop (i + 1) lines) (sym c.loop-role-item.is) in
     let fits : c.line_fits.result ≡ true = grind arith in
     let len : c.len.result ≡ length x.1.items = c.len.ensures ∙ x.1.ok.0 in
@@ -25,6 +25,6 @@ loop-role-preserved c =
       place = omega arith;
       turn = c.other-turn.ensures ∙ ap other h.turn ∙ sym (turn-next Initiator n);
       rest =
-          h.rest ∙ ap (λ (k : ℕ). lines_fit_from p n (lines_of (drop k lines))) h.place ∙ ap (λ xs. lines_fit_from p n (lines_of xs)) front ∙ here
-          ∙ ap (λ (k : ℕ). lines_fit_from p (n + 1) (lines_of (drop (k + 1) lines))) (sym h.place);
+          h.rest ∙ ap (λ (k : ℕ). lines_fit_from p n (roles_and_payloads (drop k lines))) h.place ∙ ap (λ xs. lines_fit_from p n (roles_and_payloads xs)) front ∙ here
+          ∙ ap (λ (k : ℕ). lines_fit_from p (n + 1) (roles_and_payloads (drop (k + 1) lines))) (sym h.place);
     }

@@ -4,14 +4,14 @@ use Rattle.noise_names.specs.declared.token.Role.TheVariants.{Initiator, Respond
 use Rattle.noise_events.specs.Events.{events_of}
 use Rattle.noise_duel.specs.Entries.{notes_of}
 use Rattle.noise_duel.specs.Messages.{Start}
-use Rattle.noise_duel.specs.Networks.{HaveSameSecrets}
+use Rattle.noise_duel.specs.Networks.{HaveSamePsks}
 use Rattle.noise_conversation.specs.Setup.{start_by}
 use Rattle.noise_conversation.proofs.network.run_events.Goals as goal
 
-pub returns-in_err-duel-clause-setup : goal.returns-in_err-duel-clause-setup
-returns-in_err-duel-clause-setup g c =
+pub returns-in_err-duel : goal.returns-in_err-duel
+returns-in_err-duel g c =
     let p = err_from_is_err_and c.from_residual.result c.from_residual.ensures.1 in
-    rw (p.1, p.2) c.in_err-duel.ensures.setup
+    rw (p.1, p.2) c.in_err-duel.ensures
 
 pub returns : goal.returns
 returns g c =
@@ -20,27 +20,27 @@ returns g c =
     let i : ℕ = c.args.interval in
     let a : Start = start_by g.K.Keys.public_of g.K.Keys.agreement p Initiator text c.args.psks.now c.args.initiator c.args.responder in
     let b : Start = start_by g.K.Keys.public_of g.K.Keys.agreement p Responder text c.args.psks.now c.args.responder c.args.initiator in
-    let alike = (c.in_ok-duel.ensures.alike).0 in
-    let told = c.in_ok-made.ensures.agrees p a b i i c.in_ok-duel.ensures.stands in
-    let secrets : HaveSameSecrets p a b = record { psks = refl; keys = alike.keys; initiator = alike.initiator; responder = alike.responder } in
-    let last = told.0.last in
+    let new = c.in_ok-duel.ensures.1 in
+    let alike = new.alike in
+    let reported = c.in_ok-made.ensures.agrees p a b i i new.matches in
+    let psks : HaveSamePsks p a b = record { psks = refl; keys = alike.keys; initiator = alike.initiator; responder = alike.responder } in
+    let last = reported.0.last in
     let notes = notes_of c.in_ok-made.made.1.entries.items in
-    let payloads = c.payloads_told.ensures p a b i i (events_of c.args.events.now) notes last told.0.run in
-    let hashes = c.hash_is_told.ensures c.in_ok-made.made.0 last in
-    record {
-      setup = c.in_ok-duel.ensures.setup;
-      agrees = record {
-        reports = told.0;
+    let payloads = c.payloads_reported.ensures p a b i i (events_of c.args.events.now) notes last reported.0.run in
+    let hashes = c.hash_is_reported.ensures c.in_ok-made.made.0 last in (
+      c.in_ok-duel.ensures.0,
+      record {
+        reports = reported.0;
         initiator = payloads.0;
         responder = payloads.1;
-        secrets = inr secrets;
-        history = λ hash e f. told.1.one (hashes hash told.0.stands e f) (inr secrets);
-        payloads = λ hash e f. told.1.payloads refl (hashes hash told.0.stands e f) (inr secrets);
+        psks = inr psks;
+        history = λ hash e f. reported.1.one (hashes hash reported.0.matches e f) (inr psks);
+        payloads = λ hash e f. reported.1.payloads refl (hashes hash reported.0.matches e f) (inr psks);
         entries = λ hash e f.
-            rw (told.0.frames.initiator, told.0.frames.responder)
-            (c.entries_agree.ensures p a b i (events_of c.args.events.now) notes last told.0.run (hashes hash told.0.stands e f) (inr secrets));
+            rw (reported.0.frames.initiator, reported.0.frames.responder)
+            (c.entries_agree.ensures p a b i (events_of c.args.events.now) notes last reported.0.run (hashes hash reported.0.matches e f) (inr psks));
         keys = λ hash e f.
-            c.keys_meet.ensures p a b i (events_of c.args.events.now) notes last c.in_ok-made.made.0 told.0.run told.0.stands
-            (hashes hash told.0.stands e f) (inr secrets);
-      };
-    }
+            c.keys_meet.ensures p a b i (events_of c.args.events.now) notes last c.in_ok-made.made.0 reported.0.run reported.0.matches
+            (hashes hash reported.0.matches e f) (inr psks);
+      },
+    )

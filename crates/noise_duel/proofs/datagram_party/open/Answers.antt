@@ -4,11 +4,11 @@ use Rattle.noise_duel.proofs.datagram_party.open.Goals as goal
 
 pub returns-in-Ok : goal.returns-in-Ok
 returns-in-Ok c s p =
-    let o = c.in-Ok.ensures.opens s.view p in
+    let o = c.in-Ok.ensures.opens.half.opens s.state p.receiver in
     opened-copy s c.args.bytes.now _ _ _ _ c.open.new.self (c.as_mut_slice.ensures.value ∙ c.in_ok-datagram.ensures.items)
-    c.in_ok-from_slice-in-Ok.ensures.items refl o.0 o.1
+    c.in_ok-from_slice-in-Ok.ensures.items refl o.0 (c.in-Ok.ensures.opens.matches s.state p)
 
 pub returns : goal.returns
 returns c s p =
     rejected-copy s c.args.bytes.now _ _ _ c.open.new.self c.args.datagrams.now (c.as_mut_slice.ensures.value ∙ c.in_ok-datagram.ensures.items) refl
-    (c.in-Err.ensures.opens s.view p) c.in-Err.ensures.unchanged p
+    (c.in-Err.ensures.opens.half.opens s.state p.receiver) c.in-Err.ensures.opens.unchanged p

@@ -2,7 +2,7 @@ use Rattle.std.proofs.Common.{◌≡◌, ℕ, List, ap, sym, subst, ◌∙◌, O
 use Rattle.std.specs.Option.{option_map}
 use Rattle.std.proofs.lemmas.Option.{slice_get-map, slice_get_past}
 use Rattle.noise_duel.specs.OneEvent.{HasTaken}
-use Rattle.noise_duel.proofs.Happening.{told-more}
+use Rattle.noise_duel.proofs.Happening.{reported-more}
 use Rattle.noise_duel.proofs.duel.take_frame.Goals as goal
 
 pub returns-in_ok-push-in-None : goal.returns-in_ok-push-in-None
@@ -11,4 +11,4 @@ returns-in_ok-push-in-None g c s st =
     subst (λ (found : Option (List ℕ)). HasTaken g.K.Keys.public_of g.K.Keys.agreement s c.args.role c.args.number found c.args.end.now
     c.args.entries.now.items c.push.new.self.items)
     (sym (slice_get-map (λ (f : Vec ℕ Global). f.items) c.args.frames.now c.args.number ∙ ap (option_map (λ (f : Vec ℕ Global). f.items)) none))
-    (st, told-more _ _ _ c.in_ok-push-in-None.ensures.items)
+    (st, reported-more _ _ _ c.in_ok-push-in-None.ensures.items)

@@ -6,7 +6,7 @@ pub returns-clause-come : goal.returns-clause-come
 returns-clause-come c = lines-come-through c.laws_below.ensures
 
 pub returns-clause-leave : goal.returns-clause-leave
-returns-clause-leave c = lines-leave (lines-come-through c.laws_below.ensures) c.ends_stand.ensures.stand c.ends_stand.ensures.frame
+returns-clause-leave c = lines-leave (lines-come-through c.laws_below.ensures) c.ends_match.ensures.stand c.ends_match.ensures.frame
 
 pub returns-clause-can : goal.returns-clause-can
 returns-clause-can c = lines-run c.laws_below.ensures

@@ -1,5 +1,5 @@
 use Rattle.std.proofs.Common.{◌≤◌, length}
-use Rattle.noise_session.specs.Ends.{EndStands}
+use Rattle.noise_session.specs.Ends.{EndMatches}
 use Rattle.noise_duel.specs.Sides.{Side}
 use Rattle.noise_duel.specs.Receiving.{HasReceivedSome}
 use Rattle.noise_duel.proofs.receiving.receive_piece.Given as goal
@@ -8,7 +8,7 @@ abbrev pub invariant-loop-rest : goal.invariant-loop-rest
 invariant-loop-rest g l =
     record {
       most : length l.rest ≤ length l.piece;
-      some : (s : Side) → EndStands g.K.Keys.public_of g.K.Keys.agreement l.fn.end s.view
+      some : (s : Side) → EndMatches g.K.Keys.public_of g.K.Keys.agreement l.fn.end s.state
           → HasReceivedSome g.K.Keys.public_of g.K.Keys.agreement s l.role l.piece l.rest l.end l.fn.entries.items l.entries.items;
     }
 

@@ -1,15 +1,15 @@
 use Rattle.std.proofs.Common.{◌≡◌, ◌≤◌, ℕ, take, length, sym, subst, ap, ◌∙◌, arith}
-use Rattle.noise_session.specs.Ends.{EndView, EndStands}
+use Rattle.noise_session.specs.Ends.{EndState, EndMatches}
 use Rattle.noise_duel.specs.Notes.{Wrote}
-use Rattle.noise_duel.specs.Sides.{with_view}
+use Rattle.noise_duel.specs.Sides.{with_state}
 use Rattle.noise_duel.specs.Runs.{SideWrites}
 use Rattle.noise_duel.specs.Runs.SideWrites.{writes_nothing}
-use Rattle.noise_duel.proofs.Linking.{sends-writes, front-of, frames-kept, length-bytes_of}
+use Rattle.noise_duel.proofs.Linking.{sends-writes, front-of, frames-unchanged, length-bytes_of}
 use Rattle.noise_duel.proofs.writing.write.Goals as goal
 
 pub returns-in_ok-push-in-Ok : goal.returns-in_ok-push-in-Ok
-returns-in_ok-push-in-Ok g c s stands frames =
-    let sent = c.in-Ok.ensures.ok s.view stands in
+returns-in_ok-push-in-Ok g c s matches frames =
+    let sent = c.in-Ok.ensures.sends s.state matches in
     let bytes = take c.in-Ok.len c.write_into.new.out in
     let wrote = sends-writes s c.args.payload.now bytes sent.0 sent.1 in
     let number : length s.frames ≡ c.len-number.result =
@@ -20,17 +20,17 @@ returns-in_ok-push-in-Ok g c s stands frames =
     record {
       next = wrote.after;
       writes = subst (λ (n : ℕ). SideWrites s c.args.payload.now (Wrote n) wrote.after) number wrote.writes;
-      stands = subst (λ (v : EndView). EndStands g.K.Keys.public_of g.K.Keys.agreement c.write_into.new.self v) (sym wrote.view) sent.2;
-      frames_are = frames-kept c.args.frames.now.items c.push.new.self.items c.truncate.new.self bytes s.frames wrote.after.frames
+      matches = subst (λ (v : EndState). EndMatches g.K.Keys.public_of g.K.Keys.agreement c.write_into.new.self v) (sym wrote.state) sent.2;
+      frames_are = frames-unchanged c.args.frames.now.items c.push.new.self.items c.truncate.new.self bytes s.frames wrote.after.frames
           c.in_ok-push-in-Ok.ensures.items written frames wrote.frames;
     }
 
 pub returns-in-Err : goal.returns-in-Err
-returns-in-Err g c s stands frames =
-    let sent = c.in-Err.ensures.err s.view stands in
+returns-in-Err g c s matches frames =
+    let sent = c.in-Err.ensures.sends s.state matches in
     record {
-      next = with_view s _;
+      next = with_state s _;
       writes = writes_nothing s c.args.payload.now c.in-Err.fault _ sent.0;
-      stands = sent.1;
+      matches = sent.1;
       frames_are = frames;
     }

@@ -9,4 +9,4 @@ returns-clause-said c =
     rule-wrong c.args.name.now c.args.text.now c.args.pattern.now c.args.fault c.rule_place-place.result _ lines words c.requires.spells c.requires.fault
     c.rule_place-place.ensures refl
     (c.in_ok-extend_from_slice-2.ensures.items
-    ∙ ap (λ (t : List ℕ). t ++ words) (c.in_ok-extend_from_slice.ensures.items ∙ ap (λ (t : List ℕ). t ++ lines) c.in_ok-told.ensures))
+    ∙ ap (λ (t : List ℕ). t ++ words) (c.in_ok-extend_from_slice.ensures.items ∙ ap (λ (t : List ℕ). t ++ lines) c.in_ok-reported.ensures))

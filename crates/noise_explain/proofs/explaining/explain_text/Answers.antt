@@ -9,4 +9,4 @@ returns-clause-said c =
     text-wrong c.args.name.now c.args.text.now c.line_at-line.result.now c.args.fault _ _ lines words c.requires refl c.line_at-line.ensures c.column_of.ensures
     refl
     (c.in_ok-extend_from_slice-2.ensures.items
-    ∙ ap (λ (t : List ℕ). t ++ words) (c.in_ok-extend_from_slice.ensures.items ∙ ap (λ (t : List ℕ). t ++ lines) c.in_ok-told.ensures))
+    ∙ ap (λ (t : List ℕ). t ++ words) (c.in_ok-extend_from_slice.ensures.items ∙ ap (λ (t : List ℕ). t ++ lines) c.in_ok-reported.ensures))

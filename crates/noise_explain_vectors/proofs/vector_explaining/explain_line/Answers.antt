@@ -11,5 +11,5 @@ returns c =
       line_is = refl;
       at = c.line_column.ensures;
       status_is = refl;
-      begins = (lines, c.in_ok-extend_from_slice.ensures.items ∙ ap (λ (t : List ℕ). t ++ lines) c.in_ok-told.ensures);
+      begins = (lines, c.in_ok-extend_from_slice.ensures.items ∙ ap (λ (t : List ℕ). t ++ lines) c.in_ok-sentences.ensures);
     }

@@ -7,5 +7,5 @@ returns-clause-own c = own-there
 pub returns-clause-remote : goal.returns-clause-remote
 returns-clause-remote c = remote-exactly
 
-pub returns-clause-secrets : goal.returns-clause-secrets
-returns-clause-secrets c = counted
+pub returns-clause-psks : goal.returns-clause-psks
+returns-clause-psks c = counted

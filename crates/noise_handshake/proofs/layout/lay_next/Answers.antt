@@ -4,10 +4,10 @@ use Rattle.noise_names.specs.declared.token.Token.{Token}
 use Rattle.noise_names.specs.Plan.{Plan, has_psk}
 use Rattle.noise_names.specs.Overhead.{has_key}
 use Rattle.noise_handshake.specs.Passed.{passed_places}
-use Rattle.noise_handshake.specs.View.{tokens_at}
+use Rattle.noise_handshake.specs.Party.{tokens_at}
 use Rattle.noise_handshake.specs.declared.layout.MessageLayout.{MessageLayout}
 use Rattle.noise_handshake.specs.inner.Layout.{IsLaid}
-use Rattle.noise_handshake.proofs.Views.{tokens_at-index}
+use Rattle.noise_handshake.proofs.Parties.{tokens_at-index}
 use Rattle.noise_handshake.proofs.layout.lay_next.Goals as goal
 
 pub returns-in-Some : goal.returns-in-Some
@@ -16,8 +16,8 @@ returns-in-Some c less =
     let n : ℕ = c.args.passed in
     let laid : MessageLayout = c.lay_message.result in
     let here : c.tokens.result.now ≡ tokens_at p.messages n =
-    tokens_at-index c.tokens.result.now c.in-Some.message.now c.messages.result.now p.messages n c.tokens.ensures.same c.in-Some.ensures.lookup.1
-    c.messages.ensures.same less in
-    let by_psks = subst (λ (b : Bool). IsLaid b c.args.keyed c.tokens.result.now laid) c.requires.psks c.lay_message.ensures in
+    tokens_at-index c.tokens.result.now c.in-Some.message.now c.messages.result.now p.messages n c.tokens.ensures.value c.in-Some.ensures.lookup.1
+    c.messages.ensures.value less in
+    let by_psks = subst (λ (b : Bool). IsLaid b c.args.keyed c.tokens.result.now laid) c.requires.has_psks c.lay_message.ensures in
     let by_key = subst (λ (b : Bool). IsLaid (has_psk p) b c.tokens.result.now laid) c.requires.key by_psks in
     subst (λ (ts : List Token). IsLaid (has_psk p) (has_key p (passed_places p n)) ts laid) here by_key

@@ -1,12 +1,12 @@
-use Rattle.noise_handshake.specs.inner.Listening.{reader_of}
+use Rattle.noise_handshake.specs.Calls.{reader_of}
 use Rattle.std.proofs.Common.{◌≡◌, suc, ap, ℕ, ◌+◌, ◌-◌, ◌≤◌, List, ◌∷◌, ◌++◌, length, drop, sym, subst, ◌∙◌, arith, length-drop, drop-drop}
 use Rattle.std.specs.Prelude.{Bool, is_some}
 use Rattle.noise_names.specs.declared.token.Token.{Token}
-use Rattle.noise_state.specs.Standing.{StateStands, keyed, nonce_now}
+use Rattle.noise_state.specs.Standing.{StateMatches, keyed, nonce_now}
 use Rattle.noise_state.specs.History.{cipher_key}
 use Rattle.noise_handshake.specs.declared.layout.PlacedToken.{PlacedToken}
 use Rattle.noise_handshake.specs.Message.{token_bytes, after_token, after_tokens}
-use Rattle.noise_handshake.specs.View.{Reader, BeginsAs, cause_of}
+use Rattle.noise_handshake.specs.Party.{Reader, BeginsAs, cause_of}
 use Rattle.noise_handshake.specs.inner.Layout.{tokens_of, ArePlaced}
 use Rattle.noise_handshake.specs.inner.Listening.{Fails}
 use Rattle.noise_handshake.specs.Length.{keyed_after_tokens}
@@ -14,64 +14,64 @@ use Rattle.noise_handshake.specs.Nonces.{nonce_after_tokens}
 use Rattle.noise_handshake.specs.inner.Known.{e_after_tokens, s_after_tokens}
 use Rattle.noise_handshake.proofs.DhTokens.{none_taken}
 use Rattle.noise_handshake.proofs.Layouts.{first-placed, later-placed, rest-first}
-use Rattle.noise_handshake.proofs.Stepwise.{keyed-on, e-on, s-on, nonce-on, bound-on, bound-first, some-token, one-later, place-fits, nonce-left, secret-due, known-first, none-added, none-after, known-later, secrets-later, nonces-later}
+use Rattle.noise_handshake.proofs.Stepwise.{keyed-on, e-on, s-on, nonce-on, bound-on, bound-first, some-token, one-later, place-fits, nonce-left, psk-due, known-first, none-added, none-after, known-later, psks-later, nonces-later}
 use Rattle.noise_handshake.proofs.Steps.{led-none, stopped, led, learned-on, stopped-later}
 use Rattle.noise_handshake.proofs.reading.+read_tokens.Goals as goal
 use Rattle.std.proofs.lemmas.List.{nil_from_length}
 
 pub bytes_from-rest-requires : goal.bytes_from-rest-requires
 bytes_from-rest-requires g t c =
-    let u = first-placed c.args.means.now.psks (keyed c.args.state.now) c.requires.placed.0 c.args.placed.now c.in-Some.first.now c.in-Some.later.now c.in-Some.ensures.cases.0 c.requires.placed.2 in
+    let u = first-placed c.args.means.now.has_psks (keyed c.args.state.now) c.requires.placed.0 c.args.placed.now c.in-Some.first.now c.in-Some.later.now c.in-Some.ensures.cases.0 c.requires.placed.2 in
     omega (arith, u.0, c.requires.placed.1)
 
 pub read_token-requires-clause-width : goal.read_token-requires-clause-width
 read_token-requires-clause-width g t c =
-    let u = first-placed c.args.means.now.psks (keyed c.args.state.now) c.requires.placed.0 c.args.placed.now c.in-Some.first.now c.in-Some.later.now c.in-Some.ensures.cases.0 c.requires.placed.2 in
+    let u = first-placed c.args.means.now.has_psks (keyed c.args.state.now) c.requires.placed.0 c.args.placed.now c.in-Some.first.now c.in-Some.later.now c.in-Some.ensures.cases.0 c.requires.placed.2 in
     u.1
 
 pub overflow_add-result : goal.overflow_add-result
 overflow_add-result g t c =
-    let u = later-placed c.args.means.now.psks (keyed c.args.state.now) c.requires.placed.0 c.args.placed.now c.in-Some.first.now c.in-Some.later.now c.in-Some.ensures.cases.0 c.requires.placed.2
+    let u = later-placed c.args.means.now.has_psks (keyed c.args.state.now) c.requires.placed.0 c.args.placed.now c.in-Some.first.now c.in-Some.later.now c.in-Some.ensures.cases.0 c.requires.placed.2
     c.args.message.now c.bytes_from-rest.result.now c.bytes_from-rest.ensures c.requires.placed.1 c.in-Ok.n (keyed c.read_token.new.state) c.in-Ok.ensures.width c.in-Ok.ensures.range c.in-Ok.ensures.key in
     omega (arith, u.0, c.in-Ok-read_tokens.ensures.range (c.requires.placed.0 + c.in-Some.first.now.width) u.1 u.2)
 
 pub returns-in-Ok-read_tokens-clause-within : goal.returns-in-Ok-read_tokens-clause-within
 returns-in-Ok-read_tokens-clause-within g t c =
-    let u = later-placed c.args.means.now.psks (keyed c.args.state.now) c.requires.placed.0 c.args.placed.now c.in-Some.first.now c.in-Some.later.now c.in-Some.ensures.cases.0 c.requires.placed.2
+    let u = later-placed c.args.means.now.has_psks (keyed c.args.state.now) c.requires.placed.0 c.args.placed.now c.in-Some.first.now c.in-Some.later.now c.in-Some.ensures.cases.0 c.requires.placed.2
     c.args.message.now c.bytes_from-rest.result.now c.bytes_from-rest.ensures c.requires.placed.1 c.in-Ok.n (keyed c.read_token.new.state) c.in-Ok.ensures.width c.in-Ok.ensures.range c.in-Ok.ensures.key in
     omega (arith, u.0, c.in-Ok-read_tokens.ensures.range (c.requires.placed.0 + c.in-Some.first.now.width) u.1 u.2)
 
 pub returns-in-Ok-read_tokens-clause-range : goal.returns-in-Ok-read_tokens-clause-range
 returns-in-Ok-read_tokens-clause-range g t c place within are =
-    let u = later-placed c.args.means.now.psks (keyed c.args.state.now) place c.args.placed.now c.in-Some.first.now c.in-Some.later.now c.in-Some.ensures.cases.0 are
+    let u = later-placed c.args.means.now.has_psks (keyed c.args.state.now) place c.args.placed.now c.in-Some.first.now c.in-Some.later.now c.in-Some.ensures.cases.0 are
     c.args.message.now c.bytes_from-rest.result.now c.bytes_from-rest.ensures within c.in-Ok.n (keyed c.read_token.new.state) c.in-Ok.ensures.width c.in-Ok.ensures.range c.in-Ok.ensures.key in
     omega (arith, u.0, c.in-Ok-read_tokens.ensures.range (place + c.in-Some.first.now.width) u.1 u.2)
 
 pub returns-in-Err-clause-read : goal.returns-in-Err-clause-read
 returns-in-Err-clause-read g t c r place s within are =
-    let v : Reader = reader_of g.K.Keys.agreement c.args.means.now.role c.args.means.now.psks c.args.means.now.keys.now in
+    let v : Reader = reader_of g.K.Keys.agreement c.args.means.now.role c.args.means.now.has_psks c.args.means.now.keys in
     let first : PlacedToken = c.in-Some.first.now in
     let token : Token = first.token in
     let later : List Token = tokens_of c.in-Some.later.now in
     let split : tokens_of c.args.placed.now ≡ token ∷ later = ap tokens_of c.in-Some.ensures.cases.0 in
-    let here = rest-first c.args.means.now.psks (keyed c.args.state.now) place c.args.placed.now c.in-Some.first.now c.in-Some.later.now c.in-Some.ensures.cases.0 are
+    let here = rest-first c.args.means.now.has_psks (keyed c.args.state.now) place c.args.placed.now c.in-Some.first.now c.in-Some.later.now c.in-Some.ensures.cases.0 are
     c.args.message.now c.bytes_from-rest.result.now c.bytes_from-rest.ensures in
     let d = c.in-Err.ensures.read r s in
-    stopped v c.args.known.now c.args.secrets.now r (tokens_of c.args.placed.now) later token (drop place c.args.message.now) c.in-Err.cause
-    c.read_token.new.known split (subst (λ (z : List ℕ). Fails v c.args.known.now c.args.secrets.now r token z) here d.0)
+    stopped v c.args.known.now c.args.psks.now r (tokens_of c.args.placed.now) later token (drop place c.args.message.now) c.in-Err.cause
+    c.read_token.new.known split (subst (λ (z : List ℕ). Fails v c.args.known.now c.args.psks.now r token z) here d.0)
     (subst (λ (z : List ℕ). c.in-Err.cause ≡ cause_of (is_some (cipher_key r)) token z) here d.1) c.in-Err.ensures.unchanged
 
 pub returns-in-Ok-read_tokens-clause-read : goal.returns-in-Ok-read_tokens-clause-read
 returns-in-Ok-read_tokens-clause-read g t c r place s within are =
-    let v : Reader = reader_of g.K.Keys.agreement c.args.means.now.role c.args.means.now.psks c.args.means.now.keys.now in
-    let psks : Bool = c.args.means.now.psks in
+    let v : Reader = reader_of g.K.Keys.agreement c.args.means.now.role c.args.means.now.has_psks c.args.means.now.keys in
+    let has_psks : Bool = c.args.means.now.has_psks in
     let first : PlacedToken = c.in-Some.first.now in
     let token : Token = first.token in
     let later : List Token = tokens_of c.in-Some.later.now in
     let split : tokens_of c.args.placed.now ≡ token ∷ later = ap tokens_of c.in-Some.ensures.cases.0 in
-    let here = rest-first c.args.means.now.psks (keyed c.args.state.now) place c.args.placed.now c.in-Some.first.now c.in-Some.later.now c.in-Some.ensures.cases.0 are
+    let here = rest-first c.args.means.now.has_psks (keyed c.args.state.now) place c.args.placed.now c.in-Some.first.now c.in-Some.later.now c.in-Some.ensures.cases.0 are
     c.args.message.now c.bytes_from-rest.result.now c.bytes_from-rest.ensures in
-    let u = later-placed c.args.means.now.psks (keyed c.args.state.now) place c.args.placed.now c.in-Some.first.now c.in-Some.later.now c.in-Some.ensures.cases.0 are
+    let u = later-placed c.args.means.now.has_psks (keyed c.args.state.now) place c.args.placed.now c.in-Some.first.now c.in-Some.later.now c.in-Some.ensures.cases.0 are
     c.args.message.now c.bytes_from-rest.result.now c.bytes_from-rest.ensures within c.in-Ok.n (keyed c.read_token.new.state) c.in-Ok.ensures.width c.in-Ok.ensures.range c.in-Ok.ensures.key in
     let m : List ℕ = c.args.message.now in
     let n : ℕ = c.in-Ok.n in
@@ -80,52 +80,52 @@ returns-in-Ok-read_tokens-clause-read g t c r place s within are =
     let spelled : rest ≡ token_bytes r token d.0 ++ drop n rest = subst (λ (z : List ℕ). z ≡ token_bytes r token d.0 ++ drop n z) here d.2 in
     let more : ℕ = c.in-Ok-read_tokens.more in
     let known2 = c.read_token.new.known in
-    let others : List (List ℕ) = c.secrets_after-others.result.now in
-    let i = c.in-Ok-read_tokens.ensures.read (after_token psks r token d.0) (place + first.width) d.3 u.1 u.2 in
-    let leads : BeginsAs v known2 others (after_token psks r token d.0) later i.0 (drop (place + first.width) m) (drop more (drop (place + first.width) m)) =
-    subst (λ (z : List ℕ). BeginsAs v known2 others (after_token psks r token d.0) later i.0 (drop (place + first.width) m) z)
+    let others : List (List ℕ) = c.psks_after-others.result.now in
+    let i = c.in-Ok-read_tokens.ensures.read (after_token has_psks r token d.0) (place + first.width) d.3 u.1 u.2 in
+    let leads : BeginsAs v known2 others (after_token has_psks r token d.0) later i.0 (drop (place + first.width) m) (drop more (drop (place + first.width) m)) =
+    subst (λ (z : List ℕ). BeginsAs v known2 others (after_token has_psks r token d.0) later i.0 (drop (place + first.width) m) z)
     (sym (drop-drop more (place + first.width) m)) i.1 in
-    let whole = led v c.args.known.now known2 c.args.secrets.now others r (tokens_of c.args.placed.now) later token d.0 rest (drop (place + first.width) m) n
-    split d.1 spelled d.4 c.secrets_after-others.ensures u.3 i.0 more leads in (
+    let whole = led v c.args.known.now known2 c.args.psks.now others r (tokens_of c.args.placed.now) later token d.0 rest (drop (place + first.width) m) n
+    split d.1 spelled d.4 c.psks_after-others.ensures u.3 i.0 more leads in (
       d.0 ∷ i.0,
-      subst (λ (z : List ℕ). BeginsAs v c.args.known.now c.args.secrets.now r (tokens_of c.args.placed.now) (d.0 ∷ i.0) rest z)
+      subst (λ (z : List ℕ). BeginsAs v c.args.known.now c.args.psks.now r (tokens_of c.args.placed.now) (d.0 ∷ i.0) rest z)
           (drop-drop (n + more) place m) whole,
-      subst (λ (us : List Token). StateStands c.read_tokens.new.state (after_tokens psks r us (d.0 ∷ i.0))) (sym split) i.2,
-      learned-on v c.args.known.now known2 c.args.secrets.now others r (tokens_of c.args.placed.now) later token d.0 rest (drop (place + first.width) m) n
-          split d.1 spelled d.4 c.secrets_after-others.ensures u.3 i.0 c.read_tokens.new.known i.3,
+      subst (λ (us : List Token). StateMatches c.read_tokens.new.state (after_tokens has_psks r us (d.0 ∷ i.0))) (sym split) i.2,
+      learned-on v c.args.known.now known2 c.args.psks.now others r (tokens_of c.args.placed.now) later token d.0 rest (drop (place + first.width) m) n
+          split d.1 spelled d.4 c.psks_after-others.ensures u.3 i.0 c.read_tokens.new.known i.3,
     )
 
 pub returns-in-Err-read_tokens-clause-read : goal.returns-in-Err-read_tokens-clause-read
 returns-in-Err-read_tokens-clause-read g t c r place s within are =
-    let v : Reader = reader_of g.K.Keys.agreement c.args.means.now.role c.args.means.now.psks c.args.means.now.keys.now in
+    let v : Reader = reader_of g.K.Keys.agreement c.args.means.now.role c.args.means.now.has_psks c.args.means.now.keys in
     let first : PlacedToken = c.in-Some.first.now in
     let token : Token = first.token in
     let later : List Token = tokens_of c.in-Some.later.now in
     let split : tokens_of c.args.placed.now ≡ token ∷ later = ap tokens_of c.in-Some.ensures.cases.0 in
-    let here = rest-first c.args.means.now.psks (keyed c.args.state.now) place c.args.placed.now c.in-Some.first.now c.in-Some.later.now c.in-Some.ensures.cases.0 are
+    let here = rest-first c.args.means.now.has_psks (keyed c.args.state.now) place c.args.placed.now c.in-Some.first.now c.in-Some.later.now c.in-Some.ensures.cases.0 are
     c.args.message.now c.bytes_from-rest.result.now c.bytes_from-rest.ensures in
-    let u = later-placed c.args.means.now.psks (keyed c.args.state.now) place c.args.placed.now c.in-Some.first.now c.in-Some.later.now c.in-Some.ensures.cases.0 are
+    let u = later-placed c.args.means.now.has_psks (keyed c.args.state.now) place c.args.placed.now c.in-Some.first.now c.in-Some.later.now c.in-Some.ensures.cases.0 are
     c.args.message.now c.bytes_from-rest.result.now c.bytes_from-rest.ensures within c.in-Ok.n (keyed c.read_token.new.state) c.in-Ok.ensures.width c.in-Ok.ensures.range c.in-Ok.ensures.key in
     let m : List ℕ = c.args.message.now in
     let n : ℕ = c.in-Ok.n in
     let rest : List ℕ = drop place m in
     let d = c.in-Ok.ensures.read r s in
     let spelled : rest ≡ token_bytes r token d.0 ++ drop n rest = subst (λ (z : List ℕ). z ≡ token_bytes r token d.0 ++ drop n z) here d.2 in
-    let i = c.in-Err-read_tokens.ensures.read (after_token c.args.means.now.psks r token d.0) (place + first.width) d.3 u.1 u.2 in
-    stopped-later v c.args.known.now c.read_token.new.known c.args.secrets.now c.secrets_after-others.result.now r
+    let i = c.in-Err-read_tokens.ensures.read (after_token c.args.means.now.has_psks r token d.0) (place + first.width) d.3 u.1 u.2 in
+    stopped-later v c.args.known.now c.read_token.new.known c.args.psks.now c.psks_after-others.result.now r
     (tokens_of c.args.placed.now) later token d.0
-    rest (drop (place + first.width) m) n split d.1 spelled d.4 c.secrets_after-others.ensures u.3
+    rest (drop (place + first.width) m) n split d.1 spelled d.4 c.psks_after-others.ensures u.3
     c.in-Err-read_tokens.k c.in-Err-read_tokens.cause c.read_tokens.new.known c.in-Err-read_tokens.ensures.stop i
 
 pub returns-in_default-clause-read : goal.returns-in_default-clause-read
 returns-in_default-clause-read g t c r place s within are =
-    let v : Reader = reader_of g.K.Keys.agreement c.args.means.now.role c.args.means.now.psks c.args.means.now.keys.now in
+    let v : Reader = reader_of g.K.Keys.agreement c.args.means.now.role c.args.means.now.has_psks c.args.means.now.keys in
     let m : List ℕ = c.args.message.now in
-    let d = led-none v c.args.known.now c.args.secrets.now r (tokens_of c.args.placed.now) (drop place m) c.args.state.now
+    let d = led-none v c.args.known.now c.args.psks.now r (tokens_of c.args.placed.now) (drop place m) c.args.state.now
     (ap tokens_of (nil_from_length c.args.placed.now c.in_default.ensures.cases)) s in
     let none : place ≡ place + 0 = omega arith in (
       d.0,
-      subst (λ (k : ℕ). BeginsAs v c.args.known.now c.args.secrets.now r (tokens_of c.args.placed.now) d.0 (drop place m) (drop k m)) none d.1,
+      subst (λ (k : ℕ). BeginsAs v c.args.known.now c.args.psks.now r (tokens_of c.args.placed.now) d.0 (drop place m) (drop k m)) none d.1,
       d.2,
       d.3,
     )
@@ -137,7 +137,7 @@ pub returns-in_default-clause-range : goal.returns-in_default-clause-range
 returns-in_default-clause-range g t c place within are = none-after place (length c.args.message.now) within
 
 pub returns-in_default-clause-key : goal.returns-in_default-clause-key
-returns-in_default-clause-key g t c = ap (λ (us : List Token). keyed_after_tokens c.args.means.now.psks (keyed c.args.state.now) us) (sym (ap tokens_of (nil_from_length c.args.placed.now c.in_default.ensures.cases)))
+returns-in_default-clause-key g t c = ap (λ (us : List Token). keyed_after_tokens c.args.means.now.has_psks (keyed c.args.state.now) us) (sym (ap tokens_of (nil_from_length c.args.placed.now c.in_default.ensures.cases)))
 
 pub returns-in_default-clause-e : goal.returns-in_default-clause-e
 returns-in_default-clause-e g t c = ap (λ (us : List Token). e_after_tokens (is_some c.args.known.now.e) us) (sym (ap tokens_of (nil_from_length c.args.placed.now c.in_default.ensures.cases)))
@@ -149,7 +149,7 @@ pub returns-in_default-clause-nonce : goal.returns-in_default-clause-nonce
 returns-in_default-clause-nonce g t c = none-added (nonce_now c.args.state.now) (length (tokens_of c.args.placed.now))
 
 pub returns-in_default-clause-counted : goal.returns-in_default-clause-counted
-returns-in_default-clause-counted g t c = ap (λ (us : List Token). nonce_after_tokens c.args.means.now.psks (keyed c.args.state.now) (nonce_now c.args.state.now) us) (sym (ap tokens_of (nil_from_length c.args.placed.now c.in_default.ensures.cases)))
+returns-in_default-clause-counted g t c = ap (λ (us : List Token). nonce_after_tokens c.args.means.now.has_psks (keyed c.args.state.now) (nonce_now c.args.state.now) us) (sym (ap tokens_of (nil_from_length c.args.placed.now c.in_default.ensures.cases)))
 
 pub returns-in-Err-clause-stop : goal.returns-in-Err-clause-stop
 returns-in-Err-clause-stop g t c = some-token (tokens_of c.args.placed.now) (tokens_of c.in-Some.later.now) c.in-Some.first.now.token (ap tokens_of c.in-Some.ensures.cases.0)
@@ -158,7 +158,7 @@ pub returns-in-Err-clause-nonce : goal.returns-in-Err-clause-nonce
 returns-in-Err-clause-nonce g t c = bound-first (tokens_of c.args.placed.now) (tokens_of c.in-Some.later.now) c.in-Some.first.now.token (ap tokens_of c.in-Some.ensures.cases.0) (nonce_now c.args.state.now) (nonce_now c.read_token.new.state) c.in-Err.ensures.nonce
 
 pub returns-in-Ok-read_tokens-clause-key : goal.returns-in-Ok-read_tokens-clause-key
-returns-in-Ok-read_tokens-clause-key g t c = keyed-on (tokens_of c.args.placed.now) (tokens_of c.in-Some.later.now) c.in-Some.first.now.token (ap tokens_of c.in-Some.ensures.cases.0) c.args.means.now.psks (keyed c.args.state.now) (keyed c.read_token.new.state) (keyed c.read_tokens.new.state) c.in-Ok.ensures.key c.in-Ok-read_tokens.ensures.key
+returns-in-Ok-read_tokens-clause-key g t c = keyed-on (tokens_of c.args.placed.now) (tokens_of c.in-Some.later.now) c.in-Some.first.now.token (ap tokens_of c.in-Some.ensures.cases.0) c.args.means.now.has_psks (keyed c.args.state.now) (keyed c.read_token.new.state) (keyed c.read_tokens.new.state) c.in-Ok.ensures.key c.in-Ok-read_tokens.ensures.key
 
 pub returns-in-Ok-read_tokens-clause-e : goal.returns-in-Ok-read_tokens-clause-e
 returns-in-Ok-read_tokens-clause-e g t c = e-on (tokens_of c.args.placed.now) (tokens_of c.in-Some.later.now) c.in-Some.first.now.token (ap tokens_of c.in-Some.ensures.cases.0) (is_some c.args.known.now.e) (is_some c.read_token.new.known.e) (is_some c.read_tokens.new.known.e) c.in-Ok.ensures.e c.in-Ok-read_tokens.ensures.e
@@ -173,7 +173,7 @@ returns-in-Ok-read_tokens-clause-nonce g t c =
 
 pub returns-in-Ok-read_tokens-clause-counted : goal.returns-in-Ok-read_tokens-clause-counted
 returns-in-Ok-read_tokens-clause-counted g t c =
-    nonce-on (tokens_of c.args.placed.now) (tokens_of c.in-Some.later.now) c.in-Some.first.now.token (ap tokens_of c.in-Some.ensures.cases.0) c.args.means.now.psks (keyed c.args.state.now) (keyed c.read_token.new.state)
+    nonce-on (tokens_of c.args.placed.now) (tokens_of c.in-Some.later.now) c.in-Some.first.now.token (ap tokens_of c.in-Some.ensures.cases.0) c.args.means.now.has_psks (keyed c.args.state.now) (keyed c.read_token.new.state)
     (nonce_now c.args.state.now) (nonce_now c.read_token.new.state) (nonce_now c.read_tokens.new.state) c.in-Ok.ensures.key c.in-Ok.ensures.counted c.in-Ok-read_tokens.ensures.counted
 
 pub returns-in-Err-read_tokens-clause-stop : goal.returns-in-Err-read_tokens-clause-stop
@@ -184,8 +184,8 @@ returns-in-Err-read_tokens-clause-nonce g t c =
     bound-on (tokens_of c.args.placed.now) (tokens_of c.in-Some.later.now) c.in-Some.first.now.token (ap tokens_of c.in-Some.ensures.cases.0) (nonce_now c.args.state.now) (nonce_now c.read_token.new.state) (nonce_now c.read_tokens.new.state)
     c.in-Ok.ensures.nonce c.in-Err-read_tokens.ensures.nonce
 
-pub read_token-requires-clause-secret : goal.read_token-requires-clause-secret
-read_token-requires-clause-secret g t c = secret-due (tokens_of c.args.placed.now) (tokens_of c.in-Some.later.now) c.in-Some.first.now.token (ap tokens_of c.in-Some.ensures.cases.0) (length c.args.secrets.now) c.requires.secrets
+pub read_token-requires-clause-psk : goal.read_token-requires-clause-psk
+read_token-requires-clause-psk g t c = psk-due (tokens_of c.args.placed.now) (tokens_of c.in-Some.later.now) c.in-Some.first.now.token (ap tokens_of c.in-Some.ensures.cases.0) (length c.args.psks.now) c.requires.psks
 
 pub read_token-requires-clause-nonces : goal.read_token-requires-clause-nonces
 read_token-requires-clause-nonces g t c = nonce-left (tokens_of c.args.placed.now) (tokens_of c.in-Some.later.now) c.in-Some.first.now.token (ap tokens_of c.in-Some.ensures.cases.0) (nonce_now c.args.state.now) c.requires.nonces
@@ -193,8 +193,8 @@ read_token-requires-clause-nonces g t c = nonce-left (tokens_of c.args.placed.no
 pub read_token-requires-clause-known : goal.read_token-requires-clause-known
 read_token-requires-clause-known g t c = known-first (tokens_of c.args.placed.now) (tokens_of c.in-Some.later.now) c.in-Some.first.now.token (ap tokens_of c.in-Some.ensures.cases.0) c.args.means.now.role (is_some c.args.known.now.e) (is_some c.args.known.now.s) c.requires.known
 
-pub secrets_after-others-requires : goal.secrets_after-others-requires
-secrets_after-others-requires g t c = secret-due (tokens_of c.args.placed.now) (tokens_of c.in-Some.later.now) c.in-Some.first.now.token (ap tokens_of c.in-Some.ensures.cases.0) (length c.args.secrets.now) c.requires.secrets
+pub psks_after-others-requires : goal.psks_after-others-requires
+psks_after-others-requires g t c = psk-due (tokens_of c.args.placed.now) (tokens_of c.in-Some.later.now) c.in-Some.first.now.token (ap tokens_of c.in-Some.ensures.cases.0) (length c.args.psks.now) c.requires.psks
 
 pub overflow_add-result-in-Err-read_tokens : goal.overflow_add-result-in-Err-read_tokens
 overflow_add-result-in-Err-read_tokens g t c =
@@ -211,7 +211,7 @@ read_tokens-requires g t c κs k =
     let token : Token = c.in-Some.first.now.token in
     let split : all ≡ token ∷ later = ap tokens_of c.in-Some.ensures.cases.0 in
     let fewer : length c.args.placed.now ≡ suc (length c.in-Some.later.now) = ap length c.in-Some.ensures.cases.0 in
-    let u = later-placed c.args.means.now.psks (keyed c.args.state.now) c.requires.placed.0 c.args.placed.now c.in-Some.first.now c.in-Some.later.now c.in-Some.ensures.cases.0 c.requires.placed.2
+    let u = later-placed c.args.means.now.has_psks (keyed c.args.state.now) c.requires.placed.0 c.args.placed.now c.in-Some.first.now c.in-Some.later.now c.in-Some.ensures.cases.0 c.requires.placed.2
     c.args.message.now c.bytes_from-rest.result.now c.bytes_from-rest.ensures c.requires.placed.1 c.in-Ok.n (keyed c.read_token.new.state) c.in-Ok.ensures.width c.in-Ok.ensures.range c.in-Ok.ensures.key in (
       omega (arith, fewer, c.decreases),
       (
@@ -219,7 +219,7 @@ read_tokens-requires g t c κs k =
         (
           (c.requires.placed.0 + c.in-Some.first.now.width, u.1, u.2),
           (
-            secrets-later all later token split c.args.secrets.now c.secrets_after-others.result.now c.secrets_after-others.ensures c.requires.secrets,
+            psks-later all later token split c.args.psks.now c.psks_after-others.result.now c.psks_after-others.ensures c.requires.psks,
             (
               nonces-later all later token split (nonce_now c.args.state.now) (nonce_now c.read_token.new.state) c.in-Ok.ensures.nonce c.requires.nonces,
               known-later all later token split c.args.means.now.role (is_some c.args.known.now.e) (is_some c.args.known.now.s)

@@ -1,5 +1,5 @@
 use Rattle.std.proofs.Common.{◌≡◌, ℕ, List, length, take, sym, ap, subst, ◌∙◌, arith}
-use Rattle.noise_state.specs.Standing.{StateStands, keyed}
+use Rattle.noise_state.specs.Standing.{StateMatches, keyed}
 use Rattle.noise_state.specs.Standing.{nonce_now-is}
 use Rattle.noise_state.specs.History.{Ciphertext, and_then, ciphertext}
 use Rattle.noise_handshake.proofs.Tags.{sealed_len-tag}
@@ -16,8 +16,8 @@ returns-in-Ok-clause-opened c r s w =
     let e : c.first_32.result ≡ take n new = c.first_32.ensures
     ∙ sym (opened-key r old new n w same (omega (arith, sealed_len-tag (keyed c.args.state.now) n, c.in-Ok.ensures.text)) d.0) in
     let q : old ≡ ciphertext r c.first_32.result = d.0 ∙ ap (ciphertext r) (sym e) in
-    (length-of_key r c.first_32.result (ap length (sym q) ∙ w), q, subst (λ (z : List ℕ). StateStands c.decrypt_and_hash.new.self (and_then r (Ciphertext z))) q d.1)
+    (length-of_key r c.first_32.result (ap length (sym q) ∙ w), q, subst (λ (z : List ℕ). StateMatches c.decrypt_and_hash.new.self (and_then r (Ciphertext z))) q d.1)
 
 pub returns-in-Err-Short-clause-opened : goal.returns-in-Err-Short-clause-opened
 returns-in-Err-Short-clause-opened c r s w x e =
-    let told = (c.in-Err-Short.ensures.accepts r s).1 (omega (arith, nonce_now-is c.args.state.now r s), omega arith, (x, e)) in cc
+    let reported = (c.in-Err-Short.ensures.accepts r s).1 (omega (arith, nonce_now-is c.args.state.now r s), omega arith, (x, e)) in cc

@@ -14,12 +14,12 @@ returns-then-sends_as t c n =
     found-here c.args.party c.args.role (token_of c.args.own) n c.in-Some.message.now c.in-Some.later.now c.args.messages.now c.sends_as.result
     c.in-Some.ensures.cases.0
     (c.sends_as.ensures ∙ ap (λ (ts : List Token). same_role c.args.party c.args.role && has_token
-    (token_of c.args.own) ts) c.tokens.ensures.same) c.if-sends_as.true
+    (token_of c.args.own) ts) c.tokens.ensures.value) c.if-sends_as.true
 
 pub returns : goal.returns
 returns t c n =
     found-later c.args.party c.args.role (token_of c.args.own) n c.in-Some.message.now c.in-Some.later.now c.args.messages.now c.sends_as.result
     c.sends_in.result c.in-Some.ensures.cases.0
     (c.sends_as.ensures ∙ ap (λ (ts : List Token). same_role c.args.party c.args.role && has_token
-    (token_of c.args.own) ts) c.tokens.ensures.same) c.if-sends_as.false
+    (token_of c.args.own) ts) c.tokens.ensures.value) c.if-sends_as.false
     (c.sends_in.ensures (n + 1) ∙ ap (λ (r : Role). is_among c.args.role (token_of c.args.own) (message_places r (n + 1) c.in-Some.later.now)) c.other.ensures)

@@ -3,22 +3,22 @@ use Rattle.std.specs.Prelude.{Bool, not}
 use Rattle.noise_names.specs.Plan.{has_psk}
 use Rattle.noise_names.specs.Names.{name_bytes}
 use Rattle.noise_state.specs.History.{History}
-use Rattle.noise_state.specs.Standing.{StateStands, keyed}
+use Rattle.noise_state.specs.Standing.{StateMatches, keyed}
 use Rattle.noise_handshake.proofs.Beginning.{start-is, start-key}
 use Rattle.noise_handshake.proofs.Setting.{flips}
 use Rattle.noise_handshake.proofs.setup.start.Goals as goal
 
-pub returns-clause-stands : goal.returns-clause-stands
-returns-clause-stands c =
+pub returns-clause-matches : goal.returns-clause-matches
+returns-clause-matches c =
     let p = c.args.pattern.now in
     let b : Bool = not c.is_plain-with_psks.result in
     let psks : b ≡ has_psk p = flips c.is_plain-with_psks.result (has_psk p) c.is_plain-with_psks.ensures in
     let named = c.deref.ensures.0 ∙ c.write-name.ensures.written ∙ ap name_bytes c.name.ensures in
-    let s1 = c.mix_prologue.ensures.mixed _ c.new-state.ensures.stands in
+    let s1 = c.mix_prologue.ensures.mixed _ c.new-state.ensures.matches in
     let s2 = c.mix_premessage.ensures.mixed _ s1 in
     let s3 = c.mix_premessage-2.ensures.mixed _ s2 in
-    subst (λ (r : History). StateStands c.mix_premessage-2.new.state r)
-    (start-is p b c.pre-first.result.now c.pre-second.result.now psks c.pre-first.ensures.same c.pre-second.ensures.same
+    subst (λ (r : History). StateMatches c.mix_premessage-2.new.state r)
+    (start-is p b c.pre-first.result.now c.pre-second.result.now psks c.pre-first.ensures.value c.pre-second.ensures.value
     c.deref.result.now (name_bytes (record { base = p.base; places = p.places })) c.args.prologue.now c.keys_of-initiator.result c.keys_of-responder.result _ _
     named c.keys_of-initiator.ensures c.keys_of-responder.ensures)
     s3
@@ -28,7 +28,7 @@ returns-clause-key c =
     let p = c.args.pattern.now in
     let b : Bool = not c.is_plain-with_psks.result in
     let psks : b ≡ has_psk p = flips c.is_plain-with_psks.result (has_psk p) c.is_plain-with_psks.ensures in
-    start-key p b c.pre-first.result.now c.pre-second.result.now psks c.pre-first.ensures.same c.pre-second.ensures.same
+    start-key p b c.pre-first.result.now c.pre-second.result.now psks c.pre-first.ensures.value c.pre-second.ensures.value
     (keyed c.mix_prologue.new.state) (keyed c.mix_premessage.new.state) (keyed c.mix_premessage-2.new.state)
     (c.mix_prologue.ensures.key ∙ c.new-state.ensures.key)
     c.mix_premessage.ensures.key c.mix_premessage-2.ensures.key c.pre-first.ensures.kinds c.pre-second.ensures.kinds

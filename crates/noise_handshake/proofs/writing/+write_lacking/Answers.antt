@@ -1,9 +1,9 @@
-use Rattle.noise_handshake.specs.inner.Speaking.{writer_of}
+use Rattle.noise_handshake.specs.Calls.{writer_of}
 use Rattle.std.proofs.Common.{◌≡◌, suc, ap, refl, length, arith}
 use Rattle.std.specs.Prelude.{is_some}
 use Rattle.noise_handshake.specs.inner.Known.{is_known}
 use Rattle.noise_handshake.specs.inner.Speaking.{has_own}
-use Rattle.noise_handshake.proofs.Stepwise.{secret-due, all-first, all-later, secrets-later}
+use Rattle.noise_handshake.proofs.Stepwise.{psk-due, all-first, all-later, psks-later}
 use Rattle.noise_handshake.specs.Writing.{Writer}
 use Rattle.noise_handshake.specs.inner.Layout.{tokens_of}
 use Rattle.noise_handshake.proofs.Lacked.{asked-later, asked-first}
@@ -11,28 +11,28 @@ use Rattle.noise_handshake.proofs.writing.+write_lacking.Goals as goal
 
 pub returns-in-Some : goal.returns-in-Some
 returns-in-Some g t c =
-    let w : Writer = writer_of g.K.Keys.public_of g.K.Keys.agreement c.args.means.now.role c.args.means.now.psks c.args.means.now.keys.now in
-    asked-later w c.args.known.now c.args.secrets.now c.secrets_after-others.result.now (tokens_of c.args.placed.now) (tokens_of c.in_ok-first.later.now)
-    c.in_ok-first.first.now.token _ (ap tokens_of c.in_ok-first.ensures.cases.0) c.secrets_after-others.ensures c.in-Some.ensures.text
+    let w : Writer = writer_of g.K.Keys.public_of g.K.Keys.agreement c.args.means.now.role c.args.means.now.has_psks c.args.means.now.keys in
+    asked-later w c.args.known.now c.args.psks.now c.psks_after-others.result.now (tokens_of c.args.placed.now) (tokens_of c.in_ok-first.later.now)
+    c.in_ok-first.first.now.token _ (ap tokens_of c.in_ok-first.ensures.cases.0) c.psks_after-others.ensures c.in-Some.ensures.text
     c.write_lacking.result c.write_lacking.ensures
 
 pub returns-in-None : goal.returns-in-None
 returns-in-None g t c =
-    let w : Writer = writer_of g.K.Keys.public_of g.K.Keys.agreement c.args.means.now.role c.args.means.now.psks c.args.means.now.keys.now in
-    asked-first w c.args.known.now c.args.secrets.now (tokens_of c.args.placed.now) (tokens_of c.in_ok-first.later.now) c.in_ok-first.first.now.token
+    let w : Writer = writer_of g.K.Keys.public_of g.K.Keys.agreement c.args.means.now.role c.args.means.now.has_psks c.args.means.now.keys in
+    asked-first w c.args.known.now c.args.psks.now (tokens_of c.args.placed.now) (tokens_of c.in_ok-first.later.now) c.in_ok-first.first.now.token
     (ap tokens_of c.in_ok-first.ensures.cases.0) c.in-None.ensures.text (c.in-None.ensures.dh refl) c.asked_at.result c.asked_at.ensures
 
-pub text_at-requires-clause-secret : goal.text_at-requires-clause-secret
-text_at-requires-clause-secret g t c = secret-due (tokens_of c.args.placed.now) (tokens_of c.in_ok-first.later.now) c.in_ok-first.first.now.token (ap tokens_of c.in_ok-first.ensures.cases.0) (length c.args.secrets.now) c.requires.secrets
+pub text_at-requires-clause-psk : goal.text_at-requires-clause-psk
+text_at-requires-clause-psk g t c = psk-due (tokens_of c.args.placed.now) (tokens_of c.in_ok-first.later.now) c.in_ok-first.first.now.token (ap tokens_of c.in_ok-first.ensures.cases.0) (length c.args.psks.now) c.requires.psks
 
 pub text_at-requires-clause-own : goal.text_at-requires-clause-own
-text_at-requires-clause-own g t c = all-first (tokens_of c.args.placed.now) (tokens_of c.in_ok-first.later.now) c.in_ok-first.first.now.token (ap tokens_of c.in_ok-first.ensures.cases.0) (has_own (g.K.Keys.public_of c.args.means.now.keys.now)) c.requires.own
+text_at-requires-clause-own g t c = all-first (tokens_of c.args.placed.now) (tokens_of c.in_ok-first.later.now) c.in_ok-first.first.now.token (ap tokens_of c.in_ok-first.ensures.cases.0) (has_own (g.K.Keys.public_of c.args.means.now.keys)) c.requires.own
 
 pub text_at-requires-clause-known : goal.text_at-requires-clause-known
 text_at-requires-clause-known g t c = all-first (tokens_of c.args.placed.now) (tokens_of c.in_ok-first.later.now) c.in_ok-first.first.now.token (ap tokens_of c.in_ok-first.ensures.cases.0) (is_known c.args.means.now.role (is_some c.args.known.now.e) (is_some c.args.known.now.s)) c.requires.known
 
-pub secrets_after-others-requires : goal.secrets_after-others-requires
-secrets_after-others-requires g t c = secret-due (tokens_of c.args.placed.now) (tokens_of c.in_ok-first.later.now) c.in_ok-first.first.now.token (ap tokens_of c.in_ok-first.ensures.cases.0) (length c.args.secrets.now) c.requires.secrets
+pub psks_after-others-requires : goal.psks_after-others-requires
+psks_after-others-requires g t c = psk-due (tokens_of c.args.placed.now) (tokens_of c.in_ok-first.later.now) c.in_ok-first.first.now.token (ap tokens_of c.in_ok-first.ensures.cases.0) (length c.args.psks.now) c.requires.psks
 
 pub write_lacking-requires : goal.write_lacking-requires
 write_lacking-requires g t c κs k =
@@ -41,9 +41,9 @@ write_lacking-requires g t c κs k =
       (
         k,
         (
-          secrets-later (tokens_of c.args.placed.now) (tokens_of c.in_ok-first.later.now) c.in_ok-first.first.now.token (ap tokens_of c.in_ok-first.ensures.cases.0) c.args.secrets.now c.secrets_after-others.result.now c.secrets_after-others.ensures c.requires.secrets,
+          psks-later (tokens_of c.args.placed.now) (tokens_of c.in_ok-first.later.now) c.in_ok-first.first.now.token (ap tokens_of c.in_ok-first.ensures.cases.0) c.args.psks.now c.psks_after-others.result.now c.psks_after-others.ensures c.requires.psks,
           (
-            all-later (tokens_of c.args.placed.now) (tokens_of c.in_ok-first.later.now) c.in_ok-first.first.now.token (ap tokens_of c.in_ok-first.ensures.cases.0) (has_own (g.K.Keys.public_of c.args.means.now.keys.now)) c.requires.own,
+            all-later (tokens_of c.args.placed.now) (tokens_of c.in_ok-first.later.now) c.in_ok-first.first.now.token (ap tokens_of c.in_ok-first.ensures.cases.0) (has_own (g.K.Keys.public_of c.args.means.now.keys)) c.requires.own,
             all-later (tokens_of c.args.placed.now) (tokens_of c.in_ok-first.later.now) c.in_ok-first.first.now.token (ap tokens_of c.in_ok-first.ensures.cases.0) (is_known c.args.means.now.role (is_some c.args.known.now.e) (is_some c.args.known.now.s)) c.requires.known,
           ),
         ),

@@ -1,5 +1,5 @@
-use Rattle.noise_handshake.specs.inner.Speaking.{writer_of}
-use Rattle.noise_state.specs.Standing.{StateStands, keyed, nonce_now}
+use Rattle.noise_handshake.specs.Calls.{writer_of}
+use Rattle.noise_state.specs.Standing.{StateMatches, keyed, nonce_now}
 use Rattle.std.proofs.Common.{◌≡◌, suc, ap, ℕ, ◌+◌, ◌-◌, ◌≤◌, List, ◌∷◌, length, take, drop, sym, ◌∙◌, arith, length-take, length-drop}
 use Rattle.std.specs.Prelude.{Bool, is_some}
 use Rattle.noise_names.specs.declared.token.Token.{Token}
@@ -11,14 +11,14 @@ use Rattle.noise_handshake.proofs.Giving.{widths, given-on, front-on, after-on, 
 use Rattle.noise_handshake.specs.Length.{keyed_after_tokens, tokens_width}
 use Rattle.noise_handshake.specs.Nonces.{nonce_after_tokens}
 use Rattle.std.proofs.lemmas.List.{nil_from_length}
-use Rattle.noise_handshake.proofs.Stepwise.{keyed-on, nonce-on, bound-on, bound-first, some-token, one-later, nonce-left, secret-due, none-added, place-fits, width-on, room-first, room-later, lacks-first, all-first, all-later, secrets-later, nonces-later}
+use Rattle.noise_handshake.proofs.Stepwise.{keyed-on, nonce-on, bound-on, bound-first, some-token, one-later, nonce-left, psk-due, none-added, place-fits, width-on, room-first, room-later, lacks-first, all-first, all-later, psks-later, nonces-later}
 use Rattle.noise_handshake.specs.inner.Known.{is_known}
 use Rattle.noise_handshake.specs.inner.Speaking.{has_own}
 use Rattle.noise_handshake.proofs.Written.{joined, rest-after}
 use Rattle.noise_handshake.proofs.writing.+write_tokens.Goals as goal
 
-pub returns-in-Ok-clause-rest : goal.returns-in-Ok-clause-rest
-returns-in-Ok-clause-rest g t c =
+pub returns-in-Ok-clause-beyond : goal.returns-in-Ok-clause-beyond
+returns-in-Ok-clause-beyond g t c =
     let n : ℕ = c.in-Some-write_token.n in
     let k : ℕ = c.in-Ok.more in
     let token : Token = c.in-Some.first.now.token in
@@ -26,16 +26,16 @@ returns-in-Ok-clause-rest g t c =
     let key : Bool = keyed c.args.state.now in
     let split : tokens_of c.args.placed.now ≡ token ∷ later = ap tokens_of c.in-Some.ensures.cases.0 in
     let both : n + k ≤ length c.args.out.now =
-    widths c.args.means.now.psks key (keyed c.write_token.new.state) (tokens_of c.args.placed.now) later token n k (length c.args.out.now) split c.requires.room
+    widths c.args.means.now.has_psks key (keyed c.write_token.new.state) (tokens_of c.args.placed.now) later token n k (length c.args.out.now) split c.requires.room
     c.in-Some-write_token.ensures.width c.in-Some-write_token.ensures.keyed c.in-Ok.ensures.width in
     let fits : n ≤ length c.write_token.new.out = omega (arith, both) in
     let long : k ≤ length c.write_tokens.new.out =
     omega (arith, both, length-take (length c.write_token.new.out - n) (drop n c.write_token.new.out), length-drop n c.write_token.new.out) in
-    rest-after c.write_token.new.out c.write_tokens.new.out n k fits long c.args.out.now c.in-Some-write_token.ensures.rest c.in-Ok.ensures.rest
+    rest-after c.write_token.new.out c.write_tokens.new.out n k fits long c.args.out.now c.in-Some-write_token.ensures.beyond c.in-Ok.ensures.beyond
 
 pub returns-in-Ok-clause-written : goal.returns-in-Ok-clause-written
 returns-in-Ok-clause-written g t c r s =
-    let w : Writer = writer_of g.K.Keys.public_of g.K.Keys.agreement c.args.means.now.role c.args.means.now.psks c.args.means.now.keys.now in
+    let w : Writer = writer_of g.K.Keys.public_of g.K.Keys.agreement c.args.means.now.role c.args.means.now.has_psks c.args.means.now.keys in
     let n : ℕ = c.in-Some-write_token.n in
     let k : ℕ = c.in-Ok.more in
     let token : Token = c.in-Some.first.now.token in
@@ -43,46 +43,46 @@ returns-in-Ok-clause-written g t c r s =
     let key : Bool = keyed c.args.state.now in
     let split : tokens_of c.args.placed.now ≡ token ∷ later = ap tokens_of c.in-Some.ensures.cases.0 in
     let both : n + k ≤ length c.args.out.now =
-    widths c.args.means.now.psks key (keyed c.write_token.new.state) (tokens_of c.args.placed.now) later token n k (length c.args.out.now) split c.requires.room
+    widths c.args.means.now.has_psks key (keyed c.write_token.new.state) (tokens_of c.args.placed.now) later token n k (length c.args.out.now) split c.requires.room
     c.in-Some-write_token.ensures.width c.in-Some-write_token.ensures.keyed c.in-Ok.ensures.width in
     let fits : n ≤ length c.write_token.new.out = omega (arith, both) in
     let long : k ≤ length c.write_tokens.new.out =
     omega (arith, both, length-take (length c.write_token.new.out - n) (drop n c.write_token.new.out), length-drop n c.write_token.new.out) in
     let known = c.args.known.now in
-    let secrets : List (List ℕ) = c.args.secrets.now in
-    let others : List (List ℕ) = c.secrets_after-others.result.now in
+    let psks : List (List ℕ) = c.args.psks.now in
+    let others : List (List ℕ) = c.psks_after-others.result.now in
     let a = c.in-Some-write_token.ensures.written r s in
-    let next : History = after_token c.args.means.now.psks r token a.0 in
+    let next : History = after_token c.args.means.now.has_psks r token a.0 in
     let b = c.in-Ok.ensures.written next a.3 in (
       a.0 ∷ b.0,
-      given-on w known secrets others r (tokens_of c.args.placed.now) later token a.0 split a.1 c.secrets_after-others.ensures b.0 b.1,
+      given-on w known psks others r (tokens_of c.args.placed.now) later token a.0 split a.1 c.psks_after-others.ensures b.0 b.1,
       joined c.write_token.new.out c.write_tokens.new.out n k fits long (drop (length c.write_token.new.out - n) (drop n c.write_token.new.out))
-          ∙ front-on w known secrets others r (tokens_of c.args.placed.now) later token a.0 split a.1 c.secrets_after-others.ensures b.0
+          ∙ front-on w known psks others r (tokens_of c.args.placed.now) later token a.0 split a.1 c.psks_after-others.ensures b.0
           (take n c.write_token.new.out) (take k c.write_tokens.new.out) a.2 b.2,
-      after-on w known secrets others r (tokens_of c.args.placed.now) later token a.0 split a.1 c.secrets_after-others.ensures StateStands
+      after-on w known psks others r (tokens_of c.args.placed.now) later token a.0 split a.1 c.psks_after-others.ensures StateMatches
           c.write_tokens.new.state b.0 b.3,
     )
 
 pub returns-in-Err-clause-written : goal.returns-in-Err-clause-written
 returns-in-Err-clause-written g t c r s =
-    let w : Writer = writer_of g.K.Keys.public_of g.K.Keys.agreement c.args.means.now.role c.args.means.now.psks c.args.means.now.keys.now in
+    let w : Writer = writer_of g.K.Keys.public_of g.K.Keys.agreement c.args.means.now.role c.args.means.now.has_psks c.args.means.now.keys in
     let token : Token = c.in-Some.first.now.token in
     let a = c.in-Some-write_token.ensures.written r s in
-    let next : History = after_token c.args.means.now.psks r token a.0 in
-    lacks-on w c.args.known.now c.args.secrets.now c.secrets_after-others.result.now r (tokens_of c.args.placed.now) (tokens_of c.in-Some.later.now) token a.0
-    (ap tokens_of c.in-Some.ensures.cases.0) a.1 c.secrets_after-others.ensures c.in-Err.k (c.in-Err.ensures.written next a.3)
+    let next : History = after_token c.args.means.now.has_psks r token a.0 in
+    lacks-on w c.args.known.now c.args.psks.now c.psks_after-others.result.now r (tokens_of c.args.placed.now) (tokens_of c.in-Some.later.now) token a.0
+    (ap tokens_of c.in-Some.ensures.cases.0) a.1 c.psks_after-others.ensures c.in-Err.k (c.in-Err.ensures.written next a.3)
 
 pub returns-in_default-clause-width : goal.returns-in_default-clause-width
-returns-in_default-clause-width g t c = ap (λ (us : List Token). tokens_width c.args.means.now.psks (keyed c.args.state.now) us) (sym (ap tokens_of (nil_from_length c.args.placed.now c.in_default.ensures.cases)))
+returns-in_default-clause-width g t c = ap (λ (us : List Token). tokens_width c.args.means.now.has_psks (keyed c.args.state.now) us) (sym (ap tokens_of (nil_from_length c.args.placed.now c.in_default.ensures.cases)))
 
 pub returns-in_default-clause-keyed : goal.returns-in_default-clause-keyed
-returns-in_default-clause-keyed g t c = ap (λ (us : List Token). keyed_after_tokens c.args.means.now.psks (keyed c.args.state.now) us) (sym (ap tokens_of (nil_from_length c.args.placed.now c.in_default.ensures.cases)))
+returns-in_default-clause-keyed g t c = ap (λ (us : List Token). keyed_after_tokens c.args.means.now.has_psks (keyed c.args.state.now) us) (sym (ap tokens_of (nil_from_length c.args.placed.now c.in_default.ensures.cases)))
 
 pub returns-in_default-clause-used : goal.returns-in_default-clause-used
 returns-in_default-clause-used g t c = none-added (nonce_now c.args.state.now) (length (tokens_of c.args.placed.now))
 
 pub returns-in_default-clause-counted : goal.returns-in_default-clause-counted
-returns-in_default-clause-counted g t c = ap (λ (us : List Token). nonce_after_tokens c.args.means.now.psks (keyed c.args.state.now) (nonce_now c.args.state.now) us) (sym (ap tokens_of (nil_from_length c.args.placed.now c.in_default.ensures.cases)))
+returns-in_default-clause-counted g t c = ap (λ (us : List Token). nonce_after_tokens c.args.means.now.has_psks (keyed c.args.state.now) (nonce_now c.args.state.now) us) (sym (ap tokens_of (nil_from_length c.args.placed.now c.in_default.ensures.cases)))
 
 pub returns-in_default-write_token-clause-width : goal.returns-in_default-write_token-clause-width
 returns-in_default-write_token-clause-width g t c = some-token (tokens_of c.args.placed.now) (tokens_of c.in-Some.later.now) c.in-Some.first.now.token (ap tokens_of c.in-Some.ensures.cases.0)
@@ -92,16 +92,16 @@ returns-in_default-write_token-clause-used g t c = bound-first (tokens_of c.args
 
 pub returns-in_default-write_token-clause-written : goal.returns-in_default-write_token-clause-written
 returns-in_default-write_token-clause-written g t c r s =
-    let w : Writer = writer_of g.K.Keys.public_of g.K.Keys.agreement c.args.means.now.role c.args.means.now.psks c.args.means.now.keys.now in
-    lacks-first (tokens_of c.args.placed.now) (tokens_of c.in-Some.later.now) c.in-Some.first.now.token (ap tokens_of c.in-Some.ensures.cases.0) w c.args.known.now c.args.secrets.now (c.in_default-write_token.ensures.written r s)
+    let w : Writer = writer_of g.K.Keys.public_of g.K.Keys.agreement c.args.means.now.role c.args.means.now.has_psks c.args.means.now.keys in
+    lacks-first (tokens_of c.args.placed.now) (tokens_of c.in-Some.later.now) c.in-Some.first.now.token (ap tokens_of c.in-Some.ensures.cases.0) w c.args.known.now c.args.psks.now (c.in_default-write_token.ensures.written r s)
 
 pub returns-in-Ok-clause-width : goal.returns-in-Ok-clause-width
 returns-in-Ok-clause-width g t c =
-    width-on (tokens_of c.args.placed.now) (tokens_of c.in-Some.later.now) c.in-Some.first.now.token (ap tokens_of c.in-Some.ensures.cases.0) c.args.means.now.psks (keyed c.args.state.now) (keyed c.write_token.new.state) c.in-Some-write_token.n c.in-Ok.more
+    width-on (tokens_of c.args.placed.now) (tokens_of c.in-Some.later.now) c.in-Some.first.now.token (ap tokens_of c.in-Some.ensures.cases.0) c.args.means.now.has_psks (keyed c.args.state.now) (keyed c.write_token.new.state) c.in-Some-write_token.n c.in-Ok.more
     c.in-Some-write_token.ensures.width c.in-Some-write_token.ensures.keyed c.in-Ok.ensures.width
 
 pub returns-in-Ok-clause-keyed : goal.returns-in-Ok-clause-keyed
-returns-in-Ok-clause-keyed g t c = keyed-on (tokens_of c.args.placed.now) (tokens_of c.in-Some.later.now) c.in-Some.first.now.token (ap tokens_of c.in-Some.ensures.cases.0) c.args.means.now.psks (keyed c.args.state.now) (keyed c.write_token.new.state) (keyed c.write_tokens.new.state) c.in-Some-write_token.ensures.keyed c.in-Ok.ensures.keyed
+returns-in-Ok-clause-keyed g t c = keyed-on (tokens_of c.args.placed.now) (tokens_of c.in-Some.later.now) c.in-Some.first.now.token (ap tokens_of c.in-Some.ensures.cases.0) c.args.means.now.has_psks (keyed c.args.state.now) (keyed c.write_token.new.state) (keyed c.write_tokens.new.state) c.in-Some-write_token.ensures.keyed c.in-Ok.ensures.keyed
 
 pub returns-in-Ok-clause-used : goal.returns-in-Ok-clause-used
 returns-in-Ok-clause-used g t c =
@@ -110,7 +110,7 @@ returns-in-Ok-clause-used g t c =
 
 pub returns-in-Ok-clause-counted : goal.returns-in-Ok-clause-counted
 returns-in-Ok-clause-counted g t c =
-    nonce-on (tokens_of c.args.placed.now) (tokens_of c.in-Some.later.now) c.in-Some.first.now.token (ap tokens_of c.in-Some.ensures.cases.0) c.args.means.now.psks (keyed c.args.state.now) (keyed c.write_token.new.state)
+    nonce-on (tokens_of c.args.placed.now) (tokens_of c.in-Some.later.now) c.in-Some.first.now.token (ap tokens_of c.in-Some.ensures.cases.0) c.args.means.now.has_psks (keyed c.args.state.now) (keyed c.write_token.new.state)
     (nonce_now c.args.state.now) (nonce_now c.write_token.new.state) (nonce_now c.write_tokens.new.state) c.in-Some-write_token.ensures.keyed c.in-Some-write_token.ensures.counted c.in-Ok.ensures.counted
 
 pub returns-in-Err-clause-width : goal.returns-in-Err-clause-width
@@ -121,17 +121,17 @@ returns-in-Err-clause-used g t c =
     bound-on (tokens_of c.args.placed.now) (tokens_of c.in-Some.later.now) c.in-Some.first.now.token (ap tokens_of c.in-Some.ensures.cases.0) (nonce_now c.args.state.now) (nonce_now c.write_token.new.state) (nonce_now c.write_tokens.new.state)
     c.in-Some-write_token.ensures.used c.in-Err.ensures.used
 
-pub write_token-requires-clause-secret : goal.write_token-requires-clause-secret
-write_token-requires-clause-secret g t c = secret-due (tokens_of c.args.placed.now) (tokens_of c.in-Some.later.now) c.in-Some.first.now.token (ap tokens_of c.in-Some.ensures.cases.0) (length c.args.secrets.now) c.requires.secrets
+pub write_token-requires-clause-psk : goal.write_token-requires-clause-psk
+write_token-requires-clause-psk g t c = psk-due (tokens_of c.args.placed.now) (tokens_of c.in-Some.later.now) c.in-Some.first.now.token (ap tokens_of c.in-Some.ensures.cases.0) (length c.args.psks.now) c.requires.psks
 
 pub write_token-requires-clause-nonces : goal.write_token-requires-clause-nonces
 write_token-requires-clause-nonces g t c = nonce-left (tokens_of c.args.placed.now) (tokens_of c.in-Some.later.now) c.in-Some.first.now.token (ap tokens_of c.in-Some.ensures.cases.0) (nonce_now c.args.state.now) c.requires.nonces
 
 pub write_token-requires-clause-room : goal.write_token-requires-clause-room
-write_token-requires-clause-room g t c = room-first (tokens_of c.args.placed.now) (tokens_of c.in-Some.later.now) c.in-Some.first.now.token (ap tokens_of c.in-Some.ensures.cases.0) c.args.means.now.psks (keyed c.args.state.now) (length c.args.out.now) c.requires.room
+write_token-requires-clause-room g t c = room-first (tokens_of c.args.placed.now) (tokens_of c.in-Some.later.now) c.in-Some.first.now.token (ap tokens_of c.in-Some.ensures.cases.0) c.args.means.now.has_psks (keyed c.args.state.now) (length c.args.out.now) c.requires.room
 
-pub secrets_after-others-requires : goal.secrets_after-others-requires
-secrets_after-others-requires g t c = secret-due (tokens_of c.args.placed.now) (tokens_of c.in-Some.later.now) c.in-Some.first.now.token (ap tokens_of c.in-Some.ensures.cases.0) (length c.args.secrets.now) c.requires.secrets
+pub psks_after-others-requires : goal.psks_after-others-requires
+psks_after-others-requires g t c = psk-due (tokens_of c.args.placed.now) (tokens_of c.in-Some.later.now) c.in-Some.first.now.token (ap tokens_of c.in-Some.ensures.cases.0) (length c.args.psks.now) c.requires.psks
 
 pub overflow_add-result-in-Err : goal.overflow_add-result-in-Err
 overflow_add-result-in-Err g t c = omega (arith, place-fits (tokens_of c.args.placed.now) (tokens_of c.in-Some.later.now) c.in-Some.first.now.token (ap tokens_of c.in-Some.ensures.cases.0) (nonce_now c.args.state.now) c.in-Err.k c.requires.nonces c.in-Err.ensures.width)
@@ -139,7 +139,7 @@ overflow_add-result-in-Err g t c = omega (arith, place-fits (tokens_of c.args.pl
 pub write_token-requires-clause-own : goal.write_token-requires-clause-own
 write_token-requires-clause-own g t c =
     all-first (tokens_of c.args.placed.now) (tokens_of c.in-Some.later.now) c.in-Some.first.now.token (ap tokens_of c.in-Some.ensures.cases.0)
-    (has_own (g.K.Keys.public_of c.args.means.now.keys.now)) c.requires.own
+    (has_own (g.K.Keys.public_of c.args.means.now.keys)) c.requires.own
 
 pub write_token-requires-clause-known : goal.write_token-requires-clause-known
 write_token-requires-clause-known g t c =
@@ -156,15 +156,15 @@ write_tokens-requires g t c κs k =
     let n : ℕ = c.in-Some-write_token.n in
     let out : List ℕ = c.write_token.new.out in
     let key2 : Bool = keyed c.write_token.new.state in
-    let room : n + tokens_width c.args.means.now.psks key2 later ≤ length c.args.out.now =
-    room-later all later token split c.args.means.now.psks (keyed c.args.state.now) key2 (length c.args.out.now) n c.requires.room c.in-Some-write_token.ensures.width c.in-Some-write_token.ensures.keyed in (
+    let room : n + tokens_width c.args.means.now.has_psks key2 later ≤ length c.args.out.now =
+    room-later all later token split c.args.means.now.has_psks (keyed c.args.state.now) key2 (length c.args.out.now) n c.requires.room c.in-Some-write_token.ensures.width c.in-Some-write_token.ensures.keyed in (
       omega (arith, fewer, c.decreases),
       (
         k,
         (
-          secrets-later all later token split c.args.secrets.now c.secrets_after-others.result.now c.secrets_after-others.ensures c.requires.secrets,
+          psks-later all later token split c.args.psks.now c.psks_after-others.result.now c.psks_after-others.ensures c.requires.psks,
           (
-            all-later all later token split (has_own (g.K.Keys.public_of c.args.means.now.keys.now)) c.requires.own,
+            all-later all later token split (has_own (g.K.Keys.public_of c.args.means.now.keys)) c.requires.own,
             (
               all-later all later token split (is_known c.args.means.now.role (is_some c.args.known.now.e) (is_some c.args.known.now.s)) c.requires.known,
               (

@@ -1,4 +1,4 @@
-use Rattle.noise_handshake.specs.inner.Speaking.{writer_of}
+use Rattle.noise_handshake.specs.Calls.{writer_of}
 use Rattle.std.proofs.Common.{◌≡◌, ◌<◌, ◌≤◌, ℕ, List, length, take, true, sym, ap, subst, arith}
 use Rattle.std.specs.Prelude.{Option, None, Some, MatchOption, count_by, is_some}
 use Rattle.std.specs.List.{list_all}
@@ -15,14 +15,14 @@ use Rattle.noise_handshake.proofs.Fronts.{tokens-take, all-take}
 use Rattle.noise_handshake.proofs.Later.{count-take}
 use Rattle.noise_handshake.proofs.writing.write_lacking_before.Goals as goal
 
-pub write_lacking-requires-clause-secrets : goal.write_lacking-requires-clause-secrets
-write_lacking-requires-clause-secrets g c =
-    omega (arith, c.requires.secrets, ap (count_by is_psk) (tokens-take c.args.placed.now c.args.k), count-take (tokens_of c.args.placed.now) c.args.k)
+pub write_lacking-requires-clause-psks : goal.write_lacking-requires-clause-psks
+write_lacking-requires-clause-psks g c =
+    omega (arith, c.requires.psks, ap (count_by is_psk) (tokens-take c.args.placed.now c.args.k), count-take (tokens_of c.args.placed.now) c.args.k)
 
 pub write_lacking-requires-clause-own : goal.write_lacking-requires-clause-own
 write_lacking-requires-clause-own g c =
-    subst (λ (us : List Token). list_all (has_own (g.K.Keys.public_of c.args.means.now.keys.now)) us ≡ true) (sym (tokens-take c.args.placed.now c.args.k))
-    (all-take (has_own (g.K.Keys.public_of c.args.means.now.keys.now)) (tokens_of c.args.placed.now) c.args.k c.requires.own)
+    subst (λ (us : List Token). list_all (has_own (g.K.Keys.public_of c.args.means.now.keys)) us ≡ true) (sym (tokens-take c.args.placed.now c.args.k))
+    (all-take (has_own (g.K.Keys.public_of c.args.means.now.keys)) (tokens_of c.args.placed.now) c.args.k c.requires.own)
 
 pub write_lacking-requires-clause-known : goal.write_lacking-requires-clause-known
 write_lacking-requires-clause-known g c =
@@ -33,6 +33,6 @@ write_lacking-requires-clause-known g c =
 
 pub returns : goal.returns
 returns g c =
-    let w : Writer = writer_of g.K.Keys.public_of g.K.Keys.agreement c.args.means.now.role c.args.means.now.psks c.args.means.now.keys.now in
-    subst (λ (us : List Token). MatchOption c.write_lacking.result ((j : ℕ) → LacksAnswerAt w c.args.known.now c.args.secrets.now us j → ⊥)
-    (λ want. LacksAnswerFor w c.args.known.now c.args.secrets.now us want.0 want.1)) (tokens-take c.args.placed.now c.args.k) c.write_lacking.ensures
+    let w : Writer = writer_of g.K.Keys.public_of g.K.Keys.agreement c.args.means.now.role c.args.means.now.has_psks c.args.means.now.keys in
+    subst (λ (us : List Token). MatchOption c.write_lacking.result ((j : ℕ) → LacksAnswerAt w c.args.known.now c.args.psks.now us j → ⊥)
+    (λ want. LacksAnswerFor w c.args.known.now c.args.psks.now us want.0 want.1)) (tokens-take c.args.placed.now c.args.k) c.write_lacking.ensures

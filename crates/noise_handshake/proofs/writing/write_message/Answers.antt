@@ -6,19 +6,19 @@ use Rattle.noise_handshake.proofs.Giving.{widths-last}
 use Rattle.noise_handshake.proofs.Written.{joined, rest-after}
 use Rattle.noise_handshake.proofs.writing.write_message.Goals as goal
 
-pub returns-clause-rest : goal.returns-clause-rest
-returns-clause-rest g c =
+pub returns-clause-beyond : goal.returns-clause-beyond
+returns-clause-beyond g c =
     let n : ℕ = c.in-Ok.from in
     let k : ℕ = c.write_part.result in
     let first : List ℕ = c.write_tokens.new.out in
     let second : List ℕ = c.write_part.new.out in
     let both : n + k ≤ length c.args.out.now =
-    widths-last c.args.means.now.psks (keyed c.args.state.now) (keyed c.write_tokens.new.state) (tokens_of c.args.placed.now) n k
+    widths-last c.args.means.now.has_psks (keyed c.args.state.now) (keyed c.write_tokens.new.state) (tokens_of c.args.placed.now) n k
     (length c.args.payload.now) (length c.args.out.now)
     c.requires.room c.in-Ok.ensures.width c.in-Ok.ensures.keyed c.write_part.ensures.width in
     let fits : n ≤ length first = omega (arith, both) in
     let long : k ≤ length second = omega (arith, both, length-take (length first - n) (drop n first), length-drop n first) in
-    rest-after first second n k fits long c.args.out.now c.in-Ok.ensures.rest c.write_part.ensures.rest
+    rest-after first second n k fits long c.args.out.now c.in-Ok.ensures.beyond c.write_part.ensures.beyond
 
 pub returns-clause-written : goal.returns-clause-written
 returns-clause-written g c r s =
@@ -27,16 +27,16 @@ returns-clause-written g c r s =
     let first : List ℕ = c.write_tokens.new.out in
     let second : List ℕ = c.write_part.new.out in
     let both : n + k ≤ length c.args.out.now =
-    widths-last c.args.means.now.psks (keyed c.args.state.now) (keyed c.write_tokens.new.state) (tokens_of c.args.placed.now) n k
+    widths-last c.args.means.now.has_psks (keyed c.args.state.now) (keyed c.write_tokens.new.state) (tokens_of c.args.placed.now) n k
     (length c.args.payload.now) (length c.args.out.now)
     c.requires.room c.in-Ok.ensures.width c.in-Ok.ensures.keyed c.write_part.ensures.width in
     let fits : n ≤ length first = omega (arith, both) in
     let long : k ≤ length second = omega (arith, both, length-take (length first - n) (drop n first), length-drop n first) in
     let a = c.in-Ok.ensures.written r s in
-    let b = c.write_part.ensures.written (after_tokens c.args.means.now.psks r (tokens_of c.args.placed.now) a.0) a.3 in (
+    let b = c.write_part.ensures.written (after_tokens c.args.means.now.has_psks r (tokens_of c.args.placed.now) a.0) a.3 in (
       a.0,
       a.1,
       joined first second n k fits long (drop (length first - n) (drop n first))
-          ∙ ap (λ (z : List ℕ). z ++ take k second) a.2 ∙ ap (λ (z : List ℕ). before_payload c.args.means.now.psks r (tokens_of c.args.placed.now) a.0 ++ z) b.0,
+          ∙ ap (λ (z : List ℕ). z ++ take k second) a.2 ∙ ap (λ (z : List ℕ). before_payload c.args.means.now.has_psks r (tokens_of c.args.placed.now) a.0 ++ z) b.0,
       b.1,
     )

@@ -1,18 +1,18 @@
 use Rattle.std.proofs.Common.{◌≡◌, ℕ, ◌+◌, List, length, refl, arith, length-take}
 use Rattle.noise_state.specs.Standing.{keyed, nonce_now}
 use Rattle.noise_handshake.proofs.Tags.{sealed_len-tag, not-refused}
-use Rattle.noise_handshake.proofs.Written.{rest-kept}
+use Rattle.noise_handshake.proofs.Written.{rest-unchanged}
 use Rattle.noise_handshake.proofs.writing.write_part.Goals as goal
 
-pub returns-clause-rest : goal.returns-clause-rest
-returns-clause-rest c =
+pub returns-clause-beyond : goal.returns-clause-beyond
+returns-clause-beyond c =
     let put : List ℕ = c.put-len.new.out in
     let new : List ℕ = c.encrypt_and_hash.new.buf in
     let len : ℕ = c.put-len.result in
     let tag : ℕ = c.tag_width.result in
     let same : length new ≡ len + tag = omega (arith, length-take (len + tag) put, c.tag_width.ensures) in
     let n : c.in-Ok.width ≡ len + tag = omega (arith, c.in-Ok.ensures.range.0, sealed_len-tag (keyed c.args.state.now) len, c.tag_width.ensures) in
-    rest-kept c.args.out.now put new len tag (len + tag) c.in-Ok.width refl n same c.put-len.ensures.rest
+    rest-unchanged c.args.out.now put new len tag (len + tag) c.in-Ok.width refl n same c.put-len.ensures.beyond
 
 pub encrypt_and_hash-requires : goal.encrypt_and_hash-requires
 encrypt_and_hash-requires c _ =

@@ -1,5 +1,5 @@
-use Rattle.noise_handshake.specs.inner.Speaking.{writer_of}
-use Rattle.noise_state.specs.Standing.{StateStands, keyed, nonce_now}
+use Rattle.noise_handshake.specs.Calls.{writer_of}
+use Rattle.noise_state.specs.Standing.{StateMatches, keyed, nonce_now}
 use Rattle.std.proofs.Common.{◌≡◌, ℕ, List, [], length, take, get_or, refl, sym, ap, ◌∙◌, arith}
 use Rattle.std.specs.Prelude.{is_some}
 use Rattle.noise_handshake.specs.Length.{keyed_after, token_width}
@@ -7,7 +7,7 @@ use Rattle.noise_handshake.specs.Nonces.{nonce_after}
 use Rattle.noise_handshake.specs.Writing.{Writer}
 use Rattle.noise_handshake.proofs.DhTokens.{from_zero, less_one}
 use Rattle.noise_names.specs.declared.token.Token.TheVariants.{E, S, Psk}
-use Rattle.noise_handshake.proofs.Secrets.{first_secret-read, written-as}
+use Rattle.noise_handshake.proofs.Psks.{first_psk-read, written-as}
 use Rattle.noise_handshake.proofs.Knowing.{known-dh}
 use Rattle.noise_handshake.proofs.writing.write_token.Goals as goal
 
@@ -19,62 +19,62 @@ answer_at-requires g c =
 pub returns-in-Some-clause-width : goal.returns-in-Some-clause-width
 returns-in-Some-clause-width g c = c.write_e.ensures.width ∙ ap (token_width (keyed c.args.state.now)) (sym c.in-E.is)
 
-pub returns-in-Some-clause-rest : goal.returns-in-Some-clause-rest
-returns-in-Some-clause-rest g c = c.write_e.ensures.rest
+pub returns-in-Some-clause-beyond : goal.returns-in-Some-clause-beyond
+returns-in-Some-clause-beyond g c = c.write_e.ensures.beyond
 
 pub returns-in-Some-clause-keyed : goal.returns-in-Some-clause-keyed
-returns-in-Some-clause-keyed g c = c.write_e.ensures.keyed ∙ ap (keyed_after c.args.means.now.psks (keyed c.args.state.now)) (sym c.in-E.is)
+returns-in-Some-clause-keyed g c = c.write_e.ensures.keyed ∙ ap (keyed_after c.args.means.now.has_psks (keyed c.args.state.now)) (sym c.in-E.is)
 
 pub returns-in-Some-clause-used : goal.returns-in-Some-clause-used
 returns-in-Some-clause-used g c = less_one (nonce_now c.write_e.new.state) (nonce_now c.args.state.now) c.write_e.ensures.used
 
 pub returns-in-Some-clause-counted : goal.returns-in-Some-clause-counted
-returns-in-Some-clause-counted g c = c.write_e.ensures.counted ∙ ap (nonce_after c.args.means.now.psks (keyed c.args.state.now) (nonce_now c.args.state.now)) (sym c.in-E.is)
+returns-in-Some-clause-counted g c = c.write_e.ensures.counted ∙ ap (nonce_after c.args.means.now.has_psks (keyed c.args.state.now) (nonce_now c.args.state.now)) (sym c.in-E.is)
 
-pub returns-in-Some-public-clause-rest : goal.returns-in-Some-public-clause-rest
-returns-in-Some-public-clause-rest g c = c.write_part.ensures.rest
+pub returns-in-Some-public-clause-beyond : goal.returns-in-Some-public-clause-beyond
+returns-in-Some-public-clause-beyond g c = c.write_part.ensures.beyond
 
 pub returns-in-Some-public-clause-keyed : goal.returns-in-Some-public-clause-keyed
-returns-in-Some-public-clause-keyed g c = c.write_part.ensures.keyed ∙ ap (keyed_after c.args.means.now.psks (keyed c.args.state.now)) (sym c.in-S.is)
+returns-in-Some-public-clause-keyed g c = c.write_part.ensures.keyed ∙ ap (keyed_after c.args.means.now.has_psks (keyed c.args.state.now)) (sym c.in-S.is)
 
 pub returns-in-Some-public-clause-used : goal.returns-in-Some-public-clause-used
 returns-in-Some-public-clause-used g c = c.write_part.ensures.used
 
 pub returns-in-Some-public-clause-counted : goal.returns-in-Some-public-clause-counted
-returns-in-Some-public-clause-counted g c = c.write_part.ensures.counted ∙ ap (nonce_after c.args.means.now.psks (keyed c.args.state.now) (nonce_now c.args.state.now)) (sym c.in-S.is)
+returns-in-Some-public-clause-counted g c = c.write_part.ensures.counted ∙ ap (nonce_after c.args.means.now.has_psks (keyed c.args.state.now) (nonce_now c.args.state.now)) (sym c.in-S.is)
 
 pub returns-in-Psk-clause-width : goal.returns-in-Psk-clause-width
 returns-in-Psk-clause-width g c = ap (token_width (keyed c.args.state.now)) (sym c.in-Psk.is)
 
 pub returns-in-Psk-clause-keyed : goal.returns-in-Psk-clause-keyed
-returns-in-Psk-clause-keyed g c = c.mix_key_and_hash.ensures.key ∙ ap (keyed_after c.args.means.now.psks (keyed c.args.state.now)) (sym c.in-Psk.is)
+returns-in-Psk-clause-keyed g c = c.mix_key_and_hash.ensures.key ∙ ap (keyed_after c.args.means.now.has_psks (keyed c.args.state.now)) (sym c.in-Psk.is)
 
 pub returns-in-Psk-clause-used : goal.returns-in-Psk-clause-used
 returns-in-Psk-clause-used g c = from_zero (nonce_now c.mix_key_and_hash.new.self) (nonce_now c.args.state.now) c.mix_key_and_hash.ensures.nonce
 
 pub returns-in-Psk-clause-counted : goal.returns-in-Psk-clause-counted
-returns-in-Psk-clause-counted g c = c.mix_key_and_hash.ensures.nonce ∙ ap (nonce_after c.args.means.now.psks (keyed c.args.state.now) (nonce_now c.args.state.now)) (sym c.in-Psk.is)
+returns-in-Psk-clause-counted g c = c.mix_key_and_hash.ensures.nonce ∙ ap (nonce_after c.args.means.now.has_psks (keyed c.args.state.now) (nonce_now c.args.state.now)) (sym c.in-Psk.is)
 
 pub returns-in-Some-clause-written : goal.returns-in-Some-clause-written
 returns-in-Some-clause-written g c r s =
-    let w : Writer = writer_of g.K.Keys.public_of g.K.Keys.agreement c.args.means.now.role c.args.means.now.psks c.args.means.now.keys.now in
+    let w : Writer = writer_of g.K.Keys.public_of g.K.Keys.agreement c.args.means.now.role c.args.means.now.has_psks c.args.means.now.keys in
     let key : List ℕ = c.in-Some.key in
     let long : length key ≡ 32 = omega arith in
     let d = c.write_e.ensures.written r s in
-    written-as StateStands c.write_e.new.state w c.args.known.now c.args.secrets.now r (take c.write_e.result c.write_e.new.out) E c.args.token c.in-E.is
+    written-as StateMatches c.write_e.new.state w c.args.known.now c.args.psks.now r (take c.write_e.result c.write_e.new.out) E c.args.token c.in-E.is
     (key, (cc, long), d.0, d.1)
 
 pub returns-in-Some-public-clause-written : goal.returns-in-Some-public-clause-written
 returns-in-Some-public-clause-written g c r s =
-    let w : Writer = writer_of g.K.Keys.public_of g.K.Keys.agreement c.args.means.now.role c.args.means.now.psks c.args.means.now.keys.now in
+    let w : Writer = writer_of g.K.Keys.public_of g.K.Keys.agreement c.args.means.now.role c.args.means.now.has_psks c.args.means.now.keys in
     let key : List ℕ = c.in-Some-public.key in
     let long : length key ≡ 32 = omega arith in
     let d = c.write_part.ensures.written r s in
-    written-as StateStands c.write_part.new.state w c.args.known.now c.args.secrets.now r (take c.write_part.result c.write_part.new.out) S c.args.token c.in-S.is
+    written-as StateMatches c.write_part.new.state w c.args.known.now c.args.psks.now r (take c.write_part.result c.write_part.new.out) S c.args.token c.in-S.is
     (key, (cc, long), d.0, d.1)
 
 pub returns-in-Psk-clause-written : goal.returns-in-Psk-clause-written
 returns-in-Psk-clause-written g c r s =
-    let w : Writer = writer_of g.K.Keys.public_of g.K.Keys.agreement c.args.means.now.role c.args.means.now.psks c.args.means.now.keys.now in
-    written-as StateStands c.mix_key_and_hash.new.self w c.args.known.now c.args.secrets.now r [] Psk c.args.token c.in-Psk.is
-    (get_or c.args.secrets.now 0 [], first_secret-read c.args.secrets.now, refl, c.mix_key_and_hash.ensures.stands r s)
+    let w : Writer = writer_of g.K.Keys.public_of g.K.Keys.agreement c.args.means.now.role c.args.means.now.has_psks c.args.means.now.keys in
+    written-as StateMatches c.mix_key_and_hash.new.self w c.args.known.now c.args.psks.now r [] Psk c.args.token c.in-Psk.is
+    (get_or c.args.psks.now 0 [], first_psk-read c.args.psks.now, refl, c.mix_key_and_hash.ensures.matches r s)

@@ -1,12 +1,12 @@
 use Rattle.std.proofs.KnownBytes.{Keeps-refl, Keeps-trans}
-use Rattle.noise_lines.proofs.InputLemmas.{kept-consumes}
+use Rattle.noise_lines.proofs.InputLemmas.{unchanged-consumes}
 use Rattle.noise_lines.proofs.input.read_some.Goals as goal
 
 pub loop-init : goal.loop-init
 loop-init g c = Keeps-refl (g.R.Read.remaining c.args.file.now)
 
 pub returns-in-Ok-clause-bytes : goal.returns-in-Ok-clause-bytes
-returns-in-Ok-clause-bytes g c = (kept-consumes _ _ _ _ c.loop.invariant c.in-Ok.ensures.bytes.0, c.in-Ok.ensures.bytes.1)
+returns-in-Ok-clause-bytes g c = (unchanged-consumes _ _ _ _ c.loop.invariant c.in-Ok.ensures.bytes.0, c.in-Ok.ensures.bytes.1)
 
 pub returns-in-Err-2-clause-bytes : goal.returns-in-Err-2-clause-bytes
 returns-in-Err-2-clause-bytes g c = Keeps-trans _ _ _ c.loop.invariant c.in-Err-2.ensures.bytes

@@ -16,7 +16,7 @@ loop-place-preserved c =
           let base : List ℕ = w.in-Some.pattern.base in
           ap (λ (v : Vec ℕ Global). v.items) w.text-is
           ∙ w.in_ok-push.ensures.items
-          ∙ ap (λ (t : List ℕ). t ++ 10 ∷ []) (w.in_ok-extend_from_slice.ensures.items ∙ ap (λ (b : List ℕ). before ++ b) w.base.ensures.same)
+          ∙ ap (λ (t : List ℕ). t ++ 10 ∷ []) (w.in_ok-extend_from_slice.ensures.items ∙ ap (λ (b : List ℕ). before ++ b) w.base.ensures.value)
           ∙ append_assoc before base (10 ∷ [])
           ∙ ap (λ (t : List ℕ). t ++ line base) c.loop-place.invariant
           ∙ elements-more (λ (p : Plan). line p.base) fundamentals c.loop-place.place w.in-Some.pattern (sym c.fundamental_at.ensures ∙ w.in-Some.is)

@@ -15,7 +15,7 @@ loop-message-preserved c =
     let number : c.loop-message.number ≡ 1 + length (take i messages) = omega arith in
     let here : c.message_with_psks.result ≡ with_psk_tokens places (1 + length (take i messages)) m =
     c.message_with_psks.ensures ∙ ap (λ (n : ℕ). with_psk_tokens places n c.tokens.result.now) number
-    ∙ ap (λ (ts : List Token). with_psk_tokens places (1 + length (take i messages)) ts) c.tokens.ensures.same in
+    ∙ ap (λ (ts : List Token). with_psk_tokens places (1 + length (take i messages)) ts) c.tokens.ensures.value in
     let taken : take (i + 1) messages ≡ take i messages ++ m ∷ [] =
     take_more messages i m c.loop-message-test.true ∙ ap (λ (x : List Token). take i messages ++ x ∷ []) (sym c.message-item.is) in (
       omega arith,

@@ -1,18 +1,19 @@
 use Rattle.std.proofs.Common.{◌≡◌, ◌<◌, ◌↔◌, ℕ, List, [], ◌∷◌, ◌++◌, Bool, true, false, ◌&&◌, cond, MatchBool, length, length-append, map, take, drop, refl}
-use Rattle.std.proofs.Common.{sym, ap, ◌∙◌, subst, append_assoc, arith, Option, Some, None, Err, Ok, eqb}
+use Rattle.std.proofs.Common.{sym, ap, ◌∙◌, subst, append_assoc, arith, Option, Some, None, Result, Err, Ok, eqb, inl, inr}
 use Rattle.std.specs.Prelude.{IsSome, IfSome, IsTrue}
 use Rattle.std.specs.Option.{ok_or}
 use Rattle.std.specs.List.{join_with_byte}
 use Rattle.std.specs.Cmp.Lexicographic.{pointwise}
-use Rattle.arrayvec.specs.ArrayVec.{ArrayVec}
+use Rattle.std.proofs.lemmas.List.{length-take-le, take_all}
+use Rattle.noise_names.specs.declared.faults.NameFault.{NameFault}
 use Rattle.noise_names.specs.declared.faults.NameFault.TheVariants.{ModifierOrder}
 use Rattle.noise_names.specs.Names.{modifier, are_places}
 use Rattle.noise_names.specs.Sections.{modifiers_read}
 use Rattle.noise_names.proofs.Modifiers.{fronts, fronts-push, join-push, are_numbers, are_numbers-push, refused_at, refused_after, modifiers_read-all}
 use Rattle.noise_names.proofs.Modifiers.{too_many_places}
+use Rattle.noise_names.proofs.WordLists.{take-take}
 use Rattle.noise_names.proofs.section.parse_modifiers.Goals as goal
-use Rattle.noise_names.proofs.section.parse_modifiers.Goals.{then-is_full, else-is_full}
-use Rattle.std.proofs.lemmas.Bool.{eqb-true}
+use Rattle.std.proofs.lemmas.Bool.{cases_lt, eqb-true}
 
 not_empty : (xs : List ℕ) → eqb (length xs) 0 ≡ false → xs ≡ [] → ⊥
 not_empty [] e f = cc
@@ -47,22 +48,25 @@ read_last : (modifiers done rest beyond : List ℕ) (n : ℕ) → modifiers ≡ 
 read_last modifiers done rest beyond n e f g =
     e ∙ ap (λ (bs : List ℕ). fronts done ++ bs) (f ∙ ap (λ (bs : List ℕ). modifier n ++ bs) g) ∙ sym (join-push done n)
 
--- what is kept of the numbers
-abbrev Kept : Bool → List ℕ → List ℕ → Type 0
-Kept too_many done numbers = MatchBool too_many (9 < length done) (numbers ≡ done)
+-- what is read of the numbers
+ten_more : (done old new : List ℕ) (n : ℕ) → old ≡ take 10 done → new ≡ take 10 (old ++ n ∷ []) → new ≡ take 10 (done ++ n ∷ [])
+ten_more done old new n e f = f ∙ ap (λ (ns : List ℕ). take 10 (ns ++ n ∷ [])) e ∙ take-take 10 done (n ∷ [])
 
-kept_full : (old new : Bool) (done numbers after : List ℕ) (n : ℕ) → Kept old done numbers → length numbers ≡ 9 → new ≡ true → Kept new (done ++ n ∷ []) after
-kept_full true new done numbers after n h k e = rw e (rw (length-append done (n ∷ [])) (omega arith))
-kept_full false new done numbers after n h k e = rw e (rw (length-append done (n ∷ [])) (omega (arith, ap length h)))
+abbrev as_places : List ℕ → Result (List ℕ) NameFault
+as_places ns = cond (are_places ns) (Ok ns) (Err ModifierOrder)
 
-kept_more : (old new : Bool) (done numbers after : List ℕ) (n : ℕ) → Kept old done numbers → after ≡ numbers ++ n ∷ [] → new ≡ old
-    → Kept new (done ++ n ∷ []) after
-kept_more true new done numbers after n h k e = rw e (rw (length-append done (n ∷ [])) (omega arith))
-kept_more false new done numbers after n h k e = rw e (k ∙ ap (λ (bs : List ℕ). bs ++ n ∷ []) h)
+-- ten numbers are no places, nor are more
+ten_places : (ns : List ℕ) → as_places (take 10 ns) ≡ as_places ns
+ten_places ns = elim (cases_lt (length ns) 10) [
+  | inl few ↦ ap as_places (take_all 10 ns (omega arith))
+  | inr many ↦
+      let ten : length (take 10 ns) ≡ 10 = length-take-le 10 ns many in
+      rw (too_many_places (take 10 ns) (omega arith), too_many_places ns (omega arith)) refl
+]
 
 -- the numbers as places
 made : (o : Option (List ℕ)) (ns : List ℕ) → (IsSome o ↔ IsTrue (are_places ns)) → IfSome o (λ places. places ≡ ns)
-    → ok_or o ModifierOrder ≡ cond (are_places ns) (Ok ns) (Err ModifierOrder)
+    → ok_or o ModifierOrder ≡ as_places ns
 made (Some places) ns only same = let yes : are_places ns ≡ true = only.0 refl in rw yes (ap (λ (p : List ℕ). Ok p) same)
 made None ns only same = at (are_places ns) refl where
   at : (b : Bool) → are_places ns ≡ b → Err ModifierOrder ≡ cond (are_places ns) (Ok ns) (Err ModifierOrder)
@@ -88,33 +92,9 @@ loop-number-preserved c = (
       c.loop-number.invariant.1 c.in-Some.ensures.some.1
       (plus c.in-Some.after.now c.in-Some-strip_prefix.more.now c.in-Some-strip_prefix.ensures.cases.0 c.in-Some-strip_prefix.ensures.cases.1),
   are_numbers-push c.loop-number.invariant.0 c.in-Some.number c.loop-number.invariant.2 c.in-Some.ensures.some.0,
-  elim c.if-is_full.branch [
-    | then-is_full w ↦ kept_full c.loop-number.too_many c.if-is_full.too_many c.loop-number.invariant.0 c.loop-number.numbers.items
-        c.if-is_full.numbers.items c.in-Some.number c.loop-number.invariant.3
-        (eqb-true (length c.loop-number.numbers.items) 9 (sym w.if-is_full.ensures.value)) w.too_many-is
-    | else-is_full w ↦ kept_more c.loop-number.too_many c.if-is_full.too_many c.loop-number.invariant.0 c.loop-number.numbers.items
-        c.if-is_full.numbers.items c.in-Some.number c.loop-number.invariant.3 (ap (λ (v : ArrayVec ℕ). v.items) w.numbers-is
-        ∙ w.push.ensures.items) w.too_many-is
-  ],
+  ten_more c.loop-number.invariant.0 c.loop-number.numbers.items c.push_number.new.numbers.items c.in-Some.number c.loop-number.invariant.3
+      c.push_number.ensures,
 )
-
-pub returns-then-too_many : goal.returns-then-too_many
-returns-then-too_many c =
-    let done : List ℕ = c.loop-number.invariant.0 ++ c.in-Some.number ∷ [] in
-    let read : c.args.modifiers.now ≡ join_with_byte 43 (map modifier done) =
-    read_last c.args.modifiers.now c.loop-number.invariant.0 c.loop-number.rest.now c.in-Some.after.now c.in-Some.number c.loop-number.invariant.1
-    c.in-Some.ensures.some.1 (is_nil c.in-Some.after.now (sym c.if-is_empty-2.ensures)) in
-    let numbers : are_numbers done ≡ true = are_numbers-push c.loop-number.invariant.0 c.in-Some.number c.loop-number.invariant.2 c.in-Some.ensures.some.0 in
-    let kept : Kept c.if-is_full.too_many done c.if-is_full.numbers.items = elim c.if-is_full.branch [
-      | then-is_full w ↦ kept_full c.loop-number.too_many c.if-is_full.too_many c.loop-number.invariant.0 c.loop-number.numbers.items
-          c.if-is_full.numbers.items c.in-Some.number c.loop-number.invariant.3
-          (eqb-true (length c.loop-number.numbers.items) 9 (sym w.if-is_full.ensures.value)) w.too_many-is
-      | else-is_full w ↦ kept_more c.loop-number.too_many c.if-is_full.too_many c.loop-number.invariant.0 c.loop-number.numbers.items
-          c.if-is_full.numbers.items c.in-Some.number c.loop-number.invariant.3 (ap (λ (v : ArrayVec ℕ). v.items) w.numbers-is
-          ∙ w.push.ensures.items) w.too_many-is
-    ] in
-    let many : 9 < length done = subst (λ (b : Bool). Kept b done c.if-is_full.numbers.items) c.if-too_many.true kept in
-    sym (ap modifiers_read read ∙ modifiers_read-all done numbers ∙ rw (too_many_places done many) refl)
 
 pub returns : goal.returns
 returns c =
@@ -123,16 +103,9 @@ returns c =
     read_last c.args.modifiers.now c.loop-number.invariant.0 c.loop-number.rest.now c.in-Some.after.now c.in-Some.number c.loop-number.invariant.1
     c.in-Some.ensures.some.1 (is_nil c.in-Some.after.now (sym c.if-is_empty-2.ensures)) in
     let numbers : are_numbers done ≡ true = are_numbers-push c.loop-number.invariant.0 c.in-Some.number c.loop-number.invariant.2 c.in-Some.ensures.some.0 in
-    let kept : Kept c.if-is_full.too_many done c.if-is_full.numbers.items = elim c.if-is_full.branch [
-      | then-is_full w ↦ kept_full c.loop-number.too_many c.if-is_full.too_many c.loop-number.invariant.0 c.loop-number.numbers.items
-          c.if-is_full.numbers.items c.in-Some.number c.loop-number.invariant.3
-          (eqb-true (length c.loop-number.numbers.items) 9 (sym w.if-is_full.ensures.value)) w.too_many-is
-      | else-is_full w ↦ kept_more c.loop-number.too_many c.if-is_full.too_many c.loop-number.invariant.0 c.loop-number.numbers.items
-          c.if-is_full.numbers.items c.in-Some.number c.loop-number.invariant.3 (ap (λ (v : ArrayVec ℕ). v.items) w.numbers-is
-          ∙ w.push.ensures.items) w.too_many-is
-    ] in
-    let same : c.if-is_full.numbers.items ≡ done = subst (λ (b : Bool). Kept b done c.if-is_full.numbers.items) c.if-too_many.false kept in
-    let seen : c.deref.result.now ≡ done = c.deref.ensures.0 ∙ same in
-    c.ok_or.ensures.value ∙ made c.new.result c.deref.result.now c.new.ensures.only c.new.ensures.same
-    ∙ ap (λ (ns : List ℕ). cond (are_places ns) (Ok ns) (Err ModifierOrder)) seen
-    ∙ sym (ap modifiers_read read ∙ modifiers_read-all done numbers)
+    let ten : c.push_number.new.numbers.items ≡ take 10 done =
+    ten_more c.loop-number.invariant.0 c.loop-number.numbers.items c.push_number.new.numbers.items c.in-Some.number c.loop-number.invariant.3
+    c.push_number.ensures in
+    let seen : c.deref.result.now ≡ take 10 done = c.deref.ensures.0 ∙ ten in
+    c.ok_or.ensures.value ∙ made c.new.result c.deref.result.now c.new.ensures.only c.new.ensures.value
+    ∙ ap as_places seen ∙ ten_places done ∙ sym (ap modifiers_read read ∙ modifiers_read-all done numbers)

@@ -1,31 +1,20 @@
 use Rattle.std.proofs.Common.{◌≡◌, ◌≤◌, ◌++◌, ◌∷◌, List, [], map, length, get_or, sym, ap, ◌∙◌, subst, refl, arith, take}
 use Rattle.std.proofs.lemmas.List.{length-map, get_or-map, take_all, map_more}
 use Rattle.noise_names.specs.declared.token.Token.{Token}
+use Rattle.noise_names.specs.Fundamental.{plain}
 use Rattle.noise_names.specs.Plan.{Plan}
 use Rattle.noise_names.proofs.Fundamentals.{known_is_pattern, known_is_short, known_is_few}
 use Rattle.noise_names.proofs.table.plain.Goals as goal
 
 pub of-requires : goal.of-requires
 of-requires c =
-    let plan : Plan = record {
-      base = c.args.base.now;
-      places = [];
-      initiator = c.args.initiator.now;
-      responder = c.args.responder.now;
-      messages = map (λ m. m.now) c.args.messages.now;
-    } in
+    let plan : Plan = plain c.args.base.now c.args.initiator.now c.args.responder.now (map (λ m. m.now) c.args.messages.now) in
     let short : length (get_or plan.messages c.loop-tokens.tokens-index []) ≤ 10 = known_is_short c.args.base.now plan c.loop-tokens.tokens-index c.requires in
     subst (λ (ts : List Token). length ts ≤ 10) (get_or-map (λ m. m.now) c.args.messages.now c.loop-tokens.tokens-index _ [] c.loop-tokens-test.true) short
 
 pub push-requires : goal.push-requires
 push-requires c =
-    let plan : Plan = record {
-      base = c.args.base.now;
-      places = [];
-      initiator = c.args.initiator.now;
-      responder = c.args.responder.now;
-      messages = map (λ m. m.now) c.args.messages.now;
-    } in
+    let plan : Plan = plain c.args.base.now c.args.initiator.now c.args.responder.now (map (λ m. m.now) c.args.messages.now) in
     let few : length plan.messages ≤ 8 = known_is_few c.args.base.now plan c.requires in
     (omega arith, omega (arith, few, length-map c.args.messages.now (λ m. m.now)))
 
@@ -39,19 +28,13 @@ loop-tokens-preserved c = (
 
 pub of-requires-2 : goal.of-requires-2
 of-requires-2 c =
-    let plan : Plan = record {
-      base = c.args.base.now;
-      places = [];
-      initiator = c.args.initiator.now;
-      responder = c.args.responder.now;
-      messages = map (λ m. m.now) c.args.messages.now;
-    } in
-    let all : c.loop-tokens.kept.items ≡ plan.messages = c.loop-tokens.invariant.0
+    let plan : Plan = plain c.args.base.now c.args.initiator.now c.args.responder.now (map (λ m. m.now) c.args.messages.now) in
+    let all : c.loop-tokens.list.items ≡ plan.messages = c.loop-tokens.invariant.0
     ∙ ap (λ ms. map (λ m. m.now) ms) (take_all c.loop-tokens.tokens-index c.args.messages.now c.loop-tokens-test.false) in
     rw (c.none.ensures, all) (known_is_pattern c.args.base.now plan c.requires)
 
 pub returns : goal.returns
 returns c =
-    let all : c.loop-tokens.kept.items ≡ map (λ m. m.now) c.args.messages.now = c.loop-tokens.invariant.0
+    let all : c.loop-tokens.list.items ≡ map (λ m. m.now) c.args.messages.now = c.loop-tokens.invariant.0
     ∙ ap (λ ms. map (λ m. m.now) ms) (take_all c.loop-tokens.tokens-index c.args.messages.now c.loop-tokens-test.false) in
     c.of-2.ensures ∙ rw (c.none.ensures, all) refl

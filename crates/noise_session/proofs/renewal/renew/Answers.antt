@@ -1,6 +1,6 @@
 use Rattle.std.proofs.Common.{◌≢◌, ℕ, ◌+◌, ◌%◌, Some, sym, ◌∙◌, ap}
 use Rattle.noise_state.specs.History.{rekeyed_times}
-use Rattle.noise_session.specs.Renewing.{renewals-kept, renewals-never}
+use Rattle.noise_session.specs.Renewing.{renewals-unchanged, renewals-never}
 use Rattle.noise_session.proofs.renewal.renew.Goals.{else-interval-ne0-via-then-interval-ne0+else-nonce-interval-eq0, else-interval-ne0-via-else-interval-ne0}
 use Rattle.noise_session.proofs.renewal.renew.Goals as goal
 
@@ -10,7 +10,7 @@ returns-else-interval-ne0-clause-key c first n count key =
       | else-interval-ne0-via-then-interval-ne0+else-nonce-interval-eq0 w ↦
           let more : (n + 1) % c.args.interval ≢ 0 =
           λ none. w.if-nonce-interval-eq0.false (ap (λ (k : ℕ). k % c.args.interval) (w.nonce.ensures ∙ count) ∙ none) in
-          key ∙ ap (λ (k : ℕ). Some (rekeyed_times k first)) (sym (renewals-kept c.args.interval n w.if-interval-ne0.true more))
+          key ∙ ap (λ (k : ℕ). Some (rekeyed_times k first)) (sym (renewals-unchanged c.args.interval n w.if-interval-ne0.true more))
       | else-interval-ne0-via-else-interval-ne0 w ↦
           key ∙ ap (λ (k : ℕ). Some (rekeyed_times k first)) (sym (renewals-never c.args.interval n w.if-interval-ne0.false))
     ]

@@ -17,7 +17,7 @@ loop-back-preserved c =
       room = length-set words place 0 ∙ c.loop-back.invariant.room;
       fresh = λ b top ring near.
           cleared words r block back place c.place.ensures.value within low under b top near (λ below. c.loop-back.invariant.fresh b top ring below);
-      kept = λ b below ring.
-          untouched words r block back place c.place.ensures.value within low under b below ring ∙ c.loop-back.invariant.kept b (omega arith) ring;
+      unchanged = λ b below ring.
+          untouched words r block back place c.place.ensures.value within low under b below ring ∙ c.loop-back.invariant.unchanged b (omega arith) ring;
       beyond = beyond words r block back place c.place.ensures.value within low under ∙ c.loop-back.invariant.beyond;
     }

@@ -6,7 +6,7 @@ abbrev pub invariant-loop-back : goal.invariant-loop-back
 invariant-loop-back l = record {
   room : length l.words ≡ 17;
   fresh : (b : ℕ) → b ≤ l.block → l.block < b + words_of l.window → l.block < b + l.back → slice_index l.words (b % words_of l.window) ≡ 0;
-  kept : (b : ℕ) → b + l.back ≤ l.block → l.block < b + words_of l.window
+  unchanged : (b : ℕ) → b + l.back ≤ l.block → l.block < b + words_of l.window
       → slice_index l.words (b % words_of l.window) ≡ slice_index l.initial.words (b % words_of l.window);
   beyond : drop (min (words_of l.window) (l.block + 1)) l.words ≡ drop (min (words_of l.window) (l.block + 1)) l.initial.words;
 }

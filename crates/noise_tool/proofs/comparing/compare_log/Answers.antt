@@ -18,6 +18,6 @@ returns-in-Ok-clause-prefix g c = inr (record {
 })
 
 pub returns-in-Ok-Made-clause-prefix : goal.returns-in-Ok-Made-clause-prefix
-returns-in-Ok-Made-clause-prefix g c = inr (begun-left (g.O.Write.contents) _ _ _ c.in-Err-print_report.fault c.print_report.new.out c.tell.new.out
-    c.in-Ok-Made.report c.in-Err-print_report.ensures.fault c.tell.ensures.output (rw c.in-Ok-Made.field-0-is at c.in-Ok-Made.ensures.made)
+returns-in-Ok-Made-clause-prefix g c = inr (begun-left (g.O.Write.contents) _ _ _ c.in-Err-print_report.fault c.print_report.new.out c.report_fault.new.out
+    c.in-Ok-Made.report c.in-Err-print_report.ensures.fault c.report_fault.ensures.output (rw c.in-Ok-Made.field-0-is at c.in-Ok-Made.ensures.made)
     c.in-Err-print_report.ensures.prefix)

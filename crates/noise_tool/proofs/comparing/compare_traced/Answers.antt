@@ -1,5 +1,5 @@
 use Rattle.std.proofs.Common.{refl}
-use Rattle.noise_lines.specs.Woven.{traces_of}
+use Rattle.noise_lines.specs.TracedLines.{traces_of}
 use Rattle.noise_vectors.specs.Expectations.{bytes_of}
 use Rattle.noise_tool.proofs.comparing.compare_traced.Goals as goal
 

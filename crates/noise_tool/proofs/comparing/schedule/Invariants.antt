@@ -1,6 +1,6 @@
 use Rattle.std.proofs.Common.{◌≡◌, map, take}
 use Rattle.noise_compare.specs.Lines.{words_in, words_of}
-use Rattle.noise_lines.specs.Woven.{traces_of}
+use Rattle.noise_lines.specs.TracedLines.{traces_of}
 use Rattle.noise_vectors.specs.Expectations.{bytes_of}
 use Rattle.noise_tool.specs.Comparing.{schedule_of}
 use Rattle.noise_tool.proofs.comparing.schedule.Given as goal

@@ -3,11 +3,11 @@ use Rattle.std.proofs.lemmas.Result.{err_from_is_err_and}
 use Rattle.std.proofs.lemmas.List.Elements.{same_from_all_zip}
 use Rattle.noise_names.specs.declared.token.Role.TheVariants.{Initiator, Responder}
 use Rattle.noise_names.specs.Plan.{Plan}
-use Rattle.noise_handshake.specs.View.{View}
-use Rattle.noise_handshake.specs.Party.{Stands}
+use Rattle.noise_handshake.specs.Party.{Party}
+use Rattle.noise_handshake.specs.Matching.{Matches}
 use Rattle.noise_vectors.specs.FileKeys.{public_of, agreement_of}
 use Rattle.noise_tool.specs.Ends.{known_before}
-use Rattle.noise_tool.proofs.EndLemmas.{begun-same, both-set-up, setup-same, none-told, told-first, told-second}
+use Rattle.noise_tool.proofs.EndLemmas.{begun-same, both-set-up, setup-same, none-reported, reported-first, reported-second}
 use Rattle.noise_tool.proofs.ends.begin.Goals as goal
 
 pub returns-in_err-first-clause-fault : goal.returns-in_err-first-clause-fault
@@ -16,11 +16,11 @@ returns-in_err-first-clause-fault c =
     let file = c.args.file in
     let plan = c.in_ok-pattern.pattern in
     let known : c.known_before-of_responder.result ≡ known_before plan Responder (public_of file.responder) =
-    c.known_before-of_responder.ensures ∙ ap (λ (z : Plan). known_before z Responder (public_of file.responder)) c.pattern-2.ensures.same in
+    c.known_before-of_responder.ensures ∙ ap (λ (z : Plan). known_before z Responder (public_of file.responder)) c.pattern-2.ensures.value in
     let psks : c.deref-2.result.now ≡ file.psks.items = search rules in
     let setup = setup-same Initiator file.initiator plan plan c.known_before-of_responder.result (known_before plan Responder (public_of file.responder))
     c.deref-2.result.now file.psks.items refl known psks in
-    rw (p.1, p.2) (told-first file plan c.in_err-first.field-0.0 _
+    rw (p.1, p.2) (reported-first file plan c.in_err-first.field-0.0 _
     c.in_ok-pattern.ensures.pattern c.in_ok-pattern.ensures.valid setup c.in_err-first.ensures.fault)
 
 pub returns-in_err-second-clause-fault : goal.returns-in_err-second-clause-fault
@@ -30,9 +30,9 @@ returns-in_err-second-clause-fault c =
     let plan = c.in_ok-pattern.pattern in
     let copy : c.in_ok-same.same ≡ plan = search (rules, same_from_all_zip, c.in_ok-same.ensures.cases) in
     let known : c.known_before-of_responder.result ≡ known_before plan Responder (public_of file.responder) =
-    c.known_before-of_responder.ensures ∙ ap (λ (z : Plan). known_before z Responder (public_of file.responder)) c.pattern-2.ensures.same in
+    c.known_before-of_responder.ensures ∙ ap (λ (z : Plan). known_before z Responder (public_of file.responder)) c.pattern-2.ensures.value in
     let known-2 : c.known_before-of_initiator.result ≡ known_before plan Initiator (public_of file.initiator) =
-    c.known_before-of_initiator.ensures ∙ ap (λ (z : Plan). known_before z Initiator (public_of file.initiator)) c.pattern.ensures.same in
+    c.known_before-of_initiator.ensures ∙ ap (λ (z : Plan). known_before z Initiator (public_of file.initiator)) c.pattern.ensures.value in
     let psks : c.deref-2.result.now ≡ file.psks.items = search rules in
     let psks-2 : c.deref-4.result.now ≡ file.psks.items = search rules in
     let setup = setup-same Initiator file.initiator plan plan c.known_before-of_responder.result (known_before plan Responder (public_of file.responder))
@@ -40,8 +40,8 @@ returns-in_err-second-clause-fault c =
     let setup-2 = setup-same Responder file.responder c.in_ok-same.same plan c.known_before-of_initiator.result
     (known_before plan Initiator (public_of file.initiator))
     c.deref-4.result.now file.psks.items copy known-2 psks-2 in
-    let none = sym setup ∙ none-told Initiator _ c.in_ok-first.ensures.fault in
-    rw (p.1, p.2) (told-second file plan c.in_err-second.field-0.0 _
+    let none = sym setup ∙ none-reported Initiator _ c.in_ok-first.ensures.fault in
+    rw (p.1, p.2) (reported-second file plan c.in_err-second.field-0.0 _
     c.in_ok-pattern.ensures.pattern c.in_ok-pattern.ensures.valid none setup-2 c.in_err-second.ensures.fault)
 
 pub returns-clause-handshakes : goal.returns-clause-handshakes
@@ -50,9 +50,9 @@ returns-clause-handshakes c =
     let plan = c.in_ok-pattern.pattern in
     let copy : c.in_ok-same.same ≡ plan = search (rules, same_from_all_zip, c.in_ok-same.ensures.cases) in
     let known : c.known_before-of_responder.result ≡ known_before plan Responder (public_of file.responder) =
-    c.known_before-of_responder.ensures ∙ ap (λ (z : Plan). known_before z Responder (public_of file.responder)) c.pattern-2.ensures.same in
+    c.known_before-of_responder.ensures ∙ ap (λ (z : Plan). known_before z Responder (public_of file.responder)) c.pattern-2.ensures.value in
     let known-2 : c.known_before-of_initiator.result ≡ known_before plan Initiator (public_of file.initiator) =
-    c.known_before-of_initiator.ensures ∙ ap (λ (z : Plan). known_before z Initiator (public_of file.initiator)) c.pattern.ensures.same in
+    c.known_before-of_initiator.ensures ∙ ap (λ (z : Plan). known_before z Initiator (public_of file.initiator)) c.pattern.ensures.value in
     let text : c.deref.result.now ≡ file.prologue.items = search rules in
     let text-2 : c.deref-3.result.now ≡ file.prologue.items = search rules in
     let psks : c.deref-2.result.now ≡ file.psks.items = search rules in
@@ -68,11 +68,12 @@ returns-clause-handshakes c =
     c.deref-4.result.now file.psks.items copy known-2 psks-2 in
     record {
       plan = plan;
-      pattern = c.in_ok-pattern.ensures.pattern;
-      valid = c.in_ok-pattern.ensures.valid;
-      set_up =
-          both-set-up file plan (sym setup ∙ none-told Initiator _ c.in_ok-first.ensures.fault)
-          (sym setup-2 ∙ none-told Responder _ c.in_ok-second.ensures.fault);
-      initiator = subst (λ (v : View). Stands public_of agreement_of c.in_ok-first.first v) start c.in_ok-first.ensures.stands;
-      responder = subst (λ (v : View). Stands public_of agreement_of c.in_ok-second.second v) start-2 c.in_ok-second.ensures.stands;
+      of_file = record {
+        pattern = c.in_ok-pattern.ensures.pattern;
+        valid = c.in_ok-pattern.ensures.valid;
+        set_up = both-set-up file plan (sym setup ∙ none-reported Initiator _ c.in_ok-first.ensures.fault)
+            (sym setup-2 ∙ none-reported Responder _ c.in_ok-second.ensures.fault);
+      };
+      initiator = subst (λ (v : Party). Matches public_of agreement_of c.in_ok-first.first v) start c.in_ok-first.ensures.matches;
+      responder = subst (λ (v : Party). Matches public_of agreement_of c.in_ok-second.second v) start-2 c.in_ok-second.ensures.matches;
     }

@@ -1,6 +1,6 @@
 use Rattle.std.proofs.Common.{ℕ, subst}
 use Rattle.noise_names.specs.declared.token.Role.TheVariants.{Initiator, Responder}
-use Rattle.noise_duel.specs.HeldDuel.{DuelStands, facing_as}
+use Rattle.noise_duel.specs.DuelValue.{DuelMatches, both_sides}
 use Rattle.noise_duel.specs.Messages.{begun_as}
 use Rattle.noise_session.specs.Ends.{end_of}
 use Rattle.noise_vectors.specs.FileKeys.{public_of, agreement_of}
@@ -13,11 +13,9 @@ returns-clause-ends c =
     let a = c.in_ok-initiator.ensures.handshakes in
     record {
       plan = a.plan;
-      pattern = a.pattern;
-      valid = a.valid;
-      set_up = a.set_up;
-      stands = subst (λ (i : ℕ). DuelStands public_of agreement_of public_of agreement_of c.in_ok-duel.duel
-          (facing_as (end_of (begun_as a.plan Initiator (start_of file a.plan Initiator)) i)
+      of_file = a.of_file;
+      matches = subst (λ (i : ℕ). DuelMatches public_of agreement_of public_of agreement_of c.in_ok-duel.duel
+          (both_sides (end_of (begun_as a.plan Initiator (start_of file a.plan Initiator)) i)
           (end_of (begun_as a.plan Responder (start_of file a.plan Responder)) i)))
-          c.in_ok-initiator.ensures.same.0 (c.in_ok-duel.ensures _ _ a.initiator a.responder);
+          c.in_ok-initiator.ensures.value.0 (c.in_ok-duel.ensures _ _ a.initiator a.responder);
     }

@@ -4,5 +4,5 @@ use Rattle.noise_tool.proofs.laws.templates_start.Goals as goal
 pub returns : goal.returns
 returns c = λ p text template. record {
   pattern = pattern-of p template.file template.pattern template.is;
-  set_up = no-setup-fault p template.file template.pattern (c.tokens_stand.ensures.before p) template.is;
+  set_up = no-setup-fault p template.file template.pattern (c.tokens_match.ensures.before p) template.is;
 }

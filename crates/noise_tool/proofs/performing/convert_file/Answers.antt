@@ -103,4 +103,4 @@ pub returns-in_err-vector-clause-fault : goal.returns-in_err-vector-clause-fault
 returns-in_err-vector-clause-fault g c =
     let p = err_from_is_err_and c.from_residual-in_err-vector.result c.from_residual-in_err-vector.ensures.1 in
     rw (p.1, p.2) (inr (unread-or VersionOne (g.R.Read.remaining c.args.file.now) _ _ (unread VersionOne (g.R.Read.remaining c.args.file.now) c.deref.result.now c.in_ok-text.text.items c.in_err-vector.field-0.0
-    c.in_ok-text.ensures.bytes c.deref.ensures.value c.in_err-vector.ensures.every c.in_err-vector.ensures.told)))
+    c.in_ok-text.ensures.bytes c.deref.ensures.value c.in_err-vector.ensures.every c.in_err-vector.ensures.reported)))

@@ -1,5 +1,5 @@
 use Rattle.std.proofs.Common.{◌≡◌, map, take}
-use Rattle.noise_duel.specs.HeldDuel.{HasFrames}
+use Rattle.noise_duel.specs.DuelValue.{HasFrames}
 use Rattle.noise_duel.specs.Sides.{Sides}
 use Rattle.noise_vectors.specs.Expectations.{bytes_of}
 use Rattle.noise_lines.specs.PrintedWords.{AreExpected}

@@ -2,12 +2,12 @@ use Rattle.noise_duel.specs.Entries.{notes_of}
 use Rattle.noise_tool.proofs.running.run_events.Goals as goal
 
 pub returns-clause-ran : goal.returns-clause-ran
-returns-clause-ran c = λ v w stands.
-    let ran = c.in_ok-duel.ensures.reports v w stands in
+returns-clause-ran c = λ v w matches.
+    let ran = c.in_ok-duel.ensures.reports v w matches in
     record {
       notes = notes_of c.in_ok-duel.report.entries.items;
       last = ran.last;
       run = ran.run;
-      stands = ran.stands;
+      matches = ran.matches;
       lines_are = c.in_ok-lines.ensures.lines ran.last ran.frames;
     }

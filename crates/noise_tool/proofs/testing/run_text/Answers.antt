@@ -1,32 +1,12 @@
-use Rattle.std.proofs.Common.{◌∙◌, sym}
-use Rattle.noise_tool.proofs.TestingLemmas.{runs-traced, runs-untraced, start-fault, start-read}
+use Rattle.std.proofs.Common.{inr}
+use Rattle.noise_tool.proofs.TestingLemmas.{start-unread}
 use Rattle.noise_tool.proofs.testing.run_text.Goals as goal
 
-pub trace-requires : goal.trace-requires
-trace-requires c =
-    c.vector_texts_are_unique.ensures c.in_ok-vector.vector c.in_ok-again.again c.in_ok-vector.ensures.right c.in_ok-again.ensures.right
-    (sym c.in_ok-vector.ensures.text ∙ c.in_ok-again.ensures.text)
+pub returns-clause-pattern : goal.returns-clause-pattern
+returns-clause-pattern c = (c.in_ok-vector.vector, c.in_ok-vector.ensures.right, c.in_ok-vector.ensures.text, c.in-Ok.ensures.pattern)
 
-pub returns-clause-runs : goal.returns-clause-runs
-returns-clause-runs c =
-    runs-traced c.args.traces c.args.text.now c.in_ok-vector.vector c.trace.result c.in_ok-vector.ensures.right c.in_ok-vector.ensures.text
-    c.trace.ensures.lines c.trace.ensures.expected
+pub returns-in-Err-clause-read : goal.returns-in-Err-clause-read
+returns-in-Err-clause-read c = start-unread c.in_ok-vector.vector c.in-Err.fault c.in-Err.ensures.fault
 
-pub returns-clause-fault : goal.returns-clause-fault
-returns-clause-fault c =
-    start-fault c.args.text.now c.in_ok-vector.vector c.trace.result c.in_ok-vector.ensures.right c.in_ok-vector.ensures.text c.trace.ensures.fault
-
-pub returns-then-not-traces-clause-runs : goal.returns-then-not-traces-clause-runs
-returns-then-not-traces-clause-runs c =
-    runs-untraced c.args.traces c.args.text.now c.in_ok-vector.vector c.untraced.result c.if-not-traces.true
-    c.in_ok-vector.ensures.right c.in_ok-vector.ensures.text c.untraced.ensures.lines c.untraced.ensures.expected
-
-pub returns-then-not-traces-clause-fault : goal.returns-then-not-traces-clause-fault
-returns-then-not-traces-clause-fault c =
-    start-fault c.args.text.now c.in_ok-vector.vector c.untraced.result c.in_ok-vector.ensures.right c.in_ok-vector.ensures.text c.untraced.ensures.fault
-
-pub returns-clause-read : goal.returns-clause-read
-returns-clause-read c = start-read c.in_ok-vector.vector c.trace.result c.trace.ensures.fault
-
-pub returns-then-not-traces-clause-read : goal.returns-then-not-traces-clause-read
-returns-then-not-traces-clause-read c = start-read c.in_ok-vector.vector c.untraced.result c.untraced.ensures.fault
+pub returns-in-Err-clause-fault : goal.returns-in-Err-clause-fault
+returns-in-Err-clause-fault c = inr (inr (inr (c.in_ok-vector.vector, c.in_ok-vector.ensures.right, c.in_ok-vector.ensures.text, c.in-Err.ensures.fault)))

@@ -21,4 +21,4 @@ returns-in_err-flush-clause-prefix g c =
     let text : c.as_bytes.result.now ≡ tally_line c.in_ok-passed.passed c.in_ok-passed.failed = search rules in
     err-any _ _ (kept-begun c.args.traces (g.F.FilesByName.bytes_at c.args.files.now) (g.F.FilesByName.unreadable c.args.files.now)
     (map string_bytes c.args.names.now) _ _ _ _ c.in_ok-passed.passed c.in_ok-passed.failed c.as_bytes.result.now c.in_ok-passed.ensures.tested text
-    c.in_ok-write.ensures.written c.flush.ensures.kept)
+    c.in_ok-write.ensures.written c.flush.ensures.unchanged)

@@ -1,34 +1,43 @@
 use Rattle.std.proofs.Common.{inl, inr, refl, rules, ◌≡◌}
 use Rattle.noise_lines.specs.Verdicts.{IsJudged}
 use Rattle.noise_vectors.specs.Expectations.{bytes_of}
-use Rattle.noise_tool.specs.TracedText.{front_of}
+use Rattle.noise_tool.specs.Testing.{IsPieceOf, below_of}
 use Rattle.noise_tool.proofs.TestingLemmas.{err-any, judged-begun, judged-known}
 use Rattle.noise_tool.proofs.testing.write_run.Goals as goal
 
 pub returns-clause-tested : goal.returns-clause-tested
 returns-clause-tested g c =
-    let outcome = c.args.traced.now.outcome in
+    let run = c.args.run.now in
+    let outcome = run.traced.outcome in
+    let verdict = c.in_ok-verdict.verdict in
+    let piece = bytes_of c.in_ok-piece.piece.items in
     let lines : c.deref.result.now ≡ outcome.lines.items = search rules in
     let expected : c.deref-2.result.now ≡ outcome.expected.items = search rules in
-    let judged : IsJudged (bytes_of outcome.lines.items) (bytes_of outcome.expected.items) c.in_ok-verdict.verdict
-    = rw (← lines, ← expected) c.in_ok-verdict.ensures in
-    λ known unreadable runs. record {
-      verdict = c.in_ok-verdict.verdict;
-      front = front_of c.in_ok-verdict.verdict c.args.traced.now;
-      right = judged-known c.args.traces known unreadable c.args.traced.now c.in_ok-verdict.verdict runs judged;
-      printed = c.in_ok-write_verdict.ensures.written;
+    let judged : IsJudged (bytes_of outcome.lines.items) (bytes_of outcome.expected.items) verdict = rw (← lines, ← expected) c.in_ok-verdict.ensures in
+    let piece_is : c.deref-3.result.now ≡ c.in_ok-piece.piece.items = search rules in
+    λ known unreadable runs pattern. record {
+      verdict = verdict;
+      below = below_of c.args.traces verdict piece run.traced;
+      right = judged-known c.args.traces known unreadable run verdict piece runs pattern judged c.in_ok-piece.ensures;
+      printed = rw (← piece_is) c.in_ok-write_verdict.ensures.written;
       met_is = c.is_met.ensures;
     }
 
 pub returns-in_err-verdict-clause-prefix : goal.returns-in_err-verdict-clause-prefix
-returns-in_err-verdict-clause-prefix g c = λ known unreadable runs. err-any _ _ (inl refl)
+returns-in_err-verdict-clause-prefix g c = λ known unreadable runs pattern. err-any _ _ (inl refl)
+
+pub returns-in_err-piece-clause-prefix : goal.returns-in_err-piece-clause-prefix
+returns-in_err-piece-clause-prefix g c = λ known unreadable runs pattern. err-any _ _ (inl refl)
 
 pub returns-in_err-write_verdict-clause-prefix : goal.returns-in_err-write_verdict-clause-prefix
 returns-in_err-write_verdict-clause-prefix g c =
-    let outcome = c.args.traced.now.outcome in
+    let run = c.args.run.now in
+    let outcome = run.traced.outcome in
+    let verdict = c.in_ok-verdict.verdict in
+    let piece = bytes_of c.in_ok-piece.piece.items in
     let lines : c.deref.result.now ≡ outcome.lines.items = search rules in
     let expected : c.deref-2.result.now ≡ outcome.expected.items = search rules in
-    let judged : IsJudged (bytes_of outcome.lines.items) (bytes_of outcome.expected.items) c.in_ok-verdict.verdict
-    = rw (← lines, ← expected) c.in_ok-verdict.ensures in
-    λ known unreadable runs. err-any _ _ (inr (judged-begun c.args.traces known unreadable c.args.name.now c.args.traced.now c.in_ok-verdict.verdict _ _ runs judged
-    c.in_err-write_verdict.ensures.prefix))
+    let judged : IsJudged (bytes_of outcome.lines.items) (bytes_of outcome.expected.items) verdict = rw (← lines, ← expected) c.in_ok-verdict.ensures in
+    let piece_is : c.deref-3.result.now ≡ c.in_ok-piece.piece.items = search rules in
+    λ known unreadable runs pattern. err-any _ _ (inr (judged-begun c.args.traces known unreadable c.args.name.now run verdict piece _ _ runs pattern judged
+    c.in_ok-piece.ensures (rw (← piece_is) c.in_err-write_verdict.ensures.prefix)))

@@ -1,13 +1,13 @@
 use Rattle.std.proofs.Common.{◌≡◌, ◌∙◌, ap, sym, subst, ℕ, None}
 use Rattle.noise_names.specs.declared.token.Role.TheVariants.{Initiator, Responder}
 use Rattle.noise_names.specs.Plan.{Plan}
-use Rattle.noise_duel.specs.HeldDuel.{DuelStands, facing_as}
+use Rattle.noise_duel.specs.DuelValue.{DuelMatches, both_sides}
 use Rattle.noise_duel.specs.Messages.{begun_as}
 use Rattle.noise_session.specs.Ends.{end_of}
 use Rattle.noise_vectors.specs.Expectations.{bytes_of}
 use Rattle.noise_vectors.specs.FileKeys.{public_of, agreement_of}
 use Rattle.noise_tool.specs.Ends.{setup_of, start_of}
-use Rattle.noise_tool.specs.TracedEnds.{TracedStands}
+use Rattle.noise_tool.specs.TracedEnds.{TracedMatches}
 use Rattle.noise_tool.specs.Tracing.{start_traces}
 use Rattle.noise_tool.proofs.EndLemmas.{same-setup, same-start}
 use Rattle.noise_tool.proofs.traced_ends.make_traced_ends.Goals as goal
@@ -16,31 +16,29 @@ pub returns-clause-ends : goal.returns-clause-ends
 returns-clause-ends c =
     let file = c.args.file in
     let a = c.in_ok-initiator.ensures.handshakes in
-    let same = c.in_ok-initiator.ensures.same in
-    let plan_is : c.pattern.result.now ≡ a.plan = c.pattern.ensures.same ∙ a.initiator.pattern in
+    let same = c.in_ok-initiator.ensures.value in
+    let plan_is : c.pattern.result.now ≡ a.plan = c.pattern.ensures.value ∙ a.initiator.pattern in
     let follows = c.follow.ensures _ a.initiator (ap public_of (sym c.requires.initiator)) (ap agreement_of (sym c.requires.initiator)) in
     let follows-2 = c.follow-2.ensures _ a.responder (ap public_of (sym c.requires.responder)) (ap agreement_of (sym c.requires.responder)) in
     record {
       plan = a.plan;
-      pattern = a.pattern;
-      valid = a.valid;
-      set_up = a.set_up;
-      stands = subst (λ (i : ℕ). DuelStands public_of agreement_of public_of agreement_of c.in_ok-duel.duel
-          (facing_as (end_of (begun_as a.plan Initiator (start_of file a.plan Initiator)) i)
+      of_file = a.of_file;
+      matches = subst (λ (i : ℕ). DuelMatches public_of agreement_of public_of agreement_of c.in_ok-duel.duel
+          (both_sides (end_of (begun_as a.plan Initiator (start_of file a.plan Initiator)) i)
           (end_of (begun_as a.plan Responder (start_of file a.plan Responder)) i)))
           same.0 (c.in_ok-duel.ensures _ _ a.initiator a.responder);
       traced = record {
-        initiator = subst (λ (i : ℕ). TracedStands c.follow.result (end_of (begun_as a.plan Initiator (start_of file a.plan Initiator)) i)) same.0 follows.1;
+        initiator = subst (λ (i : ℕ). TracedMatches c.follow.result (end_of (begun_as a.plan Initiator (start_of file a.plan Initiator)) i)) same.0 follows.1;
         responder =
-            subst (λ (i : ℕ). TracedStands c.follow-2.result (end_of (begun_as a.plan Responder (start_of file a.plan Responder)) i)) same.0 follows-2.1;
+            subst (λ (i : ℕ). TracedMatches c.follow-2.result (end_of (begun_as a.plan Responder (start_of file a.plan Responder)) i)) same.0 follows-2.1;
         first = follows.0;
         second = follows-2.0;
       };
       lines =
-          subst (λ (p : Plan). bytes_of c.in_ok-lines.lines.items ≡ start_traces c.args.kept c.args.again p) plan_is
+          subst (λ (p : Plan). bytes_of c.in_ok-lines.lines.items ≡ start_traces c.args.selection c.args.again p) plan_is
           (c.in_ok-lines.ensures (λ role. subst (λ (p : Plan). setup_of c.args.again p role ≡ None) (sym plan_is)
-          (same-setup file c.args.again a.plan role c.requires ∙ a.set_up role)))
-          ∙ same-start c.args.kept file c.args.again a.plan c.requires;
+          (same-setup file c.args.again a.plan role c.requires ∙ a.of_file.set_up role)))
+          ∙ same-start c.args.selection file c.args.again a.plan c.requires;
       events = same.1;
       version = same.2;
     }

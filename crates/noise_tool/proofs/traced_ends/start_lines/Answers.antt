@@ -13,9 +13,9 @@ returns c = λ set_up.
     let file = c.args.file.now in
     let plan = c.args.pattern.now in
     let known : c.known_before-of_responder.result ≡ known_before plan Responder (public_of file.responder) =
-    c.known_before-of_responder.ensures ∙ ap (λ (z : Plan). known_before z Responder (public_of file.responder)) c.pattern-2.ensures.same in
+    c.known_before-of_responder.ensures ∙ ap (λ (z : Plan). known_before z Responder (public_of file.responder)) c.pattern-2.ensures.value in
     let known-2 : c.known_before-of_initiator.result ≡ known_before plan Initiator (public_of file.initiator) =
-    c.known_before-of_initiator.ensures ∙ ap (λ (z : Plan). known_before z Initiator (public_of file.initiator)) c.pattern.ensures.same in
+    c.known_before-of_initiator.ensures ∙ ap (λ (z : Plan). known_before z Initiator (public_of file.initiator)) c.pattern.ensures.value in
     let text : c.deref.result.now ≡ file.prologue.items = search rules in
     let text-2 : c.deref-2.result.now ≡ file.prologue.items = search rules in
     let head = rw c.new-lines.ensures.items at c.in_ok-push_heading.ensures in
@@ -25,5 +25,5 @@ returns c = λ set_up.
     (ap (λ (r : Remote). setup_fault plan Responder (public_of file.responder) r (length file.psks.items)) known-2 ∙ set_up Responder) in
     second ∙ ap₂ (λ (s t : List (List ℕ)). s ++ t)
     (first ∙ ap₂ (λ (s t : List (List ℕ)). s ++ t) head
-    (ap₂ (λ (t : List ℕ) (r : Remote). start_lines_of c.args.kept Initiator plan t file.initiator r) text known))
-    (ap₂ (λ (t : List ℕ) (r : Remote). start_lines_of c.args.kept Responder plan t file.responder r) text-2 known-2)
+    (ap₂ (λ (t : List ℕ) (r : Remote). start_lines_of c.args.selection Initiator plan t file.initiator r) text known))
+    (ap₂ (λ (t : List ℕ) (r : Remote). start_lines_of c.args.selection Responder plan t file.responder r) text-2 known-2)

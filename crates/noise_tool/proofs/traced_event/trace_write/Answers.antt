@@ -1,17 +1,17 @@
 use Rattle.std.proofs.Common.{◌++◌, ◌∷◌, ◌∙◌, [], ap, List, ℕ}
 use Rattle.noise_duel.specs.Sides.{side}
-use Rattle.noise_lines.specs.Woven.{traces_of}
+use Rattle.noise_lines.specs.TracedLines.{traces_of}
 use Rattle.noise_tool.specs.TracedEnds.{entry_frame}
 use Rattle.noise_tool.proofs.EventLemmas.{written-frame}
 use Rattle.noise_tool.proofs.ReceivedLemmas.{traces-push}
 use Rattle.noise_tool.proofs.traced_event.trace_write.Goals as goal
 
 pub returns : goal.returns
-returns c = λ d last next payload note w traced frames same told.
+returns c = λ d last next payload note w traced frames same reported.
     let role = c.args.role in
-    let framed = c.frame_of-frame.ensures last frames ∙ ap (entry_frame (side last role)) told
+    let framed = c.frame_of-frame.ensures last frames ∙ ap (entry_frame (side last role)) reported
     ∙ written-frame (side d role) next (side last role) payload note w same in
-    let h = c.in_ok-lines.ensures d next payload note w traced told framed in (
+    let h = c.in_ok-lines.ensures d next payload note w traced reported framed in (
       ap traces_of c.in_ok-push.ensures.items ∙ traces-push c.args.traces.now.items c.in_ok-lines.lines
           ∙ ap (λ (x : List (List ℕ)). traces_of c.args.traces.now.items ++ x ∷ []) h.0,
       h.1,

@@ -1,5 +1,5 @@
 use Rattle.std.proofs.Common.{◌++◌, ◌∷◌, ◌∙◌, [], sym, ap, ℕ, List, append-nil}
-use Rattle.noise_lines.specs.Woven.{traces_of}
+use Rattle.noise_lines.specs.TracedLines.{traces_of}
 use Rattle.noise_tool.specs.Running.{datagrams_in}
 use Rattle.noise_tool.proofs.LastTraceLemmas.{last-goes, last-stays, ready-over}
 use Rattle.noise_tool.proofs.ReceivedLemmas.{traces-push}
@@ -13,11 +13,11 @@ returns-in_ok-push c = λ d st tr after are_last.
     let lines = c.in_ok-datagram_keys.ensures d tr (ready-over over d test) in
     ap traces_of c.in_ok-push.ensures.items ∙ traces-push c.args.traces.now.items c.in_ok-datagram_keys.field-0
     ∙ ap (λ (x : List (List ℕ)). old ++ x ∷ []) lines
-    ∙ ap (λ (xs : List (List (List ℕ))). old ++ xs) (sym (last-goes c.args.kept over d after are_last test))
+    ∙ ap (λ (xs : List (List (List ℕ))). old ++ xs) (sym (last-goes c.args.selection over d after are_last test))
 
 pub returns-else-goes_over : goal.returns-else-goes_over
 returns-else-goes_over c = λ d st tr after are_last.
     let over = datagrams_in c.args.version.now in
     let old = traces_of c.args.traces.now.items in
     let test = sym (c.goes_over.ensures d st) ∙ c.if-goes_over.false in
-    sym (append-nil old) ∙ ap (λ (xs : List (List (List ℕ))). old ++ xs) (sym (last-stays c.args.kept over d after are_last test))
+    sym (append-nil old) ∙ ap (λ (xs : List (List (List ℕ))). old ++ xs) (sym (last-stays c.args.selection over d after are_last test))

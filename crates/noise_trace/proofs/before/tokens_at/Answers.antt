@@ -4,7 +4,7 @@ use Rattle.noise_trace.proofs.before.tokens_at.Goals as goal
 
 pub returns-then-i-messages-clause-tokens : goal.returns-then-i-messages-clause-tokens
 returns-then-i-messages-clause-tokens c =
-    c.tokens.ensures.same ∙ c.index-messages-i.is ∙ tokens_at-read c.args.messages.now c.args.i c.index-messages-i.result c.if-i-messages.true
+    c.tokens.ensures.value ∙ c.index-messages-i.is ∙ tokens_at-read c.args.messages.now c.args.i c.index-messages-i.result c.if-i-messages.true
 
 pub returns-else-i-messages-clause-tokens : goal.returns-else-i-messages-clause-tokens
 returns-else-i-messages-clause-tokens c = tokens_at-none c.args.messages.now c.args.i c.if-i-messages.false

@@ -1,6 +1,6 @@
 use Rattle.std.proofs.Common.{◌≡◌, ℕ, List, length, take, ap, subst, ◌∙◌, arith, length-take}
 use Rattle.std.specs.Prelude.{Some}
-use Rattle.noise_state.specs.Standing.{StateStands}
+use Rattle.noise_state.specs.Standing.{StateMatches}
 use Rattle.noise_state.specs.History.{Ciphertext, and_then, ciphertext}
 use Rattle.noise_trace.proofs.own.send_s.Goals as goal
 
@@ -13,5 +13,5 @@ returns-in-Ok-clause-sent c r s =
     let sent : take n new ≡ ciphertext r key = d.0 ∙ ap (ciphertext r) c.with_room-buffer.ensures in
     let wide : n ≡ length (ciphertext r key) = omega (arith, ap length sent, length-take n new, c.in-Ok.ensures.range) in (
       ap (λ (k : ℕ). Some k) wide,
-      subst (λ (z : List ℕ). StateStands c.encrypt_and_hash.new.self (and_then r (Ciphertext (ciphertext r z)))) c.with_room-buffer.ensures d.1,
+      subst (λ (z : List ℕ). StateMatches c.encrypt_and_hash.new.self (and_then r (Ciphertext (ciphertext r z)))) c.with_room-buffer.ensures d.1,
     )

@@ -1,16 +1,15 @@
 use Rattle.std.proofs.Common.{◌≡◌, ℕ, List, [], sym, ap, subst, ◌∙◌}
 use Rattle.std.specs.Prelude.{Bool, not, None}
 use Rattle.noise_names.specs.declared.token.Token.{Token}
-use Rattle.noise_names.specs.declared.token.Token.TheVariants.{E, S}
 use Rattle.noise_names.specs.declared.token.Role.TheVariants.{Initiator, Responder}
 use Rattle.noise_names.specs.Names.{name_bytes}
 use Rattle.noise_names.specs.Plan.{Plan, has_psk}
 use Rattle.noise_state.specs.History.{History, MixHash, and_then}
 use Rattle.noise_handshake.specs.declared.remote.Remote.{Remote}
-use Rattle.noise_handshake.specs.Setup.{has_token, keys_of, public_keys, setup_fault}
-use Rattle.noise_handshake.specs.View.{with_premessage}
+use Rattle.noise_handshake.specs.Setup.{keys_of, public_keys, setup_fault}
+use Rattle.noise_handshake.specs.Party.{with_premessage}
 use Rattle.noise_trace.specs.Start.{start_steps}
-use Rattle.std.specs.Prelude.{is_some, true}
+use Rattle.noise_trace.specs.inner.PreMessages.{HasKeys}
 use Rattle.noise_trace.proofs.PreMessages.{flips, has-keys, made-is, in-turn}
 use Rattle.noise_trace.proofs.start.start_steps.Goals as goal
 
@@ -19,11 +18,11 @@ returns g c n none =
     let p : Plan = c.pattern-plan.result.now in
     let own = g.K.Keys.public_of c.args.keys.now in
     let known : Remote = c.args.remote.now in
-    let same : p ≡ c.args.pattern.now = c.pattern-plan.ensures.same in
+    let same : p ≡ c.args.pattern.now = c.pattern-plan.ensures.value in
     let fault : setup_fault p c.args.role own known n ≡ None =
     subst (λ (z : Plan). setup_fault z c.args.role own known n ≡ None) (sym same) none in
-    let b : Bool = not c.is_plain-psks.result in
-    let psks : b ≡ has_psk p = flips c.is_plain-psks.result (has_psk p) c.is_plain-psks.ensures in
+    let b : Bool = not c.is_plain-has_psks.result in
+    let has_psks : b ≡ has_psk p = flips c.is_plain-has_psks.result (has_psk p) c.is_plain-has_psks.ensures in
     let name : List ℕ = c.deref.result.now in
     let named = c.deref.ensures.0 ∙ c.write-name.ensures.written ∙ ap name_bytes c.name.ensures in
     let first : List Token = c.pre-first.result.now in
@@ -38,21 +37,19 @@ returns g c n none =
     c.keys_of-responder.ensures ∙ ap (λ (z : Remote). keys_of Responder c.args.role z known) c.public_keys-own.ensures in
     let whole = c.setup_is_whole.ensures.own p c.args.role own known n fault in
     let remote = c.setup_is_whole.ensures.remote p c.args.role own known n fault in
-    let ki = has-keys p own known (c.tokens_stand.ensures.before p) Initiator c.args.role whole remote in
-    let kr = has-keys p own known (c.tokens_stand.ensures.before p) Responder c.args.role whole remote in
+    let ki = has-keys p own known (c.tokens_match.ensures.before p) Initiator c.args.role whole remote in
+    let kr = has-keys p own known (c.tokens_match.ensures.before p) Responder c.args.role whole remote in
     let r0 : History = record { name = name; entries = [] } in
     let r1 : History = and_then r0 (MixHash prologue) in
-    let s0 = c.new-state.ensures.stands in
-    let s1 = c.mix_hash.ensures.stands r0 s0 in
+    let s0 = c.new-state.ensures.matches in
+    let s1 = c.mix_hash.ensures.matches r0 s0 in
     let a = c.mix_keys.ensures.mixed r1 s1
-    (λ h. subst (λ (z : Remote). is_some z.e ≡ true) (sym ei) (ki.0 (subst (λ (ts : List Token). has_token E ts ≡ true) c.pre-first.ensures.same h)))
-    (λ h. subst (λ (z : Remote). is_some z.s ≡ true) (sym ei) (ki.1 (subst (λ (ts : List Token). has_token S ts ≡ true) c.pre-first.ensures.same h))) in
+    (subst (λ (z : Remote). HasKeys z first) (sym ei) (subst (λ (ts : List Token). HasKeys (keys_of Initiator c.args.role ours known) ts) (sym c.pre-first.ensures.value) ki)) in
     let d = c.mix_keys-2.ensures.mixed (with_premessage b initiator first r1) a.0
-    (λ h. subst (λ (z : Remote). is_some z.e ≡ true) (sym er) (kr.0 (subst (λ (ts : List Token). has_token E ts ≡ true) c.pre-second.ensures.same h)))
-    (λ h. subst (λ (z : Remote). is_some z.s ≡ true) (sym er) (kr.1 (subst (λ (ts : List Token). has_token S ts ≡ true) c.pre-second.ensures.same h))) in
+    (subst (λ (z : Remote). HasKeys z second) (sym er) (subst (λ (ts : List Token). HasKeys (keys_of Responder c.args.role ours known) ts) (sym c.pre-second.ensures.value) kr)) in
     let all : c.mix_keys-2.new.steps.items ≡ start_steps p c.args.role prologue ours known =
     in-turn b first second name prologue initiator responder c.new-steps.result.items c.add_step.new.steps.items c.add_step-2.new.steps.items
     c.mix_keys.new.steps.items c.mix_keys-2.new.steps.items c.new-steps.ensures (c.add_step.ensures.added r0 s0) (c.add_step-2.ensures.added r1 s1) a.1 d.1
     ∙ made-is p b first second name prologue initiator responder (keys_of Initiator c.args.role ours known) (keys_of Responder c.args.role ours known)
-    psks c.pre-first.ensures.same c.pre-second.ensures.same named ei er in
+    has_psks c.pre-first.ensures.value c.pre-second.ensures.value named ei er in
     subst (λ (z : Plan). c.mix_keys-2.new.steps.items ≡ start_steps z c.args.role prologue ours known) same all

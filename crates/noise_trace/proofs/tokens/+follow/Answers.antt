@@ -5,7 +5,7 @@ use Rattle.noise_names.specs.declared.token.Token.{Token}
 use Rattle.noise_state.specs.History.{History}
 use Rattle.noise_handshake.specs.declared.remote.Remote.{Remote}
 use Rattle.noise_handshake.specs.Message.{token_bytes, after_token, before_payload}
-use Rattle.noise_handshake.specs.View.{Reader, secrets_after}
+use Rattle.noise_handshake.specs.Party.{Reader, psks_after}
 use Rattle.noise_trace.specs.inner.Carried.{known_next, Carries}
 use Rattle.noise_trace.proofs.Fronts.{parted, followed-on}
 use Rattle.noise_trace.proofs.tokens.+follow.Goals as goal
@@ -13,17 +13,17 @@ use Rattle.std.proofs.lemmas.Option.{same_Some}
 
 pub returns-clause-followed : goal.returns-clause-followed
 returns-clause-followed g t c r xs more s carries spelled =
-    let v : Reader = record { role = c.args.means.now.role; psks = c.args.means.now.psks; agree = g.K.Keys.agreement c.args.means.now.keys.now } in
+    let v : Reader = record { role = c.args.means.now.role; has_psks = c.args.means.now.has_psks; agree = g.K.Keys.agreement c.args.means.now.keys.now } in
     let m : List ℕ = c.args.means.now.message.now in
     let from : ℕ = c.args.from in
     let reads : Bool = c.args.means.now.reads in
     let known : Remote = c.args.known.now in
     let token : Token = c.in-Some.token.now in
     let later : List Token = c.in-Some.later.now in
-    let p = parted reads v known c.args.secrets.now r c.args.tokens.now token later xs more (drop from m) c.in-Some.ensures.cases.0 carries spelled in
+    let p = parted reads v known c.args.psks.now r c.args.tokens.now token later xs more (drop from m) c.in-Some.ensures.cases.0 carries spelled in
     let piece : List ℕ = token_bytes r token p.first in
-    let after : History = after_token v.psks r token p.first in
-    let tail : List ℕ = before_payload v.psks after later p.others ++ more in
+    let after : History = after_token v.has_psks r token p.first in
+    let tail : List ℕ = before_payload v.has_psks after later p.others ++ more in
     let d = c.follow_one.ensures.followed r p.first tail s p.fits p.spelled in
     let to : ℕ = c.in_ok-to.to in
     let learned : Remote = c.in_ok-to.learned in
@@ -33,8 +33,8 @@ returns-clause-followed g t c r xs more s carries spelled =
     let knows : learned ≡ known_next reads known token p.first = ap (λ (q : ℕ × Remote). q.1) same in
     let here : drop to m ≡ tail =
     ap (λ (n : ℕ). drop n m) place ∙ sym (drop-drop (length piece) from m) ∙ ap (drop (length piece)) p.spelled ∙ drop_at piece tail (length piece) refl in
-    let c1 = subst (λ (z : Remote). Carries reads v z (secrets_after c.args.secrets.now token) later p.others) (sym knows) p.carries in
-    let c2 = subst (λ (z : List (List ℕ)). Carries reads v learned z later p.others) (sym c.secrets_after-others.ensures) c1 in
-    followed-on v.psks r reads known learned c.args.tokens.now later token xs p.others p.first from to c.follow.new.state c.follow.result
+    let c1 = subst (λ (z : Remote). Carries reads v z (psks_after c.args.psks.now token) later p.others) (sym knows) p.carries in
+    let c2 = subst (λ (z : List (List ℕ)). Carries reads v learned z later p.others) (sym c.psks_after-others.ensures) c1 in
+    followed-on v.has_psks r reads known learned c.args.tokens.now later token xs p.others p.first from to c.follow.new.state c.follow.result
     c.args.steps.now.items c.follow_one.new.steps.items c.follow.new.steps.items c.in-Some.ensures.cases.0 p.parts place knows d.2
     (c.follow.ensures.followed after p.others more d.1 c2 here)

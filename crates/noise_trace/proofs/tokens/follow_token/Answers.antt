@@ -2,31 +2,31 @@ use Rattle.std.proofs.Common.{◌≡◌, ℕ, List, ◌++◌, length, sym, ap, s
 use Rattle.std.specs.Prelude.{Option, Some}
 use Rattle.noise_handshake.specs.declared.remote.Remote.{Remote}
 use Rattle.noise_names.specs.declared.token.Token.{Token}
-use Rattle.noise_state.specs.Standing.{StateStands}
+use Rattle.noise_state.specs.Standing.{StateMatches}
 use Rattle.noise_handshake.specs.Message.{token_bytes, after_token}
-use Rattle.noise_handshake.specs.View.{Reader, Fits, known_after}
+use Rattle.noise_handshake.specs.Party.{Reader, Fits, known_after}
 use Rattle.noise_trace.proofs.tokens.follow_token.Goals as goal
 use Rattle.std.proofs.lemmas.Option.{same_Some}
 
 pub returns-in_err-width-in-E-clause-followed : goal.returns-in_err-width-in-E-clause-followed
 returns-in_err-width-in-E-clause-followed g c r x more s f e =
-    let v : Reader = record { role = c.args.means.now.role; psks = c.args.means.now.psks; agree = g.K.Keys.agreement c.args.means.now.keys.now } in
-    let long : length x ≡ 32 = subst (λ (t : Token). Fits v c.args.known.now c.args.secrets.now t x) c.in-E.is f in
+    let v : Reader = record { role = c.args.means.now.role; has_psks = c.args.means.now.has_psks; agree = g.K.Keys.agreement c.args.means.now.keys.now } in
+    let long : length x ≡ 32 = subst (λ (t : Token). Fits v c.args.known.now c.args.psks.now t x) c.in-E.is f in
     let here : c.args.rest.now ≡ x ++ more = subst (λ (t : Token). c.args.rest.now ≡ token_bytes r t x ++ more) c.in-E.is e in
-    let told = (c.take_e.ensures.taken r x more s long here).0 in
+    let reported = (c.take_e.ensures.taken r x more s long here).0 in
     let was = c.in_err-width-in-E.was in absurd (cc)
 
 pub returns-in_ok-width-in-E-clause-followed : goal.returns-in_ok-width-in-E-clause-followed
 returns-in_ok-width-in-E-clause-followed g c r x more s f e =
-    let v : Reader = record { role = c.args.means.now.role; psks = c.args.means.now.psks; agree = g.K.Keys.agreement c.args.means.now.keys.now } in
-    let long : length x ≡ 32 = subst (λ (t : Token). Fits v c.args.known.now c.args.secrets.now t x) c.in-E.is f in
+    let v : Reader = record { role = c.args.means.now.role; has_psks = c.args.means.now.has_psks; agree = g.K.Keys.agreement c.args.means.now.keys.now } in
+    let long : length x ≡ 32 = subst (λ (t : Token). Fits v c.args.known.now c.args.psks.now t x) c.in-E.is f in
     let here : c.args.rest.now ≡ x ++ more = subst (λ (t : Token). c.args.rest.now ≡ token_bytes r t x ++ more) c.in-E.is e in
-    let told = c.take_e.ensures.taken r x more s long here in
+    let reported = c.take_e.ensures.taken r x more s long here in
     let same : ◌≡◌ {A = ℕ × List ℕ} (c.in_ok-width-in-E.width, c.in_ok-width-in-E.key) (length x, x) =
-    same_Some {A = ℕ × List ℕ} (c.in_ok-width-in-E.width, c.in_ok-width-in-E.key) (length x, x) (sym c.in_ok-width-in-E.was ∙ told.0) in
+    same_Some {A = ℕ × List ℕ} (c.in_ok-width-in-E.width, c.in_ok-width-in-E.key) (length x, x) (sym c.in_ok-width-in-E.was ∙ reported.0) in
     let all : ◌≡◌ {A = Option (ℕ × Remote)} (Some (c.in_ok-width-in-E.width, record c.args.known.now { e = Some c.in_ok-width-in-E.key }))
     (Some (length x, record c.args.known.now { e = Some x })) =
     ap (λ (q : ℕ × List ℕ). Some (q.0, record c.args.known.now { e = Some q.1 })) same in
     subst (λ (t : Token). (◌≡◌ {A = Option (ℕ × Remote)} (Some (c.in_ok-width-in-E.width, record c.args.known.now { e = Some c.in_ok-width-in-E.key }))
-    (Some (length (token_bytes r t x), known_after c.args.known.now t x))) × StateStands c.take_e.new.state (after_token v.psks r t x))
-    (sym c.in-E.is) (all, told.1)
+    (Some (length (token_bytes r t x), known_after c.args.known.now t x))) × StateMatches c.take_e.new.state (after_token v.has_psks r t x))
+    (sym c.in-E.is) (all, reported.1)

@@ -1,6 +1,6 @@
 use Rattle.std.proofs.Common.{ℕ, ◌≤◌, List, length, ap, subst, ◌∙◌, arith}
 use Rattle.std.specs.Prelude.{Some}
-use Rattle.noise_state.specs.Standing.{StateStands, keyed}
+use Rattle.noise_state.specs.Standing.{StateMatches, keyed}
 use Rattle.noise_state.specs.History.{Ciphertext, and_then}
 use Rattle.noise_trace.proofs.Keys.{opened-is, under}
 use Rattle.noise_trace.proofs.tokens.open_key.Goals as goal
@@ -12,5 +12,5 @@ returns-in-Ok-clause-opened c r x s h e =
     let d = c.in-Ok.ensures.ok r s in
     let in_range : n ≤ length new = omega (arith, under (keyed c.args.state.now) n, c.in-Ok.ensures.text) in (
       ap (λ (k : List ℕ). Some k) (c.first_32.ensures ∙ opened-is r x c.args.buffer.now new n h e d.0 in_range),
-      subst (λ (z : List ℕ). StateStands c.decrypt_and_hash.new.self (and_then r (Ciphertext z))) e d.1,
+      subst (λ (z : List ℕ). StateMatches c.decrypt_and_hash.new.self (and_then r (Ciphertext z))) e d.1,
     )

@@ -1,11 +1,9 @@
-use Rattle.std.proofs.Common.{rules, ◌≡◌, ◌∙◌, ◌+◌, ap, inl, inr, subst, true, ℕ, []}
+use Rattle.std.proofs.Common.{rules, ◌≡◌, ◌∙◌, ap, inl, inr, subst, true, ℕ, []}
 use Rattle.std.proofs.lemmas.Result.{err_from_is_err_and}
 use Rattle.noise_vectors.specs.VectorFile.{IsAllowedVersion, IsVersion}
 use Rattle.noise_vectors.specs.VectorText.{expect_words, lines_of, version_text}
 use Rattle.noise_vectors.proofs.AdditionLemmas.{expected-after, no-datagrams, second-has}
-use Rattle.noise_vectors.specs.ReaderFaults.{TellsAfter, expect_lines}
-use Rattle.noise_vectors.specs.WrongLine.{line_feeds}
-use Rattle.noise_vectors.proofs.ToldLemmas.{low-of}
+use Rattle.noise_vectors.specs.ReaderFaults.{ReportsAfter, expect_lines}
 use Rattle.noise_vectors.proofs.additions.read_version.Goals as goal
 
 pub returns-in_err-datagrams-clause-every : goal.returns-in_err-datagrams-clause-every
@@ -31,19 +29,19 @@ returns-in_err-expected-clause-every c =
     (expected-after a.expected.items) (e ∙ ap version_text is) in
     rw (p.1, p.2) (c.in_err-expected.ensures.every a.expected.items h.1 read)
 
-pub returns-in_err-datagrams-clause-told : goal.returns-in_err-datagrams-clause-told
-returns-in_err-datagrams-clause-told c =
+pub returns-in_err-datagrams-clause-reported : goal.returns-in_err-datagrams-clause-reported
+returns-in_err-datagrams-clause-reported c =
     let p = err_from_is_err_and c.from_residual-in_err-datagrams.result c.from_residual-in_err-datagrams.ensures.1 in
-    let second : c.args.second ≡ true = search rules in λ low over.
-    rw (p.1, p.2) (inr (second, inl (c.in_err-datagrams.ensures.told low)))
+    let second : c.args.second ≡ true = search rules in λ over.
+    rw (p.1, p.2) (inr (second, inl c.in_err-datagrams.ensures.reported))
 
-pub returns-in_err-expected-clause-told : goal.returns-in_err-expected-clause-told
-returns-in_err-expected-clause-told c =
+pub returns-in_err-expected-clause-reported : goal.returns-in_err-expected-clause-reported
+returns-in_err-expected-clause-reported c =
     let p = err_from_is_err_and c.from_residual-in_err-expected.result c.from_residual-in_err-expected.ensures.1 in
-    let second : c.args.second ≡ true = search rules in λ low over.
-    let n = c.in_ok-datagrams.ensures.counted low in
+    let second : c.args.second ≡ true = search rules in λ over.
+    let n = c.in_ok-datagrams.ensures.counted in
     let after = c.read_datagrams.new.lines.rest.now in
-    let tells = c.in_err-expected.ensures.told (low-of (c.args.lines.now.number + line_feeds c.args.lines.now.rest.now) c.read_datagrams.new.lines.number after low n) in
+    let reports = c.in_err-expected.ensures.reported in
     rw (p.1, p.2) (inr (
       second,
       inr (record {
@@ -52,7 +50,7 @@ returns-in_err-expected-clause-told c =
         is_allowed = c.in_ok-datagrams.ensures.allowed;
         after = after;
         text_is = c.in_ok-datagrams.ensures.text;
-        stands = c.in_ok-datagrams.ensures.over over;
-        it = subst (λ (n : ℕ). TellsAfter expect_lines after n c.in_err-expected.field-0.0) n tells;
+        stands = c.in_ok-datagrams.ensures.ended over;
+        it = subst (λ (n : ℕ). ReportsAfter expect_lines after n c.in_err-expected.field-0.0) n reports;
       }),
     ))

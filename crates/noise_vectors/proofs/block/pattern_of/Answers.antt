@@ -3,8 +3,8 @@ use Rattle.noise_vectors.proofs.HeadingLemmas.{heading-one, other-name}
 use Rattle.noise_vectors.proofs.block.pattern_of.Goals.{in_default-via-in-Ok+else-eq, in_default-via-in-Err+else-has_heading}
 use Rattle.noise_vectors.proofs.block.pattern_of.Goals as goal
 
-pub returns-in_default-clause-told : goal.returns-in_default-clause-told
-returns-in_default-clause-told c = λ right.
+pub returns-in_default-clause-reported : goal.returns-in_default-clause-reported
+returns-in_default-clause-reported c = λ right.
     let name = c.args.protocol.now in
     elim c.in_default.branch [
       | in_default-via-in-Ok+else-eq w ↦

@@ -4,15 +4,14 @@ use Rattle.std.proofs.lemmas.Slice.Eq.{bytes_eq-Decides}
 use Rattle.noise_vectors.specs.VectorText.{line}
 use Rattle.noise_vectors.proofs.BlockLemmas.{front-is, Left-last, Left-next, Left-start, Left-step, Read-end, Read-none, Read-open, Read-step}
 use Rattle.noise_vectors.proofs.LineLemmas.{Ends-after, Ends-whole}
-use Rattle.noise_vectors.specs.WrongLine.{line_feeds}
-use Rattle.noise_vectors.proofs.PartLemmas.{block-ending}
+use Rattle.noise_vectors.specs.declared.faults.LineKind.TheVariants as kinds
+use Rattle.noise_vectors.specs.declared.faults.VectorFault.TheVariants.{Line}
 use Rattle.std.proofs.lemmas.Result.{err_from_is_err_and}
-use Rattle.noise_vectors.proofs.ToldLemmas.{counted-last, counted-none, counted-step}
+use Rattle.noise_vectors.proofs.ReportedLemmas.{counted-ended, counted-last, ending-reported}
 use Rattle.noise_vectors.proofs.block.take_block.Goals as goal
-use Rattle.std.proofs.lemmas.Bool.{false_from_ne_true, false≢true}
 
 pub loop-lines-init : goal.loop-lines-init
-loop-lines-init c = (([], refl), λ before rest h e. Left-start rest before c.args.lines.now.rest.now h e, λ low. refl, Read-none c.args.lines.now.rest.now)
+loop-lines-init c = (([], refl), λ before rest h e. Left-start rest before c.args.lines.now.rest.now h e, refl, Read-none c.args.lines.now.rest.now)
 
 pub returns-in_err-next-clause-every : goal.returns-in_err-next-clause-every
 returns-in_err-next-clause-every c = λ before rest h e.
@@ -25,13 +24,12 @@ returns-then-eq-clause-text c =
     let left = c.loop-lines.lines.rest.now in
     λ ended. Ends-whole text left c.loop-lines.invariant.0
     ∙ ap (λ (t : List ℕ). take (length text - length left) text ++ t)
-    (c.in_ok-next.ensures.ended ended ∙ ap (λ (t : List ℕ). line t c.next.new.self.rest.now) last)
+    (c.in_ok-next.ensures.read.ended ended ∙ ap (λ (t : List ℕ). line t c.next.new.self.rest.now) last)
 
 pub returns-then-eq-clause-block : goal.returns-then-eq-clause-block
 returns-then-eq-clause-block c =
     let last : c.in_ok-next.field-0.now ≡ codes "end" = search rules in
-    Read-end c.args.lines.now.rest.now c.loop-lines.lines.rest.now c.in_ok-next.field-0.now c.next.new.self.rest.now c.next.new.self.is_ended
-    c.loop-lines.invariant.3 c.in_ok-next.ensures.ended c.in_ok-next.ensures.last c.in_ok-next.ensures.plain last
+    Read-end c.args.lines.now.rest.now c.loop-lines.invariant.3 c.in_ok-next.ensures.read last
 
 pub returns-then-eq-clause-every : goal.returns-then-eq-clause-every
 returns-then-eq-clause-every c =
@@ -61,39 +59,39 @@ loop-lines-preserved c =
     let other : ¬ (c.in_ok-next.field-0.now ≡ codes "end") =
     λ e. let yes = (bytes_eq-Decides c.in_ok-next.field-0.now c.as_slice.result.now).1 (e ∙ sym word) in cc (c.eq.ensures, yes) in (
       Ends-after c.args.lines.now.rest.now c.loop-lines.lines.rest.now c.in_ok-next.field-0.now c.next.new.self.rest.now
-          c.loop-lines.invariant.0 (c.in_ok-next.ensures.ended ended),
+          c.loop-lines.invariant.0 (c.in_ok-next.ensures.read.ended ended),
       λ before rest h e.
           let l = Left-step rest c.loop-lines.lines.rest.now c.in_ok-next.field-0.now c.next.new.self.rest.now c.next.new.self.is_ended
           (c.loop-lines.invariant.1 before rest h e) c.in_ok-next.ensures.every other in
           l.0,
-      λ low. counted-step c.loop-lines.lines.number c.next.new.self.number (c.args.lines.now.number + line_feeds c.args.lines.now.rest.now) c.loop-lines.lines.rest.now c.in_ok-next.field-0.now c.next.new.self.rest.now low (c.loop-lines.invariant.2 low) c.next.ensures.number c.in_ok-next.ensures.plain (c.in_ok-next.ensures.ended ended),
+      counted-ended c.in_ok-next.ensures.read ended ∙ c.loop-lines.invariant.2,
       Read-step c.args.lines.now.rest.now c.loop-lines.lines.rest.now c.in_ok-next.field-0.now c.next.new.self.rest.now c.loop-lines.invariant.3
-          (c.in_ok-next.ensures.plain, other) (c.in_ok-next.ensures.ended ended),
+          (c.in_ok-next.ensures.read.plain, other) (c.in_ok-next.ensures.read.ended ended),
     )
 
 pub returns-then-eq-clause-counted : goal.returns-then-eq-clause-counted
-returns-then-eq-clause-counted c = λ low ended.
-    counted-step c.loop-lines.lines.number c.next.new.self.number (c.args.lines.now.number + line_feeds c.args.lines.now.rest.now) c.loop-lines.lines.rest.now c.in_ok-next.field-0.now c.next.new.self.rest.now low (c.loop-lines.invariant.2 low) c.next.ensures.number c.in_ok-next.ensures.plain (c.in_ok-next.ensures.ended ended)
+returns-then-eq-clause-counted c = λ ended. counted-ended c.in_ok-next.ensures.read ended ∙ c.loop-lines.invariant.2
 
 pub returns-then-eq-clause-last : goal.returns-then-eq-clause-last
-returns-then-eq-clause-last c = λ low open_.
-    counted-last c.loop-lines.lines.number c.next.new.self.number (c.args.lines.now.number + line_feeds c.args.lines.now.rest.now) c.loop-lines.lines.rest.now c.in_ok-next.field-0.now low (c.loop-lines.invariant.2 low) c.next.ensures.number c.in_ok-next.ensures.plain (c.in_ok-next.ensures.last open_).0
+returns-then-eq-clause-last c = λ open_. counted-last c.in_ok-next.ensures.read open_ ∙ ap (λ (k : ℕ). k + 1) c.loop-lines.invariant.2
 
-pub returns-in_err-next-clause-told : goal.returns-in_err-next-clause-told
-returns-in_err-next-clause-told c =
+pub returns-in_err-next-clause-reported : goal.returns-in_err-next-clause-reported
+returns-in_err-next-clause-reported c =
     let p = err_from_is_err_and c.from_residual.result c.from_residual.ensures.1 in
-    let none = c.in_err-next.ensures.missing.0 in λ low.
-    rw (p.1, p.2) (block-ending c.args.lines.now.rest.now (c.args.lines.now.number + line_feeds c.args.lines.now.rest.now) c.next.new.self.number _ c.in_err-next.ensures.missing.1
-    (counted-none c.loop-lines.lines.number c.next.new.self.number (c.args.lines.now.number + line_feeds c.args.lines.now.rest.now) c.loop-lines.lines.rest.now low (c.loop-lines.invariant.2 low) c.next.ensures.number none)
-    (Read-open c.args.lines.now.rest.now c.loop-lines.lines.rest.now c.loop-lines.invariant.3 (rw none refl) (λ e. let bad : [] ≡ codes "end" = sym none ∙ e in cc bad)))
+    let none = c.in_err-next.ensures.missing.0 in
+    rw (p.1, p.2) (
+      c.in_err-next.ensures.missing.1 ∙ ap (λ (k : ℕ). Line (k + 1) kinds.Ending) c.loop-lines.invariant.2,
+      Read-open c.args.lines.now.rest.now c.loop-lines.lines.rest.now c.loop-lines.invariant.3 (rw none refl) (λ e. let bad : [] ≡ codes "end" = sym none ∙ e in cc bad),
+    )
 
-pub returns-in_err-end-clause-told : goal.returns-in_err-end-clause-told
-returns-in_err-end-clause-told c =
+pub returns-in_err-end-clause-reported : goal.returns-in_err-end-clause-reported
+returns-in_err-end-clause-reported c =
     let word : c.as_slice.result.now ≡ codes "end" = c.as_slice.ensures in
     let other : ¬ (c.in_ok-next.field-0.now ≡ codes "end") =
     λ e. let yes = (bytes_eq-Decides c.in_ok-next.field-0.now c.as_slice.result.now).1 (e ∙ sym word) in cc (c.eq.ensures, yes) in
-    let last = (c.in_ok-next.ensures.last (false_from_ne_true c.next.new.self.is_ended (λ yes. false≢true (c.in_err-end.ensures.ended.1 yes)))).0 in
-    let p = err_from_is_err_and c.from_residual-in_err-end.result c.from_residual-in_err-end.ensures.1 in λ low.
-    rw (p.1, p.2) (block-ending c.args.lines.now.rest.now (c.args.lines.now.number + line_feeds c.args.lines.now.rest.now) c.next.new.self.number _ c.in_err-end.ensures.fault
-    (counted-last c.loop-lines.lines.number c.next.new.self.number (c.args.lines.now.number + line_feeds c.args.lines.now.rest.now) c.loop-lines.lines.rest.now c.in_ok-next.field-0.now low (c.loop-lines.invariant.2 low) c.next.ensures.number c.in_ok-next.ensures.plain last)
-    (Read-open c.args.lines.now.rest.now c.loop-lines.lines.rest.now c.loop-lines.invariant.3 (rw last c.in_ok-next.ensures.plain) (λ e. other (sym last ∙ e))))
+    let last = (c.in_ok-next.ensures.read.last c.in_err-end.ensures.fault.0).0 in
+    let p = err_from_is_err_and c.from_residual-in_err-end.result c.from_residual-in_err-end.ensures.1 in
+    rw (p.1, p.2) (
+      ending-reported c.in_ok-next.ensures.read c.in_err-end.ensures.fault ∙ ap (λ (k : ℕ). Line (k + 1) kinds.Ending) c.loop-lines.invariant.2,
+      Read-open c.args.lines.now.rest.now c.loop-lines.lines.rest.now c.loop-lines.invariant.3 (rw last c.in_ok-next.ensures.read.plain) (λ e. other (sym last ∙ e)),
+    )

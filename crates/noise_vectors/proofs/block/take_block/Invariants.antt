@@ -1,6 +1,6 @@
-use Rattle.std.proofs.Common.{◌≡◌, ◌+◌, ◌<◌, ◌^◌, ℕ, List, codes, length}
+use Rattle.std.proofs.Common.{◌≡◌, ℕ, List, codes, length}
 use Rattle.std.specs.List.{All}
-use Rattle.noise_vectors.specs.LineNumbers.{last_number}
+use Rattle.noise_vectors.specs.Lines.{last_number}
 use Rattle.noise_vectors.specs.Block.{IsInner, itself}
 use Rattle.noise_vectors.specs.VectorText.{line, lines_of}
 use Rattle.noise_vectors.proofs.BlockLemmas.{Left, Read}
@@ -12,8 +12,7 @@ invariant-loop-lines l =
     Ends l.text l.lines.rest.now
     × ((before : List (List ℕ)) (rest : List ℕ) → All IsInner before → l.fn.lines.rest.now ≡ lines_of itself before (line (codes "end") rest)
     → Left rest l.lines.rest.now)
-    × (last_number l.fn.lines < 2 ^ 63
-    → last_number l.lines ≡ last_number l.fn.lines)
+    × (last_number l.lines ≡ last_number l.fn.lines)
     × Read l.fn.lines.rest.now l.lines.rest.now
 
 abbrev pub decreases-loop-lines : goal.decreases-loop-lines

@@ -1,19 +1,18 @@
-use Rattle.std.proofs.Common.{rules, refl, arith, ◌≡◌, ◌+◌, ◌∙◌, ap, sym, subst, ℕ, List, [], ◌∷◌, ◌++◌, length, vec_len, ◌<◌, ◌^◌}
+use Rattle.std.proofs.Common.{rules, refl, arith, ◌≡◌, ◌+◌, ◌∙◌, ap, sym, subst, List, [], ◌∷◌, ◌++◌, length, ◌<◌, ◌^◌}
 use Rattle.std.proofs.lemmas.Bool.{false≢true}
 use Rattle.std.specs.Prelude.{IsSome, IsTrue}
 use Rattle.std.specs.List.{All}
 use Rattle.std.proofs.lemmas.List.Elements.{All-nil, All-push}
 use Rattle.noise_events.specs.declared.event.Event.{Event}
 use Rattle.noise_vectors.specs.VectorFile.{IsAllowed, IsEvent}
-use Rattle.noise_vectors.specs.VectorText.{AfterEvents, event_words, line, lines_of}
+use Rattle.noise_vectors.specs.VectorText.{AfterEvents, event_words, lines_of}
 use Rattle.noise_vectors.proofs.AdditionLemmas.{event-stands}
-use Rattle.noise_vectors.proofs.EventLemmas.{all-right, event_words-line, IsRight}
-use Rattle.noise_vectors.proofs.LineLemmas.{lines_of-more, FirstLine-step, LinesLeft-end, LinesLeft-first, LinesLeft-start}
+use Rattle.noise_vectors.proofs.EventLemmas.{all-right, right-plain}
+use Rattle.noise_vectors.proofs.LineLemmas.{lines_of-more}
 use Rattle.std.proofs.lemmas.Result.{err_from_is_err_and}
 use Rattle.noise_vectors.specs.ReaderFaults.{event_lines}
-use Rattle.noise_vectors.specs.WrongLine.{line_feeds}
-use Rattle.noise_vectors.proofs.PartLemmas.{tells-cut, tells-wrong}
-use Rattle.noise_vectors.proofs.ToldLemmas.{counted-step}
+use Rattle.noise_vectors.proofs.PartLemmas.{lines-over, next-of, reports-cut, reports-wrong}
+use Rattle.noise_vectors.proofs.ReportedLemmas.{counted-ended}
 use Rattle.noise_vectors.proofs.HeldLemmas.{lines-long}
 use Rattle.noise_vectors.proofs.Results.{chosen_ok}
 use Rattle.noise_vectors.proofs.events.read_events.Goals as goal
@@ -23,24 +22,24 @@ loop-alloc-init c = (
   ap (λ (events : List Event). lines_of event_words events c.args.lines.now.rest.now) (sym c.new-events.ensures.items),
   subst (λ (events : List Event). All (IsAllowed c.args.allowed) events) (sym c.new-events.ensures.items) (All-nil (IsAllowed c.args.allowed)),
   subst (λ (events : List Event). All IsEvent events) (sym c.new-events.ensures.items) (All-nil IsEvent),
-  λ events rest right allowed over e. LinesLeft-start event_words (IsRight c.args.allowed) (length events) (vec_len c.new-events.result) events
-      c.args.lines.now.rest.now rest c.new-events.ensures.len e (all-right c.args.allowed events right allowed) (omega arith),
-  λ low. refl,
+  refl,
 )
 
 pub returns-in_default-clause-every : goal.returns-in_default-clause-every
 returns-in_default-clause-every c = λ events rest right allowed over e.
-    let some : ¬ (c.loop-alloc.lines.rest.now ≡ rest) = λ same. false≢true (sym c.loop-alloc-test.true ∙ c.is_after_events.ensures.1 (subst AfterEvents (sym same) over)) in
-    let f = LinesLeft-first (c.loop-alloc.invariant.3 events rest right allowed over e) some in
-    let read = c.in_ok-line.ensures.every (event_words f.next) (lines_of event_words f.others rest) (event_words-line f.next f.next_good.0) f.left_is in
-    let found : IsSome c.in_ok-event.field-0 = c.in_ok-event.ensures.every f.next f.next_good.0 f.next_good.1 read.0 in
+    let f = next-of (event_lines c.args.allowed) (right-plain c.args.allowed) event-stands c.loop-alloc.events.items events c.args.lines.now.rest.now c.loop-alloc.lines.rest.now rest
+    c.loop-alloc.invariant.0 (all-right c.args.allowed c.loop-alloc.events.items c.loop-alloc.invariant.2 c.loop-alloc.invariant.1) e (all-right c.args.allowed events right allowed) over
+    (λ stop. false≢true (sym c.loop-alloc-test.true ∙ c.is_after_events.ensures.1 stop)) in
+    let read = c.in_ok-line.ensures.every (event_words f.next) f.after (right-plain c.args.allowed f.next f.good) f.left_is in
+    let found : IsSome c.in_ok-event.field-0 = c.in_ok-event.ensures.every f.next f.good.0 f.good.1 read.0 in
     absurd (false≢true (rw c.in_default.is at found))
 
 pub returns-in_err-end-clause-every : goal.returns-in_err-end-clause-every
 returns-in_err-end-clause-every c = λ events rest right allowed over e.
-    let some : ¬ (c.loop-alloc.lines.rest.now ≡ rest) = λ same. false≢true (sym c.loop-alloc-test.true ∙ c.is_after_events.ensures.1 (subst AfterEvents (sym same) over)) in
-    let f = LinesLeft-first (c.loop-alloc.invariant.3 events rest right allowed over e) some in
-    let read = c.in_ok-line.ensures.every (event_words f.next) (lines_of event_words f.others rest) (event_words-line f.next f.next_good.0) f.left_is in
+    let f = next-of (event_lines c.args.allowed) (right-plain c.args.allowed) event-stands c.loop-alloc.events.items events c.args.lines.now.rest.now c.loop-alloc.lines.rest.now rest
+    c.loop-alloc.invariant.0 (all-right c.args.allowed c.loop-alloc.events.items c.loop-alloc.invariant.2 c.loop-alloc.invariant.1) e (all-right c.args.allowed events right allowed) over
+    (λ stop. false≢true (sym c.loop-alloc-test.true ∙ c.is_after_events.ensures.1 stop)) in
+    let read = c.in_ok-line.ensures.every (event_words f.next) f.after (right-plain c.args.allowed f.next f.good) f.left_is in
     let bad = c.in_err-end.ensures.ended.1 read.2 in
     absurd (false≢true bad)
 
@@ -51,57 +50,42 @@ loop-alloc-preserved c =
     let is_allowed : IsAllowed c.args.allowed c.in-Some.event = rw c.in-Some.is at c.in_ok-event.ensures.allowed in
     let is_event : IsEvent c.in-Some.event = rw c.in-Some.is at c.in_ok-event.ensures.right in
     let pushed : c.push.new.self.items ≡ c.loop-alloc.events.items ++ c.in-Some.event ∷ [] =
-    chosen_ok c.push.result _ _ _ c.push.ensures.items (sym c.if-is_err.ensures.value) in
-    let len : vec_len c.push.new.self ≡ vec_len c.loop-alloc.events + 1 =
-    chosen_ok c.push.result _ _ _ c.push.ensures.len (sym c.if-is_err.ensures.value) in (
+    chosen_ok c.push.result _ _ _ c.push.ensures.items (sym c.if-is_err.ensures.value) in (
       lines_of-more event_words c.args.lines.now.rest.now c.loop-alloc.lines.rest.now c.in_ok-line.line.now c.next.new.self.rest.now
-          c.loop-alloc.events.items c.in-Some.event c.loop-alloc.invariant.0 (c.in_ok-line.ensures.ended ended) found
+          c.loop-alloc.events.items c.in-Some.event c.loop-alloc.invariant.0 (c.in_ok-line.ensures.read.ended ended) found
           ∙ ap (λ (events : List Event). lines_of event_words events c.next.new.self.rest.now) (sym pushed),
       subst (λ (events : List Event). All (IsAllowed c.args.allowed) events) (sym pushed)
           (All-push (IsAllowed c.args.allowed) c.loop-alloc.events.items c.in-Some.event c.loop-alloc.invariant.1 is_allowed),
       subst (λ (events : List Event). All IsEvent events) (sym pushed)
           (All-push IsEvent c.loop-alloc.events.items c.in-Some.event c.loop-alloc.invariant.2 is_event),
-      λ events rest right allowed over e.
-          let some : ¬ (c.loop-alloc.lines.rest.now ≡ rest) = λ same. false≢true (sym c.loop-alloc-test.true ∙ c.is_after_events.ensures.1 (subst AfterEvents (sym same) over)) in
-          let f = LinesLeft-first (c.loop-alloc.invariant.3 events rest right allowed over e) some in
-          let read = c.in_ok-line.ensures.every (event_words f.next) (lines_of event_words f.others rest) (event_words-line f.next f.next_good.0) f.left_is in
-          FirstLine-step f len read.1,
-      λ low. counted-step c.loop-alloc.lines.number c.next.new.self.number (c.args.lines.now.number + line_feeds c.args.lines.now.rest.now) c.loop-alloc.lines.rest.now c.in_ok-line.line.now c.next.new.self.rest.now low (c.loop-alloc.invariant.4 low) c.next.ensures.number c.in_ok-line.ensures.plain (c.in_ok-line.ensures.ended ended),
+      counted-ended c.in_ok-line.ensures.read ended ∙ c.loop-alloc.invariant.3,
     )
 
 pub returns-clause-every : goal.returns-clause-every
 returns-clause-every c = λ events rest right allowed over e.
     let after : AfterEvents c.loop-alloc.lines.rest.now = search rules in
-    let none : (event : Event) (text : List ℕ) → ¬ (c.loop-alloc.lines.rest.now ≡ line (event_words event) text) =
-    λ event text same. event-stands event text (subst AfterEvents same after) in
-    LinesLeft-end (c.loop-alloc.invariant.3 events rest right allowed over e) none
+    lines-over (event_lines c.args.allowed) (right-plain c.args.allowed) event-stands c.loop-alloc.events.items events c.loop-alloc.lines.rest.now rest
+    (all-right c.args.allowed c.loop-alloc.events.items c.loop-alloc.invariant.2 c.loop-alloc.invariant.1) (all-right c.args.allowed events right allowed) after over (sym c.loop-alloc.invariant.0 ∙ e)
 
-pub returns-in_default-clause-told : goal.returns-in_default-clause-told
-returns-in_default-clause-told c =
-    let long = lines-long event_words c.loop-alloc.events.items c.loop-alloc.lines.rest.now in
-    let len : length c.args.lines.now.rest.now ≡ length (lines_of event_words c.loop-alloc.events.items c.loop-alloc.lines.rest.now) = ap length c.loop-alloc.invariant.0 in
-    let some = c.in_ok-line.ensures.shorter in
-    let few : length c.loop-alloc.events.items + 1 < 2 ^ 63 = omega (arith, long, len, some) in
-    λ low.
-    tells-wrong (event_lines c.args.allowed) c.args.lines.now.rest.now (c.args.lines.now.number + line_feeds c.args.lines.now.rest.now) _ c.loop-alloc.events.items c.loop-alloc.lines.rest.now c.in_ok-line.line.now c.next.new.self.rest.now c.next.new.self.is_ended c.loop-alloc.lines.number c.next.new.self.number
-    c.loop-alloc.invariant.0 (all-right c.args.allowed c.loop-alloc.events.items c.loop-alloc.invariant.2 c.loop-alloc.invariant.1) (omega (arith, few)) (λ over. false≢true (sym c.loop-alloc-test.true ∙ c.is_after_events.ensures.1 over)) (c.loop-alloc.invariant.4 low) low c.next.ensures.number c.in_ok-line.ensures.ended c.in_ok-line.ensures.last c.in_ok-line.ensures.plain c.fault.ensures
+pub returns-in_default-clause-reported : goal.returns-in_default-clause-reported
+returns-in_default-clause-reported c =
+    let long = lines-long event_words c.loop-alloc.events.items c.args.lines.now.rest.now c.loop-alloc.lines.rest.now c.next.new.self.rest.now c.loop-alloc.invariant.0
+    c.in_ok-line.ensures.shorter in
+    let few : length c.loop-alloc.events.items + 1 < 2 ^ 63 = omega (arith, long) in
+    reports-wrong (event_lines c.args.allowed) c.args.lines.now c.loop-alloc.events.items
+    c.loop-alloc.invariant.0 (all-right c.args.allowed c.loop-alloc.events.items c.loop-alloc.invariant.2 c.loop-alloc.invariant.1) (omega (arith, few)) (λ over. false≢true (sym c.loop-alloc-test.true ∙ c.is_after_events.ensures.1 over)) c.loop-alloc.invariant.3 c.in_ok-line.ensures.read c.fault.ensures
     (λ event good same.
     let found : IsSome c.in_ok-event.field-0 = c.in_ok-event.ensures.every event good.0 good.1 same in
     absurd (false≢true (rw c.in_default.is at found)))
 
-pub returns-in_err-end-clause-told : goal.returns-in_err-end-clause-told
-returns-in_err-end-clause-told c =
-    let long = lines-long event_words c.loop-alloc.events.items c.loop-alloc.lines.rest.now in
-    let len : length c.args.lines.now.rest.now ≡ length (lines_of event_words c.loop-alloc.events.items c.loop-alloc.lines.rest.now) = ap length c.loop-alloc.invariant.0 in
-    let some = c.in_ok-line.ensures.shorter in
-    let few : length c.loop-alloc.events.items + 1 < 2 ^ 63 = omega (arith, long, len, some) in
+pub returns-in_err-end-clause-reported : goal.returns-in_err-end-clause-reported
+returns-in_err-end-clause-reported c =
+    let long = lines-long event_words c.loop-alloc.events.items c.args.lines.now.rest.now c.loop-alloc.lines.rest.now c.next.new.self.rest.now c.loop-alloc.invariant.0
+    c.in_ok-line.ensures.shorter in
+    let few : length c.loop-alloc.events.items + 1 < 2 ^ 63 = omega (arith, long) in
     let found : c.in_ok-line.line.now ≡ event_words c.in-Some.event = rw c.in-Some.is at c.in_ok-event.ensures.text in
     let is_allowed : IsAllowed c.args.allowed c.in-Some.event = rw c.in-Some.is at c.in_ok-event.ensures.allowed in
     let is_event : IsEvent c.in-Some.event = rw c.in-Some.is at c.in_ok-event.ensures.right in
-    let p = err_from_is_err_and c.from_residual-in_err-end.result c.from_residual-in_err-end.ensures.1 in λ low.
-    rw (p.1, p.2) (tells-cut (event_lines c.args.allowed) c.args.lines.now.rest.now (c.args.lines.now.number + line_feeds c.args.lines.now.rest.now) _ c.loop-alloc.events.items c.in-Some.event c.loop-alloc.lines.rest.now c.in_ok-line.line.now c.next.new.self.is_ended c.loop-alloc.lines.number c.next.new.self.number
-    c.loop-alloc.invariant.0 (all-right c.args.allowed c.loop-alloc.events.items c.loop-alloc.invariant.2 c.loop-alloc.invariant.1) few (c.loop-alloc.invariant.4 low) low c.next.ensures.number c.in_ok-line.ensures.last c.in_ok-line.ensures.plain (λ yes. false≢true (c.in_err-end.ensures.ended.1 yes))
-    c.in_err-end.ensures.fault found (is_event, is_allowed))
-
-pub returns-clause-counted : goal.returns-clause-counted
-returns-clause-counted c = λ low. c.loop-alloc.invariant.4 low
+    let p = err_from_is_err_and c.from_residual-in_err-end.result c.from_residual-in_err-end.ensures.1 in
+    rw (p.1, p.2) (reports-cut (event_lines c.args.allowed) c.args.lines.now c.loop-alloc.events.items c.in-Some.event
+    c.loop-alloc.invariant.0 (all-right c.args.allowed c.loop-alloc.events.items c.loop-alloc.invariant.2 c.loop-alloc.invariant.1) few c.loop-alloc.invariant.3 c.in_ok-line.ensures.read c.in_err-end.ensures.fault found (is_event, is_allowed))

@@ -9,7 +9,7 @@ returns-then-same-expected c =
     let a : c.same_lines-same.result ≡ length c.args.lines.now = search rules in
     let b : c.same_lines-same.result ≡ length c.args.expected.now = search rules in
     all-same (bytes_of c.args.lines.now) (bytes_of c.args.expected.now) (lines-len c.args.lines.now ∙ sym a ∙ b ∙ sym (lines-len c.args.expected.now))
-    (λ i less. c.same_lines-same.ensures.same i (let all = lines-len c.args.lines.now in omega (arith, less, a, all)))
+    (λ i less. c.same_lines-same.ensures.value i (let all = lines-len c.args.lines.now in omega (arith, less, a, all)))
 
 pub returns-else-same-lines : goal.returns-else-same-lines
 returns-else-same-lines c =
@@ -19,4 +19,4 @@ returns-else-same-lines c =
       | else-same-lines-via-else-same-lines w ↦ let bad = w.if-same-lines in let is = e.0 in absurd (search rules)
     ] in
     unmet-at c.args.lines.now c.args.expected.now c.same_lines-same.result c.same_lines-same.ensures.within.0 c.same_lines-same.ensures.within.1
-    c.same_lines-same.ensures.same c.same_lines-same.ensures.differ some
+    c.same_lines-same.ensures.value c.same_lines-same.ensures.differ some

@@ -1,18 +1,16 @@
-use Rattle.std.proofs.Common.{arith, ◌≡◌, ◌∙◌, ◌+◌, ap, sym, refl, subst, inl, inr, ℕ, List, [], ◌++◌, codes}
+use Rattle.std.proofs.Common.{arith, ◌≡◌, ◌∙◌, ap, sym, refl, subst, inl, inr, ℕ, List, [], ◌++◌, codes}
 use Rattle.std.proofs.lemmas.List.Elements.{All-nil}
 use Rattle.std.proofs.lemmas.Result.{err_from_is_err_and}
-use Rattle.noise_vectors.specs.ReaderFaults.{TellsAfter, answer_lines}
+use Rattle.noise_vectors.specs.Lines.{last_number}
+use Rattle.noise_vectors.specs.ReaderFaults.{ReportsAfter, answer_lines}
 use Rattle.noise_vectors.specs.VectorFile.{IsEntry}
-use Rattle.noise_vectors.specs.WrongLine.{line_feeds}
-use Rattle.noise_vectors.specs.declared.faults.LineKind.TheVariants as kinds
-use Rattle.noise_vectors.specs.declared.faults.VectorFault.TheVariants.{Line}
 use Rattle.noise_vectors.specs.declared.file_keys.FileKeys.TheVariants.{Xor, Table}
-use Rattle.noise_vectors.proofs.PartyTold.{party-words, table-cut, table-line, table-told, xor-cut}
-use Rattle.noise_vectors.proofs.ToldLemmas.{counted-here, counted-last, counted-step, first-line, low-of}
+use Rattle.noise_vectors.proofs.PartyReported.{party-words, table-cut, table-line, table-reported, xor-cut}
+use Rattle.noise_vectors.proofs.ReportedLemmas.{counted-ended, ending-reported, wrong-line}
 use Rattle.noise_vectors.specs.VectorText.{key_words}
 use Rattle.noise_vectors.proofs.PartyLemmas.{not-xor, party-read, words_of, xor-after}
 use Rattle.noise_vectors.proofs.parties.read_party.Goals as goal
-use Rattle.std.proofs.lemmas.Bool.{false_from_ne_true, false≢true}
+use Rattle.std.proofs.lemmas.Bool.{false≢true}
 
 pub returns-in_default-clause-every : goal.returns-in_default-clause-every
 returns-in_default-clause-every c = λ keys rest h other is.
@@ -82,37 +80,23 @@ returns-clause-every c =
     let done = c.in_ok-read_table.ensures.every t.table.entries rest t.few t.entries_are other (read.1 ∙ t.after_is rest) in
     (refl, done.1)
 
-pub returns-in_default-clause-told : goal.returns-in_default-clause-told
-returns-in_default-clause-told c =
-    λ low.
+pub returns-in_default-clause-reported : goal.returns-in_default-clause-reported
+returns-in_default-clause-reported c =
     inr (inr (inl (
-      record {
-        told = c.in_ok-line.line.now;
-        is_first = first-line c.args.lines.now.rest.now c.in_ok-line.line.now c.next.new.self.rest.now c.next.new.self.is_ended c.in_ok-line.ensures.ended c.in_ok-line.ensures.last c.in_ok-line.ensures.plain;
-        number = c.next.new.self.number;
-        counted = counted-here c.args.lines.now.number c.next.new.self.number (c.args.lines.now.number + line_feeds c.args.lines.now.rest.now) c.args.lines.now.rest.now low refl c.next.ensures.number;
-        fault_is = c.fault.ensures;
-      },
+      wrong-line c.in_ok-line.ensures.read refl c.fault.ensures,
       λ keys rest after h e.
-          let words = party-words c.args.role keys c.in_ok-line.line.now after rest c.in_ok-line.ensures.plain h e in
+          let words = party-words c.args.role keys c.in_ok-line.line.now after rest c.in_ok-line.ensures.read.plain h e in
           c.in_default.ensures.every (words_of keys) words tt,
     )))
 
-pub returns-in_default-keys_of-2-clause-told : goal.returns-in_default-keys_of-2-clause-told
-returns-in_default-keys_of-2-clause-told c =
+pub returns-in_default-keys_of-2-clause-reported : goal.returns-in_default-keys_of-2-clause-reported
+returns-in_default-keys_of-2-clause-reported c =
     let front : c.as_slice.result.now ≡ codes "xor " = c.as_slice.ensures in
     let front_table : c.as_slice-2.result.now ≡ codes "table " = c.as_slice-2.ensures in
-    λ low.
     inr (inr (inl (
-      record {
-        told = c.in_ok-line.line.now;
-        is_first = first-line c.args.lines.now.rest.now c.in_ok-line.line.now c.next.new.self.rest.now c.next.new.self.is_ended c.in_ok-line.ensures.ended c.in_ok-line.ensures.last c.in_ok-line.ensures.plain;
-        number = c.next.new.self.number;
-        counted = counted-here c.args.lines.now.number c.next.new.self.number (c.args.lines.now.number + line_feeds c.args.lines.now.rest.now) c.args.lines.now.rest.now low refl c.next.ensures.number;
-        fault_is = c.fault-in_default-keys_of-2.ensures;
-      },
+      wrong-line c.in_ok-line.ensures.read refl c.fault-in_default-keys_of-2.ensures,
       λ keys rest after h e.
-          let words = party-words c.args.role keys c.in_ok-line.line.now after rest c.in_ok-line.ensures.plain h e in
+          let words = party-words c.args.role keys c.in_ok-line.line.now after rest c.in_ok-line.ensures.read.plain h e in
           let found = c.in-Some.ensures.every (words_of keys) words in
           let t = not-xor keys c.in-Some.words.now c.as_slice.result.now h found front c.in_default-keys_of.ensures.every in
           let bad = c.in_default-keys_of-2.ensures.every t.table.e t.table.s t.e t.s
@@ -120,14 +104,13 @@ returns-in_default-keys_of-2-clause-told c =
           false≢true bad,
     )))
 
-pub returns-in_err-end-clause-told : goal.returns-in_err-end-clause-told
-returns-in_err-end-clause-told c =
+pub returns-in_err-end-clause-reported : goal.returns-in_err-end-clause-reported
+returns-in_err-end-clause-reported c =
     let front : c.as_slice.result.now ≡ codes "xor " = c.as_slice.ensures in
-    let p = err_from_is_err_and c.from_residual-in_err-end.result c.from_residual-in_err-end.ensures.1 in λ low.
-    let last = (c.in_ok-line.ensures.last (false_from_ne_true c.next.new.self.is_ended (λ yes. false≢true (c.in_err-end.ensures.ended.1 yes)))).0 in
-    let n = counted-last c.args.lines.now.number c.next.new.self.number (c.args.lines.now.number + line_feeds c.args.lines.now.rest.now) c.args.lines.now.rest.now c.in_ok-line.line.now low refl c.next.ensures.number c.in_ok-line.ensures.plain last in
+    let p = err_from_is_err_and c.from_residual-in_err-end.result c.from_residual-in_err-end.ensures.1 in
+    let last = (c.in_ok-line.ensures.read.last c.in_err-end.ensures.fault.0).0 in
     rw (p.1, p.2) (inr (inl (
-      c.in_err-end.ensures.fault ∙ ap (λ (k : ℕ). Line k kinds.Ending) n,
+      ending-reported c.in_ok-line.ensures.read c.in_err-end.ensures.fault,
       inr (
         Xor (record { e = c.in-Some-keys_of.e; s = c.in-Some-keys_of.s }),
         c.in-Some-keys_of.ensures.right,
@@ -136,14 +119,13 @@ returns-in_err-end-clause-told c =
       ),
     )))
 
-pub returns-in_err-end-2-clause-told : goal.returns-in_err-end-2-clause-told
-returns-in_err-end-2-clause-told c =
+pub returns-in_err-end-2-clause-reported : goal.returns-in_err-end-2-clause-reported
+returns-in_err-end-2-clause-reported c =
     let front : c.as_slice-2.result.now ≡ codes "table " = c.as_slice-2.ensures in
-    let p = err_from_is_err_and c.from_residual-in_err-end-2.result c.from_residual-in_err-end-2.ensures.1 in λ low.
-    let last = (c.in_ok-line.ensures.last (false_from_ne_true c.next.new.self.is_ended (λ yes. false≢true (c.in_err-end-2.ensures.ended.1 yes)))).0 in
-    let n = counted-last c.args.lines.now.number c.next.new.self.number (c.args.lines.now.number + line_feeds c.args.lines.now.rest.now) c.args.lines.now.rest.now c.in_ok-line.line.now low refl c.next.ensures.number c.in_ok-line.ensures.plain last in
+    let p = err_from_is_err_and c.from_residual-in_err-end-2.result c.from_residual-in_err-end-2.ensures.1 in
+    let last = (c.in_ok-line.ensures.read.last c.in_err-end-2.ensures.fault.0).0 in
     rw (p.1, p.2) (inr (inl (
-      c.in_err-end-2.ensures.fault ∙ ap (λ (k : ℕ). Line k kinds.Ending) n,
+      ending-reported c.in_ok-line.ensures.read c.in_err-end-2.ensures.fault,
       inr (
         Table (record { e = c.in-Some-keys_of-2.e; s = c.in-Some-keys_of-2.s; entries = [] }),
         (c.in-Some-keys_of-2.ensures.right.0, c.in-Some-keys_of-2.ensures.right.1, omega arith, All-nil IsEntry),
@@ -153,22 +135,21 @@ returns-in_err-end-2-clause-told c =
     )))
 
 pub returns-in-Some-keys_of-clause-counted : goal.returns-in-Some-keys_of-clause-counted
-returns-in-Some-keys_of-clause-counted c = λ low.
-    counted-step c.args.lines.now.number c.next.new.self.number (c.args.lines.now.number + line_feeds c.args.lines.now.rest.now) c.args.lines.now.rest.now c.in_ok-line.line.now c.next.new.self.rest.now low refl c.next.ensures.number c.in_ok-line.ensures.plain (c.in_ok-line.ensures.ended (c.in_ok-end.ensures.ended.0 refl))
+returns-in-Some-keys_of-clause-counted c =
+    counted-ended c.in_ok-line.ensures.read (c.in_ok-end.ensures.ended.0 refl)
 
 pub returns-clause-counted : goal.returns-clause-counted
-returns-clause-counted c = λ low.
-    let n = counted-step c.args.lines.now.number c.next.new.self.number (c.args.lines.now.number + line_feeds c.args.lines.now.rest.now) c.args.lines.now.rest.now c.in_ok-line.line.now c.next.new.self.rest.now low refl c.next.ensures.number c.in_ok-line.ensures.plain (c.in_ok-line.ensures.ended (c.in_ok-end-2.ensures.ended.0 refl)) in
-    c.in_ok-read_table.ensures.counted (low-of (c.args.lines.now.number + line_feeds c.args.lines.now.rest.now) c.next.new.self.number c.next.new.self.rest.now low n) ∙ n
+returns-clause-counted c =
+    let n = counted-ended c.in_ok-line.ensures.read (c.in_ok-end-2.ensures.ended.0 refl) in
+    c.in_ok-read_table.ensures.counted ∙ n
 
-pub returns-in_err-read_table-clause-told : goal.returns-in_err-read_table-clause-told
-returns-in_err-read_table-clause-told c =
+pub returns-in_err-read_table-clause-reported : goal.returns-in_err-read_table-clause-reported
+returns-in_err-read_table-clause-reported c =
     let front : c.as_slice-2.result.now ≡ codes "table " = c.as_slice-2.ensures in
-    let p = err_from_is_err_and c.from_residual-in_err-read_table.result c.from_residual-in_err-read_table.ensures.1 in λ low.
-    let n = counted-step c.args.lines.now.number c.next.new.self.number (c.args.lines.now.number + line_feeds c.args.lines.now.rest.now) c.args.lines.now.rest.now c.in_ok-line.line.now c.next.new.self.rest.now low refl c.next.ensures.number c.in_ok-line.ensures.plain (c.in_ok-line.ensures.ended (c.in_ok-end-2.ensures.ended.0 refl)) in
-    let tells = c.in_err-read_table.ensures.told (low-of (c.args.lines.now.number + line_feeds c.args.lines.now.rest.now) c.next.new.self.number c.next.new.self.rest.now low n) in
-    rw (p.1, p.2) (table-told c.args.role c.in-Some-keys_of-2.e c.in-Some-keys_of-2.s c.args.lines.now.rest.now c.next.new.self.rest.now (c.args.lines.now.number + line_feeds c.args.lines.now.rest.now) _
-    (table-line c.args.role c.in-Some-keys_of-2.e c.in-Some-keys_of-2.s c.args.lines.now.rest.now c.in_ok-line.line.now c.in-Some.words.now c.next.new.self.rest.now (c.in_ok-line.ensures.ended (c.in_ok-end-2.ensures.ended.0 refl))
+    let p = err_from_is_err_and c.from_residual-in_err-read_table.result c.from_residual-in_err-read_table.ensures.1 in
+    let n = counted-ended c.in_ok-line.ensures.read (c.in_ok-end-2.ensures.ended.0 refl) in
+    rw (p.1, p.2) (table-reported c.args.role c.in-Some-keys_of-2.e c.in-Some-keys_of-2.s c.args.lines.now.rest.now c.next.new.self.rest.now (last_number c.args.lines.now) _
+    (table-line c.args.role c.in-Some-keys_of-2.e c.in-Some-keys_of-2.s c.args.lines.now.rest.now c.in_ok-line.line.now c.in-Some.words.now c.next.new.self.rest.now (c.in_ok-line.ensures.read.ended (c.in_ok-end-2.ensures.ended.0 refl))
     c.in-Some.ensures.text (c.in-Some-keys_of-2.ensures.text ∙ ap (λ (f : List ℕ). f ++ key_words c.in-Some-keys_of-2.e c.in-Some-keys_of-2.s) front))
     c.in-Some-keys_of-2.ensures.right.0 c.in-Some-keys_of-2.ensures.right.1
-    (subst (λ (n : ℕ). TellsAfter answer_lines c.next.new.self.rest.now n c.in_err-read_table.field-0.0) n tells))
+    (subst (λ (n : ℕ). ReportsAfter answer_lines c.next.new.self.rest.now n c.in_err-read_table.field-0.0) n c.in_err-read_table.ensures.reported))

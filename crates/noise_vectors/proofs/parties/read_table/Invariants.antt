@@ -1,11 +1,8 @@
-use Rattle.std.proofs.Common.{◌≡◌, ◌+◌, ◌<◌, ◌≤◌, ◌^◌, ℕ, List, false, length}
+use Rattle.std.proofs.Common.{◌≡◌, ◌≤◌, length}
 use Rattle.std.specs.List.{All}
-use Rattle.noise_keys.specs.Table.{TableEntry}
-use Rattle.noise_vectors.specs.LineNumbers.{last_number}
+use Rattle.noise_vectors.specs.Lines.{last_number}
 use Rattle.noise_vectors.specs.VectorFile.{IsEntry}
 use Rattle.noise_vectors.specs.VectorText.{answer_words, lines_of}
-use Rattle.noise_vectors.proofs.LineLemmas.{LinesLeft}
-use Rattle.noise_vectors.proofs.PartyLemmas.{begins}
 use Rattle.noise_vectors.proofs.parties.read_table.Given as goal
 
 abbrev pub invariant-loop-lines : goal.invariant-loop-lines
@@ -15,10 +12,7 @@ invariant-loop-lines l = record {
   text : l.fn.lines.rest.now ≡ lines_of answer_words l.table.entries l.lines.rest.now;
   few : length l.table.entries ≤ 8;
   right : All IsEntry l.table.entries;
-  every : (entries : List TableEntry) (rest : List ℕ) → length entries ≤ 8 → All IsEntry entries → begins rest ≡ false
-      → l.fn.lines.rest.now ≡ lines_of answer_words entries rest → LinesLeft answer_words IsEntry 8 (length l.table.entries) l.lines.rest.now rest;
-  counted : last_number l.fn.lines < 2 ^ 63
-      → last_number l.lines ≡ last_number l.fn.lines;
+  counted : last_number l.lines ≡ last_number l.fn.lines;
 }
 
 abbrev pub decreases-loop-lines : goal.decreases-loop-lines

@@ -1,13 +1,12 @@
-use Rattle.std.proofs.Common.{codes, ◌++◌, ◌+◌, refl}
+use Rattle.std.proofs.Common.{codes, ◌++◌, refl}
 use Rattle.std.proofs.lemmas.Bool.{false≢true}
 use Rattle.noise_vectors.specs.HexWord.{hex_of}
 use Rattle.noise_vectors.proofs.ReadingLemmas.{prologue-plain}
 use Rattle.std.proofs.lemmas.Result.{err_from_is_err_and}
 use Rattle.noise_vectors.specs.ReaderFaults.{IsPrologueLine}
-use Rattle.noise_vectors.specs.WrongLine.{line_feeds}
 use Rattle.noise_vectors.specs.declared.faults.LineKind.TheVariants as kinds
 use Rattle.noise_vectors.proofs.PartLemmas.{line-cut, line-wrong}
-use Rattle.noise_vectors.proofs.ToldLemmas.{counted-step}
+use Rattle.noise_vectors.proofs.ReportedLemmas.{counted-ended}
 use Rattle.noise_vectors.proofs.reading.read_prologue.Goals as goal
 
 pub returns-in_default-clause-every : goal.returns-in_default-clause-every
@@ -27,19 +26,15 @@ returns-clause-every c = λ bytes rest h e.
     let read = c.in_ok-line.ensures.every (codes "prologue " ++ hex_of bytes) rest (prologue-plain bytes h) e in
     read.1
 
-pub returns-in_default-clause-told : goal.returns-in_default-clause-told
-returns-in_default-clause-told c = λ low.
-    line-wrong IsPrologueLine c.args.lines.now.rest.now c.in_ok-line.line.now c.next.new.self.rest.now (c.args.lines.now.number + line_feeds c.args.lines.now.rest.now) kinds.Prologue _ c.next.new.self.is_ended c.args.lines.now.number c.next.new.self.number
-    refl low c.next.ensures.number c.in_ok-line.ensures.ended c.in_ok-line.ensures.last c.in_ok-line.ensures.plain c.fault.ensures (λ good. let some = c.in_ok-prologue.ensures.every good.0 good.1 good.2 in let none = rw c.in_default.is at some in cc (none))
+pub returns-in_default-clause-reported : goal.returns-in_default-clause-reported
+returns-in_default-clause-reported c =
+    line-wrong IsPrologueLine c.in_ok-line.ensures.read c.fault.ensures (λ good. let some = c.in_ok-prologue.ensures.every good.0 good.1 good.2 in let none = rw c.in_default.is at some in cc (none))
 
-pub returns-in_err-end-clause-told : goal.returns-in_err-end-clause-told
-returns-in_err-end-clause-told c =
-    let p = err_from_is_err_and c.from_residual-in_err-end.result c.from_residual-in_err-end.ensures.1 in λ low.
-    rw (p.1, p.2) (line-cut IsPrologueLine c.args.lines.now.rest.now c.in_ok-line.line.now (c.args.lines.now.number + line_feeds c.args.lines.now.rest.now) kinds.Prologue _ c.next.new.self.is_ended c.args.lines.now.number c.next.new.self.number
-    refl low c.next.ensures.number c.in_ok-line.ensures.last c.in_ok-line.ensures.plain (λ yes. false≢true (c.in_err-end.ensures.ended.1 yes))
-    c.in_err-end.ensures.fault (c.in-Some.prologue.items, rw c.in-Some.is at c.in_ok-prologue.ensures.right, rw c.in-Some.is at c.in_ok-prologue.ensures.text))
+pub returns-in_err-end-clause-reported : goal.returns-in_err-end-clause-reported
+returns-in_err-end-clause-reported c =
+    let p = err_from_is_err_and c.from_residual-in_err-end.result c.from_residual-in_err-end.ensures.1 in
+    rw (p.1, p.2) (line-cut IsPrologueLine kinds.Prologue c.in_ok-line.ensures.read c.in_err-end.ensures.fault (c.in-Some.prologue.items, rw c.in-Some.is at c.in_ok-prologue.ensures.right, rw c.in-Some.is at c.in_ok-prologue.ensures.text))
 
 pub returns-clause-counted : goal.returns-clause-counted
-returns-clause-counted c = λ low.
-    counted-step c.args.lines.now.number c.next.new.self.number (c.args.lines.now.number + line_feeds c.args.lines.now.rest.now) c.args.lines.now.rest.now c.in_ok-line.line.now c.next.new.self.rest.now
-    low refl c.next.ensures.number c.in_ok-line.ensures.plain (c.in_ok-line.ensures.ended (c.in_ok-end.ensures.ended.0 refl))
+returns-clause-counted c =
+    counted-ended c.in_ok-line.ensures.read (c.in_ok-end.ensures.ended.0 refl)

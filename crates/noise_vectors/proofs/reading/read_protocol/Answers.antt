@@ -1,13 +1,12 @@
-use Rattle.std.proofs.Common.{codes, ◌++◌, ◌+◌, refl}
+use Rattle.std.proofs.Common.{codes, ◌++◌, refl}
 use Rattle.std.proofs.lemmas.Bool.{false≢true}
 use Rattle.noise_names.specs.Names.{name_bytes}
 use Rattle.noise_vectors.proofs.ReadingLemmas.{protocol-plain}
 use Rattle.std.proofs.lemmas.Result.{err_from_is_err_and}
 use Rattle.noise_vectors.specs.ReaderFaults.{IsProtocolLine}
-use Rattle.noise_vectors.specs.WrongLine.{line_feeds}
 use Rattle.noise_vectors.specs.declared.faults.LineKind.TheVariants as kinds
 use Rattle.noise_vectors.proofs.PartLemmas.{line-cut, line-wrong}
-use Rattle.noise_vectors.proofs.ToldLemmas.{counted-step}
+use Rattle.noise_vectors.proofs.ReportedLemmas.{counted-ended}
 use Rattle.noise_vectors.proofs.reading.read_protocol.Goals as goal
 
 pub returns-in_default-clause-every : goal.returns-in_default-clause-every
@@ -28,19 +27,15 @@ returns-clause-every c = λ name rest h e.
     let found = c.in-Some.ensures.every name h read.0 in
     (cc (found), read.1)
 
-pub returns-in_default-clause-told : goal.returns-in_default-clause-told
-returns-in_default-clause-told c = λ low.
-    line-wrong IsProtocolLine c.args.lines.now.rest.now c.in_ok-line.line.now c.next.new.self.rest.now (c.args.lines.now.number + line_feeds c.args.lines.now.rest.now) kinds.Protocol _ c.next.new.self.is_ended c.args.lines.now.number c.next.new.self.number
-    refl low c.next.ensures.number c.in_ok-line.ensures.ended c.in_ok-line.ensures.last c.in_ok-line.ensures.plain c.fault.ensures (λ good. let none = c.in_default.ensures.every good.0 good.1 good.2 in cc (none))
+pub returns-in_default-clause-reported : goal.returns-in_default-clause-reported
+returns-in_default-clause-reported c =
+    line-wrong IsProtocolLine c.in_ok-line.ensures.read c.fault.ensures (λ good. let none = c.in_default.ensures.every good.0 good.1 good.2 in cc (none))
 
-pub returns-in_err-end-clause-told : goal.returns-in_err-end-clause-told
-returns-in_err-end-clause-told c =
-    let p = err_from_is_err_and c.from_residual-in_err-end.result c.from_residual-in_err-end.ensures.1 in λ low.
-    rw (p.1, p.2) (line-cut IsProtocolLine c.args.lines.now.rest.now c.in_ok-line.line.now (c.args.lines.now.number + line_feeds c.args.lines.now.rest.now) kinds.Protocol _ c.next.new.self.is_ended c.args.lines.now.number c.next.new.self.number
-    refl low c.next.ensures.number c.in_ok-line.ensures.last c.in_ok-line.ensures.plain (λ yes. false≢true (c.in_err-end.ensures.ended.1 yes))
-    c.in_err-end.ensures.fault (c.in-Some.name, c.in-Some.ensures.right, c.in-Some.ensures.text))
+pub returns-in_err-end-clause-reported : goal.returns-in_err-end-clause-reported
+returns-in_err-end-clause-reported c =
+    let p = err_from_is_err_and c.from_residual-in_err-end.result c.from_residual-in_err-end.ensures.1 in
+    rw (p.1, p.2) (line-cut IsProtocolLine kinds.Protocol c.in_ok-line.ensures.read c.in_err-end.ensures.fault (c.in-Some.name, c.in-Some.ensures.right, c.in-Some.ensures.text))
 
 pub returns-clause-counted : goal.returns-clause-counted
-returns-clause-counted c = λ low.
-    counted-step c.args.lines.now.number c.next.new.self.number (c.args.lines.now.number + line_feeds c.args.lines.now.rest.now) c.args.lines.now.rest.now c.in_ok-line.line.now c.next.new.self.rest.now
-    low refl c.next.ensures.number c.in_ok-line.ensures.plain (c.in_ok-line.ensures.ended (c.in_ok-end.ensures.ended.0 refl))
+returns-clause-counted c =
+    counted-ended c.in_ok-line.ensures.read (c.in_ok-end.ensures.ended.0 refl)

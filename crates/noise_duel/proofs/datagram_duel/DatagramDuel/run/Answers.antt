@@ -2,27 +2,27 @@ use Rattle.std.proofs.Common.{◌+◌, ◌≤◌, ◌∷◌, ◌∙◌, arith, l
 use Rattle.std.proofs.lemmas.List.{drop_all, drop_more}
 use Rattle.noise_events.specs.DatagramEvents.{datagram_event_of, datagram_events_of}
 use Rattle.noise_duel.specs.DatagramReports.{datagram_notes_of}
-use Rattle.noise_duel.specs.DatagramSides.{meeting}
+use Rattle.noise_duel.specs.DatagramSides.{datagram_sides}
 use Rattle.noise_duel.proofs.DatagramHappening.{all-come, one-more}
 use Rattle.noise_duel.proofs.datagram_duel.DatagramDuel.run.Goals as goal
 
 pub loop-event-preserved : goal.loop-event-preserved
 loop-event-preserved c v w p =
     let h = c.loop-event.invariant v w p in
-    one-more (meeting v w) (datagram_events_of c.args.events.now)
+    one-more (datagram_sides v w) (datagram_events_of c.args.events.now)
     (datagram_events_of (drop c.loop-event.event-index c.args.events.now)) (datagram_events_of (drop (c.loop-event.event-index + 1) c.args.events.now))
-    (datagram_event_of c.event-item.result) c.in_ok-told.told c.loop-event.self c.apply.new.self c.loop-event.sealed c.apply.new.sealed
+    (datagram_event_of c.event-item.result) c.in_ok-reported.reported c.loop-event.self c.apply.new.self c.loop-event.sealed c.apply.new.sealed
     c.loop-event.report _
     (ap datagram_events_of
     (drop_more c.args.events.now c.loop-event.event-index c.event-item.result c.loop-event-test.true
     ∙ ap (λ e. e ∷ drop (c.loop-event.event-index + 1) c.args.events.now) (sym c.event-item.is)))
     c.in_ok-push.ensures.items
-    h (c.in_ok-told.ensures h.now h.pictures h.kept)
+    h (c.in_ok-reported.ensures h.now h.pictures h.unchanged)
 
 pub returns-clause-reports : goal.returns-clause-reports
 returns-clause-reports c v w p =
     let none : length c.args.events.now ≤ c.loop-event.event-index = omega arith in
-    all-come (meeting v w) (datagram_events_of c.args.events.now)
+    all-come (datagram_sides v w) (datagram_events_of c.args.events.now)
     (datagram_events_of (drop c.loop-event.event-index c.args.events.now)) c.loop-event.self c.loop-event.sealed c.loop-event.report
     (ap datagram_events_of (drop_all c.loop-event.event-index c.args.events.now none)) (c.loop-event.invariant v w p)
 

@@ -2,10 +2,10 @@ use Rattle.std.proofs.Common.{◌+◌, ◌≤◌, ◌∷◌, ◌∙◌, arith, l
 use Rattle.std.proofs.lemmas.List.{drop_all, drop_more}
 use Rattle.noise_names.specs.declared.token.Role.TheVariants.{Initiator, Responder}
 use Rattle.noise_session.specs.Ends.{end_of}
-use Rattle.noise_duel.specs.Acts.{lines_of}
+use Rattle.noise_duel.specs.Acts.{roles_and_payloads}
 use Rattle.noise_duel.specs.Conversation.{say_events}
 use Rattle.noise_events.specs.Events.{Say}
-use Rattle.noise_duel.specs.HeldDuel.{facing_as}
+use Rattle.noise_duel.specs.DuelValue.{both_sides}
 use Rattle.noise_duel.specs.Messages.{begun_as}
 use Rattle.noise_duel.proofs.Happening.{all-come, one-more}
 use Rattle.noise_duel.proofs.Reporting.{all-through}
@@ -14,25 +14,25 @@ use Rattle.noise_duel.proofs.duel.Duel.converse.Goals as goal
 pub loop-role-preserved : goal.loop-role-preserved
 loop-role-preserved g c v w st =
     let h = c.loop-role.invariant v w st in
-    one-more g.A.Keys.public_of g.A.Keys.agreement g.B.Keys.public_of g.B.Keys.agreement (facing_as v w) (say_events (lines_of c.args.lines.now))
-    (say_events (lines_of (drop c.loop-role.role-index c.args.lines.now))) (say_events (lines_of (drop (c.loop-role.role-index + 1) c.args.lines.now)))
+    one-more g.A.Keys.public_of g.A.Keys.agreement g.B.Keys.public_of g.B.Keys.agreement (both_sides v w) (say_events (roles_and_payloads c.args.lines.now))
+    (say_events (roles_and_payloads (drop c.loop-role.role-index c.args.lines.now))) (say_events (roles_and_payloads (drop (c.loop-role.role-index + 1) c.args.lines.now)))
     (Say c.loop-role-item.result.0 c.as_slice.result.now) c.loop-role.self c.say.new.self c.loop-role.report c.say.new.report
-    (ap (λ xs. say_events (lines_of xs))
+    (ap (λ xs. say_events (roles_and_payloads xs))
     (drop_more c.args.lines.now c.loop-role.role-index c.loop-role-item.result c.loop-role-test.true
     ∙ ap (λ x. x ∷ drop (c.loop-role.role-index + 1) c.args.lines.now) (sym c.loop-role-item.is))
-    ∙ ap (λ bytes. Say c.loop-role-item.result.0 bytes ∷ say_events (lines_of (drop (c.loop-role.role-index + 1) c.args.lines.now)))
+    ∙ ap (λ bytes. Say c.loop-role-item.result.0 bytes ∷ say_events (roles_and_payloads (drop (c.loop-role.role-index + 1) c.args.lines.now)))
     (sym c.as_slice.ensures.value))
-    h (c.in_ok-say.ensures h.now h.stands h.frames)
+    h (c.in_ok-say.ensures h.now h.matches h.frames)
 
 pub returns-clause-reports : goal.returns-clause-reports
 returns-clause-reports g c v w st =
     let none : length c.args.lines.now ≤ c.loop-role.role-index = omega arith in
-    all-come g.A.Keys.public_of g.A.Keys.agreement g.B.Keys.public_of g.B.Keys.agreement (facing_as v w) (say_events (lines_of c.args.lines.now))
-    (say_events (lines_of (drop c.loop-role.role-index c.args.lines.now))) c.loop-role.self c.loop-role.report
-    (ap (λ xs. say_events (lines_of xs)) (drop_all c.loop-role.role-index c.args.lines.now none)) (c.loop-role.invariant v w st)
+    all-come g.A.Keys.public_of g.A.Keys.agreement g.B.Keys.public_of g.B.Keys.agreement (both_sides v w) (say_events (roles_and_payloads c.args.lines.now))
+    (say_events (roles_and_payloads (drop c.loop-role.role-index c.args.lines.now))) c.loop-role.self c.loop-role.report
+    (ap (λ xs. say_events (roles_and_payloads xs)) (drop_all c.loop-role.role-index c.args.lines.now none)) (c.loop-role.invariant v w st)
 
 pub returns-clause-comes_through : goal.returns-clause-comes_through
 returns-clause-comes_through g c w p prologue a b interval parts turns st =
-    all-through g.A.Keys.public_of g.A.Keys.agreement g.B.Keys.public_of g.B.Keys.agreement c.lines_come_through.ensures.come c.lines_come_through.ensures.leave c.ends_stand.ensures.stand
-    c.end_is_told.ensures c.end_is_told-2.ensures w p prologue a b interval (lines_of c.args.lines.now) parts turns c.loop-role.self c.loop-role.report
+    all-through g.A.Keys.public_of g.A.Keys.agreement g.B.Keys.public_of g.B.Keys.agreement c.lines_come_through.ensures.come c.lines_come_through.ensures.leave c.ends_match.ensures.stand
+    c.end_is_reported.ensures c.end_is_reported-2.ensures w p prologue a b interval (roles_and_payloads c.args.lines.now) parts turns c.loop-role.self c.loop-role.report
     (returns-clause-reports g c (end_of (begun_as p Initiator a) interval) (end_of (begun_as p Responder b) interval) st)

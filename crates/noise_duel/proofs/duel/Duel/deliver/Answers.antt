@@ -1,14 +1,14 @@
 use Rattle.std.proofs.Common.{ℕ, List, refl, ap, sym, subst, ◌∙◌, slice_get, Vec, Global}
 use Rattle.std.proofs.lemmas.Result.{IfOk-weaker}
 use Rattle.noise_duel.specs.Entries.{bytes_of}
-use Rattle.noise_duel.specs.HeldDuel.{HeldDuel, DuelStands}
+use Rattle.noise_duel.specs.DuelValue.{DuelValue, DuelMatches}
 use Rattle.noise_duel.proofs.Happening.{took-initiator, took-responder}
 use Rattle.noise_duel.proofs.duel.Duel.deliver.Goals as goal
 
 pub returns-in-Initiator : goal.returns-in-Initiator
 returns-in-Initiator g c d st fr =
-    let mine = subst (λ (duel : HeldDuel g.row.A.Denot g.row.B.Denot).
-    DuelStands g.A.Keys.public_of g.A.Keys.agreement g.B.Keys.public_of g.B.Keys.agreement duel d) (sym c.self.view_is) st in
+    let mine = subst (λ (duel : DuelValue g.row.A.Denot g.row.B.Denot).
+    DuelMatches g.A.Keys.public_of g.A.Keys.agreement g.B.Keys.public_of g.B.Keys.agreement duel d) (sym c.self.view_is) st in
     IfOk-weaker c.take_frame.result _ _ (λ _ h.
     took-initiator g.A.Keys.public_of g.A.Keys.agreement g.B.Keys.public_of g.B.Keys.agreement d c.args.role c.args.number _ _ c.take_frame.new.end
     c.args.report.now _ c.in-Initiator.is
@@ -19,8 +19,8 @@ returns-in-Initiator g c d st fr =
 
 pub returns-in-Responder : goal.returns-in-Responder
 returns-in-Responder g c d st fr =
-    let mine = subst (λ (duel : HeldDuel g.row.A.Denot g.row.B.Denot).
-    DuelStands g.A.Keys.public_of g.A.Keys.agreement g.B.Keys.public_of g.B.Keys.agreement duel d) (sym c.self.view_is) st in
+    let mine = subst (λ (duel : DuelValue g.row.A.Denot g.row.B.Denot).
+    DuelMatches g.A.Keys.public_of g.A.Keys.agreement g.B.Keys.public_of g.B.Keys.agreement duel d) (sym c.self.view_is) st in
     IfOk-weaker c.take_frame-in-Responder.result _ _ (λ _ h.
     took-responder g.A.Keys.public_of g.A.Keys.agreement g.B.Keys.public_of g.B.Keys.agreement d c.args.role c.args.number _ _
     c.take_frame-in-Responder.new.end c.args.report.now _ c.in-Responder.is

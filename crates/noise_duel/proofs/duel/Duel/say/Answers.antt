@@ -15,7 +15,7 @@ returns-in-Some g c d st fr =
     c.deliver.new.self c.args.report.now c.write.new.report c.deliver.new.report w c.in-Some.is
     (subst (λ (r : Role). HasHappened g.A.Keys.public_of g.A.Keys.agreement g.B.Keys.public_of g.B.Keys.agreement (with_side d c.args.role w.next)
     (Deliver r c.in-Some.number) c.deliver.new.self c.write.new.report c.deliver.new.report) c.other.ensures h))
-    (c.deliver.ensures (with_side d c.args.role w.next) w.stands w.frames)
+    (c.deliver.ensures (with_side d c.args.role w.next) w.matches w.frames)
 
 pub returns-in-None : goal.returns-in-None
 returns-in-None g c d st fr =

@@ -1,6 +1,6 @@
 use Rattle.std.proofs.Common.{ℕ, ◌≤◌, ◌∙◌, List, length, refl, ap, arith}
 use Rattle.noise_handshake.proofs.Layouts.{length-tokens_of}
-use Rattle.noise_handshake.proofs.Next.{reads-next, reads-theirs, reads-unended, places-next, secrets-next, nonces-next, known-next, used-next, key-next, kept-read, advances-next}
+use Rattle.noise_handshake.proofs.Next.{reads-next, reads-theirs, reads-unended, places-next, psks-next, nonces-next, known-next, used-next, key-next, unchanged-read, advances-next}
 use Rattle.noise_handshake.proofs.Next.{trial-next, listening-next, after-read}
 use Rattle.noise_handshake.proofs.Standing.{accepted, refused}
 use Rattle.noise_handshake.proofs.Wanted.{wants}
@@ -11,10 +11,10 @@ read_message-requires-clause-placed g c =
     let less = reads-next g.K.Keys.public_of c.self.inside c.self.invariant c.args.self.now c.self.view_is c.requires.due in
     places-next g.K.Keys.public_of c.self.inside c.self.invariant less c.deref-2.result.now c.deref-2.ensures.0 c.for_trial-state.result c.for_trial-state.ensures
 
-pub read_message-requires-clause-secrets : goal.read_message-requires-clause-secrets
-read_message-requires-clause-secrets g c =
+pub read_message-requires-clause-psks : goal.read_message-requires-clause-psks
+read_message-requires-clause-psks g c =
     let less = reads-next g.K.Keys.public_of c.self.inside c.self.invariant c.args.self.now c.self.view_is c.requires.due in
-    secrets-next g.K.Keys.public_of c.self.inside c.self.invariant less c.deref-2.result.now c.deref-2.ensures.0 c.deref.result.now c.deref.ensures.0
+    psks-next g.K.Keys.public_of c.self.inside c.self.invariant less c.deref-2.result.now c.deref-2.ensures.0 c.deref.result.now c.deref.ensures.0
 
 pub read_message-requires-clause-nonces : goal.read_message-requires-clause-nonces
 read_message-requires-clause-nonces g c =
@@ -43,14 +43,14 @@ pub lay_next-self-inside-requires-clause-key : goal.lay_next-self-inside-require
 lay_next-self-inside-requires-clause-key g c =
     let less = reads-next g.K.Keys.public_of c.self.inside c.self.invariant c.args.self.now c.self.view_is c.requires.due in
     c.has_key.ensures.key ∙ key-next g.K.Keys.public_of c.self.inside c.self.invariant less c.deref-2.result.now c.deref-2.ensures.0
-    c.for_trial-state.result c.read_message.new.state c.for_trial-state.ensures c.in-Ok.ensures.key c.pattern-plan.result.now c.pattern-plan.ensures.same
+    c.for_trial-state.result c.read_message.new.state c.for_trial-state.ensures c.in-Ok.ensures.key c.pattern-plan.result.now c.pattern-plan.ensures.value
 
 pub invariant_of-self : goal.invariant_of-self
 invariant_of-self g c =
     let less = reads-next g.K.Keys.public_of c.self.inside c.self.invariant c.args.self.now c.self.view_is c.requires.due in
-    kept-read g.K.Keys.public_of c.self.inside c.self.invariant less c.deref-2.result.now c.deref-2.ensures.0
+    unchanged-read g.K.Keys.public_of c.self.inside c.self.invariant less c.deref-2.result.now c.deref-2.ensures.0
     c.for_trial-state.result c.read_message.new.state c.for_trial-state.ensures c.in-Ok.ensures.key c.in-Ok.ensures.counted c.read_message.ensures.nonce
-    (omega (arith, c.deref-2.ensures.1)) c.pattern-plan.result.now c.pattern-plan.ensures.same c.lay_next-self-inside.result c.lay_next-self-inside.ensures
+    (omega (arith, c.deref-2.ensures.1)) c.pattern-plan.result.now c.pattern-plan.ensures.value c.lay_next-self-inside.result c.lay_next-self-inside.ensures
     (reads-theirs g.K.Keys.public_of c.self.inside c.self.invariant c.args.self.now c.self.view_is c.requires.due) c.read_message.new.known
     c.in-Ok.ensures.e c.in-Ok.ensures.s
 
@@ -64,7 +64,7 @@ returns-in-Ok-clause-reads g c v s =
     let q = c.in-Ok.ensures.read v.history
     (trial-next g.K.Keys.public_of c.self.inside c.self.invariant less c.deref-2.result.now c.deref-2.ensures.0 A c.args.self.now c.self.view_is v s c.for_trial-state.result c.for_trial-state.ensures) in (
       q.0,
-      accepted v a.role a.psks (A a.keys) _ a.remote _ l c.args.message.now q.0 _ c.requires.fits q.1,
+      accepted v a.means.role a.means.has_psks (A a.means.keys) _ a.remote _ l c.args.message.now q.0 _ c.requires.fits q.1,
       after-read g.K.Keys.public_of c.self.inside c.self.invariant less c.deref-2.result.now c.deref-2.ensures.0 A c.args.self.now c.self.view_is v s
           q.0 _ c.read_message.new.state c.read_message.new.known c.lay_next-self-inside.result q.2 q.3,
     )
@@ -78,9 +78,9 @@ returns-in-Err-clause-reads g c v s =
     c.deref.result.now c.deref.ensures.0 c.requires.due in
     let q = c.in-Err.ensures.read v.history
     (trial-next g.K.Keys.public_of c.self.inside c.self.invariant less c.deref-2.result.now c.deref-2.ensures.0 A c.args.self.now c.self.view_is v s c.for_trial-state.result c.for_trial-state.ensures) in (
-      refused v a.role a.psks (A a.keys) _ a.remote _ l c.args.message.now _ _ q.0,
-      wants v c.args.message.now c.lacked.result a.role a.psks (A a.keys) _ a.remote _ l
-          (c.lacked.ensures (record { role = a.role; psks = a.psks; agree = A a.keys }) a.remote _ v.history c.args.message.now refl
+      refused v a.means.role a.means.has_psks (A a.means.keys) _ a.remote _ l c.args.message.now _ _ q.0,
+      wants v c.args.message.now c.lacked.result a.means.role a.means.has_psks (A a.means.keys) _ a.remote _ l
+          (c.lacked.ensures (record { role = a.means.role; has_psks = a.means.has_psks; agree = A a.means.keys }) a.remote _ v.history c.args.message.now refl
           (known-next g.K.Keys.public_of c.self.inside c.self.invariant less c.deref-2.result.now c.deref-2.ensures.0) q),
     )
 

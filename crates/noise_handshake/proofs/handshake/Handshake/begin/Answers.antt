@@ -3,15 +3,15 @@ use Rattle.std.specs.Prelude.{Bool, not, false, None}
 use Rattle.noise_names.specs.declared.token.Role.TheVariants.{Initiator, Responder}
 use Rattle.noise_names.specs.Plan.{Plan, has_psk}
 use Rattle.noise_handshake.specs.declared.remote.Remote.{Remote}
-use Rattle.noise_handshake.specs.Held.{Held}
-use Rattle.noise_handshake.specs.Setup.{keys_of, setup_fault, secrets_of}
+use Rattle.noise_handshake.specs.HandshakeValue.{HandshakeValue}
+use Rattle.noise_handshake.specs.Setup.{keys_of, setup_fault, psks_of}
 use Rattle.noise_handshake.specs.inner.PreMessage.{HasPre}
 use Rattle.noise_handshake.specs.inner.Sound.{IsSound}
 use Rattle.noise_handshake.specs.inner.Layout.{LaysNext}
 use Rattle.noise_names.specs.declared.token.Token.TheVariants.{E, S}
 use Rattle.noise_names.specs.Tokens.{other}
 use Rattle.noise_handshake.specs.inner.Known.{KnowsRemote}
-use Rattle.noise_handshake.proofs.Knowing.{stands-start}
+use Rattle.noise_handshake.proofs.Knowing.{matches-start}
 use Rattle.noise_handshake.proofs.Setting.{flips, has-pre, remote-exactly, counted, own-e, own-s}
 use Rattle.noise_handshake.proofs.Starting.{few-messages}
 use Rattle.noise_handshake.proofs.handshake.Handshake.begin.Goals as goal
@@ -20,9 +20,9 @@ pub start-state-requires-clause-initiator : goal.start-state-requires-clause-ini
 start-state-requires-clause-initiator g c =
     let plan : Plan = c.pattern-plan.result.now in
     let own = g.K.Keys.public_of c.args.keys in
-    let n : ℕ = length c.args.secrets.items in
+    let n : ℕ = length c.args.psks.items in
     let none : setup_fault plan c.args.role own c.args.remote n ≡ None =
-    ap (λ (z : Plan). setup_fault z c.args.role own c.args.remote n) c.pattern-plan.ensures.same ∙ c.requires.right in
+    ap (λ (z : Plan). setup_fault z c.args.role own c.args.remote n) c.pattern-plan.ensures.value ∙ c.requires.right in
     subst (λ (z : Remote). HasPre plan Initiator (keys_of Initiator c.args.role z c.args.remote)) (sym c.public_keys.ensures)
     (has-pre plan Initiator c.args.role own c.args.remote n none)
 
@@ -30,9 +30,9 @@ pub start-state-requires-clause-responder : goal.start-state-requires-clause-res
 start-state-requires-clause-responder g c =
     let plan : Plan = c.pattern-plan.result.now in
     let own = g.K.Keys.public_of c.args.keys in
-    let n : ℕ = length c.args.secrets.items in
+    let n : ℕ = length c.args.psks.items in
     let none : setup_fault plan c.args.role own c.args.remote n ≡ None =
-    ap (λ (z : Plan). setup_fault z c.args.role own c.args.remote n) c.pattern-plan.ensures.same ∙ c.requires.right in
+    ap (λ (z : Plan). setup_fault z c.args.role own c.args.remote n) c.pattern-plan.ensures.value ∙ c.requires.right in
     subst (λ (z : Remote). HasPre plan Responder (keys_of Responder c.args.role z c.args.remote)) (sym c.public_keys.ensures)
     (has-pre plan Responder c.args.role own c.args.remote n none)
 
@@ -41,19 +41,19 @@ invariant_of-result g c =
     let plan : Plan = c.pattern-plan.result.now in
     let P = g.K.Keys.public_of in
     let own = g.K.Keys.public_of c.args.keys in
-    let n : ℕ = length c.args.secrets.items in
+    let n : ℕ = length c.args.psks.items in
     let none : setup_fault plan c.args.role own c.args.remote n ≡ None =
-    ap (λ (z : Plan). setup_fault z c.args.role own c.args.remote n) c.pattern-plan.ensures.same ∙ c.requires.right in
-    let q : plan ≡ c.args.pattern = c.pattern-plan.ensures.same in
-    let b : Bool = not c.is_plain-with_psks.result in
-    let psks : b ≡ has_psk plan = flips c.is_plain-with_psks.result (has_psk plan) c.is_plain-with_psks.ensures in
-    let count : n ≡ secrets_of plan.messages = counted plan c.args.role own c.args.remote n none in
-    let at : Plan → Held g.row.K.Denot = λ z. record {
+    ap (λ (z : Plan). setup_fault z c.args.role own c.args.remote n) c.pattern-plan.ensures.value ∙ c.requires.right in
+    let q : plan ≡ c.args.pattern = c.pattern-plan.ensures.value in
+    let b : Bool = not c.is_plain-has_psks.result in
+    let has_psks : b ≡ has_psk plan = flips c.is_plain-has_psks.result (has_psk plan) c.is_plain-has_psks.ensures in
+    let count : n ≡ psks_of plan.messages = counted plan c.args.role own c.args.remote n none in
+    let at : Plan → HandshakeValue g.row.K.Denot = λ z. record {
       pattern = z;
       role = c.args.role;
       keys = c.args.keys;
       remote = c.args.remote;
-      secrets = c.args.secrets.items;
+      psks = c.args.psks.items;
       passed = 0;
       ended = false;
       state = c.start-state.result;
@@ -61,7 +61,7 @@ invariant_of-result g c =
     let sound : IsSound P (at plan) = record {
       within = omega arith;
       few = few-messages plan c.messages.ensures.limits;
-      secrets = count;
+      psks = count;
       has_e = own-e plan c.args.role own c.args.remote n none;
       has_s = own-s plan c.args.role own c.args.remote n none;
       keyed = c.start-state.ensures.key;
@@ -70,10 +70,10 @@ invariant_of-result g c =
     } in
     let known = remote-exactly plan c.args.role own c.args.remote n none in
     let knows : KnowsRemote (at plan) = record {
-      e = known.0 ∙ sym (stands-start plan (other c.args.role) E);
-      s = known.1 ∙ sym (stands-start plan (other c.args.role) S);
+      e = known.0 ∙ sym (matches-start plan (other c.args.role) E);
+      s = known.1 ∙ sym (matches-start plan (other c.args.role) S);
     } in (
-      psks ∙ ap has_psk q,
+      has_psks ∙ ap has_psk q,
       omega arith,
       subst (λ (z : Plan). IsSound P (at z)) q sound,
       subst (λ (z : Plan). KnowsRemote (at z)) q knows,

@@ -1,13 +1,13 @@
 use Rattle.std.proofs.Common.{ℕ, ◌<◌, ◌≤◌, List, length, refl, ap, sym, subst, arith}
 use Rattle.std.specs.Prelude.{MatchOption, MatchResult}
 use Rattle.noise_handshake.specs.declared.faults.Cause.TheVariants.{Agreement}
-use Rattle.noise_handshake.specs.Held.{Held}
-use Rattle.noise_handshake.specs.View.{Stops, tokens_at}
+use Rattle.noise_handshake.specs.HandshakeValue.{HandshakeValue}
+use Rattle.noise_handshake.specs.Party.{Stops, tokens_at}
 use Rattle.noise_handshake.specs.Wanting.{StopsFor}
 use Rattle.noise_handshake.specs.inner.Listening.{BeginsBefore}
 use Rattle.noise_handshake.proofs.Before.{before-of}
 use Rattle.noise_handshake.proofs.Layouts.{length-tokens_of}
-use Rattle.noise_handshake.proofs.Next.{reads-next, tokens-next, places-next, secrets-next, nonces-next, known-next, trial-next, listening-next}
+use Rattle.noise_handshake.proofs.Next.{reads-next, tokens-next, places-next, psks-next, nonces-next, known-next, trial-next, listening-next}
 use Rattle.noise_handshake.proofs.Standing.{for-view}
 use Rattle.noise_handshake.proofs.handshake.Handshake.read_before.Goals as goal
 
@@ -16,10 +16,10 @@ read_before-requires-clause-placed g c =
     let less = reads-next g.K.Keys.public_of c.self.inside c.self.invariant c.args.self.now c.self.view_is c.requires.due in
     places-next g.K.Keys.public_of c.self.inside c.self.invariant less c.deref-2.result.now c.deref-2.ensures.0 c.self.inside.state refl
 
-pub read_before-requires-clause-secrets : goal.read_before-requires-clause-secrets
-read_before-requires-clause-secrets g c =
+pub read_before-requires-clause-psks : goal.read_before-requires-clause-psks
+read_before-requires-clause-psks g c =
     let less = reads-next g.K.Keys.public_of c.self.inside c.self.invariant c.args.self.now c.self.view_is c.requires.due in
-    secrets-next g.K.Keys.public_of c.self.inside c.self.invariant less c.deref-2.result.now c.deref-2.ensures.0 c.deref.result.now c.deref.ensures.0
+    psks-next g.K.Keys.public_of c.self.inside c.self.invariant less c.deref-2.result.now c.deref-2.ensures.0 c.deref.result.now c.deref.ensures.0
 
 pub read_before-requires-clause-nonces : goal.read_before-requires-clause-nonces
 read_before-requires-clause-nonces g c =
@@ -36,7 +36,7 @@ pub read_before-requires-clause-within : goal.read_before-requires-clause-within
 read_before-requires-clause-within g c =
     let less = reads-next g.K.Keys.public_of c.self.inside c.self.invariant c.args.self.now c.self.view_is c.requires.due in
     let all : c.args.k ≤ length (tokens_at c.self.inside.pattern.messages c.self.inside.passed) =
-    subst (λ (z : Held g.row.K.Denot). c.args.k ≤ length (tokens_at z.pattern.messages z.passed)) (sym c.self.view_is) c.requires.within in
+    subst (λ (z : HandshakeValue g.row.K.Denot). c.args.k ≤ length (tokens_at z.pattern.messages z.passed)) (sym c.self.view_is) c.requires.within in
     omega (arith, all, ap length (tokens-next g.K.Keys.public_of c.self.inside c.self.invariant less c.deref-2.result.now c.deref-2.ensures.0), length-tokens_of c.deref-2.result.now)
 
 pub returns : goal.returns
@@ -47,7 +47,7 @@ returns g c v s =
     let l = listening-next g.K.Keys.public_of c.self.inside c.self.invariant less c.deref-2.result.now c.deref-2.ensures.0 A c.args.self.now c.self.view_is v s
     c.deref.result.now c.deref.ensures.0 c.requires.due in
     let trial = trial-next g.K.Keys.public_of c.self.inside c.self.invariant less c.deref-2.result.now c.deref-2.ensures.0 A c.args.self.now c.self.view_is v s a.state refl in
-    let q = for-view v a.role a.psks (A a.keys) _ a.remote _ l
+    let q = for-view v a.means.role a.means.has_psks (A a.means.keys) _ a.remote _ l
     (λ w z s us. MatchResult c.read_before.result (λ remote. BeginsBefore w z s v.history us c.args.message.now c.args.k remote)
     (λ stop. (stop.token < c.args.k) × Stops w z s v.history us c.args.message.now stop.token stop.cause × MatchOption stop.want
     ((j : ℕ) → Stops w z s v.history us c.args.message.now j Agreement → ⊥)

@@ -3,9 +3,9 @@ use Rattle.std.specs.Prelude.{Option, MatchOption, true}
 use Rattle.noise_handshake.specs.declared.faults.Cause.TheVariants.{Agreement}
 use Rattle.noise_handshake.specs.declared.faults.ReadFault.{ReadFault}
 use Rattle.noise_keys.specs.declared.keys.Own.{Own}
-use Rattle.noise_handshake.specs.Held.{Held, ended_as}
-use Rattle.noise_handshake.specs.Party.{Stands, DoesNotRead, after_not_read}
-use Rattle.noise_handshake.specs.View.{Refuses}
+use Rattle.noise_handshake.specs.HandshakeValue.{HandshakeValue, ended_as}
+use Rattle.noise_handshake.specs.Matching.{Matches, DoesNotRead, after_not_read}
+use Rattle.noise_handshake.specs.Party.{Refuses}
 use Rattle.noise_handshake.specs.Wanting.{WantsToRead}
 use Rattle.noise_handshake.specs.inner.Kept.{held_in}
 use Rattle.noise_handshake.proofs.Standing.{faulted, faulted-not, ends}
@@ -23,9 +23,9 @@ pub returns-in-None-clause-reads : goal.returns-in-None-clause-reads
 returns-in-None-clause-reads g c v s =
     let P = g.K.Keys.public_of in
     let A = g.K.Keys.agreement in
-    let s0 : Stands P A (held_in c.self.inside) v = subst (λ (z : Held g.row.K.Denot). Stands P A z v) (sym (c.self.view_is ∙ c.in-Err.ensures.state)) s in
+    let s0 : Matches P A (held_in c.self.inside) v = subst (λ (z : HandshakeValue g.row.K.Denot). Matches P A z v) (sym (c.self.view_is ∙ c.in-Err.ensures.state)) s in
     let q = c.in-Err.ensures.reads v s in
     let none = subst (λ (o : Option (Own × List ℕ)). MatchOption o ((token : ℕ) → Refuses v c.args.message.now token Agreement → ⊥)
     (λ want. WantsToRead v c.args.message.now want.0 want.1)) c.in-None.is q.1 in
     subst (λ (f : ReadFault). (DoesNotRead v c.args.message.now f × ((token : ℕ) → Refuses v c.args.message.now token Agreement → ⊥))
-    × Stands P A (ended_as (held_in c.self.inside)) (after_not_read v f)) (sym c.fault.ensures) ((q.0, none), ends P A (held_in c.self.inside) v s0 true refl)
+    × Matches P A (ended_as (held_in c.self.inside)) (after_not_read v f)) (sym c.fault.ensures) ((q.0, none), ends P A (held_in c.self.inside) v s0 true refl)

@@ -1,18 +1,18 @@
 use Rattle.std.proofs.Common.{ℕ, ◌≤◌, List, length, take, ap, sym, subst, arith}
 use Rattle.std.specs.Prelude.{MatchOption}
-use Rattle.noise_handshake.specs.Held.{Held}
-use Rattle.noise_handshake.specs.View.{tokens_at}
+use Rattle.noise_handshake.specs.HandshakeValue.{HandshakeValue}
+use Rattle.noise_handshake.specs.Party.{tokens_at}
 use Rattle.noise_handshake.specs.Wanting.{LacksAnswerFor}
 use Rattle.noise_handshake.specs.Writing.{LacksAnswerAt}
 use Rattle.noise_handshake.proofs.Layouts.{length-tokens_of}
-use Rattle.noise_handshake.proofs.Next.{speaks-next, speaks-ours, tokens-next, secrets-next, own-ours, known-ours, due-next}
+use Rattle.noise_handshake.proofs.Next.{speaks-next, speaks-ours, tokens-next, psks-next, own-ours, known-ours, due-next}
 use Rattle.noise_handshake.proofs.Wrote.{for-view}
 use Rattle.noise_handshake.proofs.handshake.Handshake.wants_before.Goals as goal
 
-pub write_lacking_before-requires-clause-secrets : goal.write_lacking_before-requires-clause-secrets
-write_lacking_before-requires-clause-secrets g c =
+pub write_lacking_before-requires-clause-psks : goal.write_lacking_before-requires-clause-psks
+write_lacking_before-requires-clause-psks g c =
     let less = speaks-next g.K.Keys.public_of c.self.inside c.self.invariant c.args.self.now c.self.view_is c.requires.due in
-    secrets-next g.K.Keys.public_of c.self.inside c.self.invariant less c.deref-2.result.now c.deref-2.ensures.0 c.deref.result.now c.deref.ensures.0
+    psks-next g.K.Keys.public_of c.self.inside c.self.invariant less c.deref-2.result.now c.deref-2.ensures.0 c.deref.result.now c.deref.ensures.0
 
 pub write_lacking_before-requires-clause-own : goal.write_lacking_before-requires-clause-own
 write_lacking_before-requires-clause-own g c =
@@ -30,7 +30,7 @@ pub write_lacking_before-requires-clause-within : goal.write_lacking_before-requ
 write_lacking_before-requires-clause-within g c =
     let less = speaks-next g.K.Keys.public_of c.self.inside c.self.invariant c.args.self.now c.self.view_is c.requires.due in
     let all : c.args.k ≤ length (tokens_at c.self.inside.pattern.messages c.self.inside.passed) =
-    subst (λ (z : Held g.row.K.Denot). c.args.k ≤ length (tokens_at z.pattern.messages z.passed)) (sym c.self.view_is) c.requires.within in
+    subst (λ (z : HandshakeValue g.row.K.Denot). c.args.k ≤ length (tokens_at z.pattern.messages z.passed)) (sym c.self.view_is) c.requires.within in
     omega (arith, all, ap length (tokens-next g.K.Keys.public_of c.self.inside c.self.invariant less c.deref-2.result.now c.deref-2.ensures.0), length-tokens_of c.deref-2.result.now)
 
 pub returns : goal.returns
@@ -42,7 +42,7 @@ returns g c v s =
     let l = due-next g.K.Keys.public_of c.self.inside c.self.invariant less c.deref-2.result.now c.deref-2.ensures.0 A c.args.self.now c.self.view_is v s
     c.deref.result.now c.deref.ensures.0 c.requires.due in (
       l.speaks,
-      for-view v a.role a.psks (P a.keys) (A a.keys) _ a.remote _ l
+      for-view v a.means.role a.means.has_psks (P a.means.keys) (A a.means.keys) _ a.remote _ l
           (λ w z s us. MatchOption c.write_lacking_before.result ((j : ℕ) → LacksAnswerAt w z s (take c.args.k us) j → ⊥)
           (λ want. LacksAnswerFor w z s (take c.args.k us) want.0 want.1)) c.write_lacking_before.ensures,
     )

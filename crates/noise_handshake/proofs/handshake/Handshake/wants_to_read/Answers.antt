@@ -1,5 +1,5 @@
 use Rattle.std.proofs.Common.{refl, sym, ◌∙◌, arith}
-use Rattle.noise_handshake.proofs.Next.{reads-next, places-next, secrets-next, nonces-next, known-next, trial-next, listening-next}
+use Rattle.noise_handshake.proofs.Next.{reads-next, places-next, psks-next, nonces-next, known-next, trial-next, listening-next}
 use Rattle.noise_handshake.proofs.Wanted.{wants}
 use Rattle.noise_handshake.proofs.handshake.Handshake.wants_to_read.Goals as goal
 
@@ -8,10 +8,10 @@ read_lacking-requires-clause-placed g c =
     let less = reads-next g.K.Keys.public_of c.self.inside c.self.invariant c.args.self.now c.self.view_is (sym c.read_fault.ensures.value ∙ c.in_default.is) in
     places-next g.K.Keys.public_of c.self.inside c.self.invariant less c.deref-2.result.now c.deref-2.ensures.0 c.self.inside.state refl
 
-pub read_lacking-requires-clause-secrets : goal.read_lacking-requires-clause-secrets
-read_lacking-requires-clause-secrets g c =
+pub read_lacking-requires-clause-psks : goal.read_lacking-requires-clause-psks
+read_lacking-requires-clause-psks g c =
     let less = reads-next g.K.Keys.public_of c.self.inside c.self.invariant c.args.self.now c.self.view_is (sym c.read_fault.ensures.value ∙ c.in_default.is) in
-    secrets-next g.K.Keys.public_of c.self.inside c.self.invariant less c.deref-2.result.now c.deref-2.ensures.0 c.deref.result.now c.deref.ensures.0
+    psks-next g.K.Keys.public_of c.self.inside c.self.invariant less c.deref-2.result.now c.deref-2.ensures.0 c.deref.result.now c.deref.ensures.0
 
 pub read_lacking-requires-clause-nonces : goal.read_lacking-requires-clause-nonces
 read_lacking-requires-clause-nonces g c =
@@ -32,4 +32,4 @@ returns g c v s =
     let l = listening-next g.K.Keys.public_of c.self.inside c.self.invariant less c.deref-2.result.now c.deref-2.ensures.0 A c.args.self.now c.self.view_is v s
     c.deref.result.now c.deref.ensures.0 (sym c.read_fault.ensures.value ∙ c.in_default.is) in
     let trial = trial-next g.K.Keys.public_of c.self.inside c.self.invariant less c.deref-2.result.now c.deref-2.ensures.0 A c.args.self.now c.self.view_is v s a.state refl in
-    wants v c.args.message.now c.read_lacking.result a.role a.psks (A a.keys) _ a.remote _ l (c.read_lacking.ensures v.history trial)
+    wants v c.args.message.now c.read_lacking.result a.means.role a.means.has_psks (A a.means.keys) _ a.remote _ l (c.read_lacking.ensures v.history trial)

@@ -1,12 +1,12 @@
 use Rattle.std.proofs.Common.{sym, ◌∙◌}
 use Rattle.noise_handshake.proofs.Lacked.{wants}
-use Rattle.noise_handshake.proofs.Next.{speaks-next, speaks-ours, secrets-next, own-ours, known-ours, due-next}
+use Rattle.noise_handshake.proofs.Next.{speaks-next, speaks-ours, psks-next, own-ours, known-ours, due-next}
 use Rattle.noise_handshake.proofs.handshake.Handshake.wants_to_write.Goals as goal
 
-pub write_lacking-requires-clause-secrets : goal.write_lacking-requires-clause-secrets
-write_lacking-requires-clause-secrets g c =
+pub write_lacking-requires-clause-psks : goal.write_lacking-requires-clause-psks
+write_lacking-requires-clause-psks g c =
     let less = speaks-next g.K.Keys.public_of c.self.inside c.self.invariant c.args.self.now c.self.view_is (sym c.speaks.ensures ∙ c.if-not-speaks.false) in
-    secrets-next g.K.Keys.public_of c.self.inside c.self.invariant less c.deref-2.result.now c.deref-2.ensures.0 c.deref.result.now c.deref.ensures.0
+    psks-next g.K.Keys.public_of c.self.inside c.self.invariant less c.deref-2.result.now c.deref-2.ensures.0 c.deref.result.now c.deref.ensures.0
 
 pub write_lacking-requires-clause-own : goal.write_lacking-requires-clause-own
 write_lacking-requires-clause-own g c =
@@ -28,4 +28,4 @@ returns g c v s =
     let less = speaks-next g.K.Keys.public_of c.self.inside c.self.invariant c.args.self.now c.self.view_is (sym c.speaks.ensures ∙ c.if-not-speaks.false) in
     let l = due-next g.K.Keys.public_of c.self.inside c.self.invariant less c.deref-2.result.now c.deref-2.ensures.0 A c.args.self.now c.self.view_is v s
     c.deref.result.now c.deref.ensures.0 (sym c.speaks.ensures ∙ c.if-not-speaks.false) in
-    wants v c.write_lacking.result a.role a.psks (P a.keys) (A a.keys) _ a.remote _ l c.write_lacking.ensures
+    wants v c.write_lacking.result a.means.role a.means.has_psks (P a.means.keys) (A a.means.keys) _ a.remote _ l c.write_lacking.ensures

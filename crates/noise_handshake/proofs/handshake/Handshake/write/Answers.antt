@@ -2,24 +2,24 @@ use Rattle.std.proofs.Common.{◌≡◌, ℕ, ◌+◌, ◌≤◌, List, length, 
 use Rattle.std.specs.Prelude.{Some}
 use Rattle.noise_names.specs.Overhead.{overhead_of}
 use Rattle.noise_handshake.specs.declared.faults.WriteFault.{WriteFault}
-use Rattle.noise_handshake.specs.Held.{Held, write_fault}
-use Rattle.noise_handshake.specs.Party.{Stands}
-use Rattle.noise_handshake.specs.View.{View}
+use Rattle.noise_handshake.specs.HandshakeValue.{HandshakeValue, write_fault}
+use Rattle.noise_handshake.specs.Matching.{Matches}
+use Rattle.noise_handshake.specs.Party.{Party}
 use Rattle.noise_handshake.specs.inner.Kept.{held_in}
-use Rattle.noise_handshake.proofs.LateViews.{fault-no-agreement, withheld-view}
+use Rattle.noise_handshake.proofs.LateParties.{fault-no-agreement, withheld-view}
 use Rattle.noise_handshake.proofs.Layouts.{length-tokens_of}
-use Rattle.noise_handshake.proofs.Next.{writes-next, writes-ours, writes-unended, writes-long, writes-wide, writes-room, writes-most, secrets-next, nonces-next, known-ours, own-ours}
-use Rattle.noise_handshake.proofs.Next.{used-next, key-next, kept-wrote, advances-next, trial-next, speaking-next, after-wrote, short-next}
+use Rattle.noise_handshake.proofs.Next.{writes-next, writes-ours, writes-unended, writes-long, writes-wide, writes-room, writes-most, psks-next, nonces-next, known-ours, own-ours}
+use Rattle.noise_handshake.proofs.Next.{used-next, key-next, unchanged-wrote, advances-next, trial-next, speaking-next, after-wrote, short-next}
 use Rattle.noise_handshake.proofs.Standing.{ends}
 use Rattle.noise_handshake.proofs.Withheld.{withholds-of}
 use Rattle.noise_handshake.proofs.Wrote.{written, lacking}
 use Rattle.noise_handshake.proofs.handshake.Handshake.write.Goals as goal
 
-pub write_message-requires-clause-secrets : goal.write_message-requires-clause-secrets
-write_message-requires-clause-secrets g c =
+pub write_message-requires-clause-psks : goal.write_message-requires-clause-psks
+write_message-requires-clause-psks g c =
     let less = writes-next g.K.Keys.public_of c.self.inside c.self.invariant c.args.self.now c.self.view_is
     (length c.args.payload.now) (sym c.write_fault.ensures.value ∙ c.in_default.is) in
-    secrets-next g.K.Keys.public_of c.self.inside c.self.invariant less c.deref-2.result.now c.deref-2.ensures.0 c.deref.result.now c.deref.ensures.0
+    psks-next g.K.Keys.public_of c.self.inside c.self.invariant less c.deref-2.result.now c.deref-2.ensures.0 c.deref.result.now c.deref.ensures.0
 
 pub write_message-requires-clause-nonces : goal.write_message-requires-clause-nonces
 write_message-requires-clause-nonces g c =
@@ -73,15 +73,15 @@ lay_next-self-inside-requires-clause-key g c =
     let less = writes-next g.K.Keys.public_of c.self.inside c.self.invariant c.args.self.now c.self.view_is
     (length c.args.payload.now) (sym c.write_fault.ensures.value ∙ c.in_default.is) in
     c.has_key.ensures.key ∙ key-next g.K.Keys.public_of c.self.inside c.self.invariant less c.deref-2.result.now c.deref-2.ensures.0
-    c.for_trial-state.result c.write_message.new.state c.for_trial-state.ensures c.in-Ok.ensures.keyed c.pattern-plan.result.now c.pattern-plan.ensures.same
+    c.for_trial-state.result c.write_message.new.state c.for_trial-state.ensures c.in-Ok.ensures.keyed c.pattern-plan.result.now c.pattern-plan.ensures.value
 
 pub invariant_of-self : goal.invariant_of-self
 invariant_of-self g c =
     let less = writes-next g.K.Keys.public_of c.self.inside c.self.invariant c.args.self.now c.self.view_is
     (length c.args.payload.now) (sym c.write_fault.ensures.value ∙ c.in_default.is) in
-    kept-wrote g.K.Keys.public_of c.self.inside c.self.invariant less c.deref-2.result.now c.deref-2.ensures.0
+    unchanged-wrote g.K.Keys.public_of c.self.inside c.self.invariant less c.deref-2.result.now c.deref-2.ensures.0
     c.for_trial-state.result c.write_message.new.state c.for_trial-state.ensures c.in-Ok.ensures.keyed c.in-Ok.ensures.counted c.write_message.ensures.used
-    (omega (arith, c.deref-2.ensures.1)) c.pattern-plan.result.now c.pattern-plan.ensures.same c.lay_next-self-inside.result c.lay_next-self-inside.ensures
+    (omega (arith, c.deref-2.ensures.1)) c.pattern-plan.result.now c.pattern-plan.ensures.value c.lay_next-self-inside.result c.lay_next-self-inside.ensures
     (writes-ours g.K.Keys.public_of c.self.inside c.self.invariant c.args.self.now c.self.view_is
     (length c.args.payload.now) (sym c.write_fault.ensures.value ∙ c.in_default.is))
 
@@ -111,7 +111,7 @@ returns-in-Ok-clause-writes g c v s =
     omega (arith, c.in-Ok.ensures.width, most, length-take c.in-Ok.len c.write_message.new.out) in
     let q = c.in-Ok.ensures.written v.history trial in (
       q.0,
-      written v a.role a.psks (P a.keys) (A a.keys) _ a.remote _ l c.args.payload.now q.0 (take c.in-Ok.len c.write_message.new.out) fits q.1 q.2,
+      written v a.means.role a.means.has_psks (P a.means.keys) (A a.means.keys) _ a.remote _ l c.args.payload.now q.0 (take c.in-Ok.len c.write_message.new.out) fits q.1 q.2,
       after-wrote g.K.Keys.public_of c.self.inside c.self.invariant less c.deref-2.result.now c.deref-2.ensures.0 A c.args.self.now c.self.view_is v s
           (length c.args.payload.now) (sym c.write_fault.ensures.value ∙ c.in_default.is) q.0 c.args.payload.now c.write_message.new.state
           c.lay_next-self-inside.result q.3,
@@ -128,11 +128,11 @@ returns-in-Err-clause-writes g c v s =
     c.deref.result.now c.deref.ensures.0 (length c.args.payload.now) (sym c.write_fault.ensures.value ∙ c.in_default.is) in
     let trial = trial-next g.K.Keys.public_of c.self.inside c.self.invariant less c.deref-2.result.now c.deref-2.ensures.0 A c.args.self.now c.self.view_is v s c.for_trial-state.result c.for_trial-state.ensures in
     let q = c.in-Err.ensures.written v.history trial in
-    let s0 : Stands P A (held_in a) v = subst (λ (z : Held g.row.K.Denot). Stands P A z v) (sym c.self.view_is) s in (
+    let s0 : Matches P A (held_in a) v = subst (λ (z : HandshakeValue g.row.K.Denot). Matches P A z v) (sym c.self.view_is) s in (
       (
         short-next g.K.Keys.public_of c.self.inside c.self.invariant less c.deref-2.result.now c.deref-2.ensures.0 A c.args.self.now c.self.view_is v s
             (length c.args.payload.now) (sym c.write_fault.ensures.value ∙ c.in_default.is),
-        lacking v a.role a.psks (P a.keys) (A a.keys) _ a.remote _ l _ q,
+        lacking v a.means.role a.means.has_psks (P a.means.keys) (A a.means.keys) _ a.remote _ l _ q,
       ),
       ends P A (held_in a) v s0 true refl,
     )
@@ -152,8 +152,8 @@ returns-in-Some-clause-writes g c v s =
     let len : ℕ = length c.args.payload.now in
     let e : write_fault c.args.self.now len ≡ Some f = sym c.write_fault.ensures.value ∙ c.in-Some.is in
     let within : c.args.self.now.passed ≤ length c.args.self.now.pattern.messages =
-    subst (λ (z : Held g.row.K.Denot). z.passed ≤ length z.pattern.messages) c.self.view_is c.self.invariant.2.within in
+    subst (λ (z : HandshakeValue g.row.K.Denot). z.passed ≤ length z.pattern.messages) c.self.view_is c.self.invariant.2.within in
     let clear = fault-no-agreement c.args.self.now len f e in (
       withholds-of P A c.args.self.now v s within len f e,
-      subst (λ (w : View). Stands P A c.args.self.now w) (sym (withheld-view v f clear)) s,
+      subst (λ (w : Party). Matches P A c.args.self.now w) (sym (withheld-view v f clear)) s,
     )

@@ -2,16 +2,16 @@ use Rattle.std.proofs.Common.{ap, sym, ◌∙◌}
 use Rattle.noise_names.specs.declared.token.Role.{Role}
 use Rattle.noise_names.specs.declared.token.Role.TheVariants.{Initiator}
 use Rattle.noise_names.specs.Tokens.{same_role, turn_from}
-use Rattle.noise_handshake.specs.Held.{Held, is_turn}
+use Rattle.noise_handshake.specs.HandshakeValue.{HandshakeValue, is_turn}
 use Rattle.noise_handshake.proofs.Turns.{initiator-writes, responder-writes}
 use Rattle.noise_handshake.proofs.handshake.Handshake.writes_next.Goals as goal
 
 pub returns-in-Initiator : goal.returns-in-Initiator
 returns-in-Initiator g c =
     initiator-writes c.self.inside.passed ∙ sym (ap (λ (r : Role). same_role (turn_from Initiator c.self.inside.passed) r) c.in-Initiator.is)
-    ∙ ap (λ (h : Held g.row.K.Denot). is_turn h.role h.passed) c.self.view_is
+    ∙ ap (λ (h : HandshakeValue g.row.K.Denot). is_turn h.role h.passed) c.self.view_is
 
 pub returns-in-Responder : goal.returns-in-Responder
 returns-in-Responder g c =
     responder-writes c.self.inside.passed ∙ sym (ap (λ (r : Role). same_role (turn_from Initiator c.self.inside.passed) r) c.in-Responder.is)
-    ∙ ap (λ (h : Held g.row.K.Denot). is_turn h.role h.passed) c.self.view_is
+    ∙ ap (λ (h : HandshakeValue g.row.K.Denot). is_turn h.role h.passed) c.self.view_is

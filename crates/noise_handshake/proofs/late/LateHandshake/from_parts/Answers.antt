@@ -3,10 +3,10 @@ use Rattle.noise_handshake.proofs.late.LateHandshake.from_parts.Goals as goal
 
 pub returns-clause-whole : goal.returns-clause-whole
 returns-clause-whole g c =
-    let secrets : List (List ℕ) = c.args.secrets.now in
-    let x : List (List ℕ) = drop (length secrets) c.filled.result.items in
-    let count : length (secrets ++ x) ≡ c.in_ok-total.total =
-    omega (arith, length-append secrets x, length-drop (length secrets) c.filled.result.items, c.filled.ensures.count, c.if-secrets-total.false) in (
-      λ _. (x, (c.in_ok-total.ensures.2 (secrets ++ x)).1 count),
+    let psks : List (List ℕ) = c.args.psks.now in
+    let x : List (List ℕ) = drop (length psks) c.filled.result.items in
+    let count : length (psks ++ x) ≡ c.in_ok-total.total =
+    omega (arith, length-append psks x, length-drop (length psks) c.filled.result.items, c.filled.ensures.count, c.if-psks-total.false) in (
+      λ _. (x, (c.in_ok-total.ensures.2 (psks ++ x)).1 count),
       λ _. refl,
     )

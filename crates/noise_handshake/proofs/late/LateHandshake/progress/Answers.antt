@@ -1,15 +1,15 @@
 use Rattle.std.proofs.Common.{◌-◌, ◌++◌, ℕ, List, length, take, drop, ap, sym, subst}
 use Rattle.std.proofs.lemmas.List.{take-append-drop}
-use Rattle.noise_handshake.specs.Held.{Held}
+use Rattle.noise_handshake.specs.HandshakeValue.{HandshakeValue}
 use Rattle.noise_handshake.specs.Late.{IsLateWhole}
-use Rattle.noise_handshake.proofs.LateViews.{whole-late}
+use Rattle.noise_handshake.proofs.LateParties.{whole-late}
 use Rattle.noise_handshake.proofs.late.LateHandshake.progress.Goals as goal
 
 pub returns-clause-whole : goal.returns-clause-whole
 returns-clause-whole g c =
     let P = g.K.Keys.public_of in
     let a = c.self.inside in
-    let s : List (List ℕ) = a.filled.secrets in
+    let s : List (List ℕ) = a.filled.psks in
     let n : ℕ = length s - a.lacking in
-    subst (λ (z : Held g.row.K.Denot). IsLateWhole P z) c.self.view_is
+    subst (λ (z : HandshakeValue g.row.K.Denot). IsLateWhole P z) c.self.view_is
     (drop n s, whole-late P a.filled (take n s ++ drop n s) (ap length (take-append-drop n s)) c.progress.ensures.whole)

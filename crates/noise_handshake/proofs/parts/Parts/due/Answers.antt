@@ -1,7 +1,7 @@
 use Rattle.std.proofs.Common.{◌≡◌, ◌-◌, ℕ, List, length, drop, ap, ◌∙◌, arith, length-drop, take_all}
 use Rattle.noise_names.specs.declared.token.Token.{Token}
 use Rattle.noise_names.specs.Plan.{Plan}
-use Rattle.noise_handshake.specs.Setup.{secrets_of}
+use Rattle.noise_handshake.specs.Setup.{psks_of}
 use Rattle.noise_handshake.proofs.Starting.{few-left}
 use Rattle.noise_handshake.proofs.parts.Parts.due.Goals as goal
 
@@ -10,11 +10,11 @@ returns g c =
     let n : ℕ = c.args.self.now.progress.passed in
     let ms : List (List Token) = c.messages-messages.result.now in
     let whole = take_all (length ms - n) (drop n ms) (omega (arith, length-drop n ms)) in
-    let e : c.psk_total.result ≡ secrets_of (drop n c.pattern.result.now.messages) =
-    c.psk_total.ensures.total ∙ ap (λ (z : List (List Token)). secrets_of z) whole
-    ∙ ap (λ (z : List (List Token)). secrets_of (drop n z)) c.messages-messages.ensures.same in
-    let p = c.pattern.ensures.same in (
-      omega (arith, c.if-passed-messages.false, ap length c.messages-messages.ensures.same, ap (λ (q : Plan). length q.messages) p),
-      e ∙ ap (λ (q : Plan). secrets_of (drop n q.messages)) p,
+    let e : c.psk_total.result ≡ psks_of (drop n c.pattern.result.now.messages) =
+    c.psk_total.ensures.total ∙ ap (λ (z : List (List Token)). psks_of z) whole
+    ∙ ap (λ (z : List (List Token)). psks_of (drop n z)) c.messages-messages.ensures.value in
+    let p = c.pattern.ensures.value in (
+      omega (arith, c.if-passed-messages.false, ap length c.messages-messages.ensures.value, ap (λ (q : Plan). length q.messages) p),
+      e ∙ ap (λ (q : Plan). psks_of (drop n q.messages)) p,
       omega (arith, e, few-left c.pattern.result.now n c.messages-messages.ensures.limits),
     )

@@ -10,9 +10,9 @@ named : (bytes : List ℕ) (read : Result Section NameFault) → read ≡ name_r
 named bytes (Ok s) e = name_spelled bytes s (sym e)
 named bytes (Err fault) e = tt
 
-told : (bytes : List ℕ) (read : Result Section NameFault) → read ≡ name_read bytes → IfErr read (λ fault. IsFirstNameFault bytes fault)
-told bytes (Ok s) e = tt
-told bytes (Err fault) e = name_fault bytes fault (sym e)
+reported : (bytes : List ℕ) (read : Result Section NameFault) → read ≡ name_read bytes → IfErr read (λ fault. IsFirstNameFault bytes fault)
+reported bytes (Ok s) e = tt
+reported bytes (Err fault) e = name_fault bytes fault (sym e)
 
 pub returns-clause-named : goal.returns-clause-named
 returns-clause-named c = named c.args.bytes.now c.read_name.result c.read_name.ensures
@@ -21,4 +21,4 @@ pub returns-clause-every : goal.returns-clause-every
 returns-clause-every c = λ s h. c.read_name.ensures ∙ name_every c.args.bytes.now s h
 
 pub returns-clause-fault : goal.returns-clause-fault
-returns-clause-fault c = told c.args.bytes.now c.read_name.result c.read_name.ensures
+returns-clause-fault c = reported c.args.bytes.now c.read_name.result c.read_name.ensures

@@ -28,7 +28,7 @@ returns-in_err-plain-clause-every c = λ p h.
     let part = c.in_ok-name.ensures.every (record { base = p.base; places = p.places }) (10 ∷ body_of p) (pattern-section p h.is_pattern)
     (spelled-parts c.args.text.now p h) in
     let lines = line-after _ _ _ part.1 (stripped _ (codes "\n") c.in_ok-lines.lines c.in_ok-lines.ensures.cases) in
-    let plain = c.in_err-plain.ensures.every p h.is_pattern (sym (c.base.ensures.same ∙ ap (λ (s : Section). s.base) part.0)) lines in
+    let plain = c.in_err-plain.ensures.every p h.is_pattern (sym (c.base.ensures.value ∙ ap (λ (s : Section). s.base) part.0)) lines in
     absurd (none-not-some _ plain)
 
 pub returns-in-Err-clause-every : goal.returns-in-Err-clause-every
@@ -36,7 +36,7 @@ returns-in-Err-clause-every c = λ p h.
     let part = c.in_ok-name.ensures.every (record { base = p.base; places = p.places }) (10 ∷ body_of p) (pattern-section p h.is_pattern)
     (spelled-parts c.args.text.now p h) in
     let lines = line-after _ _ _ part.1 (stripped _ (codes "\n") c.in_ok-lines.lines c.in_ok-lines.ensures.cases) in
-    let plain = c.in_ok-plain.ensures.every p h.is_pattern (sym (c.base.ensures.same ∙ ap (λ (s : Section). s.base) part.0)) lines in
+    let plain = c.in_ok-plain.ensures.every p h.is_pattern (sym (c.base.ensures.value ∙ ap (λ (s : Section). s.base) part.0)) lines in
     absurd (within-places p c.in_ok-plain.plain c.places.result.now c.in-Err.field-0.place h.is_pattern (same_Some _ _ plain) (c.places.ensures
     ∙ ap (λ (s : Section). s.places) part.0) c.in-Err.ensures.fault)
 
@@ -45,7 +45,7 @@ returns-then-eq-clause-every c = λ p h.
     let part = c.in_ok-name.ensures.every (record { base = p.base; places = p.places }) (10 ∷ body_of p) (pattern-section p h.is_pattern)
     (spelled-parts c.args.text.now p h) in
     let lines = line-after _ _ _ part.1 (stripped _ (codes "\n") c.in_ok-lines.lines c.in_ok-lines.ensures.cases) in
-    let plain = c.in_ok-plain.ensures.every p h.is_pattern (sym (c.base.ensures.same ∙ ap (λ (s : Section). s.base) part.0)) lines in
+    let plain = c.in_ok-plain.ensures.every p h.is_pattern (sym (c.base.ensures.value ∙ ap (λ (s : Section). s.base) part.0)) lines in
     ap (λ (q : Plan). Some q) (placed-same p c.in-Ok.pattern c.in_ok-plain.plain c.places.result.now h.is_pattern (same_Some _ _ plain) (c.places.ensures
     ∙ ap (λ (s : Section). s.places) part.0) c.in-Ok.ensures.placed)
 
@@ -54,7 +54,7 @@ returns-else-eq-clause-every c = λ p h.
     let part = c.in_ok-name.ensures.every (record { base = p.base; places = p.places }) (10 ∷ body_of p) (pattern-section p h.is_pattern)
     (spelled-parts c.args.text.now p h) in
     let lines = line-after _ _ _ part.1 (stripped _ (codes "\n") c.in_ok-lines.lines c.in_ok-lines.ensures.cases) in
-    let plain = c.in_ok-plain.ensures.every p h.is_pattern (sym (c.base.ensures.same ∙ ap (λ (s : Section). s.base) part.0)) lines in
+    let plain = c.in_ok-plain.ensures.every p h.is_pattern (sym (c.base.ensures.value ∙ ap (λ (s : Section). s.base) part.0)) lines in
     let same : c.in-Ok.pattern ≡ p =
     placed-same p c.in-Ok.pattern c.in_ok-plain.plain c.places.result.now h.is_pattern (same_Some _ _ plain) (c.places.ensures
     ∙ ap (λ (s : Section). s.places) part.0) c.in-Ok.ensures.placed in

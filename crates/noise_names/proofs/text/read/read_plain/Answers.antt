@@ -6,4 +6,4 @@ use Rattle.noise_names.proofs.text.read.read_plain.Goals as goal
 
 pub returns-in-Some-clause-every : goal.returns-in-Some-clause-every
 returns-in-Some-clause-every c =
-    λ p h same e. ap (λ (q : Plan). Some q) (known-same p c.in-Some.known c.args.base.now h same (sym c.fundamental.ensures.same ∙ c.in-Some.is))
+    λ p h same e. ap (λ (q : Plan). Some q) (known-same p c.in-Some.known c.args.base.now h same (sym c.fundamental.ensures.value ∙ c.in-Some.is))

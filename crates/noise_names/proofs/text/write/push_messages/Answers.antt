@@ -11,9 +11,9 @@ loop-message-preserved c = (
   ap (λ (r : Role). c.push_token_line.new.out.items ++ message_lines r (drop (c.loop-message.message-index + 1) c.args.messages.now)) c.other-role.ensures
       ∙ lines-step _ _ _ c.loop-message.role c.args.messages.now c.loop-message.message-index c.message-item.result c.loop-message-test.true
       (c.push_token_line.ensures.written
-      ∙ ap (λ (m : List Token). c.loop-message.out.items ++ token_line c.loop-message.role m) (c.tokens.ensures.same ∙ c.message-item.is))
+      ∙ ap (λ (m : List Token). c.loop-message.out.items ++ token_line c.loop-message.role m) (c.tokens.ensures.value ∙ c.message-item.is))
       c.loop-message.invariant.0,
-  omega (arith, ap length c.tokens.ensures.same, c.push_token_line.ensures.bound),
+  omega (arith, ap length c.tokens.ensures.value, c.push_token_line.ensures.bound),
 )
 
 pub returns : goal.returns

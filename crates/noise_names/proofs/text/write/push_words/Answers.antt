@@ -4,11 +4,11 @@ use Rattle.noise_names.proofs.Writing.{words-start, words-step, more_words}
 use Rattle.noise_names.proofs.text.write.push_words.Goals as goal
 
 pub loop-token-init : goal.loop-token-init
-loop-token-init c = (words-start _ _ _ _ _ _ c.in-Some.ensures.cases.0 c.append.ensures.written c.word.ensures.same, omega arith)
+loop-token-init c = (words-start _ _ _ _ _ _ c.in-Some.ensures.cases.0 c.append.ensures.written c.word.ensures.value, omega arith)
 
 pub loop-token-preserved : goal.loop-token-preserved
 loop-token-preserved c = (
-  words-step _ _ _ _ _ _ _ _ c.loop-token-test.true c.word-in-loop-token.ensures.same c.append-in-loop-token.ensures.written
+  words-step _ _ _ _ _ _ _ _ c.loop-token-test.true c.word-in-loop-token.ensures.value c.append-in-loop-token.ensures.written
       c.append-in-loop-token-2.ensures.written c.loop-token.invariant.0,
   omega arith,
 )

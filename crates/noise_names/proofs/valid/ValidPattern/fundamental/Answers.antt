@@ -11,5 +11,5 @@ returns-then-place-lt15-clause-valid c = known_is_valid c.args.base.now c.row.re
 pub returns-then-place-lt15-clause-placed : goal.returns-then-place-lt15-clause-placed
 returns-then-place-lt15-clause-placed c = known_is_placed c.args.base.now c.row.result (sym c.in_ok-place.ensures ∙ c.row.ensures)
 
-pub returns-else-place-lt15-clause-same : goal.returns-else-place-lt15-clause-same
-returns-else-place-lt15-clause-same c = sym (no_more_fundamentals c.in_ok-place.place c.if-place-lt15.false) ∙ c.in_ok-place.ensures
+pub returns-else-place-lt15-clause-value : goal.returns-else-place-lt15-clause-value
+returns-else-place-lt15-clause-value c = sym (no_more_fundamentals c.in_ok-place.place c.if-place-lt15.false) ∙ c.in_ok-place.ensures

@@ -25,7 +25,7 @@ returns c =
     let first = c.add_tokens.ensures [] 0 c.new-seen.ensures in
     let second = c.add_tokens-2.ensures initiator 0 first in
     let third = c.add_messages.ensures.seen (initiator ++ responder) second in
-    let same = places-are plan n k c.pre.result.now c.pre-2.result.now messages c.pre.ensures.same c.pre-2.ensures.same c.messages-messages.ensures.same
+    let same = places-are plan n k c.pre.result.now c.pre-2.result.now messages c.pre.ensures.value c.pre-2.ensures.value c.messages-messages.ensures.value
     c.from.ensures in
     c.has_key.ensures ∙ ap (λ (b : Bool). key_by c.add_messages.new.self b) c.has_psk.ensures
     ∙ ap (λ (z : Seen). key_by z (has_psk plan)) (third ∙ ap seen_of same)

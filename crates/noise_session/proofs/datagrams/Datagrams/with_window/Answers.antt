@@ -1,5 +1,5 @@
-use Rattle.noise_session.specs.HeldTransport.{transport_of}
+use Rattle.noise_session.specs.TransportValue.{transport_of}
 use Rattle.noise_session.proofs.datagrams.Datagrams.with_window.Goals as goal
 
 pub returns : goal.returns
-returns c v h = c.after.ensures (transport_of v 0) (c.new.ensures.stands v h)
+returns c v h = c.after.ensures (transport_of v 0) (c.new.ensures.matches v h)

@@ -3,12 +3,12 @@ use Rattle.std.proofs.lemmas.List.{length-take-le, take-take, take-append-le}
 use Rattle.std.proofs.lemmas.Result.{err_from_is_err_and}
 use Rattle.std.specs.Io.KnownBytes.{Appends}
 use Rattle.noise_session.specs.declared.faults.SendFault.{SendFault}
-use Rattle.noise_session.specs.Ends.{EndStands, closed}
+use Rattle.noise_session.specs.Ends.{EndMatches, ended_session}
 use Rattle.noise_session.specs.Sending.{after_fault}
 use Rattle.noise_session.specs.Outputs.{Puts}
 use Rattle.noise_session.specs.Outputs.Puts.{whole, broken, refused}
 use Rattle.noise_session.proofs.Streaming.{appended_none}
-use Rattle.noise_session.proofs.Views.{phase-over}
+use Rattle.noise_session.proofs.Parties.{phase-ended}
 use Rattle.noise_session.proofs.end.End.write_to.Goals as goal
 
 -- the front of a buffer whose front was written
@@ -17,8 +17,8 @@ front-of out rest n len f g = take-take n len (out ++ rest) f ∙ take-append-le
 
 pub returns-in_err-len-clause-puts : goal.returns-in_err-len-clause-puts
 returns-in_err-len-clause-puts g c v s =
-    let t : EndStands g.K.Keys.public_of g.K.Keys.agreement _ v = subst (λ u. EndStands g.K.Keys.public_of g.K.Keys.agreement u v) (sym c.self.view_is) s in
-    let e = c.in_err-len.ensures.err v t in
+    let t : EndMatches g.K.Keys.public_of g.K.Keys.agreement _ v = subst (λ u. EndMatches g.K.Keys.public_of g.K.Keys.agreement u v) (sym c.self.view_is) s in
+    let e = c.in_err-len.ensures.writes.sends v t in
     let fault = c.in_err-len.field-0.0 in
     let p = err_from_is_err_and c.from_residual.result c.from_residual.ensures.1 in
     let same : c.from_residual.result ≡ Err fault = p.1 ∙ ap (λ f. Err f) p.2 in (
@@ -32,18 +32,18 @@ returns-in_err-len-clause-puts g c v s =
 
 pub returns-in-Ok-clause-puts : goal.returns-in-Ok-clause-puts
 returns-in-Ok-clause-puts g c v s =
-    let t : EndStands g.K.Keys.public_of g.K.Keys.agreement _ v = subst (λ u. EndStands g.K.Keys.public_of g.K.Keys.agreement u v) (sym c.self.view_is) s in
-    let w = c.in_ok-len.ensures.ok v t in
+    let t : EndMatches g.K.Keys.public_of g.K.Keys.agreement _ v = subst (λ u. EndMatches g.K.Keys.public_of g.K.Keys.agreement u v) (sym c.self.view_is) s in
+    let w = c.in_ok-len.ensures.writes.sends v t in
     let len = c.in_ok-len.len in
     let frame = take len c.send.new.out in
     let vec = c.self.inside.outgoing.ok.0 in
     let room = c.self.invariant.room in
-    let fits : len ≤ length c.send.new.out = c.in_ok-len.ensures.len.1 in
+    let fits : len ≤ length c.send.new.out = c.in_ok-len.ensures.writes.len.1 in
     let lent = c.deref_mut.ensures.len in
     let same = c.send.auto.out in
     let handed : take len c.deref.result.now ≡ frame =
     ap (take len) c.deref.ensures.value ∙ front-of c.send.new.out _ len c.self.inside.outgoing.len (omega arith) fits in
-    let count : length frame ≡ len = length-take-le len c.send.new.out c.in_ok-len.ensures.len.1 in (
+    let count : length frame ≡ len = length-take-le len c.send.new.out c.in_ok-len.ensures.writes.len.1 in (
       frame,
       w.0,
       subst (λ (k : ℕ). Puts v c.args.payload.now (Ok k) frame w.0) count (whole v w.0 c.args.payload.now frame w.1),
@@ -53,25 +53,25 @@ returns-in-Ok-clause-puts g c v s =
 
 pub returns-in-Err-clause-puts : goal.returns-in-Err-clause-puts
 returns-in-Err-clause-puts g c v s =
-    let t : EndStands g.K.Keys.public_of g.K.Keys.agreement _ v = subst (λ u. EndStands g.K.Keys.public_of g.K.Keys.agreement u v) (sym c.self.view_is) s in
-    let w = c.in_ok-len.ensures.ok v t in
+    let t : EndMatches g.K.Keys.public_of g.K.Keys.agreement _ v = subst (λ u. EndMatches g.K.Keys.public_of g.K.Keys.agreement u v) (sym c.self.view_is) s in
+    let w = c.in_ok-len.ensures.writes.sends v t in
     let len = c.in_ok-len.len in
     let written = c.in-Err.written in
     let frame = take len c.send.new.out in
     let vec = c.self.inside.outgoing.ok.0 in
     let room = c.self.invariant.room in
-    let fits : len ≤ length c.send.new.out = c.in_ok-len.ensures.len.1 in
+    let fits : len ≤ length c.send.new.out = c.in_ok-len.ensures.writes.len.1 in
     let lent = c.deref_mut.ensures.len in
     let same = c.send.auto.out in
     let handed : take len c.deref.result.now ≡ frame =
     ap (take len) c.deref.ensures.value ∙ front-of c.send.new.out _ len c.self.inside.outgoing.len (omega arith) fits in
     let less : written < length frame = subst (λ (xs : List ℕ). written < length xs) handed c.in-Err.ensures.written.0 in
-    let over : EndStands g.K.Keys.public_of g.K.Keys.agreement _ (closed w.0) =
-    subst (λ e. EndStands g.K.Keys.public_of g.K.Keys.agreement e (closed w.0)) (sym c.end.ensures)
-    (record { phase = phase-over g.K.Keys.public_of g.K.Keys.agreement c.send.new.self.phase w.0 w.2.phase; held = refl }) in (
+    let ended_party : EndMatches g.K.Keys.public_of g.K.Keys.agreement _ (ended_session w.0) =
+    subst (λ e. EndMatches g.K.Keys.public_of g.K.Keys.agreement e (ended_session w.0)) (sym c.end.ensures)
+    (record { phase = phase-ended g.K.Keys.public_of g.K.Keys.agreement c.send.new.self.party.phase w.0 w.2.phase; partial = refl }) in (
       take written frame,
-      closed w.0,
+      ended_session w.0,
       broken v w.0 c.args.payload.now frame written w.1 less,
       subst (Appends _ _) (ap (take written) handed) c.in-Err.ensures.written.1,
-      over,
+      ended_party,
     )

@@ -3,68 +3,64 @@ use Rattle.std.proofs.lemmas.List.{nil_from_length}
 use Rattle.std.specs.Io.KnownBytes.{Consumes}
 use Rattle.noise_session.specs.Frames.{frame, IsPartial}
 use Rattle.noise_session.specs.Progress.{idle_step}
-use Rattle.noise_session.specs.Ends.{EndView, progress_of, progress_in}
+use Rattle.noise_session.specs.Ends.{EndState, progress_of, progress_in}
 use Rattle.noise_session.specs.Taking.Takes.{idles, judges}
 use Rattle.noise_session.specs.Inputs.Receives.{takes, pauses, is_cut, fails}
-use Rattle.noise_session.specs.inner.Incoming.{bytes_of}
-use Rattle.noise_session.specs.inner.Outcomes.{tells}
-use Rattle.noise_session.specs.Steps.{Told}
+use Rattle.noise_session.specs.inner.Partial.{bytes_of}
+use Rattle.noise_session.specs.inner.Places.{reported_in}
+use Rattle.noise_session.specs.Steps.{StepValue, step_value}
 use Rattle.noise_session.proofs.Streaming.{consumed_none}
 use Rattle.noise_session.proofs.Cutting.{idles-not, judged-not}
-use Rattle.noise_session.proofs.Views.{phase-progress, phase-held}
+use Rattle.noise_session.proofs.Parties.{phase-progress, phase-partial}
 use Rattle.noise_session.proofs.state.State.receive.Goals as goal
-
-pub returns-in-Some-clause-place : goal.returns-in-Some-clause-place
-returns-in-Some-clause-place g c = c.in-Some.ensures.place (drop 2 c.args.self.now.incoming.buffer.items)
 
 pub returns-in-Some-clause-receives : goal.returns-in-Some-clause-receives
 returns-in-Some-clause-receives g c v s =
-    let step = tells (drop 2 c.args.self.now.incoming.buffer.items) c.in-Some.outcome in
+    let step = step_value c.in-Some.step in
     let idle : idle_step (progress_of v) ≡ Some step =
-    ap idle_step (sym (phase-progress g.K.Keys.public_of g.K.Keys.agreement c.args.self.now.phase v s.phase))
-    ∙ c.in-Some.ensures.step (drop 2 c.args.self.now.incoming.buffer.items) in
-    ([], v, takes v v [] step (λ same. idles-not (progress_of v) (idle ∙ ap (λ (t : Told). Some t) same)) (idles v [] step idle), consumed_none _, s)
+    ap idle_step (sym (phase-progress g.K.Keys.public_of g.K.Keys.agreement c.args.self.now.party.phase v s.phase)) ∙ c.in-Some.ensures in
+    ([], v, takes v v [] step (λ same. idles-not (progress_of v) (idle ∙ ap (λ (t : StepValue). Some t) same)) (idles v [] step idle), consumed_none _, s)
 
 pub returns-in-Filled-clause-receives : goal.returns-in-Filled-clause-receives
 returns-in-Filled-clause-receives g c v s =
-    let idle : idle_step (progress_in c.args.self.now.phase) ≡ None = c.in_default.ensures.step in
-    let none : idle_step (progress_of v) ≡ None = ap idle_step (sym (phase-progress g.K.Keys.public_of g.K.Keys.agreement c.args.self.now.phase v s.phase)) ∙ idle in
+    let idle : idle_step (progress_in c.args.self.now.party.phase) ≡ None = c.in_default.ensures in
+    let none : idle_step (progress_of v) ≡ None = ap idle_step (sym (phase-progress g.K.Keys.public_of g.K.Keys.agreement c.args.self.now.party.phase v s.phase)) ∙ idle in
     let r = c.in-Filled.ensures.bytes in
     let piece = r.0 in
-    let judged = c.judge.ensures.judges v s.phase in
+    let judged = c.read.ensures.judges v s.phase in
     let next = judged.0 in
     let message = drop 2 (bytes_of c.fill_from.new.self) in
-    let whole : v.held ++ piece ≡ frame message ++ [] =
-    ap (λ (xs : List ℕ). xs ++ piece) (sym s.held) ∙ (sym r.2 ∙ (c.judge.ensures.spelled ∙ sym (append-nil (frame message)))) in
+    let whole : v.partial ++ piece ≡ frame message ++ [] =
+    ap (λ (xs : List ℕ). xs ++ piece) (sym s.partial) ∙ (sym r.2 ∙ (c.read.ensures.spelled ∙ sym (append-nil (frame message)))) in
     let taken : length piece + length {A = ℕ} [] ≡ length piece = omega arith in
-    let step = tells (drop 2 c.judge.new.incoming.buffer.items) c.judge.result in (
+    let step = reported_in (drop 2 c.read.new.incoming.buffer.items) c.read.result in (
       piece,
       next,
       takes v next piece step (λ same. judged-not v next message step same judged.1) (judges v next piece message []
-          (length piece) step none whole c.judge.ensures.short taken judged.1),
+          (length piece) step none whole c.read.ensures.short taken judged.1),
       r.1,
-      record { phase = judged.2; held = c.judge.ensures.empty ∙ sym judged.3 },
+      record { phase = judged.2; partial = c.read.ensures.empty ∙ sym judged.3 },
     )
 
 pub returns-in-Failed-clause-receives : goal.returns-in-Failed-clause-receives
 returns-in-Failed-clause-receives g c v s =
-    let idle : idle_step (progress_in c.args.self.now.phase) ≡ None = c.in_default.ensures.step in
-    let none : idle_step (progress_of v) ≡ None = ap idle_step (sym (phase-progress g.K.Keys.public_of g.K.Keys.agreement c.args.self.now.phase v s.phase)) ∙ idle in
+    let idle : idle_step (progress_in c.args.self.now.party.phase) ≡ None = c.in_default.ensures in
+    let none : idle_step (progress_of v) ≡ None = ap idle_step (sym (phase-progress g.K.Keys.public_of g.K.Keys.agreement c.args.self.now.party.phase v s.phase)) ∙ idle in
     let r = c.in-Failed.ensures.bytes in
-    let bytes : bytes_of c.fill_from.new.self ≡ v.held ++ r.0 = r.2 ∙ ap (λ (xs : List ℕ). xs ++ r.0) s.held in
-    let partial : IsPartial (v.held ++ r.0) = subst (λ (xs : List ℕ). IsPartial xs) bytes c.in-Failed.ensures.leaves in
-    let next : EndView = record v { held = v.held ++ r.0 } in (
+    let bytes : bytes_of c.fill_from.new.self ≡ v.partial ++ r.0 = r.2 ∙ ap (λ (xs : List ℕ). xs ++ r.0) s.partial in
+    let partial : IsPartial (v.partial ++ r.0) = subst (λ (xs : List ℕ). IsPartial xs) bytes c.in-Failed.ensures.leaves in
+    let next : EndState = record v { partial = v.partial ++ r.0 } in (
       r.0,
       next,
       fails v r.0 none partial,
       r.1,
-      record { phase = phase-held g.K.Keys.public_of g.K.Keys.agreement c.args.self.now.phase v (v.held ++ r.0) s.phase; held = bytes },
+      record { phase = phase-partial g.K.Keys.public_of g.K.Keys.agreement c.args.self.now.party.phase v (v.partial ++ r.0) s.phase; partial = bytes },
     )
 
 pub returns-then-held-eq0-clause-receives : goal.returns-then-held-eq0-clause-receives
 returns-then-held-eq0-clause-receives g c v s =
-    let idle : idle_step (progress_in c.args.self.now.phase) ≡ None = c.in_default.ensures.step in
-    let none : idle_step (progress_of v) ≡ None = ap idle_step (sym (phase-progress g.K.Keys.public_of g.K.Keys.agreement c.args.self.now.phase v s.phase)) ∙ idle in
+    let idle : idle_step (progress_in c.args.self.now.party.phase) ≡ None = c.in_default.ensures in
+    let none : idle_step (progress_of v) ≡ None = ap idle_step (sym (phase-progress g.K.Keys.public_of g.K.Keys.agreement c.args.self.now.party.phase v s.phase)) ∙ idle in
     let r = c.in-End.ensures.bytes in
     let old = bytes_of c.args.self.now.incoming in
     let count = c.held.ensures.count in
@@ -73,23 +69,23 @@ returns-then-held-eq0-clause-receives g c v s =
     let no_new : bytes_of c.fill_from.new.self ≡ [] = nil_from_length _ (omega arith) in
     let no_old : old ≡ [] = nil_from_length _ (omega arith) in
     let no_piece : r.0 ≡ [] = nil_from_length _ (omega arith) in
-    ([], v, pauses v none (sym s.held ∙ no_old), subst (Consumes _ _) no_piece r.1, record { phase = s.phase; held = no_new ∙ (sym no_old ∙ s.held) })
+    ([], v, pauses v none (sym s.partial ∙ no_old), subst (Consumes _ _) no_piece r.1, record { phase = s.phase; partial = no_new ∙ (sym no_old ∙ s.partial) })
 
 pub returns-else-held-eq0-clause-receives : goal.returns-else-held-eq0-clause-receives
 returns-else-held-eq0-clause-receives g c v s =
-    let idle : idle_step (progress_in c.args.self.now.phase) ≡ None = c.in_default.ensures.step in
-    let none : idle_step (progress_of v) ≡ None = ap idle_step (sym (phase-progress g.K.Keys.public_of g.K.Keys.agreement c.args.self.now.phase v s.phase)) ∙ idle in
+    let idle : idle_step (progress_in c.args.self.now.party.phase) ≡ None = c.in_default.ensures in
+    let none : idle_step (progress_of v) ≡ None = ap idle_step (sym (phase-progress g.K.Keys.public_of g.K.Keys.agreement c.args.self.now.party.phase v s.phase)) ∙ idle in
     let r = c.in-End.ensures.bytes in
     let count = c.held.ensures.count in
     let some = c.if-held-eq0.false in
-    let bytes : bytes_of c.fill_from.new.self ≡ v.held ++ r.0 = r.2 ∙ ap (λ (xs : List ℕ). xs ++ r.0) s.held in
-    let partial : IsPartial (v.held ++ r.0) = subst (λ (xs : List ℕ). IsPartial xs) bytes c.in-End.ensures.leaves in
-    let next : EndView = record v { held = v.held ++ r.0 } in
-    let begun : v.held ++ r.0 ≢ [] = λ e. let empty : length (bytes_of c.fill_from.new.self) ≡ 0 = ap (λ (xs : List ℕ). length xs) (bytes ∙ e) in
+    let bytes : bytes_of c.fill_from.new.self ≡ v.partial ++ r.0 = r.2 ∙ ap (λ (xs : List ℕ). xs ++ r.0) s.partial in
+    let partial : IsPartial (v.partial ++ r.0) = subst (λ (xs : List ℕ). IsPartial xs) bytes c.in-End.ensures.leaves in
+    let next : EndState = record v { partial = v.partial ++ r.0 } in
+    let begun : v.partial ++ r.0 ≢ [] = λ e. let empty : length (bytes_of c.fill_from.new.self) ≡ 0 = ap (λ (xs : List ℕ). length xs) (bytes ∙ e) in
     absurd (omega arith) in (
       r.0,
       next,
       is_cut v r.0 none partial begun,
       r.1,
-      record { phase = phase-held g.K.Keys.public_of g.K.Keys.agreement c.args.self.now.phase v (v.held ++ r.0) s.phase; held = bytes },
+      record { phase = phase-partial g.K.Keys.public_of g.K.Keys.agreement c.args.self.now.party.phase v (v.partial ++ r.0) s.phase; partial = bytes },
     )

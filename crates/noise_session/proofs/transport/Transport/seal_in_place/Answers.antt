@@ -1,12 +1,7 @@
-use Rattle.std.proofs.Common.{sym, subst}
-use Rattle.std.proofs.lemmas.Result.{IfOk-weaker}
 use Rattle.noise_session.specs.contracts.transport.Transport.{the_view}
-use Rattle.noise_session.specs.HeldTransport.{HeldTransport, TransportStands}
-use Rattle.noise_session.proofs.Splitting.{sender-stands, transport-sealed}
+use Rattle.noise_session.proofs.Splitting.{transport-seals}
 use Rattle.noise_session.proofs.transport.Transport.seal_in_place.Goals as goal
 
-pub returns-clause-seals : goal.returns-clause-seals
-returns-clause-seals c v s =
-    let here = subst (λ (t : HeldTransport). TransportStands t v) (sym c.self.view_is) s in
-    IfOk-weaker c.seal_in_place.result _ _ (λ n h. (h.0, transport-sealed (the_view c.self.inside) c.seal_in_place.new.self v here h.1))
-    (c.seal_in_place.ensures.seals v (sender-stands (the_view c.self.inside) v here))
+pub returns : goal.returns
+returns c =
+    transport-seals (the_view c.self.inside) c.args.self.now c.seal_in_place.new.self _ _ _ _ _ c.self.view_is c.seal_in_place.ensures

@@ -1,11 +1,10 @@
 use Rattle.std.proofs.Common.{◌≡◌, ℕ, List, ◌++◌, length, take, sym, ap, subst, ◌∙◌, arith}
-use Rattle.std.specs.Prelude.{Bool, not}
-use Rattle.noise_handshake.specs.Held.{is_turn}
+use Rattle.std.specs.Prelude.{Bool}
 use Rattle.noise_names.specs.declared.token.Token.{Token}
 use Rattle.noise_names.specs.Plan.{has_psk}
 use Rattle.noise_handshake.specs.Message.{before_payload}
-use Rattle.noise_handshake.specs.View.{reader, tokens_now}
-use Rattle.noise_trace.specs.inner.Carried.{Carries}
+use Rattle.noise_handshake.specs.Party.{reader, tokens_now}
+use Rattle.noise_trace.specs.inner.Carried.{Carries, CarriesNext}
 use Rattle.noise_trace.specs.Steps.{token_steps}
 use Rattle.noise_trace.proofs.Due.{fit-carries, reads}
 use Rattle.noise_trace.proofs.before.BeforeMessage.refused_steps.Goals as goal
@@ -18,10 +17,10 @@ returns g c = record {
       let n : ℕ = c.min-count.result in
       let count : c.args.token ≡ n = omega (arith, c.min-count.ensures, c.len.ensures.value, ap length sb.tokens, r.stops.within) in
       let same : take c.args.token ts ≡ take n ts = ap (λ (k : ℕ). take k ts) count in
-      let carries = subst (λ (b : Bool). Carries b (reader v) v.remote v.secrets (take c.args.token ts) xs) (sym (reads v r.listens))
-      (fit-carries (reader v) v.remote v.secrets (take c.args.token ts) xs r.stops.leads.fit) in
+      let carries = subst (λ (b : Bool). Carries b (reader v) v.remote v.psks (take c.args.token ts) xs) (sym (reads v r.listens))
+      (fit-carries (reader v) v.remote v.psks (take c.args.token ts) xs r.stops.leads.fit) in
       let f = c.front-steps.ensures.front v xs r.stops.rest sb ag
-      (subst (λ (us : List Token). Carries (not (is_turn v.role v.passed)) (reader v) v.remote v.secrets us xs) same carries)
+      (subst (λ (us : List Token). CarriesNext v us xs) same carries)
       (subst (λ (us : List Token). c.args.message.now ≡ before_payload (has_psk v.pattern) v.history us xs ++ r.stops.rest) same r.stops.leads.spelled) in
       f.steps ∙ ap (λ (us : List Token). token_steps (has_psk v.pattern) v.history 0 us xs) (sym same);
 }

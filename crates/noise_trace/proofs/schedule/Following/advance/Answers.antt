@@ -4,32 +4,32 @@ use Rattle.noise_names.specs.declared.token.Token.{Token}
 use Rattle.noise_names.specs.Plan.{Plan, has_psk}
 use Rattle.noise_names.specs.Tokens.{is_psk}
 use Rattle.noise_state.specs.declared.symmetric.SymmetricState.{SymmetricState}
-use Rattle.noise_state.specs.Standing.{StateStands, nonce_now}
+use Rattle.noise_state.specs.Standing.{StateMatches, nonce_now}
 use Rattle.noise_handshake.specs.declared.remote.Remote.{Remote}
-use Rattle.noise_handshake.specs.Held.{is_turn}
+use Rattle.noise_handshake.specs.HandshakeValue.{is_turn}
 use Rattle.noise_handshake.specs.Message.{after_payload}
-use Rattle.noise_handshake.specs.View.{tokens_at, tokens_now}
+use Rattle.noise_handshake.specs.Party.{tokens_at, tokens_now}
 use Rattle.noise_trace.specs.Following.{Followed, Follows}
 use Rattle.noise_trace.specs.inner.Carried.{known_through}
-use Rattle.noise_trace.proofs.Due.{secrets-due}
-use Rattle.noise_trace.proofs.Later.{secrets-later, next-turn}
+use Rattle.noise_trace.proofs.Due.{psks-due}
+use Rattle.noise_trace.proofs.Later.{psks-later, next-turn}
 use Rattle.noise_trace.proofs.schedule.Following.advance.Goals as goal
 use Rattle.std.proofs.lemmas.Option.{same_Some}
 
-pub next-next-requires-clause-secrets : goal.next-next-requires-clause-secrets
-next-next-requires-clause-secrets g c =
+pub next-next-requires-clause-psks : goal.next-next-requires-clause-psks
+next-next-requires-clause-psks g c =
     let p : Plan = c.self.inside.pattern in
     let n : ℕ = c.self.inside.passed in
-    let ms : c.messages-messages.result.now ≡ p.messages = c.messages-messages.ensures.same ∙ ap (λ (z : Plan). z.messages) c.pattern.ensures.same in
+    let ms : c.messages-messages.result.now ≡ p.messages = c.messages-messages.ensures.value ∙ ap (λ (z : Plan). z.messages) c.pattern.ensures.value in
     let due : c.tokens_at-tokens.result.now ≡ tokens_at p.messages (n + 1) =
     c.tokens_at-tokens.ensures.tokens ∙ ap (λ (z : List (List Token)). tokens_at z (n + 1)) ms in
     omega (
       arith,
       ap (count_by is_psk) c.self.invariant.tokens,
       ap (count_by is_psk) due,
-      c.self.invariant.secrets,
-      secrets-later p.messages n,
-      secrets-due p.messages (n + 1),
+      c.self.invariant.psks,
+      psks-later p.messages n,
+      psks-due p.messages (n + 1),
     )
 
 pub invariant_of-self : goal.invariant_of-self
@@ -39,32 +39,33 @@ invariant_of-self g c =
     let before = c.self.inside.before in
     let next = c.next-next.result in
     let taken : ℕ = count_by is_psk before.tokens.items in
-    let ms : c.messages-messages.result.now ≡ p.messages = c.messages-messages.ensures.same ∙ ap (λ (z : Plan). z.messages) c.pattern.ensures.same in
+    let ms : c.messages-messages.result.now ≡ p.messages = c.messages-messages.ensures.value ∙ ap (λ (z : Plan). z.messages) c.pattern.ensures.value in
     let left : nonce_now c.in-Some.state ≤ nonce_now before.state + 11 = rw c.in-Some.is at c.whole-steps.ensures.nonce in
     record {
       tokens = c.next-next.ensures.tokens ∙ c.tokens_at-tokens.ensures.tokens ∙ ap (λ (z : List (List Token)). tokens_at z (n + 1)) ms;
-      secrets = omega (
+      psks = omega (
         arith,
-        ap length c.next-next.ensures.secrets,
-        length-drop taken before.secrets.items,
+        ap length c.next-next.ensures.psks,
+        length-drop taken before.psks.items,
         ap (count_by is_psk) c.self.invariant.tokens,
-        c.self.invariant.secrets,
-        secrets-later p.messages n,
+        c.self.invariant.psks,
+        psks-later p.messages n,
       );
       nonce = omega (arith, ap nonce_now c.next-next.ensures.state, left, c.self.invariant.nonce);
     }
 
 pub returns : goal.returns
-returns g c v xs payload f0 more carries spelled =
+returns g c v xs payload f0 next =
+    let more = next.more in
     let n : ℕ = c.self.inside.passed in
     let ts : List Token = tokens_now v in
     let f = subst (λ (z : Followed g.row.K.Denot). Follows g.K.Keys.public_of g.K.Keys.agreement z v) (sym c.self.view_is) f0 in
-    let w = c.whole-steps.ensures.whole v xs payload f.before f.agree carries spelled in
+    let w = c.whole-steps.ensures.whole v xs payload f.before f.agree next in
     let knows : Remote = known_through (not (is_turn v.role v.passed)) v.remote ts xs in
     let same : ◌≡◌ {A = Remote × SymmetricState} (c.in-Some.remote, c.in-Some.state) (knows, w.state) =
     same_Some {A = Remote × SymmetricState} (c.in-Some.remote, c.in-Some.state) (knows, w.state) (sym c.in-Some.is ∙ w.left) in
     let ms : c.messages-messages.result.now ≡ v.pattern.messages =
-    c.messages-messages.ensures.same ∙ ap (λ (z : Plan). z.messages) (c.pattern.ensures.same ∙ f.pattern) in
+    c.messages-messages.ensures.value ∙ ap (λ (z : Plan). z.messages) (c.pattern.ensures.value ∙ f.pattern) in
     let due : c.tokens_at-tokens.result.now ≡ tokens_at v.pattern.messages (v.passed + 1) =
     c.tokens_at-tokens.ensures.tokens ∙ ap (λ (z : List (List Token)). tokens_at z (n + 1)) ms
     ∙ ap (λ (k : ℕ). tokens_at v.pattern.messages (k + 1)) f.passed in
@@ -77,14 +78,14 @@ returns g c v xs payload f0 more carries spelled =
         passed = ap (λ (k : ℕ). k + 1) f.passed;
         before = record {
           role = c.next-next.ensures.role ∙ f.before.role;
-          psks = c.next-next.ensures.psks ∙ f.before.psks;
+          has_psks = c.next-next.ensures.has_psks ∙ f.before.has_psks;
           writes = c.next-next.ensures.writes ∙ ap not f.before.writes ∙ next-turn v.role v.passed;
           tokens = c.next-next.ensures.tokens ∙ due;
           remote = c.next-next.ensures.remote ∙ ap (λ (q : Remote × SymmetricState). q.0) same;
-          secrets = c.next-next.ensures.secrets
-              ∙ ap (λ (us : List Token). drop (count_by is_psk us) c.self.inside.before.secrets.items) f.before.tokens
-              ∙ ap (drop (count_by is_psk ts)) f.before.secrets;
-          history = subst (λ (z : SymmetricState). StateStands z (after_payload (has_psk v.pattern) v.history ts xs payload)) (sym left) w.stands;
+          psks = c.next-next.ensures.psks
+              ∙ ap (λ (us : List Token). drop (count_by is_psk us) c.self.inside.before.psks.items) f.before.tokens
+              ∙ ap (drop (count_by is_psk ts)) f.before.psks;
+          history = subst (λ (z : SymmetricState). StateMatches z (after_payload (has_psk v.pattern) v.history ts xs payload)) (sym left) w.matches;
         };
       },
     )

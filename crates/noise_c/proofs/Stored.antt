@@ -1,0 +1,142 @@
+-- The struct matches what the handshake stood for.
+use Rattle.std.proofs.Common.{◌≡◌, ℕ, ◌+◌, ◌-◌, ◌++◌, ◌≤◌, List, length, drop, length-append, drop-drop, ap, sym, subst, ◌∙◌, refl, arith, slice_range}
+use Rattle.std.proofs.Math.Seq.{drop-append_seam}
+use Rattle.noise_names.specs.Plan.{Plan}
+use Rattle.noise_names.specs.Validity.{IsValid}
+use Rattle.noise_handshake.specs.declared.faults.Cause.{Cause}
+use Rattle.noise_handshake.specs.declared.faults.ReadFault.{ReadFault}
+use Rattle.noise_handshake.specs.declared.faults.ReadFault.TheVariants as read
+use Rattle.noise_handshake.specs.declared.late_faults.LateUnread.{LateUnread}
+use Rattle.noise_handshake.specs.declared.late_faults.LateUnread.TheVariants as unread
+use Rattle.noise_handshake.specs.HandshakeValue.{HandshakeValue, ended_as, message_len_of}
+use Rattle.noise_handshake.specs.Late.{with_later, after_late_unread, IsLateWhole}
+use Rattle.noise_keys.specs.Table.{Table}
+use Rattle.noise_handshake.specs.Party.{Party, Accepts}
+use Rattle.noise_handshake.specs.Matching.{Matches, after_message, after_own, after_not_read, DoesNotRead}
+use Rattle.noise_handshake.specs.Writing.{Writes}
+use Rattle.noise_c.specs.declared.structs.NoiseHandshake.{NoiseHandshake}
+use Rattle.noise_c.specs.HandshakeStructs.{public_in, agreement_in, text_in, handshake_from_c, IsPatternOf, IsUsable, KeepsParty, WasRead, WasWritten, WasDeclined}
+use Rattle.noise_c.specs.declared.codes.numbers.TheConstants.{HANDSHAKE}
+use Rattle.noise_c.specs.Codes.{read_code, token_in}
+use Rattle.noise_c.proofs.Numbers.{IsPlain}
+
+module _ (old new : NoiseHandshake) (h h2 : HandshakeValue Table) (p : Plan) (v : Party) (one : (q : Plan) → IsPatternOf (text_in old) q → q ≡ h.pattern) (same : h ≡ handshake_from_c h.pattern old)
+    (stays : h2.pattern ≡ h.pattern) (name : text_in new ≡ text_in old) (stored : handshake_from_c h2.pattern new ≡ h2) (k : KeepsParty old p v) where
+  -- the handshake that was opened matches the state
+  pub opened : Matches public_in agreement_in (with_later h k.later) v
+  opened = subst (λ (z : HandshakeValue Table). Matches public_in agreement_in (with_later z k.later) v) (ap (λ (q : Plan). handshake_from_c q old) (one p k.pattern) ∙ sym same) k.matches
+
+  -- and what it became is stored in the struct
+  pub keeps : (w : Party) → Matches public_in agreement_in (with_later h2 k.later) w → KeepsParty new p w
+  keeps w s = record {
+    pattern = subst (λ (z : List ℕ). IsPatternOf z p) (sym name) k.pattern;
+    later = k.later;
+    matches = subst (λ (z : HandshakeValue Table). Matches public_in agreement_in (with_later z k.later) w) (sym (ap (λ (q : Plan). handshake_from_c q new) (one p k.pattern ∙ sym stays) ∙ stored)) s;
+  }
+
+  pub was-read : (message new_message : List ℕ) (start end : ℕ) → start ≤ end
+      → (xs : List (List ℕ)) → Accepts v message xs (slice_range new_message start end) → Matches public_in agreement_in (with_later h2 k.later) (after_message v xs (slice_range new_message start end))
+      → WasRead p v message (slice_range new_message start (start + (end - start))) new
+  was-read message new_message start end r xs a s =
+      let n : end ≡ start + (end - start) = omega (arith, r) in
+      subst (λ (z : ℕ). WasRead p v message (slice_range new_message start z) new) n
+      (record { carried = xs; accepts = a; keeps = keeps (after_message v xs (slice_range new_message start end)) s })
+
+  pub was-declined : (message : List ℕ) (fault : ReadFault) (code token : ℕ) → code ≡ read_code fault → token ≡ token_in fault → DoesNotRead v message fault → Matches public_in agreement_in (with_later h2 k.later) (after_not_read v fault)
+      → WasDeclined p v message code token new
+  was-declined message fault code token e t d s = record { fault = fault; code_is = e; token_is = t; declines = d; keeps = keeps (after_not_read v fault) s }
+
+  pub was-written : (payload message : List ℕ) (xs : List (List ℕ)) → Writes v payload xs message → Matches public_in agreement_in (with_later h2 k.later) (after_own v xs payload) → WasWritten p v payload message new
+  was-written payload message xs w s = record { carried = xs; writes = w; keeps = keeps (after_own v xs payload) s }
+
+-- a handshake that was opened matches what the struct matches
+pub matches-for : (old : NoiseHandshake) (h : HandshakeValue Table) (p : Plan) (v : Party) → ((q : Plan) → IsPatternOf (text_in old) q → q ≡ h.pattern) → h ≡ handshake_from_c h.pattern old → (k : KeepsParty old p v)
+    → Matches public_in agreement_in (with_later h k.later) v
+matches-for old h p v one same k = subst (λ (z : HandshakeValue Table). Matches public_in agreement_in (with_later z k.later) v) (ap (λ (q : Plan). handshake_from_c q old) (one p k.pattern) ∙ sym same) k.matches
+
+-- how long its message is, if one is due
+pub length-for : (old : NoiseHandshake) (h : HandshakeValue Table) (p : Plan) (payload : ℕ) → ((q : Plan) → IsPatternOf (text_in old) q → q ≡ h.pattern) → h ≡ handshake_from_c h.pattern old
+    → IsPatternOf (text_in old) p → message_len_of (handshake_from_c p old) payload ≡ message_len_of h payload
+length-for old h p payload one same named =
+    ap (λ (z : HandshakeValue Table). message_len_of z payload) (ap (λ (q : Plan). handshake_from_c q old) (one p named) ∙ sym same)
+
+-- a struct that holds a handshake is usable
+pub usable-stored : (new : NoiseHandshake) (h : HandshakeValue Table) → new.mark ≡ HANDSHAKE → new.text_len ≤ 416 → new.answer_count ≤ 8 → new.psk_count ≤ 9
+    → IsPatternOf (text_in new) h.pattern → IsValid h.pattern → handshake_from_c h.pattern new ≡ h → IsLateWhole public_in h → IsUsable new
+usable-stored new h m t a n named valid same whole = record {
+  mark = m;
+  text = t;
+  answers = a;
+  psks = n;
+  pattern = h.pattern;
+  named = named;
+  valid = valid;
+  whole = subst (λ (z : HandshakeValue Table). IsLateWhole public_in z) (sym same) whole;
+}
+
+-- the same of what a usable one becomes
+pub usable-after : (old new : NoiseHandshake) (h h2 : HandshakeValue Table) → IsUsable old → new.mark ≡ old.mark → new.text_len ≡ old.text_len → new.answer_count ≡ old.answer_count
+    → new.psk_count ≤ 9 → text_in new ≡ text_in old → IsPatternOf (text_in old) h.pattern → h2.pattern ≡ h.pattern → IsValid h2.pattern
+    → handshake_from_c h2.pattern new ≡ h2 → IsLateWhole public_in h2 → IsUsable new
+usable-after old new h h2 u m t a n name named stays valid same whole =
+    usable-stored new h2 (m ∙ u.mark) (omega (arith, t, u.text)) (omega (arith, a, u.answers)) n
+    (subst (λ (z : List ℕ). IsPatternOf z h2.pattern) (sym name) (subst (λ (q : Plan). IsPatternOf (text_in old) q) (sym stays) named)) valid same whole
+
+-- a handshake that has ended
+pub ended-stored : (old new : NoiseHandshake) (h h2 : HandshakeValue Table) → new ≡ record old { ended = 1 } → h ≡ handshake_from_c h.pattern old → h2 ≡ ended_as h
+    → handshake_from_c h2.pattern new ≡ h2
+ended-stored old new h h2 n same e =
+    ap (λ (q : Plan). handshake_from_c q new) (ap (λ (z : HandshakeValue Table). z.pattern) e) ∙ ap (handshake_from_c h.pattern) n ∙ sym (e ∙ ap (λ (z : HandshakeValue Table). ended_as z) same)
+
+-- and is what a call has left
+pub usable-ended : (old : NoiseHandshake) → IsUsable old → IsUsable (record old { ended = 1 })
+usable-ended old u = record {
+  mark = u.mark;
+  text = u.text;
+  answers = u.answers;
+  psks = u.psks;
+  pattern = u.pattern;
+  named = u.named;
+  valid = u.valid;
+  whole = (
+    u.whole.0,
+    record {
+      within = u.whole.1.within;
+      psks = u.whole.1.psks;
+      own_e = u.whole.1.own_e;
+      own_s = u.whole.1.own_s;
+      remote_e = u.whole.1.remote_e;
+      remote_s = u.whole.1.remote_s;
+      key = u.whole.1.key;
+      nonce = u.whole.1.nonce;
+    },
+  );
+}
+
+-- a refusal ends it
+pub refused-leaves : (h h2 : HandshakeValue Table) (u : LateUnread) (fault : ReadFault) (token : ℕ) (cause : Cause) → h2 ≡ after_late_unread h u → u ≡ unread.Declined fault
+    → fault ≡ read.Refused token cause → h2 ≡ ended_as h
+refused-leaves h h2 u fault token cause e f g = e ∙ ap (after_late_unread h) (f ∙ ap unread.Declined g)
+
+-- another fault leaves it as it was
+pub plain-leaves : (h h2 : HandshakeValue Table) (u : LateUnread) (fault : ReadFault) → IsPlain fault → h2 ≡ after_late_unread h u → u ≡ unread.Declined fault → h2 ≡ h
+plain-leaves h h2 u read.NotYourTurn plain e f = e ∙ ap (after_late_unread h) f
+plain-leaves h h2 u read.Done plain e f = e ∙ ap (after_late_unread h) f
+plain-leaves h h2 u read.Ended plain e f = e ∙ ap (after_late_unread h) f
+plain-leaves h h2 u (read.Refused token cause) plain e f = absurd (plain token cause refl)
+
+-- the psks that are left after a message stand at the same end
+psks-after : (old : NoiseHandshake) (h h2 : HandshakeValue Table) (taken : List (List ℕ)) → old.psk_count ≤ 9 → length h.psks ≡ old.psk_count
+    → h ≡ handshake_from_c h.pattern old → h.psks ≡ taken ++ h2.psks → h2.psks ≡ drop (9 - length h2.psks) old.psks
+psks-after old h h2 taken few count same after =
+    let c : ℕ = old.psk_count in
+    let n : length h.psks ≡ length taken + length h2.psks = ap length after ∙ length-append taken h2.psks in
+    let i : 9 - c + length taken ≡ 9 - length h2.psks = omega (arith, few, count, n) in
+    sym (drop-append_seam taken h2.psks) ∙ ap (drop (length taken)) (sym after ∙ ap (λ (z : HandshakeValue Table). z.psks) same)
+    ∙ drop-drop (length taken) (9 - c) old.psks ∙ ap (λ (k : ℕ). drop k old.psks) i
+
+-- the same by the slice that lends them
+pub psks-left : (old : NoiseHandshake) (h h2 : HandshakeValue Table) (taken left : List (List ℕ)) → old.psk_count ≤ 9 → length h.psks ≡ old.psk_count
+    → h ≡ handshake_from_c h.pattern old → h.psks ≡ taken ++ h2.psks → left ≡ h2.psks → h2.psks ≡ drop (9 - length left) old.psks
+psks-left old h h2 taken left few count same after e =
+    psks-after old h h2 taken few count same after ∙ ap (λ (z : List (List ℕ)). drop (9 - length z) old.psks) (sym e)

@@ -1,0 +1,41 @@
+use Rattle.std.proofs.Common.{◌≡◌, ◌∙◌, ℕ, ◌+◌, List, [], ◌∷◌, ◌++◌, ap, sym, subst, reverse, take, arith}
+use Rattle.std.proofs.lemmas.List.{take_all, take_more}
+use Rattle.std.specs.Global.{Global}
+use Rattle.std.specs.Prelude.{Vec}
+use Rattle.noise_state.specs.History.{History, MixHash, and_then}
+use Rattle.noise_state.specs.Standing.{StateMatches}
+use Rattle.noise_duel.specs.Collision.{hash_texts}
+use Rattle.noise_duel.specs.Entries.{bytes_of}
+use Rattle.noise_conversation.proofs.Mixed.{Mixes, mixes-more, mixing, texts-mixed}
+use Rattle.noise_conversation.proofs.clash.texts_hashed.Goals as goal
+
+pub loop-piece-preserved : goal.loop-piece-preserved
+loop-piece-preserved c =
+    let i : ℕ = c.loop-piece.piece-index in
+    let name = c.args.name.now in
+    let mixed = c.args.mixed.now in
+    let piece : Vec ℕ Global = c.piece-item.result in
+    let text : Vec ℕ Global = c.extend_from_slice.new.self in
+    let r : History = mixing name (reverse (bytes_of (take i mixed))) in
+    let more : take (i + 1) mixed ≡ take i mixed ++ piece ∷ [] =
+    take_more mixed i piece c.loop-piece-test.true ∙ ap (λ (v : Vec ℕ Global). take i mixed ++ v ∷ []) (sym c.piece-item.is) in
+    let is-text : text.items ≡ c.hash.result ++ piece.items =
+    c.in_ok-extend_from_slice.ensures.items
+    ∙ ap (λ (t : List ℕ). t ++ c.deref.result.now) c.in_ok-text.ensures.items
+    ∙ ap (λ (t : List ℕ). c.hash.result ++ t) c.deref.ensures.value in
+    let matches : StateMatches c.mix_hash.new.self (and_then r (MixHash piece.items)) =
+    subst (λ (t : List ℕ). StateMatches c.mix_hash.new.self (and_then r (MixHash t))) c.deref-in-loop-piece.ensures.value
+    (c.mix_hash.ensures.matches r c.loop-piece.invariant.matches) in
+    subst (λ (pieces : List (Vec ℕ Global)). Mixes name pieces c.mix_hash.new.self c.push.new.self.items) (sym more)
+    (subst (λ (texts : List (Vec ℕ Global)). Mixes name (take i mixed ++ piece ∷ []) c.mix_hash.new.self texts) (sym c.in_ok-push.ensures.items)
+    (mixes-more name (take i mixed) c.loop-piece.texts.items piece text c.loop-piece.state c.mix_hash.new.self c.hash.result c.loop-piece.invariant
+    (c.hash.ensures r c.loop-piece.invariant.matches) is-text matches))
+
+pub returns : goal.returns
+returns c = λ r h.
+    let i : ℕ = c.loop-piece.piece-index in
+    let name = c.args.name.now in
+    let mixed = c.args.mixed.now in
+    c.loop-piece.invariant.texts_are
+    ∙ ap (λ (pieces : List (Vec ℕ Global)). hash_texts (mixing name (reverse (bytes_of pieces)))) (take_all i mixed (omega (arith, c.loop-piece-test.false)))
+    ∙ sym (texts-mixed r name (bytes_of mixed) h)

@@ -1,0 +1,44 @@
+use Rattle.std.proofs.Common.{◌≡◌, sym, subst, ◌∙◌, List}
+use Rattle.noise_names.specs.declared.token.Role.{Role}
+use Rattle.noise_names.specs.declared.token.Role.TheVariants.{Initiator, Responder}
+use Rattle.noise_duel.specs.Acts.{roles_and_payloads}
+use Rattle.noise_duel.specs.Conversation.{HaveParts, end_after}
+use Rattle.noise_duel.specs.Notes.{Note}
+use Rattle.noise_duel.specs.SetUpAlike.{material_of}
+use Rattle.noise_conversation.specs.Lines.{bytes_not_taken}
+use Rattle.noise_conversation.specs.Setup.{history_of}
+use Rattle.noise_conversation.proofs.Fit.{in-turn, none-left-ended_party}
+use Rattle.noise_conversation.proofs.StepValue.{hash-reported}
+use Rattle.noise_conversation.proofs.conversation.say_lines.Goals as goal
+
+pub returns : goal.returns
+returns g c p s interval new fits answers =
+    let lines = roles_and_payloads c.args.lines.now in
+    let a = s.initiator in
+    let b = s.responder in
+    let r = history_of p s lines in
+    let parts = c.alike_are_parts.ensures p a.prologue a b new.valid new.alike new.initiator_keys new.responder_keys answers in
+    let have : HaveParts (material_of a b) p a.prologue a b = record {
+      pattern = new.pattern;
+      valid = new.valid;
+      long = parts.long;
+      initiator = parts.initiator;
+      responder = parts.responder;
+    } in
+    let come = c.in_ok-made.ensures.comes_through (material_of a b) p a.prologue a b interval have (in-turn p 0 lines fits) new.matches in
+    let says = c.end_is_reported.ensures _ (end_after p Initiator a b interval r lines) come.initiator in
+    let says-there = c.end_is_reported.ensures _ (end_after p Responder b a interval r lines) come.responder in
+    record {
+      initiator_frames = come.initiator_frames;
+      responder_frames = come.responder_frames;
+      payloads = come.entries;
+      taken = (
+        λ role. subst (λ (notes : List (Role × Note)). bytes_not_taken role notes ≡ 0) (sym come.entries) (none-left-ended_party role 0 0 lines),
+        says.partial,
+        says-there.partial,
+      );
+      ends = record { initiator = come.initiator; responder = come.responder };
+      hash = (says.hash ∙ hash-reported p Initiator a b interval r lines, says-there.hash ∙ hash-reported p Responder b a interval r lines);
+      keys_there = come.keys_there;
+      keys_back = come.keys_back;
+    }

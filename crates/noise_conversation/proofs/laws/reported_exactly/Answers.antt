@@ -1,0 +1,5 @@
+use Rattle.noise_conversation.proofs.Exactly.{reported-exactly}
+use Rattle.noise_conversation.proofs.laws.reported_exactly.Goals as goal
+
+pub returns : goal.returns
+returns c = reported-exactly c.accepted_exactly.ensures

@@ -1,0 +1,176 @@
+-- Equal hashes: all that can be seen of the conversation is the same, or two hashed texts collide.
+use Rattle.std.proofs.Common.{◌≡◌, ℕ, ◌+◌, List, [], ◌∷◌, length, refl, ap, sym, ◌∙◌, arith, inl, inr, ◌⊎◌}
+use Rattle.std.specs.Prelude.{Bool, true, false, is_some, unwrap_or}
+use Rattle.noise_names.specs.declared.token.Role.{Role}
+use Rattle.noise_names.specs.declared.token.Role.TheVariants.{Initiator, Responder}
+use Rattle.noise_names.specs.declared.token.Token.{Token}
+use Rattle.noise_names.specs.declared.token.Token.TheVariants.{E, S, Ee, Es, Se, Ss, Psk}
+use Rattle.noise_names.specs.Plan.{Plan, has_psk, pre_of}
+use Rattle.noise_names.specs.Names.{name_bytes}
+use Rattle.noise_state.specs.History.{History, MixHash, and_then, cipher_key, hash}
+use Rattle.noise_handshake.specs.declared.remote.Remote.{Remote}
+use Rattle.noise_handshake.specs.Message.{after_token, after_tokens, after_payload, with_ephemeral}
+use Rattle.noise_handshake.specs.Length.{keyed_after}
+use Rattle.noise_handshake.specs.Party.{Party, tokens_at, with_premessage, start}
+use Rattle.noise_handshake.specs.Setup.{public_keys}
+use Rattle.noise_duel.specs.Collision.{hashed, Collision}
+use Rattle.noise_duel.specs.Messages.{HandshakeMessage, Exchanged, Start, begun_as, keys_before, clear_keys_from, pre_keys}
+use Rattle.noise_duel.specs.Agreement.{VisiblyEqual, HashReports}
+use Rattle.noise_duel.proofs.Histories.{histories-alike}
+use Rattle.noise_duel.proofs.HashedTexts.{pre-many, pre-back, token-keyed}
+use Rattle.noise_duel.proofs.HashedMessages.{after_all, AllAlike, Reports, passes-lines, all-many, all-back, messages-same, keys-same}
+use Rattle.noise_names.specs.Lists.{heads}
+
+-- ---- the name stays
+
+ephemeral-name : (psks : Bool) (r : History) (x : List ℕ) → (with_ephemeral psks r x).name ≡ r.name
+ephemeral-name true r x = refl
+ephemeral-name false r x = refl
+
+token-name : (psks : Bool) (r : History) (t : Token) (x : List ℕ) → (after_token psks r t x).name ≡ r.name
+token-name psks r E x = ephemeral-name psks r x
+token-name psks r S x = refl
+token-name psks r Ee x = refl
+token-name psks r Es x = refl
+token-name psks r Se x = refl
+token-name psks r Ss x = refl
+token-name psks r Psk x = refl
+
+front-name : (psks : Bool) (r : History) (ts : List Token) (xs : List (List ℕ)) → (after_tokens psks r ts xs).name ≡ r.name
+front-name psks r [] xs = refl
+front-name psks r (t ∷ ts) [] = refl
+front-name psks r (t ∷ ts) (x ∷ xs) = front-name psks (after_token psks r t x) ts xs ∙ token-name psks r t x
+
+all-name : (p : Plan) (n : ℕ) (r : History) (ps : List HandshakeMessage) → (after_all p n r ps).name ≡ r.name
+all-name p n r [] = refl
+all-name p n r (m ∷ ms) =
+    all-name p (n + 1) (after_payload (has_psk p) r (tokens_at p.messages n) m.carried m.payload) ms ∙ front-name (has_psk p) r (tokens_at p.messages n) m.carried
+
+pre-name : (psks : Bool) (k : Remote) (ts : List Token) (r : History) → (with_premessage psks k ts r).name ≡ r.name
+pre-name psks k [] r = refl
+pre-name psks k (E ∷ ts) r = pre-name psks k ts (with_ephemeral psks r (unwrap_or k.e [])) ∙ ephemeral-name psks r (unwrap_or k.e [])
+pre-name psks k (S ∷ ts) r = pre-name psks k ts (and_then r (MixHash (unwrap_or k.s [])))
+pre-name psks k (_ ∷ ts) r = pre-name psks k ts r
+
+start-name : (name : List ℕ) (p : Plan) (prologue : List ℕ) (i j : Remote) → (start name p prologue i j).name ≡ name
+start-name name p prologue i j =
+    let first : History = and_then (record { name = name; entries = [] }) (MixHash prologue) in
+    pre-name (has_psk p) j (pre_of Responder p) (with_premessage (has_psk p) i (pre_of Initiator p) first) ∙ pre-name (has_psk p) i (pre_of Initiator p) first
+
+-- ---- the key after the pre-messages
+
+pre-keyed : (psks : Bool) (k l : Remote) (ts : List Token) (r s : History) → is_some (cipher_key r) ≡ is_some (cipher_key s)
+    → is_some (cipher_key (with_premessage psks k ts r)) ≡ is_some (cipher_key (with_premessage psks l ts s))
+pre-keyed psks k l [] r s e = e
+pre-keyed psks k l (E ∷ ts) r s e =
+    let x : List ℕ = unwrap_or k.e [] in
+    let y : List ℕ = unwrap_or l.e [] in
+    pre-keyed psks k l ts (with_ephemeral psks r x) (with_ephemeral psks s y)
+    (token-keyed psks r E x ∙ ap (λ (b : Bool). keyed_after psks b E) e ∙ sym (token-keyed psks s E y))
+pre-keyed psks k l (S ∷ ts) r s e = pre-keyed psks k l ts (and_then r (MixHash (unwrap_or k.s []))) (and_then s (MixHash (unwrap_or l.s []))) e
+pre-keyed psks k l (_ ∷ ts) r s e = pre-keyed psks k l ts r s e
+
+-- the two parties' start from the same hashed texts reports the prologue and the keys before
+module _ (name : List ℕ) (p : Plan) (a b : List ℕ) (i j k l : Remote) where
+  pub starts-many : length (hashed (start name p a i j)) ≡ length (hashed (start name p b k l))
+  starts-many =
+      let r : History = and_then (record { name = name; entries = [] }) (MixHash a) in
+      let s : History = and_then (record { name = name; entries = [] }) (MixHash b) in
+      pre-many (has_psk p) (with_premessage (has_psk p) i (pre_of Initiator p) r) (with_premessage (has_psk p) k (pre_of Initiator p) s) j l
+      (pre_of Responder p)
+      (pre-many (has_psk p) r s i k (pre_of Initiator p) refl)
+
+  pub starts-keyed : is_some (cipher_key (start name p a i j)) ≡ is_some (cipher_key (start name p b k l))
+  starts-keyed =
+      let r : History = and_then (record { name = name; entries = [] }) (MixHash a) in
+      let s : History = and_then (record { name = name; entries = [] }) (MixHash b) in
+      pre-keyed (has_psk p) j l (pre_of Responder p) (with_premessage (has_psk p) i (pre_of Initiator p) r)
+      (with_premessage (has_psk p) k (pre_of Initiator p) s)
+      (pre-keyed (has_psk p) i k (pre_of Initiator p) r s refl)
+
+  pub starts-back : hashed (start name p a i j) ≡ hashed (start name p b k l)
+      → (a ≡ b) × (pre_keys i (pre_of Initiator p) ≡ pre_keys k (pre_of Initiator p)) × (pre_keys j (pre_of Responder p) ≡ pre_keys l (pre_of Responder p))
+  starts-back e =
+      let r : History = and_then (record { name = name; entries = [] }) (MixHash a) in
+      let s : History = and_then (record { name = name; entries = [] }) (MixHash b) in
+      let later = pre-back (has_psk p) (with_premessage (has_psk p) i (pre_of Initiator p) r) (with_premessage (has_psk p) k (pre_of Initiator p) s) j l
+      (pre_of Responder p) e in
+      let here = pre-back (has_psk p) r s i k (pre_of Initiator p) later.0 in
+      (heads a b [] [] here.0, here.1, later.1)
+
+module _ (p : Plan) (a b : Start) (ps qs : List HandshakeMessage) (v w : Party)
+    (left : Exchanged (begun_as p Initiator a) ps v) (right : Exchanged (begun_as p Responder b) qs w) (count : v.passed ≡ w.passed) where
+  abbrev name : List ℕ
+  name = name_bytes (record { base = p.base; places = p.places })
+
+  abbrev r0 : History
+  r0 = (begun_as p Initiator a).history
+
+  abbrev s0 : History
+  s0 = (begun_as p Responder b).history
+
+  reports-left : Reports (begun_as p Initiator a) v ps
+  reports-left = passes-lines (begun_as p Initiator a) v ps left
+
+  reports-right : Reports (begun_as p Responder b) w qs
+  reports-right = passes-lines (begun_as p Responder b) w qs right
+
+  pub same-count : length ps ≡ length qs
+  same-count = omega (arith, reports-left.count, reports-right.count, count)
+
+  starts-alike-many : length (hashed r0) ≡ length (hashed s0)
+  starts-alike-many = starts-many name p a.prologue b.prologue (public_keys a.own) a.remote b.remote (public_keys b.own)
+
+  many : length (hashed (after_all p 0 r0 ps)) ≡ length (hashed (after_all p 0 s0 qs))
+  many = all-many p 0 r0 s0 ps qs same-count reports-left.lines reports-right.lines starts-alike-many
+
+  named : (after_all p 0 r0 ps).name ≡ (after_all p 0 s0 qs).name
+  named =
+      all-name p 0 r0 ps ∙ start-name name p a.prologue (public_keys a.own) a.remote
+      ∙ sym (all-name p 0 s0 qs ∙ start-name name p b.prologue b.remote (public_keys b.own))
+
+  -- all travelled as the same bytes
+  pub record SameBytes : Type 0 where
+    pub start : hashed r0 ≡ hashed s0
+    pub lines : AllAlike p 0 r0 s0 ps qs
+
+  back : hashed (after_all p 0 r0 ps) ≡ hashed (after_all p 0 s0 qs) → SameBytes
+  back e =
+      let h = all-back p 0 r0 s0 ps qs same-count reports-left.lines reports-right.lines e in
+      record { start = h.0; lines = h.1 }
+
+  pub bytes-or : hash v.history ≡ hash w.history → SameBytes ⊎ ((i : ℕ) × Collision v.history w.history i)
+  bytes-or e =
+      let same : hash (after_all p 0 r0 ps) ≡ hash (after_all p 0 s0 qs) = sym (ap hash reports-left.history) ∙ e ∙ ap hash reports-right.history in
+      elim (histories-alike (after_all p 0 r0 ps) (after_all p 0 s0 qs) named many same) [
+        | inl h ↦ inl (back h)
+        | inr c ↦ inr (rw (reports-left.history, reports-right.history) c)
+      ]
+
+  pub visibly_equal : SameBytes → VisiblyEqual p a b ps qs
+  visibly_equal h =
+      let s = starts-back name p a.prologue b.prologue (public_keys a.own) a.remote b.remote (public_keys b.own) h.start in
+      record {
+        prologue = s.0;
+        before = both s.1 s.2;
+        messages = messages-same p 0 r0 s0 ps qs reports-left.lines reports-right.lines h.lines;
+        keys =
+            keys-same p 0 (is_some (cipher_key r0)) r0 s0 ps qs refl (sym keyed) reports-left.lines reports-right.lines h.lines
+            ∙ ap (λ (k : Bool). clear_keys_from p 0 k qs) keyed;
+      }
+    where
+      both : keys_before p Initiator a Initiator ≡ keys_before p Responder b Initiator
+          → keys_before p Initiator a Responder ≡ keys_before p Responder b Responder
+          → (party : Role) → keys_before p Initiator a party ≡ keys_before p Responder b party
+      both e f Initiator = e
+      both e f Responder = f
+
+      keyed : is_some (cipher_key r0) ≡ is_some (cipher_key s0)
+      keyed = starts-keyed name p a.prologue b.prologue (public_keys a.own) a.remote b.remote (public_keys b.own)
+
+pub hash-reports : HashReports
+hash-reports p a b ps qs v w left right count e =
+    elim (bytes-or p a b ps qs v w left right count e) [
+      | inl h ↦ inl (visibly_equal p a b ps qs v w left right count h)
+      | inr c ↦ inr c
+    ]

@@ -1,0 +1,605 @@
+-- A handshake that was filled up, for the parties whose psks begin with those that were handed in.
+use Rattle.std.proofs.Common.{◌≡◌, ℕ, zero, suc, ◌+◌, ◌-◌, ◌<◌, ◌≤◌, List, [], ◌∷◌, ◌++◌, length, take, drop, set, refl, ap, sym, subst, ◌∙◌, arith, take-take, length-take, length-drop}
+use Rattle.std.proofs.Common.{append-nil, take_all}
+use Rattle.std.proofs.lemmas.List.{take-append-le, drop-append-le, drop-take, drop_all, length-set}
+use Rattle.std.specs.List.{refill}
+use Rattle.std.specs.Prelude.{Bool, true, false, not, ◌&&◌, ◌==◌, nat_lt, if◌then◌else◌, Option, Some, None, Result, Ok, Err, MatchOption, count_by}
+use Rattle.noise_names.specs.declared.token.Token.{Token}
+use Rattle.noise_names.specs.declared.token.Token.TheVariants.{Psk}
+use Rattle.noise_names.specs.Tokens.{is_psk}
+use Rattle.noise_keys.specs.declared.keys.Own.{Own}
+use Rattle.noise_handshake.specs.declared.faults.Cause.{Cause}
+use Rattle.noise_handshake.specs.declared.faults.Cause.TheVariants.{Agreement}
+use Rattle.noise_handshake.specs.declared.faults.ReadFault.{ReadFault}
+use Rattle.noise_handshake.specs.declared.faults.ReadFault.TheVariants as read
+use Rattle.noise_handshake.specs.HandshakeValue.{HandshakeValue, Advances, IsAgreement, ended_as, is_turn, length_now, read_fault, write_fault}
+use Rattle.noise_handshake.specs.declared.faults.WriteFault.{WriteFault}
+use Rattle.noise_handshake.specs.declared.faults.WriteFault.TheVariants as write
+use Rattle.noise_keys.specs.declared.faults.SetupFault.{SetupFault}
+use Rattle.noise_handshake.specs.Late.{with_later, WantsPskToRead, WantsPskToWrite}
+use Rattle.noise_handshake.specs.Matching.{Matches, DoesNotRead, DoesNotWrite, after_message, after_own, after_not_read, after_not_written, ended_party}
+use Rattle.noise_handshake.specs.Party.{Party, Accepts, BeginsAs, Listens, CanBegin, Refuses, Speaks, remote_after, reader, tokens_at, tokens_now}
+use Rattle.noise_handshake.specs.Wanting.{LacksAnswerFor, WantsToRead, WantsToWrite}
+use Rattle.noise_handshake.specs.Writing.{Writes, LacksAnswer, LacksAnswerAt, writer}
+use Rattle.noise_handshake.specs.Opening.{Opening, Opens}
+use Rattle.noise_handshake.specs.Parts.{IsWhole}
+use Rattle.noise_handshake.proofs.Fronts.{lacks-all, lacks-first, lacks-for-all}
+use Rattle.noise_handshake.specs.inner.Late.{without_last, IsPskAfter}
+use Rattle.noise_handshake.specs.inner.Listening.{BeginsBefore}
+use Rattle.noise_handshake.proofs.Apart.{front-apart, reads-leads}
+use Rattle.noise_handshake.specs.declared.late_faults.Want.{Want}
+use Rattle.noise_handshake.specs.declared.stop.Stop.{Stop}
+use Rattle.noise_handshake.proofs.Standing.{ends, listens, with-psks}
+use Rattle.noise_handshake.proofs.Later.{count-take, count-less, given-same, leads-same, reads-same, stops-same, stops-for-same, lacks-same, lacks-for-same}
+use Rattle.noise_handshake.proofs.Keeping.{psks_of-drop}
+use Rattle.noise_handshake.proofs.Once.{refuses-one}
+use Rattle.noise_handshake.specs.Setup.{psks_of, setup_fault}
+use Rattle.noise_handshake.specs.declared.remote.Remote.{Remote}
+use Rattle.noise_names.specs.declared.token.Role.{Role}
+use Rattle.noise_names.specs.Plan.{Plan}
+use Rattle.std.proofs.Math.Seq.{take-append-add}
+use Rattle.std.proofs.Common.{length-append}
+use Rattle.noise_handshake.proofs.PskPlaces.{no-psk, psk-place}
+
+-- ---- a psk put in its place
+
+pub refilled : (items now : List (List ℕ)) (i : ℕ) (x : List ℕ) → now ≡ items → refill (length items) items (set now i x) ≡ set items i x
+refilled items now i x e =
+    let count : length (set now i x) ≡ length items = length-set now i x ∙ ap length e in
+    let none : drop (length (set now i x)) items ≡ [] = drop_all (length (set now i x)) items (omega (arith, count)) in
+    ap (λ (z : List (List ℕ)). take (length items) (set now i x ++ z)) none
+    ∙ ap (take (length items)) (append-nil (set now i x)) ∙ take_all (length items) (set now i x) (omega (arith, count))
+    ∙ ap (λ (z : List (List ℕ)). set z i x) e
+
+-- a party with other psks
+abbrev pub holding : Party → List (List ℕ) → Party
+holding v u = record v { psks = u }
+
+listens-partial : (v : Party) (u : List (List ℕ)) → Listens (holding v u) → Listens v
+listens-partial v u l = record { going = l.going; more = l.more; turn = l.turn }
+
+speaks-partial : (v : Party) (u : List (List ℕ)) → Speaks (holding v u) → Speaks v
+speaks-partial v u l = record { going = l.going; more = l.more; turn = l.turn }
+
+speaks-back : (v : Party) (u : List (List ℕ)) → Speaks v → Speaks (holding v u)
+speaks-back v u l = record { going = l.going; more = l.more; turn = l.turn }
+
+-- ---- the first n psks are the same
+
+module _ (v : Party) (u : List (List ℕ)) (n : ℕ) (e : take n u ≡ take n v.psks) where
+  pub accepts-partial : (m : List ℕ) (xs : List (List ℕ)) (p : List ℕ) → count_by is_psk (tokens_now v) ≤ n → Accepts (holding v u) m xs p → Accepts v m xs p
+  accepts-partial m xs p c a = record {
+    listens = listens-partial v u a.listens;
+    fits = a.fits;
+    reads = reads-same (reader v) v.remote u v.psks v.history n e (tokens_now v) m xs p c a.reads;
+  }
+
+  pub refuses-partial : (m : List ℕ) (k : ℕ) (cause : Cause) → count_by is_psk (take (suc k) (tokens_now v)) ≤ n → Refuses (holding v u) m k cause → Refuses v m k cause
+  refuses-partial m k cause c a = record {
+    listens = listens-partial v u a.listens;
+    stops = stops-same (reader v) v.remote u v.psks v.history n e (tokens_now v) m k cause c a.stops;
+  }
+
+  pub refuses-back : (m : List ℕ) (k : ℕ) (cause : Cause) → count_by is_psk (take (suc k) (tokens_now v)) ≤ n → Refuses v m k cause → Refuses (holding v u) m k cause
+  refuses-back m k cause c a = record {
+    listens = record { going = a.listens.going; more = a.listens.more; turn = a.listens.turn };
+    stops = stops-same (reader v) v.remote v.psks u v.history n (sym e) (tokens_now v) m k cause c a.stops;
+  }
+
+  -- it isn't refused for another cause
+  pub refuses-not : (m : List ℕ) (k j : ℕ) (cause : Cause) → count_by is_psk (take (suc k) (tokens_now v)) ≤ n → Refuses (holding v u) m k cause
+      → ((token : ℕ) → Refuses (holding v u) m token Agreement → ⊥) → Refuses v m j Agreement → ⊥
+  refuses-not m k j cause c a none r =
+      let one = refuses-one v m j k Agreement cause r (refuses-partial m k cause c a) in
+      none k (subst (λ (z : Cause). Refuses (holding v u) m k z) (sym one.1) a)
+
+  pub wants-partial : (m : List ℕ) (own : Own) (key : List ℕ) (k : ℕ) → count_by is_psk (take k (tokens_now v)) ≤ n
+      → (w : WantsToRead (holding v u) m own key) → suc (length w.stops.before) ≤ k → WantsToRead v m own key
+  wants-partial m own key k c w h = record {
+    listens = listens-partial v u w.listens;
+    stops = stops-for-same (reader v) v.remote u v.psks v.history n e (tokens_now v) m own key w.stops
+        (omega (arith, c, count-less (tokens_now v) (suc (length w.stops.before)) k h));
+  }
+
+  pub writes-partial : (p : List ℕ) (xs : List (List ℕ)) (m : List ℕ) → count_by is_psk (tokens_now v) ≤ n → Writes (holding v u) p xs m → Writes v p xs m
+  writes-partial p xs m c a = record {
+    speaks = speaks-partial v u a.speaks;
+    given = given-same (writer v) v.remote u v.psks n (tokens_now v) xs c e a.given;
+    spelled = a.spelled;
+    fits = a.fits;
+  }
+
+  pub lacks-back : (k : ℕ) → count_by is_psk (take (suc k) (tokens_now v)) ≤ n → LacksAnswer v k → LacksAnswer (holding v u) k
+  lacks-back k c a = record {
+    speaks = speaks-back v u a.speaks;
+    lacks = lacks-same (writer v) v.remote v.psks u n (sym e) (tokens_now v) k c a.lacks;
+  }
+
+  pub wants-write-partial : (own : Own) (key : List ℕ) (k : ℕ) → count_by is_psk (take k (tokens_now v)) ≤ n
+      → (w : WantsToWrite (holding v u) own key) → suc (length w.lacks.before) ≤ k → WantsToWrite v own key
+  wants-write-partial own key k c w h = record {
+    speaks = speaks-partial v u w.speaks;
+    lacks = lacks-for-same (writer v) v.remote u v.psks n e (tokens_now v) own key w.lacks
+        (omega (arith, c, count-less (tokens_now v) (suc (length w.lacks.before)) k h));
+  }
+
+-- ---- a psk token without a psk
+
+-- where reading comes to it
+pub wants-psk : (v : Party) (m : List ℕ) (n k : ℕ) (remote : Option (List ℕ)) → Listens v → IsPskAfter (tokens_now v) n k
+    → BeginsBefore (reader v) v.remote v.psks v.history (tokens_now v) m k remote → WantsPskToRead v n m remote
+wants-psk v m n k remote l a b = record {
+  listens = l;
+  before = take k (tokens_now v);
+  later = drop (suc k) (tokens_now v);
+  tokens = a.tokens;
+  count = a.count;
+  carried = b.carried;
+  rest = b.rest;
+  leads = b.leads;
+  remote_is = b.remote_is;
+}
+
+-- the key that it reports is determined
+pub psk-one : (v : Party) (m : List ℕ) (n k : ℕ) (remote other : Option (List ℕ)) → IsPskAfter (tokens_now v) n k
+    → BeginsBefore (reader v) v.remote v.psks v.history (tokens_now v) m k remote → WantsPskToRead v n m other → remote ≡ other
+psk-one v m n k remote other a b w =
+    let same : w.before ≡ take k (tokens_now v) = psk-place (tokens_now v) w.before w.later n k a w.tokens w.count in
+    let l = subst (λ (us : List Token). BeginsAs (reader v) v.remote v.psks v.history us w.carried m w.rest) same w.leads in
+    let one = front-apart (reader v) v.remote v.psks v.history (take k (tokens_now v)) b.carried w.carried b.rest w.rest b.leads.fit l.fit
+    (sym b.leads.spelled ∙ l.spelled) in
+    b.remote_is ∙ ap (λ (xs : List (List ℕ)). (remote_after v.remote (take k (tokens_now v)) xs).s) one.0
+    ∙ ap (λ (us : List Token). (remote_after v.remote us w.carried).s) (sym same) ∙ sym w.remote_is
+
+-- what stops before it doesn't come to it
+pub psk-not : (v : Party) (m : List ℕ) (n k j : ℕ) (cause : Cause) (remote : Option (List ℕ)) → IsPskAfter (tokens_now v) n k → j < k
+    → Refuses v m j cause → WantsPskToRead v n m remote → ⊥
+psk-not v m n k j cause remote a h r w =
+    let same : w.before ≡ take k (tokens_now v) = psk-place (tokens_now v) w.before w.later n k a w.tokens w.count in
+    let l = subst (λ (us : List Token). BeginsAs (reader v) v.remote v.psks v.history us w.carried m w.rest) same w.leads in
+    let reaches = reads-leads (reader v) v.remote v.psks v.history (take k (tokens_now v)) w.carried m w.rest (suc j) l in
+    r.stops.further (omega (arith, h, a.within))
+    (subst (λ (us : List Token). CanBegin (reader v) v.remote v.psks v.history us m) (take-take (suc j) k (tokens_now v) (omega (arith, h))) reaches)
+
+-- where there are psks enough
+pub psk-none : (v : Party) (m : List ℕ) (n : ℕ) (remote : Option (List ℕ)) → count_by is_psk (tokens_now v) ≤ n → WantsPskToRead v n m remote → ⊥
+psk-none v m n remote c w = no-psk (tokens_now v) w.before w.later n c w.tokens w.count
+
+pub psk-none-write : (v : Party) (n : ℕ) → count_by is_psk (tokens_now v) ≤ n → WantsPskToWrite v n → ⊥
+psk-none-write v n c w = no-psk (tokens_now v) w.before w.later n c w.tokens w.count
+
+-- ---- the psks that were handed in
+
+module _ (s later : List (List ℕ)) (lacking : ℕ) (w : lacking ≤ length s) where
+  abbrev given : ℕ
+  given = length s - lacking
+
+  pub length-given : length (take given s) ≡ given
+  length-given = omega (arith, length-take given s)
+
+  pub same-given : (vs : List (List ℕ)) → take given s ++ later ≡ vs → take given s ≡ take given vs
+  same-given vs e =
+      sym (take-take given given s (omega arith)) ∙ sym (take-append-le given (take given s) later (omega (arith, length-given))) ∙ ap (take given) e
+
+  -- after c psk tokens
+  pub after-given : (vs snew : List (List ℕ)) (c : ℕ) → c ≤ given → snew ≡ drop c s → take given s ++ later ≡ vs
+      → take (length snew - lacking) snew ++ later ≡ drop c vs
+  after-given vs snew c h n e =
+      let count : length snew - lacking ≡ given - c = omega (arith, ap length n, length-drop c s) in
+      let whole : c + (given - c) ≡ given = omega (arith, h) in
+      ap (λ (z : List (List ℕ)). z ++ later)
+      (ap (λ (k : ℕ). take k snew) count ∙ ap (take (given - c)) n ∙ sym (drop-take c (given - c) s) ∙ ap (λ (k : ℕ). drop c (take k s)) whole)
+      ∙ sym (drop-append-le c (take given s) later (omega (arith, h, length-given))) ∙ ap (drop c) e
+
+-- ---- the party of what was filled up, where g is what the handshake holds without the last psks
+
+module _ {K : Type 0} (h : HandshakeValue K) (lacking : ℕ) (w : lacking ≤ length h.psks) (g : HandshakeValue K) (seen : without_last lacking h ≡ g) where
+  given-is : length g.psks ≡ length h.psks - lacking
+  given-is = ap (λ (z : HandshakeValue K). length z.psks) (sym seen) ∙ length-given h.psks [] lacking w
+
+module _ {K : Type 0} (public_of : K → Own → Option (List ℕ)) (agreement : K → Own → List ℕ → Option (List ℕ)) (h : HandshakeValue K) (lacking : ℕ)
+    (w : lacking ≤ length h.psks) (g : HandshakeValue K) (seen : without_last lacking h ≡ g) (v : Party) (later : List (List ℕ))
+    (s : Matches public_of agreement (with_later g later) v) where
+  begins : Matches public_of agreement (with_later (without_last lacking h) later) v
+  begins = subst (λ (z : HandshakeValue K). Matches public_of agreement (with_later z later) v) (sym seen) s
+
+  pub matches-filled : Matches public_of agreement h (holding v h.psks)
+  matches-filled =
+      with-psks public_of agreement (with_later (without_last lacking h) later) v begins h.psks h.psks
+      (refl)
+
+  pub agrees : take (length g.psks) h.psks ≡ take (length g.psks) v.psks
+  agrees =
+      subst (λ (k : ℕ). take k h.psks ≡ take k v.psks) (sym (given-is h lacking w g seen))
+      (same-given h.psks later lacking w v.psks begins.psks)
+
+  pub after-read : (h2 : HandshakeValue K) (xs : List (List ℕ)) (payload : List ℕ) → count_by is_psk (tokens_now v) ≤ length g.psks
+      → Matches public_of agreement h2 (after_message (holding v h.psks) xs payload)
+      → Matches public_of agreement (with_later (without_last lacking h2) later) (after_message v xs payload)
+  after-read h2 xs payload c t =
+      with-psks public_of agreement h2 (after_message (holding v h.psks) xs payload) t _ _
+      (after-given h.psks later lacking w v.psks h2.psks (count_by is_psk (tokens_now v)) (omega (arith, c, given-is h lacking w g seen)) t.psks begins.psks)
+
+  pub after-written : (h2 : HandshakeValue K) (xs : List (List ℕ)) (payload : List ℕ) → count_by is_psk (tokens_now v) ≤ length g.psks
+      → Matches public_of agreement h2 (after_own (holding v h.psks) xs payload)
+      → Matches public_of agreement (with_later (without_last lacking h2) later) (after_own v xs payload)
+  after-written h2 xs payload c t =
+      with-psks public_of agreement h2 (after_own (holding v h.psks) xs payload) t _ _
+      (after-given h.psks later lacking w v.psks h2.psks (count_by is_psk (tokens_now v)) (omega (arith, c, given-is h lacking w g seen)) t.psks begins.psks)
+
+-- ---- what a message leaves
+
+late-advances : {K : Type 0} (h h2 : HandshakeValue K) (lacking : ℕ) → lacking ≤ length h2.psks → Advances h h2
+    → Advances (without_last lacking h) (without_last lacking h2)
+late-advances h h2 lacking w a =
+    let count : length h.psks - lacking ≡ length a.taken + (length h2.psks - lacking) =
+    omega (arith, ap length a.psks, length-append a.taken h2.psks, w) in
+    record {
+      pattern = a.pattern;
+      role = a.role;
+      keys = a.keys;
+      passed = a.passed;
+      ended = a.ended;
+      taken = a.taken;
+      psks = ap (λ (k : ℕ). take k h.psks) count ∙ ap (take (length a.taken + (length h2.psks - lacking))) a.psks
+          ∙ take-append-add a.taken h2.psks (length h2.psks - lacking);
+    }
+
+-- the psks that lack are still to come
+lacking-left : {K : Type 0} (h h2 : HandshakeValue K) (lacking : ℕ) → Advances h h2 → h.passed < length h.pattern.messages
+    → length h.psks ≡ psks_of (drop h.passed h.pattern.messages) → length h2.psks ≡ psks_of (drop h2.passed h2.pattern.messages)
+    → lacking ≤ length h.psks → count_by is_psk (tokens_at h.pattern.messages h.passed) ≤ length h.psks - lacking → lacking ≤ length h2.psks
+lacking-left h h2 lacking a due n n2 w c =
+    let next : h2.passed ≡ suc h.passed = omega (arith, a.passed) in
+    let left : length h2.psks ≡ psks_of (drop (suc h.passed) h.pattern.messages) =
+    n2 ∙ ap (λ (k : ℕ). psks_of (drop k h2.pattern.messages)) next ∙ ap (λ (p : Plan). psks_of (drop (suc h.passed) p.messages)) a.pattern in
+    omega (arith, n, left, psks_of-drop h.pattern.messages h.passed due, w, c)
+
+module _ {K : Type 0} (h : HandshakeValue K) (lacking : ℕ) (w : lacking ≤ length h.psks) (g : HandshakeValue K) (seen : without_last lacking h ≡ g)
+    (few : count_by is_psk (tokens_at h.pattern.messages h.passed) ≤ length g.psks) (h2 : HandshakeValue K) (a : Advances h h2)
+    (due : h.passed < length h.pattern.messages) (n : length h.psks ≡ psks_of (drop h.passed h.pattern.messages))
+    (n2 : length h2.psks ≡ psks_of (drop h2.passed h2.pattern.messages)) where
+  pub left-after : lacking ≤ length h2.psks
+  left-after = lacking-left h h2 lacking a due n n2 w (omega (arith, few, given-is h lacking w g seen))
+
+  pub advances-after : Advances g (without_last lacking h2)
+  advances-after = subst (λ (z : HandshakeValue K). Advances z (without_last lacking h2)) seen (late-advances h h2 lacking left-after a)
+
+-- ---- what a handshake may hold
+
+pub whole-late : {K : Type 0} (public_of : K → Own → Option (List ℕ)) (h : HandshakeValue K) (u : List (List ℕ)) → length u ≡ length h.psks
+    → IsWhole public_of h → IsWhole public_of (record h { psks = u })
+whole-late public_of h u e w = record {
+  within = w.within;
+  psks = e ∙ w.psks;
+  own_e = w.own_e;
+  own_s = w.own_s;
+  remote_e = w.remote_e;
+  remote_s = w.remote_s;
+  key = w.key;
+  nonce = w.nonce;
+}
+
+pub opens-partial : (o : Opening) (v : Party) (u : List (List ℕ)) → Opens o (holding v u) → Opens o v
+opens-partial o v u p = record {
+  going = p.going;
+  whole = p.whole;
+  role = p.role;
+  one_way = p.one_way;
+  hash = p.hash;
+  remote_static = p.remote_static;
+  initiator = p.initiator;
+  responder = p.responder;
+  initiator_nonce = p.initiator_nonce;
+  responder_nonce = p.responder_nonce;
+}
+
+-- ---- writing
+
+wants-all : (v : Party) (own : Own) (key : List ℕ) (w : WantsToWrite v own key) → suc (length w.lacks.before) ≤ length (tokens_now v)
+wants-all v own key w = omega (arith, w.lacks.lacks.within)
+
+module _ {K : Type 0} (public_of : K → Own → Option (List ℕ)) (agreement : K → Own → List ℕ → Option (List ℕ)) (h : HandshakeValue K) (lacking : ℕ)
+    (w : lacking ≤ length h.psks) (g : HandshakeValue K) (seen : without_last lacking h ≡ g) (v : Party) (later : List (List ℕ))
+    (s : Matches public_of agreement (with_later g later) v) where
+  abbrev n : ℕ
+  n = length g.psks
+
+  filled : Matches public_of agreement h (holding v h.psks)
+  filled = matches-filled public_of agreement h lacking w g seen v later s
+
+  pub same-tokens : tokens_at h.pattern.messages h.passed ≡ tokens_now v
+  same-tokens = ap (λ (p : Plan). tokens_at p.messages h.passed) filled.pattern ∙ ap (λ (k : ℕ). tokens_at v.pattern.messages k) filled.passed
+
+  pub few-now : count_by is_psk (tokens_at h.pattern.messages h.passed) ≤ n → count_by is_psk (tokens_now v) ≤ n
+  few-now c = subst (λ (us : List Token). count_by is_psk us ≤ n) same-tokens c
+
+  pub write-none : count_by is_psk (tokens_at h.pattern.messages h.passed) ≤ n → ((token : ℕ) → LacksAnswer (holding v h.psks) token → ⊥)
+      → (token : ℕ) → LacksAnswer v token → ⊥
+  write-none c f token l =
+      f token (lacks-back v h.psks n (agrees public_of agreement h lacking w g seen v later s) token
+      (omega (arith, few-now c, count-take (tokens_now v) (suc token))) l)
+
+  pub write-answer : (own : Own) (key : List ℕ) → count_by is_psk (tokens_at h.pattern.messages h.passed) ≤ n
+      → WantsToWrite (holding v h.psks) own key → WantsToWrite v own key
+  write-answer own key c a =
+      wants-write-partial v h.psks n (agrees public_of agreement h lacking w g seen v later s) own key (length (tokens_now v))
+      (omega (arith, few-now c, count-take (tokens_now v) (length (tokens_now v)))) a (wants-all (holding v h.psks) own key a)
+
+  module _ (count : ℕ) (e : count ≡ n) (k : ℕ) (at : IsPskAfter (tokens_at h.pattern.messages h.passed) count k) where
+    pub at-now : IsPskAfter (tokens_now v) n k
+    at-now = subst (λ (us : List Token). IsPskAfter us n k) same-tokens (subst (λ (i : ℕ). IsPskAfter (tokens_at h.pattern.messages h.passed) i k) e at)
+
+    first-answer : (own : Own) (key : List ℕ) → LacksAnswerFor (writer v) v.remote h.psks (take k (tokens_now v)) own key
+        → LacksAnswerFor (writer v) v.remote v.psks (take k (tokens_now v)) own key
+    first-answer own key l =
+        lacks-for-same (writer v) v.remote h.psks v.psks n (agrees public_of agreement h lacking w g seen v later s) (take k (tokens_now v)) own key l
+        (omega (arith, at-now.count, count-take (take k (tokens_now v)) (suc (length l.before))))
+
+    pub write-before : (own : Own) (key : List ℕ) → Speaks (holding v h.psks) → LacksAnswerFor (writer v) v.remote h.psks (take k (tokens_now v)) own key
+        → WantsToWrite v own key
+    write-before own key sp l = record {
+      speaks = speaks-partial v h.psks sp;
+      lacks = lacks-for-all (writer v) v.remote v.psks (tokens_now v) k own key (first-answer own key l);
+    }
+
+    pub write-before-not : (own : Own) (key : List ℕ) → LacksAnswerFor (writer v) v.remote h.psks (take k (tokens_now v)) own key
+        → WantsPskToWrite v n → ⊥
+    write-before-not own key l x =
+        let same : x.before ≡ take k (tokens_now v) = psk-place (tokens_now v) x.before x.later n k at-now x.tokens x.count in
+        let mine = first-answer own key l in
+        x.answered (length mine.before) (omega (arith, mine.lacks.within, ap length same))
+        (record { speaks = x.speaks; lacks = lacks-all (writer v) v.remote v.psks (tokens_now v) k (length mine.before) mine.lacks })
+
+    pub write-psk : Speaks (holding v h.psks)
+        → ((token : ℕ) → LacksAnswerAt (writer v) v.remote h.psks (take k (tokens_now v)) token → ⊥) → WantsPskToWrite v n
+    write-psk sp f = record {
+      speaks = speaks-partial v h.psks sp;
+      before = take k (tokens_now v);
+      later = drop (suc k) (tokens_now v);
+      tokens = at-now.tokens;
+      count = at-now.count;
+      answered = λ j less l.
+          f j (lacks-same (writer v) v.remote v.psks h.psks n (sym (agrees public_of agreement h lacking w g seen v later s)) (take k (tokens_now v)) j
+          (omega (arith, at-now.count, count-take (take k (tokens_now v)) (suc j)))
+          (lacks-first (writer v) v.remote v.psks (tokens_now v) k j (omega (arith, less, length-take k (tokens_now v))) l.lacks));
+    }
+
+-- ---- reading
+
+wants-read-all : (v : Party) (m : List ℕ) (own : Own) (key : List ℕ) (w : WantsToRead v m own key) → suc (length w.stops.before) ≤ length (tokens_now v)
+wants-read-all v m own key w = omega (arith, ap length w.stops.tokens, length-append w.stops.before (w.stops.token ∷ w.stops.later))
+
+-- which DH result is reported to be lacking, or that none is
+module _ (v : Party) (m : List ℕ) (o : Option (Own × List ℕ))
+    (reported : MatchOption o ((token : ℕ) → Refuses v m token Agreement → ⊥) (λ want. WantsToRead v m want.0 want.1)) where
+  pub wants-some : (want : Own × List ℕ) → o ≡ Some want → WantsToRead v m want.0 want.1
+  wants-some want e =
+      subst (λ (z : Option (Own × List ℕ)). MatchOption z ((token : ℕ) → Refuses v m token Agreement → ⊥) (λ x. WantsToRead v m x.0 x.1)) e reported
+
+  pub wants-none : o ≡ None → (token : ℕ) → Refuses v m token Agreement → ⊥
+  wants-none e =
+      subst (λ (z : Option (Own × List ℕ)). MatchOption z ((token : ℕ) → Refuses v m token Agreement → ⊥) (λ x. WantsToRead v m x.0 x.1)) e reported
+
+module _ {K : Type 0} (public_of : K → Own → Option (List ℕ)) (agreement : K → Own → List ℕ → Option (List ℕ)) (h : HandshakeValue K) (lacking : ℕ)
+    (w : lacking ≤ length h.psks) (g : HandshakeValue K) (seen : without_last lacking h ≡ g) (v : Party) (later : List (List ℕ))
+    (s : Matches public_of agreement (with_later g later) v)
+    (m : List ℕ) where
+  abbrev given-now : ℕ
+  given-now = length g.psks
+
+  first : Matches public_of agreement (with_later (without_last lacking h) later) v
+  first = begins public_of agreement h lacking w g seen v later s
+
+  abbrev alike : take given-now h.psks ≡ take given-now v.psks
+  alike = agrees public_of agreement h lacking w g seen v later s
+
+  -- nothing has changed
+  pub matches-same : (h2 : HandshakeValue K) → Matches public_of agreement h2 (holding v h.psks)
+      → Matches public_of agreement (with_later (without_last lacking h2) later) v
+  matches-same h2 t =
+      with-psks public_of agreement h2 (holding v h.psks) t _ _
+      (ap (λ (z : List (List ℕ)). take (length z - lacking) z ++ later) t.psks ∙ first.psks)
+
+  -- or it has ended
+  matches-ended_party : (h2 : HandshakeValue K) → Matches public_of agreement h2 (ended_party (holding v h.psks))
+      → Matches public_of agreement (with_later (without_last lacking h2) later) (ended_party v)
+  matches-ended_party h2 t =
+      with-psks public_of agreement h2 (ended_party (holding v h.psks)) t _ _
+      (ap (λ (z : List (List ℕ)). take (length z - lacking) z ++ later) t.psks ∙ first.psks)
+
+  pub matches-ended : (h2 : HandshakeValue K) → h2 ≡ ended_as h → Matches public_of agreement (with_later (without_last lacking h2) later) (ended_party v)
+  matches-ended h2 e =
+      subst (λ (z : HandshakeValue K). Matches public_of agreement (with_later (without_last lacking z) later) (ended_party v)) (sym e)
+      (ends public_of agreement (with_later (without_last lacking h) later) v first true refl)
+
+  pub matches-declined : (h2 : HandshakeValue K) (fault : ReadFault) → Matches public_of agreement h2 (after_not_read (holding v h.psks) fault)
+      → Matches public_of agreement (with_later (without_last lacking h2) later) (after_not_read v fault)
+  matches-declined h2 read.Ended t = matches-same h2 t
+  matches-declined h2 read.Done t = matches-same h2 t
+  matches-declined h2 read.NotYourTurn t = matches-same h2 t
+  matches-declined h2 (read.Refused token cause) t = matches-ended_party h2 t
+
+  module _ (few : count_by is_psk (tokens_at h.pattern.messages h.passed) ≤ given-now) where
+    few-here : (k : ℕ) → count_by is_psk (take k (tokens_now v)) ≤ given-now
+    few-here k = omega (arith, few-now public_of agreement h lacking w g seen v later s few, count-take (tokens_now v) k)
+
+    pub read-accepts : (xs : List (List ℕ)) (p : List ℕ) → Accepts (holding v h.psks) m xs p → Accepts v m xs p
+    read-accepts xs p a = accepts-partial v h.psks given-now alike m xs p (few-now public_of agreement h lacking w g seen v later s few) a
+
+    pub read-answer : (own : Own) (key : List ℕ) → WantsToRead (holding v h.psks) m own key → WantsToRead v m own key
+    read-answer own key a =
+        wants-partial v h.psks given-now alike m own key (length (tokens_now v)) (few-here (length (tokens_now v))) a
+        (wants-read-all (holding v h.psks) m own key a)
+
+    -- where no DH result lacks
+    pub read-lacks : ((token : ℕ) → Refuses (holding v h.psks) m token Agreement → ⊥) → (token : ℕ) → Refuses v m token Agreement → ⊥
+    read-lacks none token r = none token (refuses-back v h.psks given-now alike m token Agreement (few-here (suc token)) r)
+
+    declines-partial : (fault : ReadFault) → DoesNotRead (holding v h.psks) m fault → DoesNotRead v m fault
+    declines-partial read.Ended d = d
+    declines-partial read.Done d = d
+    declines-partial read.NotYourTurn d = speaks-partial v h.psks d
+    declines-partial (read.Refused token cause) d = refuses-partial v h.psks given-now alike m token cause (few-here (suc token)) d
+
+    pub read-declines : (fault : ReadFault) → DoesNotRead (holding v h.psks) m fault
+        × ((token : ℕ) → Refuses (holding v h.psks) m token Agreement → ⊥)
+        → DoesNotRead v m fault × ((token : ℕ) → Refuses v m token Agreement → ⊥)
+    read-declines fault d = (
+      declines-partial fault d.0,
+      λ token r. d.1 token (refuses-back v h.psks given-now alike m token Agreement (few-here (suc token)) r),
+    )
+
+    pub read-none : (remote : Option (List ℕ)) → WantsPskToRead v given-now m remote → ⊥
+    read-none remote x = psk-none v m given-now remote (few-now public_of agreement h lacking w g seen v later s few) x
+
+  module _ (count : ℕ) (same : count ≡ given-now) (k : ℕ) (at : IsPskAfter (tokens_at h.pattern.messages h.passed) count k) where
+    at-read : IsPskAfter (tokens_now v) given-now k
+    at-read = at-now public_of agreement h lacking w g seen v later s count same k at
+
+    few-before : (j : ℕ) → j ≤ k → count_by is_psk (take j (tokens_now v)) ≤ given-now
+    few-before j less = omega (arith, at-read.count, count-less (tokens_now v) j k less)
+
+    leads-here : (remote : Option (List ℕ)) → BeginsBefore (reader v) v.remote h.psks v.history (tokens_now v) m k remote
+        → BeginsBefore (reader v) v.remote v.psks v.history (tokens_now v) m k remote
+    leads-here remote l = record {
+      carried = l.carried;
+      rest = l.rest;
+      leads = leads-same (reader v) v.remote h.psks v.psks v.history given-now alike (take k (tokens_now v)) l.carried m l.rest
+          (few-before k (omega arith)) l.leads;
+      remote_is = l.remote_is;
+    }
+
+    pub before-psk : (remote : Option (List ℕ)) → h.passed ≤ length h.pattern.messages → read_fault h ≡ None
+        → BeginsBefore (reader v) v.remote h.psks v.history (tokens_now v) m k remote → WantsPskToRead v given-now m remote
+    before-psk remote within none b =
+        wants-psk v m given-now k remote (listens-partial v h.psks (listens public_of agreement h (holding v h.psks)
+        (matches-filled public_of agreement h lacking w g seen v later s) within none)) at-read (leads-here remote b)
+
+    pub before-one : (remote other : Option (List ℕ)) → BeginsBefore (reader v) v.remote h.psks v.history (tokens_now v) m k remote
+        → WantsPskToRead v given-now m other → remote ≡ other
+    before-one remote other b x = psk-one v m given-now k remote other at-read (leads-here remote b) x
+
+    module _ (stop : Stop) (stops : (stop.token < k) × Refuses (holding v h.psks) m stop.token stop.cause
+        × MatchOption stop.want ((j : ℕ) → Refuses (holding v h.psks) m j Agreement → ⊥)
+        (λ want. WantsToRead (holding v h.psks) m want.0 want.1)) where
+      few-to : count_by is_psk (take (suc stop.token) (tokens_now v)) ≤ given-now
+      few-to = few-before (suc stop.token) stops.0
+
+      pub before-refused : Refuses v m stop.token stop.cause
+      before-refused = refuses-partial v h.psks given-now alike m stop.token stop.cause few-to stops.1
+
+      pub before-not : (remote : Option (List ℕ)) → WantsPskToRead v given-now m remote → ⊥
+      before-not remote x = psk-not v m given-now k stop.token stop.cause remote at-read stops.0 before-refused x
+
+      pub before-declined : stop.want ≡ None → (j : ℕ) → Refuses v m j Agreement → ⊥
+      before-declined e j r =
+          refuses-not v h.psks given-now alike m stop.token j stop.cause few-to stops.1
+          (wants-none (holding v h.psks) m stop.want stops.2 e) r
+
+      pub before-answer : (want : Own × List ℕ) → stop.want ≡ Some want → WantsToRead v m want.0 want.1
+      before-answer want e =
+          let a = wants-some (holding v h.psks) m stop.want stops.2 want e in
+          let one = refuses-one (holding v h.psks) m (length a.stops.before) stop.token Agreement stop.cause
+          (record { listens = a.listens; stops = a.stops.stops }) stops.1 in
+          wants-partial v h.psks given-now alike m want.0 want.1 k (few-before k (omega arith)) a (omega (arith, one.0, stops.0))
+
+-- ---- faults
+
+ok-same : (X Y : Type 0) (o : Option SetupFault) (x : X) (y : Y) → MatchOption o (true ≡ true) (λ f. ◌≡◌ {A = Result X SetupFault} (Ok x) (Err f))
+    → MatchOption o (true ≡ true) (λ f. ◌≡◌ {A = Result Y SetupFault} (Ok y) (Err f))
+ok-same X Y None x y h = h
+ok-same X Y (Some f) x y h = absurd (cc)
+
+err-same : (X Y : Type 0) (o : Option SetupFault) (f : SetupFault) → MatchOption o (false ≡ true) (λ z. ◌≡◌ {A = Result X SetupFault} (Err f) (Err z))
+    → MatchOption o (false ≡ true) (λ z. ◌≡◌ {A = Result Y SetupFault} (Err f) (Err z))
+err-same X Y None f h = h
+err-same X Y (Some z) f h = cc
+
+module _ (X Y : Type 0) (p : Plan) (role : Role) (own : Own → Option (List ℕ)) (remote : Remote) (n k : ℕ) (e : n ≡ k) where
+  pub ok-fault : (x : X) (y : Y) → MatchOption (setup_fault p role own remote n) (true ≡ true) (λ f. ◌≡◌ {A = Result X SetupFault} (Ok x) (Err f))
+      → MatchOption (setup_fault p role own remote k) (true ≡ true) (λ f. ◌≡◌ {A = Result Y SetupFault} (Ok y) (Err f))
+  ok-fault x y h =
+      subst (λ (i : ℕ). MatchOption (setup_fault p role own remote i) (true ≡ true) (λ f. ◌≡◌ {A = Result Y SetupFault} (Ok y) (Err f))) e
+      (ok-same X Y (setup_fault p role own remote n) x y h)
+
+  pub err-fault : (f : SetupFault) → MatchOption (setup_fault p role own remote n) (false ≡ true) (λ z. ◌≡◌ {A = Result X SetupFault} (Err f) (Err z))
+      → MatchOption (setup_fault p role own remote k) (false ≡ true) (λ z. ◌≡◌ {A = Result Y SetupFault} (Err f) (Err z))
+  err-fault f h =
+      subst (λ (i : ℕ). MatchOption (setup_fault p role own remote i) (false ≡ true) (λ z. ◌≡◌ {A = Result Y SetupFault} (Err f) (Err z))) e
+      (err-same X Y (setup_fault p role own remote n) f h)
+
+-- why no message is written is no want of a DH result
+no-agreement : (ended all ours long : Bool) (f : WriteFault)
+    → (if ended then Some write.Ended else if all then Some write.Done else if not ours then Some write.NotYourTurn
+    else if long then Some write.TooLong else None) ≡ Some f
+    → IsAgreement f → ⊥
+no-agreement ended all ours long write.Ended e x = x
+no-agreement ended all ours long write.Done e x = x
+no-agreement ended all ours long write.NotYourTurn e x = x
+no-agreement ended all ours long write.TooLong e x = x
+no-agreement true all ours long (write.Agreement token) e x = cc
+no-agreement false true ours long (write.Agreement token) e x = cc
+no-agreement false false false long (write.Agreement token) e x = cc
+no-agreement false false true true (write.Agreement token) e x = cc
+no-agreement false false true false (write.Agreement token) e x = cc
+
+pub fault-no-agreement : {K : Type 0} (h : HandshakeValue K) (payload : ℕ) (f : WriteFault) → write_fault h payload ≡ Some f → IsAgreement f → ⊥
+fault-no-agreement h payload f e =
+    no-agreement h.ended (h.passed == length h.pattern.messages) (is_turn h.role h.passed) (nat_lt 65535 (length_now h payload)) f e
+
+pub written-no-agreement : (v : Party) (payload : ℕ) (f : WriteFault) → DoesNotWrite v payload f → ((token : ℕ) → LacksAnswer v token → ⊥) → IsAgreement f → ⊥
+written-no-agreement v payload write.Ended w none x = x
+written-no-agreement v payload write.Done w none x = x
+written-no-agreement v payload write.NotYourTurn w none x = x
+written-no-agreement v payload write.TooLong w none x = x
+written-no-agreement v payload (write.Agreement token) w none x = none token w.1
+
+-- a fault of a party with other psks, which isn't the want of a DH result
+pub withholds-partial : (v : Party) (u : List (List ℕ)) (payload : ℕ) (f : WriteFault) → (IsAgreement f → ⊥) → DoesNotWrite (holding v u) payload f
+    → DoesNotWrite v payload f
+withholds-partial v u payload write.Ended n w = w
+withholds-partial v u payload write.Done n w = w
+withholds-partial v u payload write.NotYourTurn n w = listens-partial v u w
+withholds-partial v u payload write.TooLong n w = (speaks-partial v u w.0, w.1)
+withholds-partial v u payload (write.Agreement token) n w = absurd (n tt)
+
+going-on : (ended all ours long : Bool)
+    → (if ended then Some write.Ended else if all then Some write.Done else if not ours then Some write.NotYourTurn
+    else if long then Some write.TooLong else None) ≡ None
+    → (not ended && not all && ours) ≡ true
+going-on true all ours long e = absurd (cc)
+going-on false true ours long e = absurd (cc)
+going-on false false false long e = absurd (cc)
+going-on false false true long e = refl
+
+-- where a payload is due the party speaks
+write-due-test : {K : Type 0} (h : HandshakeValue K) (payload : ℕ) → write_fault h payload ≡ None
+    → (not h.ended && not (h.passed == length h.pattern.messages) && is_turn h.role h.passed) ≡ true
+write-due-test h payload e =
+    going-on h.ended (h.passed == length h.pattern.messages) (is_turn h.role h.passed) (nat_lt 65535 (length_now h payload)) e
+
+-- where it lacks neither a DH result nor a psk, the psks that were handed in suffice
+module _ {K : Type 0} (h : HandshakeValue K) (lacking : ℕ) (w : lacking ≤ length h.psks) (g : HandshakeValue K) (seen : without_last lacking h ≡ g) (payload : ℕ)
+    (none : write_fault h payload ≡ None) (o : Option Want) (clear : o ≡ None) where
+  pub taken-within : ((not g.ended && not (g.passed == length g.pattern.messages) && is_turn g.role g.passed) ≡ true → o ≡ None
+      → count_by is_psk (tokens_at g.pattern.messages g.passed) ≤ length g.psks)
+      → count_by is_psk (tokens_at h.pattern.messages h.passed) ≤ length g.psks
+  taken-within few =
+      subst (λ (z : HandshakeValue K). count_by is_psk (tokens_at z.pattern.messages z.passed) ≤ length g.psks) (sym seen)
+      (few (subst (λ (z : HandshakeValue K). (not z.ended && not (z.passed == length z.pattern.messages) && is_turn z.role z.passed) ≡ true) seen
+      (write-due-test h payload none)) clear)
+
+pub lacks-partial : (v : Party) (u : List (List ℕ)) (n : ℕ) → take n u ≡ take n v.psks → (k : ℕ) → count_by is_psk (take (suc k) (tokens_now v)) ≤ n
+    → LacksAnswer (holding v u) k → LacksAnswer v k
+lacks-partial v u n e k c a = record {
+  speaks = speaks-partial v u a.speaks;
+  lacks = lacks-same (writer v) v.remote u v.psks n e (tokens_now v) k c a.lacks;
+}
+
+pub withheld-view : (v : Party) (f : WriteFault) → (IsAgreement f → ⊥) → after_not_written v f ≡ v
+withheld-view v write.Ended n = refl
+withheld-view v write.Done n = refl
+withheld-view v write.NotYourTurn n = refl
+withheld-view v write.TooLong n = refl
+withheld-view v (write.Agreement token) n = absurd (n tt)

@@ -1,0 +1,58 @@
+-- Tokens and psks.
+use Rattle.std.proofs.Common.{◌≡◌, ℕ, List, [], ◌∷◌, ◌++◌, drop, get_or, refl, sym, subst}
+use Rattle.std.specs.Prelude.{Result, Ok, Err, MatchResult, IfOk, OnOk, is_some}
+use Rattle.noise_names.specs.declared.token.Token.{Token}
+use Rattle.noise_names.specs.declared.token.Token.TheVariants.{Psk}
+use Rattle.noise_state.specs.History.{History, MixKeyAndHash, and_then, cipher_key}
+use Rattle.noise_handshake.specs.declared.faults.Cause.{Cause}
+use Rattle.noise_handshake.specs.declared.remote.Remote.{Remote}
+use Rattle.noise_handshake.specs.Message.{token_bytes, after_token}
+use Rattle.noise_handshake.specs.Party.{Reader, Fits, known_after, first_psk, cause_of}
+use Rattle.noise_handshake.specs.Writing.{Writer, Gives}
+use Rattle.noise_handshake.specs.inner.Listening.{Fails}
+
+pub first_psk-read : (psks : List (List ℕ)) → get_or psks 0 [] ≡ first_psk psks
+first_psk-read [] = refl
+first_psk-read (x ∷ xs) = refl
+
+-- what a psk token is read as
+pub psk-read : {St : Type 0} (matches : St → History → Type 0) (state : St) (v : Reader) (known : Remote) (psks : List (List ℕ)) (r : History)
+    (t : Token) (m k : List ℕ)
+    → t ≡ Psk → k ≡ first_psk psks → matches state (and_then r (MixKeyAndHash k))
+    → (x : List ℕ) × Fits v known psks t x × (m ≡ token_bytes r t x ++ m) × matches state (after_token v.has_psks r t x) × (known ≡ known_after known t x)
+psk-read matches state v known psks r t m k e f h =
+    subst (λ (u : Token). (x : List ℕ) × Fits v known psks u x × (m ≡ token_bytes r u x ++ m) × matches state (after_token v.has_psks r u x)
+    × (known ≡ known_after known u x))
+    (sym e) (k, f, refl, h, refl)
+
+-- a result's fact, at the token that it was read as
+pub read-as : {St : Type 0} (matches : St → History → Type 0) (state : St) (v : Reader) (known known2 : Remote) (psks : List (List ℕ)) (r : History)
+    (m : List ℕ) (result : Result ℕ Cause) (t u : Token) → u ≡ t
+    → MatchResult result
+    (λ n. (x : List ℕ) × Fits v known psks t x × (m ≡ token_bytes r t x ++ drop n m) × matches state (after_token v.has_psks r t x)
+    × (known2 ≡ known_after known t x))
+    (λ cause. Fails v known psks r t m × (cause ≡ cause_of (is_some (cipher_key r)) t m))
+    → MatchResult result
+    (λ n. (x : List ℕ) × Fits v known psks u x × (m ≡ token_bytes r u x ++ drop n m) × matches state (after_token v.has_psks r u x)
+    × (known2 ≡ known_after known u x))
+    (λ cause. Fails v known psks r u m × (cause ≡ cause_of (is_some (cipher_key r)) u m))
+read-as matches state v known known2 psks r m result t u e h =
+    subst (λ (w : Token). MatchResult result
+    (λ n. (x : List ℕ) × Fits v known psks w x × (m ≡ token_bytes r w x ++ drop n m) × matches state (after_token v.has_psks r w x)
+    × (known2 ≡ known_after known w x))
+    (λ cause. Fails v known psks r w m × (cause ≡ cause_of (is_some (cipher_key r)) w m))) (sym e) h
+
+pub on_ok : {P : Type 0} (result : Result ℕ Cause) → P → OnOk result P
+on_ok (Ok n) p = p
+on_ok (Err cause) p = tt
+
+pub of_width : (result : Result ℕ Cause) (n m : ℕ) → n ≡ m → IfOk result (λ k. k ≡ n) → IfOk result (λ k. k ≡ m)
+of_width result n m e h = subst (λ (i : ℕ). IfOk result (λ k. k ≡ i)) e h
+
+-- what a token is written as, at the token that it was written as
+pub written-as : {St : Type 0} (matches : St → History → Type 0) (state : St) (w : Writer) (known : Remote) (psks : List (List ℕ)) (r : History)
+    (out : List ℕ) (t u : Token) → u ≡ t
+    → (x : List ℕ) × Gives w known psks t x × (out ≡ token_bytes r t x) × matches state (after_token w.has_psks r t x)
+    → (x : List ℕ) × Gives w known psks u x × (out ≡ token_bytes r u x) × matches state (after_token w.has_psks r u x)
+written-as matches state w known psks r out t u e h =
+    subst (λ (z : Token). (x : List ℕ) × Gives w known psks z x × (out ≡ token_bytes r z x) × matches state (after_token w.has_psks r z x)) (sym e) h

@@ -1,0 +1,75 @@
+-- What the calls that read and write messages return and leave, for each party of the handshake (Noise, 5.3).
+use Rattle.std.specs.Prelude.{◌≡◌, ℕ, ◌≤◌, ◌==◌, ◌&&◌, not, List, length, take, drop, slice_range, Bool, false, Option, MatchOption}
+use Rattle.noise_names.specs.declared.token.Role.{Role}
+use Rattle.noise_names.specs.Plan.{Plan}
+use Rattle.noise_keys.specs.declared.keys.Own.{Own}
+use Rattle.noise_handshake.specs.declared.faults.Cause.TheVariants.{Agreement}
+use Rattle.noise_handshake.specs.declared.faults.ReadFault.{ReadFault}
+use Rattle.noise_handshake.specs.declared.faults.WriteFault.{WriteFault}
+use Rattle.noise_handshake.specs.HandshakeValue.{HandshakeValue, is_turn}
+use Rattle.noise_handshake.specs.Matching.{Matches, DoesNotRead, DoesNotWrite, after_message, after_not_read, after_not_written, after_own}
+use Rattle.noise_handshake.specs.Party.{Party, Reader, Accepts, Refuses}
+use Rattle.noise_handshake.specs.Wanting.{WantsToRead, WantsToWrite}
+use Rattle.noise_handshake.specs.Writing.{Writer, LacksAnswer, Writes}
+
+-- what reading asks of a party with these keys
+abbrev pub reader_of : {K : Type 0} → (K → Own → List ℕ → Option (List ℕ)) → Role → Bool → K → Reader
+reader_of agreement role has_psks keys = record { role = role; has_psks = has_psks; agree = agreement keys }
+
+-- what writing asks of it
+abbrev pub writer_of : {K : Type 0} → (K → Own → Option (List ℕ)) → (K → Own → List ℕ → Option (List ℕ)) → Role → Bool
+    → K → Writer
+writer_of public_of agreement role has_psks keys =
+    record { role = role; has_psks = has_psks; own = public_of keys; agree = agreement keys }
+
+-- no message has passed of a handshake with this pattern, role and keys, and it hasn't ended
+abbrev pub HasBegun : {K : Type 0} → Plan → Role → K → HandshakeValue K → Type 0
+HasBegun p role keys h = (h.pattern ≡ p) × (h.role ≡ role) × (h.keys ≡ keys) × (h.passed ≡ 0) × (h.ended ≡ false)
+
+-- whether a message of this party is due
+abbrev pub speaks_now : {K : Type 0} → HandshakeValue K → Bool
+speaks_now h = not h.ended && not (h.passed == length h.pattern.messages) && is_turn h.role h.passed
+
+-- the place is within these bytes, from its first number up to its second
+abbrev pub IsPlaceIn : List ℕ → ℕ × ℕ → Type 0
+IsPlaceIn bytes place = (place.0 ≤ place.1) × (place.1 ≤ length bytes)
+
+-- the bytes before the place and after it are as they were
+abbrev pub IsSameAround : List ℕ → List ℕ → ℕ × ℕ → Type 0
+IsSameAround old new place = (take place.0 new ≡ take place.0 old) × (drop place.1 new ≡ drop place.1 old)
+
+-- The party would refuse the message because it lacks this DH result; or it wouldn't refuse it for that.
+abbrev pub ReadingWants : Party → List ℕ → Option (Own × List ℕ) → Type 0
+ReadingWants v message want =
+    MatchOption want ((token : ℕ) → Refuses v message token Agreement → ⊥) (λ w. WantsToRead v message w.0 w.1)
+
+-- The party can't write its message because it lacks this DH result; or it lacks none.
+abbrev pub WritingWants : Party → Option (Own × List ℕ) → Type 0
+WritingWants v want = MatchOption want ((token : ℕ) → LacksAnswer v token → ⊥) (λ w. WantsToWrite v w.0 w.1)
+
+module _ {K : Type 0} (public_of : K → Own → Option (List ℕ)) (agreement : K → Own → List ℕ → Option (List ℕ)) where
+  -- The party accepts the message as this payload, and the handshake matches the party after it.
+  abbrev pub HasRead : Party → List ℕ → List ℕ → HandshakeValue K → Type 0
+  HasRead v message payload h = (xs : List (List ℕ)) × Accepts v message xs payload
+      × Matches public_of agreement h (after_message v xs payload)
+
+  -- It is read as the bytes at a place of these.
+  abbrev pub HasReadAt : Party → List ℕ → List ℕ → HandshakeValue K → ℕ × ℕ → Type 0
+  HasReadAt v message bytes h place = HasRead v message (slice_range bytes place.0 place.1) h
+
+  -- The party doesn't read the message for this fault, and the handshake matches the party after it.
+  abbrev pub HasNotRead : Party → List ℕ → ReadFault → HandshakeValue K → Type 0
+  HasNotRead v message fault h = DoesNotRead v message fault × Matches public_of agreement h (after_not_read v fault)
+
+  -- The party writes the payload as this message, and the handshake matches the party after it.
+  abbrev pub HasWritten : Party → List ℕ → List ℕ → HandshakeValue K → Type 0
+  HasWritten v payload message h = (xs : List (List ℕ)) × Writes v payload xs message
+      × Matches public_of agreement h (after_own v xs payload)
+
+  -- It is written as so many of these bytes.
+  abbrev pub HasWrittenTo : Party → List ℕ → List ℕ → HandshakeValue K → ℕ → Type 0
+  HasWrittenTo v payload bytes h n = HasWritten v payload (take n bytes) h
+
+  -- The party doesn't write a payload of this length for this fault, and the handshake matches the party after it.
+  abbrev pub HasNotWritten : Party → ℕ → WriteFault → HandshakeValue K → Type 0
+  HasNotWritten v len fault h = DoesNotWrite v len fault × Matches public_of agreement h (after_not_written v fault)

@@ -1,0 +1,102 @@
+-- What a handshake holds, and why it doesn't read or write now.
+use Rattle.std.specs.Prelude.{◌≡◌, ℕ, ◌+◌, ◌*◌, ◌++◌, ◌==◌, nat_lt, List, length, Bool, true, false, not, Option, Some, None, if◌then◌else◌}
+use Rattle.noise_names.specs.declared.token.Role.{Role}
+use Rattle.noise_names.specs.declared.token.Role.TheVariants.{Initiator}
+use Rattle.noise_names.specs.Tokens.{same_role, turn_from}
+use Rattle.noise_names.specs.Plan.{Plan}
+use Rattle.noise_names.specs.Overhead.{overhead_of}
+use Rattle.noise_state.specs.declared.symmetric.SymmetricState.{SymmetricState}
+use Rattle.noise_handshake.specs.declared.remote.Remote.{Remote}
+use Rattle.noise_handshake.specs.declared.faults.ReadFault.{ReadFault}
+use Rattle.noise_handshake.specs.declared.faults.ReadFault.TheVariants as read
+use Rattle.noise_handshake.specs.declared.faults.Unread.{Unread}
+use Rattle.noise_handshake.specs.declared.faults.Unread.TheVariants as unread
+use Rattle.noise_handshake.specs.declared.faults.WriteFault.{WriteFault}
+use Rattle.noise_handshake.specs.declared.faults.WriteFault.TheVariants as write
+
+-- a handshake as contracts see it
+pub record HandshakeValue (K : Type 0) : Type 0 where
+  pub pattern : Plan
+  pub role : Role
+  pub keys : K
+  pub remote : Remote  -- as far as the pre-message and the messages that passed show it
+  pub psks : List (List ℕ)  -- of the psk tokens that are still to come
+  pub passed : ℕ  -- messages
+  pub ended : Bool
+  pub state : SymmetricState
+
+-- whether the party writes the message after so many
+abbrev pub is_turn : Role → ℕ → Bool
+is_turn role passed = same_role (turn_from Initiator passed) role
+
+-- why no message is read now, whatever it is; none if one is due
+abbrev pub read_fault : {K : Type 0} → HandshakeValue K → Option ReadFault
+read_fault h =
+    if h.ended then Some read.Ended
+    else if h.passed == length h.pattern.messages then Some read.Done
+    else if is_turn h.role h.passed then Some read.NotYourTurn
+    else None
+
+-- the length of the message that would be written now
+abbrev pub length_now : {K : Type 0} → HandshakeValue K → ℕ → ℕ
+length_now h payload = overhead_of h.pattern (h.passed + 1) + payload
+
+-- why no message with a payload of this length is written now, whatever the keys agree on; none if one is due
+abbrev pub write_fault : {K : Type 0} → HandshakeValue K → ℕ → Option WriteFault
+write_fault h payload =
+    if h.ended then Some write.Ended
+    else if h.passed == length h.pattern.messages then Some write.Done
+    else if not (is_turn h.role h.passed) then Some write.NotYourTurn
+    else if nat_lt 65535 (length_now h payload) then Some write.TooLong
+    else None
+
+abbrev pub length_unless : Option WriteFault → ℕ → Option ℕ
+length_unless None n = Some n
+length_unless (Some fault) n = None
+
+-- that length, unless there is such a fault
+abbrev pub message_len_of : {K : Type 0} → HandshakeValue K → ℕ → Option ℕ
+message_len_of h payload = length_unless (write_fault h payload) (length_now h payload)
+
+-- the handshake that has ended, and is otherwise as it was
+abbrev pub ended_as : {K : Type 0} → HandshakeValue K → HandshakeValue K
+ended_as h = record h { ended = true }
+
+-- one message more has passed, and its psk tokens have taken their psks from the front
+pub record Advances {K : Type 0} (old new : HandshakeValue K) : Type 0 where
+  pub pattern : new.pattern ≡ old.pattern
+  pub role : new.role ≡ old.role
+  pub keys : new.keys ≡ old.keys
+  pub passed : new.passed ≡ old.passed + 1
+  pub ended : new.ended ≡ false
+  pub taken : List (List ℕ)
+  pub psks : old.psks ≡ taken ++ new.psks
+
+-- what a fault of reading leaves
+abbrev pub after_read_fault : {K : Type 0} → HandshakeValue K → ReadFault → HandshakeValue K
+after_read_fault h (read.Refused token cause) = ended_as h
+after_read_fault h _ = h
+
+-- what a message leaves that isn't read, where a lacking DH result is asked for
+abbrev pub after_unread : {K : Type 0} → HandshakeValue K → Unread → HandshakeValue K
+after_unread h (unread.Wanted own key) = h
+after_unread h (unread.Declined fault) = after_read_fault h fault
+
+-- what a fault of writing leaves
+abbrev pub after_write_fault : {K : Type 0} → HandshakeValue K → WriteFault → HandshakeValue K
+after_write_fault h (write.Agreement token) = ended_as h
+after_write_fault h _ = h
+
+-- the fault of a message that was due
+abbrev pub IsRefusal : ReadFault → Type 0
+IsRefusal (read.Refused token cause) = Unit {0}
+IsRefusal _ = ⊥
+
+-- the same, or the DH result that it wants
+abbrev pub IsOfDue : Unread → Type 0
+IsOfDue (unread.Wanted own key) = Unit {0}
+IsOfDue (unread.Declined fault) = IsRefusal fault
+
+abbrev pub IsAgreement : WriteFault → Type 0
+IsAgreement (write.Agreement token) = Unit {0}
+IsAgreement _ = ⊥

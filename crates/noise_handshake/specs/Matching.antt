@@ -1,0 +1,81 @@
+-- Which party a handshake matches, the parties after its messages, and why it doesn't read or write.
+use Rattle.std.specs.Prelude.{◌≡◌, ℕ, ◌+◌, ◌<◌, ◌≤◌, List, length, drop, count_by, Option, true, false, is_some}
+use Rattle.noise_names.specs.Tokens.{is_psk}
+use Rattle.noise_names.specs.Plan.{has_psk}
+use Rattle.noise_names.specs.Overhead.{has_key, overhead_of}
+use Rattle.noise_state.specs.History.{cipher_key}
+use Rattle.noise_state.specs.Standing.{StateMatches}
+use Rattle.noise_keys.specs.declared.keys.Own.{Own}
+use Rattle.noise_handshake.specs.declared.faults.ReadFault.{ReadFault}
+use Rattle.noise_handshake.specs.declared.faults.ReadFault.TheVariants as read
+use Rattle.noise_handshake.specs.declared.faults.WriteFault.{WriteFault}
+use Rattle.noise_handshake.specs.declared.faults.WriteFault.TheVariants as write
+use Rattle.noise_handshake.specs.Message.{after_payload}
+use Rattle.noise_handshake.specs.Passed.{passed_places}
+use Rattle.noise_handshake.specs.Party.{Party, Listens, Refuses, Speaks, remote_after, tokens_now}
+use Rattle.noise_handshake.specs.Writing.{LacksAnswer}
+use Rattle.noise_handshake.specs.HandshakeValue.{HandshakeValue}
+
+-- the party after a message that was accepted
+abbrev pub after_message : Party → List (List ℕ) → List ℕ → Party
+after_message v xs payload = record v {
+  psks = drop (count_by is_psk (tokens_now v)) v.psks;
+  remote = remote_after v.remote (tokens_now v) xs;
+  passed = v.passed + 1;
+  history = after_payload (has_psk v.pattern) v.history (tokens_now v) xs payload;
+}
+
+-- the party after a message of its own
+abbrev pub after_own : Party → List (List ℕ) → List ℕ → Party
+after_own v xs payload = record v {
+  psks = drop (count_by is_psk (tokens_now v)) v.psks;
+  passed = v.passed + 1;
+  history = after_payload (has_psk v.pattern) v.history (tokens_now v) xs payload;
+}
+
+-- the party of a party that has ended
+abbrev pub ended_party : Party → Party
+ended_party v = record v { ended = true }
+
+-- The party's history has a key exactly where the pattern says so.
+abbrev pub IsKeyed : Party → Type 0
+IsKeyed v = is_some (cipher_key v.history) ≡ has_key v.pattern (passed_places v.pattern v.passed)
+
+-- The handshake matches the party, by the meaning of its keys.
+module _ {K : Type 0} (public_of : K → Own → Option (List ℕ)) (agreement : K → Own → List ℕ → Option (List ℕ)) where
+  pub record Matches (h : HandshakeValue K) (v : Party) : Type 0 where
+    pub pattern : h.pattern ≡ v.pattern
+    pub role : h.role ≡ v.role
+    pub psks : h.psks ≡ v.psks
+    pub own : public_of h.keys ≡ v.own
+    pub agree : agreement h.keys ≡ v.agree
+    pub remote : h.remote ≡ v.remote
+    pub passed : h.passed ≡ v.passed
+    pub ended : h.ended ≡ v.ended
+    pub history : StateMatches h.state v.history
+
+-- Why a party doesn't accept a message.
+abbrev pub DoesNotRead : Party → List ℕ → ReadFault → Type 0
+DoesNotRead v message read.Ended = v.ended ≡ true
+DoesNotRead v message read.Done = (v.ended ≡ false) × (v.passed ≡ length v.pattern.messages)
+DoesNotRead v message read.NotYourTurn = Speaks v
+DoesNotRead v message (read.Refused token cause) = Refuses v message token cause
+
+-- the party after such a fault: only a refusal of a message that was due ends the handshake
+abbrev pub after_not_read : Party → ReadFault → Party
+after_not_read v (read.Refused token cause) = ended_party v
+after_not_read v _ = v
+
+-- Why a party doesn't write a payload of this length.
+abbrev pub DoesNotWrite : Party → ℕ → WriteFault → Type 0
+DoesNotWrite v payload write.Ended = v.ended ≡ true
+DoesNotWrite v payload write.Done = (v.ended ≡ false) × (v.passed ≡ length v.pattern.messages)
+DoesNotWrite v payload write.NotYourTurn = Listens v
+DoesNotWrite v payload write.TooLong = Speaks v × (65535 < overhead_of v.pattern (v.passed + 1) + payload)
+DoesNotWrite v payload (write.Agreement token) = (overhead_of v.pattern (v.passed + 1) + payload ≤ 65535)
+    × LacksAnswer v token
+
+-- the party after such a fault: only a DH without a result ends the handshake
+abbrev pub after_not_written : Party → WriteFault → Party
+after_not_written v (write.Agreement token) = ended_party v
+after_not_written v _ = v

@@ -1,9 +1,0 @@
-use Rattle.noise_vectors.specs.Expectations.{bytes_of}
-use Rattle.noise_lines.specs.Woven.{traces_of}
-use Rattle.noise_lines.proofs.WovenLemmas.{Written}
-use Rattle.noise_lines.proofs.woven.write_woven.Given as goal
-
--- what is written, and what is left
-abbrev pub invariant-loop-index : goal.invariant-loop-index
-invariant-loop-index g l =
-    Written (g.O.Write.contents l.initial.out) (g.O.Write.contents l.out) (bytes_of l.lines) (traces_of l.traces) l.index

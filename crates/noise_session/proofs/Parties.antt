@@ -1,0 +1,138 @@
+-- How far an end has come, by the state that it matches.
+use Rattle.std.proofs.Common.{◌≡◌, ◌≢◌, ℕ, ◌+◌, ◌==◌, ◌≤◌, nat_lt, ◌&&◌, not, List, length, Bool, true, false, Option, Some, None, IsTrue}
+use Rattle.std.proofs.Common.{if◌then◌else◌, refl, sym, ◌∙◌, ap, arith}
+use Rattle.std.proofs.lemmas.Bool.Decides.{nat_tests}
+use Rattle.noise_names.specs.declared.token.Role.{Role}
+use Rattle.noise_names.specs.Plan.{Plan, is_one_way}
+use Rattle.noise_state.specs.History.{hash}
+use Rattle.noise_keys.specs.declared.keys.Own.{Own}
+use Rattle.noise_session.specs.declared.phase.Phase.{Phase}
+use Rattle.noise_session.specs.declared.phase.Phase.TheVariants as phase
+use Rattle.noise_session.specs.Progress.{Progress, is_open, frame_len_of}
+use Rattle.noise_session.specs.declared.faults.SendFault.TheVariants as fault
+use Rattle.noise_session.specs.Transport.{last_nonce}
+use Rattle.std.specs.Option.{ForSome}
+use Rattle.std.specs.Prelude.{is_none}
+use Rattle.noise_names.specs.declared.token.Role.TheVariants.{Responder}
+use Rattle.noise_names.specs.Tokens.{same_role}
+use Rattle.noise_names.specs.Overhead.{overhead_of}
+use Rattle.noise_handshake.specs.HandshakeValue.{is_turn}
+use Rattle.noise_session.specs.Progress.Progress.{Handshaking, Open, HasEnded}
+use Rattle.noise_session.specs.Ends.{EndValue, EndState, EndMatches, IsReportedBy, PhaseMatches, OpenMatches, hash_in, progress_in, progress_of}
+use Rattle.noise_session.specs.Ends.{remote_static_in, session_hash, session_remote_static, ended_session}
+use Rattle.noise_session.specs.inner.Phases.{ended_in}
+use Rattle.noise_session.specs.TransportValue.{TransportValue}
+use Rattle.std.proofs.lemmas.Bool.{eqb-true, eq-eqb, ne_eqb}
+
+pub progress-handshaking : (v : EndState) → v.party.ended ≡ false → v.party.passed ≢ length v.party.pattern.messages
+    → progress_of v ≡ Handshaking v.party.pattern v.party.role v.party.passed
+progress-handshaking v going more =
+    let test = ne_eqb v.party.passed (length v.party.pattern.messages) more in
+    rw (going, test) refl
+
+pub progress-open : (v : EndState) → v.party.ended ≡ false → v.party.passed ≡ length v.party.pattern.messages
+    → progress_of v ≡ Open v.party.role (is_one_way v.party.pattern) v.sent v.received
+progress-open v going all =
+    let test = eq-eqb v.party.passed (length v.party.pattern.messages) all in
+    rw (going, test) refl
+
+pub progress-ended_session : (v : EndState) → v.party.ended ≡ true → progress_of v ≡ HasEnded v.party.role
+progress-ended_session v ended_party = rw ended_party refl
+
+-- the hash is reported once all messages have passed
+pub no-hash : (v : EndState) → v.party.passed ≢ length v.party.pattern.messages → session_hash v ≡ None
+no-hash v more = let test = ne_eqb v.party.passed (length v.party.pattern.messages) more in rw test refl
+
+pub whole-hash : (v : EndState) → v.party.passed ≡ length v.party.pattern.messages → session_hash v ≡ Some (hash v.party.history)
+whole-hash v all = let test = eq-eqb v.party.passed (length v.party.pattern.messages) all in rw test refl
+
+pub is-open : (v : EndState) (t : TransportValue) → OpenMatches t v → IsTrue (is_open (progress_of v))
+is-open v t s = ap is_open (progress-open v s.going s.all)
+
+-- an open end has seen all messages of its handshake
+open-by : (ended done : Bool) (role : Role) (one_way : Bool) (sent received : ℕ) (pattern : Plan) (passed : ℕ)
+    → IsTrue (is_open (if ended then HasEnded role else if done then Open role one_way sent received else Handshaking pattern role passed)) → done ≡ true
+open-by true done role one_way sent received pattern passed h = cc
+open-by false true role one_way sent received pattern passed h = refl
+open-by false false role one_way sent received pattern passed h = cc
+
+pub open-passed : (v : EndState) → IsTrue (is_open (progress_of v)) → v.party.passed ≡ length v.party.pattern.messages
+open-passed v opens =
+    eqb-true v.party.passed (length v.party.pattern.messages)
+    (open-by v.party.ended (v.party.passed == length v.party.pattern.messages) v.party.role
+    (is_one_way v.party.pattern) v.sent v.received v.party.pattern v.party.passed opens)
+
+open-fields : (a b : Role) (x y : Bool) (m n i j : ℕ) → a ≡ b → x ≡ y → m ≡ n → i ≡ j → Open a x m i ≡ Open b y n j
+open-fields a b x y m n i j e f g h = cc
+
+module _ {K : Type 0} (public_of : K → Own → Option (List ℕ)) (agreement : K → Own → List ℕ → Option (List ℕ)) where
+  pub phase-progress : (p : Phase K) (v : EndState) → PhaseMatches public_of agreement p v → progress_in p ≡ progress_of v
+  phase-progress (phase.Handshaking h every) v s =
+      let is : Handshaking h.pattern h.role h.passed ≡ Handshaking v.party.pattern v.party.role v.party.passed =
+      rw (s.party.pattern, s.party.role, s.party.passed) refl in
+      is ∙ sym (progress-handshaking v s.going s.more)
+  phase-progress (phase.Open t) v s =
+      open-fields t.role v.party.role t.one_way (is_one_way v.party.pattern) t.send_nonce v.sent t.receive_nonce v.received s.transport.sender.role
+      s.transport.sender.one_way s.transport.sender.nonce s.transport.receiver.nonce
+      ∙ sym (progress-open v s.going s.all)
+  phase-progress (phase.Ended role reported) v s = ap HasEnded s.role ∙ sym (progress-ended_session v s.ended)
+
+  -- so are its hash, and the other party's static key
+  phase-hash : (p : Phase K) (v : EndState) → PhaseMatches public_of agreement p v → hash_in p ≡ session_hash v
+  phase-hash (phase.Handshaking h every) v s = sym (no-hash v s.more)
+  phase-hash (phase.Open t) v s = ap (λ (h : List ℕ). Some h) s.transport.hash ∙ sym (whole-hash v s.all)
+  phase-hash (phase.Ended role reported) v s = s.hash
+
+  phase-remote : (p : Phase K) (v : EndState) → PhaseMatches public_of agreement p v → remote_static_in p ≡ session_remote_static v
+  phase-remote (phase.Handshaking h every) v s = rw (s.going, s.party.remote) refl
+  phase-remote (phase.Open t) v s = rw (s.going, s.transport.remote_static) refl
+  phase-remote (phase.Ended role reported) v s = rw s.ended refl
+
+  pub end-reported : (e : EndValue K) (v : EndState) → EndMatches public_of agreement e v → IsReportedBy v e
+  end-reported e v s = record {
+    progress = phase-progress e.phase v s.phase;
+    hash = phase-hash e.phase v s.phase;
+    remote_static = phase-remote e.phase v s.phase;
+    partial = s.partial;
+  }
+
+  -- what is held of a frame doesn't count
+  pub phase-partial : (p : Phase K) (v : EndState) (partial : List ℕ) → PhaseMatches public_of agreement p v
+      → PhaseMatches public_of agreement p (record v { partial = partial })
+  phase-partial (phase.Handshaking h every) v partial s =
+      record { party = s.party; interval = s.interval; going = s.going; more = s.more; sent = s.sent; received = s.received }
+  phase-partial (phase.Open t) v partial s = record { going = s.going; all = s.all; transport = s.transport }
+  phase-partial (phase.Ended role reported) v partial s = record { ended = s.ended; role = s.role; hash = s.hash }
+
+  -- what is left of it where the session ends
+  pub phase-ended : (p : Phase K) (v : EndState) → PhaseMatches public_of agreement p v → PhaseMatches public_of agreement (ended_in p) (ended_session v)
+  phase-ended (phase.Handshaking h every) v s = record { ended = refl; role = s.party.role; hash = sym (no-hash v s.more) }
+  phase-ended (phase.Open t) v s =
+      record { ended = refl; role = s.transport.sender.role; hash = ap (λ (h : List ℕ). Some h) s.transport.hash ∙ sym (whole-hash v s.all) }
+  phase-ended (phase.Ended role reported) v s = record { ended = refl; role = s.role; hash = s.hash }
+
+-- a frame has at most 65537 bytes
+most-by : (n : ℕ) (turn long : Bool) → (long ≡ false → n ≤ 65535)
+    → ForSome (if is_none (if not turn then Some fault.NotYourTurn else if long then Some fault.TooLong else None) then Some (2 + n) else None) (λ k. k ≤ 65537)
+most-by n false long fits = λ x e. cc
+most-by n true true fits = λ x e. cc
+most-by n true false fits = λ x e. let low = fits refl in let is : 2 + n ≡ x = cc in omega arith
+
+most-open : (n : ℕ) (deaf long last : Bool) → (long ≡ false → n ≤ 65535)
+    → ForSome (if is_none (if deaf then Some fault.OneWay else if long then Some fault.TooLong else if last then Some fault.Exhausted else None)
+    then Some (2 + n) else None) (λ k. k ≤ 65537)
+most-open n true long last fits = λ x e. cc
+most-open n false true last fits = λ x e. cc
+most-open n false false true fits = λ x e. cc
+most-open n false false false fits = λ x e. let low = fits refl in let is : 2 + n ≡ x = cc in omega arith
+
+not-long : (n : ℕ) → nat_lt 65535 n ≡ false → n ≤ 65535
+not-long n e = grind (arith, nat_tests)
+
+pub frame-most : (p : Progress) (n : ℕ) → ForSome (frame_len_of p n) (λ k. k ≤ 65537)
+frame-most (Handshaking pattern role passed) n =
+    let m = overhead_of pattern (passed + 1) + n in
+    most-by m (is_turn role passed) (nat_lt 65535 m) (not-long m)
+frame-most (Open role one_way sent received) n =
+    most-open (n + 16) (one_way && same_role role Responder) (nat_lt 65535 (n + 16)) (sent == last_nonce) (not-long (n + 16))
+frame-most (HasEnded role) n = λ x e. cc

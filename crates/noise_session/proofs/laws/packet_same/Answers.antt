@@ -1,8 +1,0 @@
-use Rattle.std.proofs.Common.{[]}
-use Rattle.noise_aead.specs.Sealing.{nonce_of}
-use Rattle.noise_session.specs.Transport.{transport_key}
-use Rattle.noise_session.proofs.laws.packet_same.Goals as goal
-
-pub returns : goal.returns
-returns c r writer interval n payload other same =
-    c.sealed_same.ensures (transport_key r writer interval n) (nonce_of n) [] payload other same

@@ -1,2 +1,0 @@
-pub mod Renewals
-pub mod Unopened

@@ -1,8 +1,0 @@
-use Rattle.std.proofs.Common.{List, None, ap}
-use Rattle.noise_trace.specs.declared.step.Step.{Step}
-use Rattle.noise_session_trace.specs.Moments.Shown.{Message}
-use Rattle.noise_session_trace.proofs.trace.EndTrace.refused.Goals as goal
-
-pub returns : goal.returns
-returns g c v cause f refused =
-    ap (λ (steps : List Step). Message steps None) (c.refused.ensures v.party cause f.party refused)

@@ -1,3 +1,0 @@
-pub mod Directions
-pub mod Following
-pub mod Moments
