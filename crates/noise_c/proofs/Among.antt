@@ -16,7 +16,7 @@ use Rattle.noise_handshake.specs.Party.{Reader, Fits, Fit, known_after, psks_aft
 use Rattle.noise_handshake.specs.Party.{Party, tokens_now}
 use Rattle.noise_handshake.specs.Writing.{Writer, Gives, Given, Writes}
 use Rattle.noise_names.specs.Plan.{has_psk}
-use Rattle.noise_c.specs.Answers.{Answers, AreAmong, AnswersAsAll, with_answers}
+use Rattle.noise_c.specs.DhResults.{DhResults, AreAmong, ActsAsAll, with_dh_results}
 use Rattle.noise_names.specs.Lists.{split-apart, cons-same}
 
 -- ---- lists
@@ -30,25 +30,25 @@ IsKey E = Unit {0}
 IsKey S = Unit {0}
 IsKey _ = ⊥
 
-module _ (role : Role) (has_psks : Bool) (first all : Answers) (among : AreAmong first all) where
+module _ (role : Role) (has_psks : Bool) (first all : DhResults) (among : AreAmong first all) where
   abbrev few : Reader
   few = record { role = role; has_psks = has_psks; agree = first }
 
   abbrev whole : Reader
   whole = record { role = role; has_psks = has_psks; agree = all }
 
-  answered-all : (own : Own) (o : Option (List ℕ)) (x : List ℕ) → dh_result_of first own o ≡ Some x → dh_result_of all own o ≡ Some x
-  answered-all own None x e = e
-  answered-all own (Some key) x e = among own key x e
+  first-all : (own : Own) (o : Option (List ℕ)) (x : List ℕ) → dh_result_of first own o ≡ Some x → dh_result_of all own o ≡ Some x
+  first-all own None x e = e
+  first-all own (Some key) x e = among own key x e
 
   fits-all : (known : Remote) (psks : List (List ℕ)) (t : Token) (x : List ℕ) → Fits few known psks t x → Fits whole known psks t x
   fits-all known psks E x f = f
   fits-all known psks S x f = f
   fits-all known psks Psk x f = f
-  fits-all known psks Ee x f = answered-all _ _ x f
-  fits-all known psks Es x f = answered-all _ _ x f
-  fits-all known psks Se x f = answered-all _ _ x f
-  fits-all known psks Ss x f = answered-all _ _ x f
+  fits-all known psks Ee x f = first-all _ _ x f
+  fits-all known psks Es x f = first-all _ _ x f
+  fits-all known psks Se x f = first-all _ _ x f
+  fits-all known psks Ss x f = first-all _ _ x f
 
   pub fit-all : (known : Remote) (psks : List (List ℕ)) (ts : List Token) (xs : List (List ℕ)) → Fit few known psks ts xs → Fit whole known psks ts xs
   fit-all known psks [] [] f = f
@@ -71,10 +71,10 @@ module _ (role : Role) (has_psks : Bool) (first all : Answers) (among : AreAmong
       let h = split-apart (ciphertext r x) (ciphertext r y) p q n e in
       (ciphertext-same r x y h.0, h.1)
   token-apart known psks r Psk x y p q f g e = (f ∙ sym g, e)
-  token-apart known psks r Ee x y p q f g e = (some-same _ x y (answered-all _ _ x f) g, e)
-  token-apart known psks r Es x y p q f g e = (some-same _ x y (answered-all _ _ x f) g, e)
-  token-apart known psks r Se x y p q f g e = (some-same _ x y (answered-all _ _ x f) g, e)
-  token-apart known psks r Ss x y p q f g e = (some-same _ x y (answered-all _ _ x f) g, e)
+  token-apart known psks r Ee x y p q f g e = (some-same _ x y (first-all _ _ x f) g, e)
+  token-apart known psks r Es x y p q f g e = (some-same _ x y (first-all _ _ x f) g, e)
+  token-apart known psks r Se x y p q f g e = (some-same _ x y (first-all _ _ x f) g, e)
+  token-apart known psks r Ss x y p q f g e = (some-same _ x y (first-all _ _ x f) g, e)
 
   -- What leads one token further with all answers leads there with the first ones, where they lead to that token and it is a key.
   abbrev BeginsBack : Remote → List (List ℕ) → History → List Token → List ℕ → Type 0
@@ -201,10 +201,10 @@ module _ (role : Role) (has_psks : Bool) (first all : Answers) (among : AreAmong
     gives-all known psks E x f = f
     gives-all known psks S x f = f
     gives-all known psks Psk x f = f
-    gives-all known psks Ee x f = answered-all _ _ x f
-    gives-all known psks Es x f = answered-all _ _ x f
-    gives-all known psks Se x f = answered-all _ _ x f
-    gives-all known psks Ss x f = answered-all _ _ x f
+    gives-all known psks Ee x f = first-all _ _ x f
+    gives-all known psks Es x f = first-all _ _ x f
+    gives-all known psks Se x f = first-all _ _ x f
+    gives-all known psks Ss x f = first-all _ _ x f
 
     pub given-all : (known : Remote) (psks : List (List ℕ)) (ts : List Token) (xs : List (List ℕ))
         → Given few-writer known psks ts xs → Given whole-writer known psks ts xs
@@ -215,18 +215,18 @@ module _ (role : Role) (has_psks : Bool) (first all : Answers) (among : AreAmong
 
 -- ---- of a party
 
-pub answers-as-all : (v : Party) (first all : Answers) → AreAmong first all → AnswersAsAll v first all
-answers-as-all v first all among = record {
-  accepts = λ (message payload : List ℕ) (xs : List (List ℕ)) (a : Accepts (with_answers v first) message xs payload). record {
+pub act-as-all : (v : Party) (first all : DhResults) → AreAmong first all → ActsAsAll v first all
+act-as-all v first all among = record {
+  accepts = λ (message payload : List ℕ) (xs : List (List ℕ)) (a : Accepts (with_dh_results v first) message xs payload). record {
     listens = record { going = a.listens.going; more = a.listens.more; turn = a.listens.turn };
     fits = a.fits;
     reads = reads-all v.role (has_psk v.pattern) first all among v.remote v.psks v.history (tokens_now v) message xs payload a.reads;
   };
-  refuses = λ (message : List ℕ) (token : ℕ) (cause : Cause) (mendable : cause ≡ Agreement → ⊥) (a : Refuses (with_answers v first) message token cause). record {
+  refuses = λ (message : List ℕ) (token : ℕ) (cause : Cause) (mendable : cause ≡ Agreement → ⊥) (a : Refuses (with_dh_results v first) message token cause). record {
     listens = record { going = a.listens.going; more = a.listens.more; turn = a.listens.turn };
     stops = stops-all v.role (has_psk v.pattern) first all among v.remote v.psks v.history (tokens_now v) message token cause mendable a.stops;
   };
-  writes = λ (payload message : List ℕ) (xs : List (List ℕ)) (a : Writes (with_answers v first) payload xs message). record {
+  writes = λ (payload message : List ℕ) (xs : List (List ℕ)) (a : Writes (with_dh_results v first) payload xs message). record {
     speaks = record { going = a.speaks.going; more = a.speaks.more; turn = a.speaks.turn };
     given = given-all v.role (has_psk v.pattern) first all among v.own v.remote v.psks (tokens_now v) xs a.given;
     spelled = a.spelled;

@@ -16,8 +16,8 @@ use Rattle.noise_handshake.specs.Party.{Party, Reader, reader, Fits, known_after
 use Rattle.noise_handshake.specs.Party.{own_at, remote_at, first_psk, tokens_now}
 use Rattle.noise_handshake.specs.Wanting.{StopsFor, WantsToRead}
 use Rattle.noise_c.proofs.Among.{fit-all}
-use Rattle.noise_c.specs.Answers.{Answers, AreAmong, AskedToRead, IsHandedIn, with_answers}
-use Rattle.noise_c.specs.Answers.AskedToRead.{ready, asked}
+use Rattle.noise_c.specs.DhResults.{DhResults, AreAmong, AskedToRead, IsHandedIn, with_dh_results}
+use Rattle.noise_c.specs.DhResults.AskedToRead.{ready, asked}
 
 -- ---- the tokens
 
@@ -174,7 +174,7 @@ dh-there w known psks r before later t m s = by t refl where
   by Se e = ap is_dh e
   by Ss e = ap is_dh e
 
-past : (w : Reader) (next : Answers) (known : Remote) (psks : List (List ℕ)) (r : History) (ts : List Token) (m : List ℕ) (own : Own) (key x : List ℕ)
+past : (w : Reader) (next : DhResults) (known : Remote) (psks : List (List ℕ)) (r : History) (ts : List Token) (m : List ℕ) (own : Own) (key x : List ℕ)
     → StopsFor w known psks r ts m own key → IsHandedIn w.agree next own key x → Past w (record w { agree = next }) known psks r ts m
 past w next known psks r ts m own key x s handed = record {
   before = s.before;
@@ -252,7 +252,7 @@ read-lacks v m own key w = wants-none (reader v) v.remote v.psks v.history (toke
 
 -- ---- all that are asked for
 
-pub among-next : (first next all : Answers) (own : Own) (key x : List ℕ) → AreAmong first all → all own key ≡ Some x → IsHandedIn first next own key x
+pub among-next : (first next all : DhResults) (own : Own) (key x : List ℕ) → AreAmong first all → all own key ≡ Some x → IsHandedIn first next own key x
     → AreAmong next all
 among-next first next all own key x among is handed o k y e =
     elim (handed.only o k y e) [
@@ -260,13 +260,13 @@ among-next first next all own key x among is handed o k y e =
       | inr h ↦ ap (λ (z : Own). all z k) h.0 ∙ ap (all own) h.1 ∙ is ∙ ap Some (sym h.2)
     ]
 
-pub asked-few : (v : Party) (all : Answers) (m : List ℕ) (first last : Answers) (n j : ℕ) → AskedToRead v all m first n last → AreAmong first all
-    → CanBegin (reader (with_answers v first)) v.remote v.psks v.history (take j (tokens_now v)) m
+pub asked-few : (v : Party) (all : DhResults) (m : List ℕ) (first last : DhResults) (n j : ℕ) → AskedToRead v all m first n last → AreAmong first all
+    → CanBegin (reader (with_dh_results v first)) v.remote v.psks v.history (take j (tokens_now v)) m
     → (n ≤ count_by is_dh (drop j (tokens_now v))) × AreAmong last all
 asked-few v all m first last n j (ready _) among reached = (omega arith, among)
 asked-few v all m first last _ j (asked _ next _ own key x n wants is handed more) among reached =
     let ts : List Token = tokens_now v in
-    let p = past (reader (with_answers v first)) next v.remote v.psks v.history ts m own key x wants.stops handed in
+    let p = past (reader (with_dh_results v first)) next v.remote v.psks v.history ts m own key x wants.stops handed in
     let h : j ≤ length p.before = p.beyond j reached in
     let i = asked-few v all m next last n (suc (length p.before)) more (among-next first next all own key x among is handed) p.reached in
     let rest : drop (suc (length p.before)) ts ≡ p.later = ap (drop (suc (length p.before))) p.tokens ∙ drop-through p.before p.later p.token in
@@ -275,7 +275,7 @@ asked-few v all m first last _ j (asked _ next _ own key x n wants is handed mor
     subst (λ (us : List Token). suc (count_by is_dh p.later) ≤ count_by is_dh (drop j us)) (sym p.tokens) (counts p.before p.later p.token j h p.dh) in
     (omega (arith, few, here), i.1)
 
-pub asked-to-read : (v : Party) (all first last : Answers) (m : List ℕ) (n : ℕ) → AskedToRead v all m first n last → AreAmong first all
+pub asked-to-read : (v : Party) (all first last : DhResults) (m : List ℕ) (n : ℕ) → AskedToRead v all m first n last → AreAmong first all
     → (n ≤ count_by is_dh (tokens_now v)) × AreAmong last all
 asked-to-read v all first last m n a among =
     asked-few v all m first last n 0 a among (record { carried = []; rest = m; leads = record { fit = tt; spelled = refl } })

@@ -9,10 +9,10 @@ use Rattle.noise_keys.specs.declared.keys.Own.{Own}
 use Rattle.noise_handshake.specs.declared.remote.Remote.{Remote}
 use Rattle.noise_handshake.specs.Counterparts.{is_dh}
 use Rattle.noise_handshake.specs.Party.{Party, dh_result_of, own_at, remote_at, first_psk, psks_after, tokens_now}
-use Rattle.noise_handshake.specs.Wanting.{LacksAnswerFor, WantsToWrite}
-use Rattle.noise_handshake.specs.Writing.{Writer, writer, Gives, Given, LacksAnswerAt}
-use Rattle.noise_c.specs.Answers.{Answers, AreAmong, AskedToWrite, HasKeys, IsHandedIn, Shows, with_answers}
-use Rattle.noise_c.specs.Answers.AskedToWrite.{ready, asked}
+use Rattle.noise_handshake.specs.Wanting.{LacksDhResultFor, WantsToWrite}
+use Rattle.noise_handshake.specs.Writing.{Writer, writer, Gives, Given, LacksDhResultAt}
+use Rattle.noise_c.specs.DhResults.{DhResults, AreAmong, AskedToWrite, HasKeys, IsHandedIn, Shows, with_dh_results}
+use Rattle.noise_c.specs.DhResults.AskedToWrite.{ready, asked}
 use Rattle.noise_c.proofs.Among.{given-all}
 use Rattle.noise_c.proofs.AskingToRead.{among-next, at-most, counts, drop-through, psks_left, take-through}
 
@@ -52,7 +52,7 @@ dh-gives w known psks Se x d e = e
 dh-gives w known psks Ss x d e = e
 
 dh-there : (w : Writer) (known : Remote) (psks : List (List ℕ)) (before later : List Token) (t : Token) → Shows w.own t
-    → LacksAnswerAt w known psks (before ++ t ∷ later) (length before) → is_dh t ≡ true
+    → LacksDhResultAt w known psks (before ++ t ∷ later) (length before) → is_dh t ≡ true
 dh-there w known psks before later t shows s = by t shows refl where
   given : Given w known psks before s.before
   given = subst (λ (us : List Token). Given w known psks us s.before) (take-append_seam before (t ∷ later)) s.given
@@ -85,9 +85,9 @@ record Past (first next : Writer) (known : Remote) (psks : List (List ℕ)) (ts 
   reached : IsGiven next known psks (take (suc (length before)) ts)
   beyond : (j : ℕ) → IsGiven first known psks (take j ts) → j ≤ length before
 
-past : (w : Writer) (next : Answers) (known : Remote) (psks : List (List ℕ)) (ts : List Token) (own : Own) (key x : List ℕ)
+past : (w : Writer) (next : DhResults) (known : Remote) (psks : List (List ℕ)) (ts : List Token) (own : Own) (key x : List ℕ)
     → ((before later : List Token) (t : Token) → ts ≡ before ++ t ∷ later → Shows w.own t)
-    → LacksAnswerFor w known psks ts own key → IsHandedIn w.agree next own key x → Past w (record w { agree = next }) known psks ts
+    → LacksDhResultFor w known psks ts own key → IsHandedIn w.agree next own key x → Past w (record w { agree = next }) known psks ts
 past w next known psks ts own key x keys s handed = record {
   before = s.before;
   token = s.token;
@@ -101,7 +101,7 @@ past w next known psks ts own key x keys s handed = record {
 } where
   d : is_dh s.token ≡ true
   d = dh-there w known psks s.before s.later s.token (keys s.before s.later s.token s.tokens)
-      (subst (λ (us : List Token). LacksAnswerAt w known psks us (length s.before)) s.tokens s.lacks)
+      (subst (λ (us : List Token). LacksDhResultAt w known psks us (length s.before)) s.tokens s.lacks)
 
   here : Given w known psks s.before s.lacks.before
   here = subst (λ (us : List Token). Given w known psks us s.lacks.before)
@@ -120,12 +120,12 @@ past w next known psks ts own key x keys s handed = record {
 -- an answer that is asked for isn't there
 pub write-lacks : (v : Party) (own : Own) (key : List ℕ) → HasKeys v → WantsToWrite v own key → v.agree own key ≡ None
 write-lacks v own key keys wants = by (v.agree own key) refl where
-  s : LacksAnswerFor (writer v) v.remote v.psks (tokens_now v) own key
+  s : LacksDhResultFor (writer v) v.remote v.psks (tokens_now v) own key
   s = wants.lacks
 
   d : is_dh s.token ≡ true
   d = dh-there (writer v) v.remote v.psks s.before s.later s.token (keys s.before s.later s.token s.tokens)
-      (subst (λ (us : List Token). LacksAnswerAt (writer v) v.remote v.psks us (length s.before)) s.tokens s.lacks)
+      (subst (λ (us : List Token). LacksDhResultAt (writer v) v.remote v.psks us (length s.before)) s.tokens s.lacks)
 
   here : Given (writer v) v.remote v.psks s.before s.lacks.before
   here = subst (λ (us : List Token). Given (writer v) v.remote v.psks us s.lacks.before)
@@ -142,13 +142,13 @@ write-lacks v own key keys wants = by (v.agree own key) refl where
       (given-on (writer v) v.remote v.psks s.before s.token s.lacks.before y here
       (dh-gives (writer v) v.remote (psks_left v.psks s.before) s.token y d answer))))
 
-asked-few : (v : Party) (all : Answers) → HasKeys v → (first last : Answers) (n j : ℕ) → AskedToWrite v all first n last → AreAmong first all
-    → IsGiven (writer (with_answers v first)) v.remote v.psks (take j (tokens_now v))
+asked-few : (v : Party) (all : DhResults) → HasKeys v → (first last : DhResults) (n j : ℕ) → AskedToWrite v all first n last → AreAmong first all
+    → IsGiven (writer (with_dh_results v first)) v.remote v.psks (take j (tokens_now v))
     → (n ≤ count_by is_dh (drop j (tokens_now v))) × AreAmong last all
 asked-few v all keys first last n j (ready _) among given = (omega arith, among)
 asked-few v all keys first last _ j (asked _ next _ own key x n wants is handed more) among given =
     let ts : List Token = tokens_now v in
-    let p = past (writer (with_answers v first)) next v.remote v.psks ts own key x keys wants.lacks handed in
+    let p = past (writer (with_dh_results v first)) next v.remote v.psks ts own key x keys wants.lacks handed in
     let h : j ≤ length p.before = p.beyond j given in
     let i = asked-few v all keys next last n (suc (length p.before)) more (among-next first next all own key x among is handed) p.reached in
     let rest : drop (suc (length p.before)) ts ≡ p.later = ap (drop (suc (length p.before))) p.tokens ∙ drop-through p.before p.later p.token in
@@ -157,6 +157,6 @@ asked-few v all keys first last _ j (asked _ next _ own key x n wants is handed 
     subst (λ (us : List Token). suc (count_by is_dh p.later) ≤ count_by is_dh (drop j us)) (sym p.tokens) (counts p.before p.later p.token j h p.dh) in
     (omega (arith, few, here), i.1)
 
-pub asked-to-write : (v : Party) (all first last : Answers) (n : ℕ) → HasKeys v → AskedToWrite v all first n last → AreAmong first all
+pub asked-to-write : (v : Party) (all first last : DhResults) (n : ℕ) → HasKeys v → AskedToWrite v all first n last → AreAmong first all
     → (n ≤ count_by is_dh (tokens_now v)) × AreAmong last all
 asked-to-write v all first last n keys a among = asked-few v all keys first last n 0 a among ([], tt)

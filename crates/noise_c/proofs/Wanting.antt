@@ -1,38 +1,38 @@
--- What it comes to where a DH answer or a secret is wanted.
+-- What it comes to where a DH result or a secret is wanted.
 use Rattle.std.proofs.Common.{◌≡◌, ℕ, List, sym, subst}
 use Rattle.noise_names.specs.Plan.{Plan}
 use Rattle.noise_keys.specs.declared.keys.Own.{Own}
 use Rattle.noise_handshake.specs.declared.late_faults.Want.{Want}
-use Rattle.noise_handshake.specs.declared.late_faults.Want.TheVariants.{Answer, Psk}
+use Rattle.noise_handshake.specs.declared.late_faults.Want.TheVariants.{DhResult, Psk}
 use Rattle.noise_handshake.specs.declared.late_faults.LateUnread.TheVariants as unread
 use Rattle.noise_handshake.specs.Party.{Party}
 use Rattle.noise_handshake.specs.Wanting.{WantsToRead, WantsToWrite}
 use Rattle.noise_handshake.specs.Late.{LeavesLateUnread, WantsLate, WantsPskToRead, WantsPskToWrite}
 use Rattle.noise_c.specs.declared.structs.NoiseHandshake.{NoiseHandshake}
 use Rattle.noise_c.specs.declared.structs.NoiseResult.{NoiseResult}
-use Rattle.noise_c.specs.HandshakeStructs.{own_in, remote_reported, KeepsParty, ReportsAnswer, ReportsRemote, ReportsWant}
+use Rattle.noise_c.specs.HandshakeStructs.{own_in, remote_reported, KeepsParty, ReportsDhResult, ReportsRemote, ReportsWant}
 use Rattle.noise_c.specs.Outcomes.{ReadOutcome, WriteOutcome}
-use Rattle.noise_c.specs.Outcomes.ReadOutcome.{wants_answer as read_wants_answer, wants_psk as read_wants_psk}
-use Rattle.noise_c.specs.Outcomes.WriteOutcome.{wants_answer as write_wants_answer, wants_psk as write_wants_psk}
+use Rattle.noise_c.specs.Outcomes.ReadOutcome.{wants_dh_result as read_wants_dh_result, wants_psk as read_wants_psk}
+use Rattle.noise_c.specs.Outcomes.WriteOutcome.{wants_dh_result as write_wants_dh_result, wants_psk as write_wants_psk}
 use Rattle.noise_c.proofs.Wants.{reads-psk, writes-psk}
 
-reads-answer : (v : Party) (m : List ℕ) (own : Own) (key : List ℕ) (results : NoiseResult) → own_in results.of_static ≡ own → results.remote ≡ key
+reads-dh-result : (v : Party) (m : List ℕ) (own : Own) (key : List ℕ) (results : NoiseResult) → own_in results.of_static ≡ own → results.remote ≡ key
     → WantsToRead v m own key → WantsToRead v m (own_in results.of_static) results.remote
-reads-answer v m own key results o k r =
+reads-dh-result v m own key results o k r =
     subst (λ (z : List ℕ). WantsToRead v m (own_in results.of_static) z) (sym k) (subst (λ (x : Own). WantsToRead v m x key) (sym o) r)
 
-writes-answer : (v : Party) (own : Own) (key : List ℕ) (results : NoiseResult) → own_in results.of_static ≡ own → results.remote ≡ key
+writes-dh-result : (v : Party) (own : Own) (key : List ℕ) (results : NoiseResult) → own_in results.of_static ≡ own → results.remote ≡ key
     → WantsToWrite v own key → WantsToWrite v (own_in results.of_static) results.remote
-writes-answer v own key results o k r =
+writes-dh-result v own key results o k r =
     subst (λ (z : List ℕ). WantsToWrite v (own_in results.of_static) z) (sym k) (subst (λ (x : Own). WantsToWrite v x key) (sym o) r)
 
 module _ (old new : NoiseHandshake) (payload out after : List ℕ) (results : NoiseResult) (n : ℕ) where
   pub writes-outcome : (want : Want) (next : NoiseResult) (code : ℕ) → ReportsWant want next code
-      → (code ≡ 20 → ReportsAnswer results next) → (code ≡ 40 → ReportsRemote results next) → n ≡ old.psk_count → new ≡ old → after ≡ out
+      → (code ≡ 20 → ReportsDhResult results next) → (code ≡ 40 → ReportsRemote results next) → n ≡ old.psk_count → new ≡ old → after ≡ out
       → ((p : Plan) (v : Party) → KeepsParty old p v → WantsLate v n want) → WriteOutcome old payload out results new after next code
-  writes-outcome (Answer own key) next code t answer static count same bytes leaves =
+  writes-outcome (DhResult own key) next code t answer static count same bytes leaves =
       subst (λ (c : ℕ). WriteOutcome old payload out results new after next c) (sym t.0)
-      (write_wants_answer (answer t.0) same bytes (λ p v k. writes-answer v own key next t.1 t.2 (leaves p v k)))
+      (write_wants_dh_result (answer t.0) same bytes (λ p v k. writes-dh-result v own key next t.1 t.2 (leaves p v k)))
   writes-outcome (Psk remote) next code t answer static count same bytes leaves =
       subst (λ (c : ℕ). WriteOutcome old payload out results new after next c) (sym t.0)
       (write_wants_psk (static t.0) same bytes (λ p v k.
@@ -41,12 +41,12 @@ module _ (old new : NoiseHandshake) (payload out after : List ℕ) (results : No
 
 module _ (old new : NoiseHandshake) (message after : List ℕ) (results : NoiseResult) (n : ℕ) where
   pub reads-outcome : (want : Want) (next : NoiseResult) (code : ℕ) → ReportsWant want next code
-      → (code ≡ 20 → ReportsAnswer results next) → (code ≡ 40 → ReportsRemote results next) → n ≡ old.psk_count → after ≡ message
+      → (code ≡ 20 → ReportsDhResult results next) → (code ≡ 40 → ReportsRemote results next) → n ≡ old.psk_count → after ≡ message
       → ((p : Plan) (v : Party) → KeepsParty old p v → LeavesLateUnread v n message (unread.Wants want))
       → ReadOutcome old message results new after next code
-  reads-outcome (Answer own key) next code t answer static count bytes leaves =
+  reads-outcome (DhResult own key) next code t answer static count bytes leaves =
       subst (λ (c : ℕ). ReadOutcome old message results new after next c) (sym t.0)
-      (read_wants_answer (answer t.0) bytes (λ p v k. reads-answer v message own key next t.1 t.2 (leaves p v k)))
+      (read_wants_dh_result (answer t.0) bytes (λ p v k. reads-dh-result v message own key next t.1 t.2 (leaves p v k)))
   reads-outcome (Psk remote) next code t answer static count bytes leaves =
       subst (λ (c : ℕ). ReadOutcome old message results new after next c) (sym t.0)
       (read_wants_psk (static t.0) bytes (λ p v k.

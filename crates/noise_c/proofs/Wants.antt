@@ -2,7 +2,7 @@
 use Rattle.std.proofs.Common.{◌≡◌, ℕ, List, sym, subst, ◌∙◌, arith}
 use Rattle.std.specs.Prelude.{Option}
 use Rattle.noise_handshake.specs.declared.late_faults.Want.{Want}
-use Rattle.noise_handshake.specs.declared.late_faults.Want.TheVariants.{Answer, Psk}
+use Rattle.noise_handshake.specs.declared.late_faults.Want.TheVariants.{DhResult, Psk}
 use Rattle.noise_handshake.specs.declared.late_faults.LateUnread.TheVariants as unread
 use Rattle.noise_handshake.specs.Party.{Party}
 use Rattle.noise_handshake.specs.Late.{LeavesLateUnread, WantsLate, WantsPskToRead, WantsPskToWrite}
@@ -11,15 +11,15 @@ use Rattle.noise_c.specs.HandshakeStructs.{remote_reported, ReportsWant}
 
 pub reads-psk : (v : Party) (n : ℕ) (m : List ℕ) (want : Want) (results : NoiseResult) (code : ℕ) → ReportsWant want results code → code ≡ 40
     → LeavesLateUnread v n m (unread.Wants want) → WantsPskToRead v n m (remote_reported results)
-reads-psk v n m (Answer own key) results code t e r = absurd (omega (arith, t.0, e))
+reads-psk v n m (DhResult own key) results code t e r = absurd (omega (arith, t.0, e))
 reads-psk v n m (Psk remote) results code t e r = subst (λ (o : Option (List ℕ)). WantsPskToRead v n m o) (sym t.1) r
 
 pub writes-psk : (v : Party) (n : ℕ) (want : Want) (results : NoiseResult) (code : ℕ) → ReportsWant want results code → code ≡ 40
     → WantsLate v n want → WantsPskToWrite v n × (remote_reported results ≡ v.remote.s)
-writes-psk v n (Answer own key) results code t e r = absurd (omega (arith, t.0, e))
+writes-psk v n (DhResult own key) results code t e r = absurd (omega (arith, t.0, e))
 writes-psk v n (Psk remote) results code t e r = (r.0, t.1 ∙ r.1)
 
 -- one of both numbers is returned
 pub want-code : (want : Want) (results : NoiseResult) (code : ℕ) (Q : ℕ → Type 0) → ReportsWant want results code → Q 20 → Q 40 → Q code
-want-code (Answer own key) results code Q t a s = subst Q (sym t.0) a
+want-code (DhResult own key) results code Q t a s = subst Q (sym t.0) a
 want-code (Psk remote) results code Q t a s = subst Q (sym t.0) s

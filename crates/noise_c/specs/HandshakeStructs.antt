@@ -17,9 +17,9 @@ use Rattle.noise_keys.specs.declared.faults.SetupFault.{SetupFault}
 use Rattle.noise_handshake.specs.declared.faults.WriteFault.{WriteFault}
 use Rattle.noise_handshake.specs.declared.remote.Remote.{Remote}
 use Rattle.noise_handshake.specs.declared.late_faults.Want.{Want}
-use Rattle.noise_handshake.specs.declared.late_faults.Want.TheVariants.{Answer, Psk}
+use Rattle.noise_handshake.specs.declared.late_faults.Want.TheVariants.{DhResult, Psk}
 use Rattle.noise_keys.specs.Keys.{key_of}
-use Rattle.noise_keys.specs.Table.{Table, TableEntry, answer_in}
+use Rattle.noise_keys.specs.Table.{Table, TableEntry, dh_result_in}
 use Rattle.noise_handshake.specs.HandshakeValue.{HandshakeValue, is_turn, message_len_of}
 use Rattle.noise_handshake.specs.Parts.{HasProgress}
 use Rattle.noise_handshake.specs.declared.parts.Progress.{Progress}
@@ -67,7 +67,7 @@ abbrev pub public_in : Table → Own → Option (List ℕ)
 public_in t own = key_of own t.e t.s
 
 abbrev pub agreement_in : Table → Own → List ℕ → Option (List ℕ)
-agreement_in t own remote = answer_in t.entries own remote
+agreement_in t own remote = dh_result_in t.entries own remote
 
 abbrev pub text_in : NoiseHandshake → List ℕ
 text_in k = take k.text_len k.text
@@ -269,11 +269,11 @@ remote_reported results = if results.remote_known == 0 then None else Some resul
 
 -- What is wanted is reported, with this number.
 abbrev pub ReportsWant : Want → NoiseResult → ℕ → Type 0
-ReportsWant (Answer own key) results code = (code ≡ WANTED) × (own_in results.of_static ≡ own) × (results.remote ≡ key)
+ReportsWant (DhResult own key) results code = (code ≡ WANTED) × (own_in results.of_static ≡ own) × (results.remote ≡ key)
 ReportsWant (Psk remote) results code = (code ≡ WANTED_PSK) × (remote_reported results ≡ remote)
 
 -- Of a DH result that is wanted, 0 or 1 is reported for the key pair, and the other party's key; all else is unchanged.
-pub record ReportsAnswer (old new : NoiseResult) : Type 0 where
+pub record ReportsDhResult (old new : NoiseResult) : Type 0 where
   pub flag : new.of_static ≤ 1
   pub rest : new ≡ record old { of_static = new.of_static; remote = new.remote }
 

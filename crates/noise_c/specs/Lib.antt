@@ -1,5 +1,5 @@
-pub mod Answered
-pub mod Answers
+pub mod HandedIn
+pub mod DhResults
 pub mod Checked
 pub mod Codes
 pub mod HandshakeStructs

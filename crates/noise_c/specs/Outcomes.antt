@@ -9,7 +9,7 @@ use Rattle.noise_c.specs.declared.codes.numbers.TheConstants.{AGREEMENT, DONE, L
 use Rattle.noise_c.specs.declared.structs.NoiseHandshake.{NoiseHandshake}
 use Rattle.noise_c.specs.declared.structs.NoiseResult.{NoiseResult}
 use Rattle.noise_c.specs.HalfStructs.{IsAround}
-use Rattle.noise_c.specs.HandshakeStructs.{handshake_from_c, own_in, remote_reported, text_in, ForParty, HasMessageLen, IsPatternOf, IsUsable, KeepsParty, ReportsAnswer, ReportsRemote, WasDeclined, WasRead, WasWithheld, WasWritten}
+use Rattle.noise_c.specs.HandshakeStructs.{handshake_from_c, own_in, remote_reported, text_in, ForParty, HasMessageLen, IsPatternOf, IsUsable, KeepsParty, ReportsDhResult, ReportsRemote, WasDeclined, WasRead, WasWithheld, WasWritten}
 
 -- Of this struct, the payload, a buffer and what is reported, `noise_write` leaves the struct, the buffer and what is
 -- reported like this, and returns this number.
@@ -20,7 +20,7 @@ pub data WriteOutcome (old : NoiseHandshake) (payload out : List ℕ) (results :
       → drop next.len after ≡ drop next.len out
       → ForParty old (λ p v. WasWritten p v payload (take next.len after) new)
       → WriteOutcome old payload out results new after next OK
-  wants_answer : ReportsAnswer results next → new ≡ old → after ≡ out
+  wants_dh_result : ReportsDhResult results next → new ≡ old → after ≡ out
       → ForParty old (λ _ v. WantsToWrite v (own_in next.of_static) next.remote)
       → WriteOutcome old payload out results new after next WANTED
   wants_psk : ReportsRemote results next → new ≡ old → after ≡ out
@@ -43,7 +43,7 @@ pub data ReadOutcome (old : NoiseHandshake) (message : List ℕ) (results : Nois
       → next.from + next.len ≤ length after → IsAround message after next.from (next.from + next.len)
       → ForParty old (λ p v. WasRead p v message (slice_range after next.from (next.from + next.len)) new)
       → ReadOutcome old message results new after next OK
-  wants_answer : ReportsAnswer results next → after ≡ message
+  wants_dh_result : ReportsDhResult results next → after ≡ message
       → ForParty old (λ _ v. WantsToRead v message (own_in next.of_static) next.remote)
       → ReadOutcome old message results new after next WANTED
   wants_psk : ReportsRemote results next → after ≡ message

@@ -2,8 +2,8 @@
 
 ghost use Rattle.std.specs.Prelude.{nat_eq};
 ghost use Rattle.std.specs.List.{IsDistinct};
-ghost use Rattle.noise_c.specs.Answered.{ReadsAsLibrary, WritesAsLibrary};
-ghost use Rattle.noise_c.specs.Answers.{AnsweredIsWhole, AskedIsLacking, FourSuffice, FourSufficeToWrite};
+ghost use Rattle.noise_c.specs.HandedIn.{ReadsAsLibrary, WritesAsLibrary};
+ghost use Rattle.noise_c.specs.DhResults.{FirstActAsAll, AskedIsLacking, FourSuffice, FourSufficeToWrite};
 ghost use Rattle.noise_c.specs.Header.{marks, CodesAreNumbered, MarksAreNumbered};
 
 /// The codes have the numbers of `include/noise.h`.
@@ -21,8 +21,8 @@ pub fn marks_differ()
 /// table of Noise, 5.3). Each message asks for one at each of its DH tokens at most, so for four in a valid pattern,
 /// whatever the message has; with those that were handed in it accepts, refuses and writes messages as with all of
 /// them, but for a refusal `Agreement`, which asks.
-pub fn answered_is_whole()
-    ensures whole { AnsweredIsWhole }
+pub fn first_act_as_all()
+    ensures whole { FirstActAsAll }
     ensures lacks { AskedIsLacking }
     ensures read { FourSuffice }
     ensures written { FourSufficeToWrite }
@@ -30,9 +30,9 @@ pub fn answered_is_whole()
 
 /// A handshake of C that is handed each DH result that it asks for, as one function of the keys has it, ends each call
 /// after at most four as the library's handshake does with keys of that function.
-pub fn answered_as_library()
+pub fn dh_results_as_library()
     ensures reads { ReadsAsLibrary }
     ensures writes { WritesAsLibrary }
 {
-    answered_is_whole();
+    first_act_as_all();
 }

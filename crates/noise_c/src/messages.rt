@@ -1,7 +1,7 @@
 //! Exports: writing and reading the messages of a handshake.
 
 ghost use Rattle.std.specs.Prelude.{◌≡◌, ◌≤◌, ◌<◌, ◌⊎◌, ◌↔◌, length};
-ghost use Rattle.noise_c.specs.HandshakeStructs.{IsUsable, ReportsAnswer, ReportsRemote, ReportsWant};
+ghost use Rattle.noise_c.specs.HandshakeStructs.{IsUsable, ReportsDhResult, ReportsRemote, ReportsWant};
 ghost use Rattle.noise_c.specs.Outcomes.{AsksToRead, AsksToWrite, ReadOutcome, RefusesRoom, WriteOutcome};
 ghost use Rattle.noise_c.specs.declared.codes.numbers.TheConstants.{ENDED, LENGTH, OK, STRUCT, WANTED, WANTED_PSK};
 
@@ -15,11 +15,11 @@ use noise_handshake::{LateUnread, LateUnwritten, ReadFault, Want};
 // Reports what is wanted, and returns the number of that.
 fn report_want(want: Want, results: &mut NoiseResult) -> u32
     ensures want { ReportsWant want results.new result }
-    ensures answer { result ≡ WANTED → ReportsAnswer results.old results.new }
+    ensures answer { result ≡ WANTED → ReportsDhResult results.old results.new }
     ensures remote { result ≡ WANTED_PSK → ReportsRemote results.old results.new }
 {
     match want {
-        Want::Answer { own, key } => {
+        Want::DhResult { own, key } => {
             results.of_static = own_to_c(own);
             results.remote = key;
             WANTED

@@ -2,7 +2,7 @@
 
 ghost use Rattle.std.specs.Prelude.{◌≡◌, ◌≤◌, map};
 ghost use Rattle.noise_keys.specs.Keys.{key_of};
-ghost use Rattle.noise_keys.specs.Table.{Table, answer_in, is_for};
+ghost use Rattle.noise_keys.specs.Table.{Table, dh_result_in, is_for};
 ghost use Rattle.noise_c.specs.HandshakeStructs.{entry_in, key_in, key_to_c, own_in};
 
 use crate::structs::{NoiseAnswer, NoiseKey};
@@ -30,7 +30,7 @@ impl<'a> Model for SuppliedKeys<'a> {
 impl<'a> Keys for SuppliedKeys<'a> {
     ghost public_of = { λ keys own. key_of own keys.e keys.s };
 
-    ghost agreement = { λ keys own remote. answer_in keys.entries own remote };
+    ghost agreement = { λ keys own remote. dh_result_in keys.entries own remote };
 
     fn public(&self, own: Own) -> Option<[u8; 32]> {
         match own {
@@ -40,7 +40,7 @@ impl<'a> Keys for SuppliedKeys<'a> {
     }
 
     fn agree(&self, own: Own, remote: &[u8; 32]) -> Option<[u8; 32]> {
-        answer_of(self.answers, own, remote)
+        result_for(self.answers, own, remote)
     }
 }
 
@@ -72,14 +72,14 @@ fn is_for(answer: &NoiseAnswer, own: Own, remote: &[u8; 32]) -> bool
 }
 
 // The first DH result of this key pair and that key.
-fn answer_of(answers: &[NoiseAnswer], own: Own, remote: &[u8; 32]) -> Option<[u8; 32]>
-    ensures { result ≡ answer_in (map entry_in answers.now) own remote.now }
+fn result_for(answers: &[NoiseAnswer], own: Own, remote: &[u8; 32]) -> Option<[u8; 32]>
+    ensures { result ≡ dh_result_in (map entry_in answers.now) own remote.now }
 {
     let (first, more) = answers.split_first()?;
     if is_for(first, own, remote) {
         Some(first.answer)
     } else {
-        answer_of(more, own, remote)
+        result_for(more, own, remote)
     }
 }
 

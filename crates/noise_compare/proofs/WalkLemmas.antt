@@ -1,59 +1,59 @@
--- What a walk through a log says of the lines that are answered.
+-- What a walk through a log says of the lines that are matched.
 use Rattle.std.proofs.Common.{◌≡◌, ◌∙◌, refl, sym, ap, subst, Bool, true, false, not, List, [], ◌∷◌, Option, Some, None}
 use Rattle.std.specs.Prelude.{IfSome, find, fold}
 use Rattle.std.proofs.lemmas.List.Elements.{All-cons, All-nil}
 use Rattle.std.proofs.lemmas.List.Folds.{fold_stays}
-use Rattle.noise_compare.specs.Differences.{Agrees, AreAnswered, IsAnswered, answered, is_of_responder, of_role}
+use Rattle.noise_compare.specs.Differences.{Agrees, AreMatched, IsMatched, after_match, is_of_responder, of_role}
 use Rattle.noise_compare.specs.Lines.{has_values, is_of_place}
 use Rattle.noise_compare.specs.Walk.{Left, both, left_after, left_by, left_for, step}
 use Rattle.noise_compare.specs.declared.line.Line.{Line}
 
-answered-is : (logged : Line) (right rest : List Line) → answered logged right ≡ Some rest → IsAnswered logged right rest
-answered-is logged [] rest e = absurd (cc e)
-answered-is logged (line ∷ more) rest e = at (answered-is logged more rest) (is_of_place logged line) refl (has_values logged line) refl
+after_match-is : (logged : Line) (right rest : List Line) → after_match logged right ≡ Some rest → IsMatched logged right rest
+after_match-is logged [] rest e = absurd (cc e)
+after_match-is logged (line ∷ more) rest e = at (after_match-is logged more rest) (is_of_place logged line) refl (has_values logged line) refl
   where
-    at : (answered logged more ≡ Some rest → IsAnswered logged more rest) → (p : Bool) → is_of_place logged line ≡ p → (v : Bool)
-        → has_values logged line ≡ v → IsAnswered logged (line ∷ more) rest
+    at : (after_match logged more ≡ Some rest → IsMatched logged more rest) → (p : Bool) → is_of_place logged line ≡ p → (v : Bool)
+        → has_values logged line ≡ v → IsMatched logged (line ∷ more) rest
     at here true place true values =
-        let whole : answered logged (line ∷ more) ≡ Some more = rw (place, values) refl in
+        let whole : after_match logged (line ∷ more) ≡ Some more = rw (place, values) refl in
         let same : more ≡ rest = cc (whole, e) in
         record {
           passed = [];
-          answer = line;
+          found = line;
           right_are = ap (λ (lines : List Line). line ∷ lines) same;
           others = All-nil (λ (l : Line). is_of_place logged l ≡ false);
           place = place;
           values = values;
         }
     at here true place false values =
-        let none : answered logged (line ∷ more) ≡ None = rw (place, values) refl in
+        let none : after_match logged (line ∷ more) ≡ None = rw (place, values) refl in
         absurd (cc (none, e))
     at here false place v values =
-        let later : answered logged (line ∷ more) ≡ answered logged more = rw place refl in
+        let later : after_match logged (line ∷ more) ≡ after_match logged more = rw place refl in
         let i = here (sym later ∙ e) in
         record {
           passed = line ∷ i.passed;
-          answer = i.answer;
+          found = i.found;
           right_are = ap (λ (lines : List Line). line ∷ lines) i.right_are;
           others = All-cons (λ (l : Line). is_of_place logged l ≡ false) line i.passed place i.others;
           place = i.place;
           values = i.values;
         }
 
--- where a line isn't answered, the first line with its place has other values
-pub unanswered-differs : (logged : Line) (right : List Line) → answered logged right ≡ None
+-- where a line isn't matched, the first line with its place has other values
+pub unmatched-differs : (logged : Line) (right : List Line) → after_match logged right ≡ None
     → IfSome (find (is_of_place logged) right) (λ line. has_values logged line ≡ false)
-unanswered-differs logged [] e = tt
-unanswered-differs logged (line ∷ more) e = at (unanswered-differs logged more) (is_of_place logged line) refl (has_values logged line) refl
+unmatched-differs logged [] e = tt
+unmatched-differs logged (line ∷ more) e = at (unmatched-differs logged more) (is_of_place logged line) refl (has_values logged line) refl
   where
-    at : (answered logged more ≡ None → IfSome (find (is_of_place logged) more) (λ l. has_values logged l ≡ false)) → (p : Bool) → is_of_place logged line ≡ p → (v : Bool) → has_values logged line ≡ v
+    at : (after_match logged more ≡ None → IfSome (find (is_of_place logged) more) (λ l. has_values logged l ≡ false)) → (p : Bool) → is_of_place logged line ≡ p → (v : Bool) → has_values logged line ≡ v
         → IfSome (find (is_of_place logged) (line ∷ more)) (λ l. has_values logged l ≡ false)
     at here true place true values =
-        let whole : answered logged (line ∷ more) ≡ Some more = rw (place, values) refl in
+        let whole : after_match logged (line ∷ more) ≡ Some more = rw (place, values) refl in
         absurd (cc (whole, e))
     at here true place false values = rw place values
     at here false place v values =
-        let later : answered logged (line ∷ more) ≡ answered logged more = rw place refl in
+        let later : after_match logged (line ∷ more) ≡ after_match logged more = rw place refl in
         rw place (here (sym later ∙ e))
 
 abbrev left_of : Bool → Left → List Line
@@ -69,20 +69,20 @@ one-more : (role : Bool) (line : Line) (more : List Line) → is_of_responder li
 one-more true line more e = rw e refl
 one-more false line more e = rw e refl
 
-one-taken : (role : Bool) (line : Line) (more right rest left : List Line) → is_of_responder line ≡ role → answered line right ≡ Some rest
-    → AreAnswered (of_role role more) rest left → AreAnswered (of_role role (line ∷ more)) right left
+one-taken : (role : Bool) (line : Line) (more right rest left : List Line) → is_of_responder line ≡ role → after_match line right ≡ Some rest
+    → AreMatched (of_role role more) rest left → AreMatched (of_role role (line ∷ more)) right left
 one-taken role line more right rest left e is h =
-    subst (λ (lines : List Line). AreAnswered lines right left) (sym (one-more role line more e)) (rest, answered-is line right rest is, h)
+    subst (λ (lines : List Line). AreMatched lines right left) (sym (one-more role line more e)) (rest, after_match-is line right rest is, h)
 
 one-passed : (role : Bool) (line : Line) (more right left : List Line) → is_of_responder line ≡ not role
-    → AreAnswered (of_role role more) right left → AreAnswered (of_role role (line ∷ more)) right left
-one-passed role line more right left e h = subst (λ (lines : List Line). AreAnswered lines right left) (sym (one-other role line more e)) h
+    → AreMatched (of_role role more) right left → AreMatched (of_role role (line ∷ more)) right left
+one-passed role line more right left e h = subst (λ (lines : List Line). AreMatched lines right left) (sym (one-other role line more e)) h
 
 pub walked : (log : List Line) (from to : Left) → fold step (Some from) log ≡ Some to → (role : Bool)
-    → AreAnswered (of_role role log) (left_of role from) (left_of role to)
+    → AreMatched (of_role role log) (left_of role from) (left_of role to)
 walked [] from to e true = let same : to ≡ from = cc e in ap (left_of true) same
 walked [] from to e false = let same : to ≡ from = cc e in ap (left_of false) same
-walked (line ∷ more) from to e role = at (λ next. walked more next to) (is_of_responder line) refl (answered line from.responder) refl (answered line from.initiator) refl role
+walked (line ∷ more) from to e role = at (λ next. walked more next to) (is_of_responder line) refl (after_match line from.responder) refl (after_match line from.initiator) refl role
   where
     stops : left_after from line ≡ None → ⊥
     stops none =
@@ -92,10 +92,10 @@ walked (line ∷ more) from to e role = at (λ next. walked more next to) (is_of
     goes : (next : Left) → left_after from line ≡ Some next → fold step (Some next) more ≡ Some to
     goes next is = sym (ap (λ (s : Option Left). fold step s more) is) ∙ e
 
-    at : ((next : Left) → fold step (Some next) more ≡ Some to → (role : Bool) → AreAnswered (of_role role more) (left_of role next) (left_of role to))
-        → (b : Bool) → is_of_responder line ≡ b → (r : Option (List Line)) → answered line from.responder ≡ r
-        → (i : Option (List Line)) → answered line from.initiator ≡ i → (role : Bool)
-        → AreAnswered (of_role role (line ∷ more)) (left_of role from) (left_of role to)
+    at : ((next : Left) → fold step (Some next) more ≡ Some to → (role : Bool) → AreMatched (of_role role more) (left_of role next) (left_of role to))
+        → (b : Bool) → is_of_responder line ≡ b → (r : Option (List Line)) → after_match line from.responder ≡ r
+        → (i : Option (List Line)) → after_match line from.initiator ≡ i → (role : Bool)
+        → AreMatched (of_role role (line ∷ more)) (left_of role from) (left_of role to)
     at here true b None r i is role = absurd (stops (rw (b, r) refl))
     at here true b (Some rest) r i is true =
         one-taken true line more from.responder rest to.responder b r (here (both from.initiator rest) (goes (both from.initiator rest) (rw (b, r) refl)) true)
@@ -107,33 +107,33 @@ walked (line ∷ more) from to e role = at (λ next. walked more next to) (is_of
     at here false b r is (Some rest) i true =
         one-passed true line more from.responder to.responder b (here (both rest from.responder) (goes (both rest from.responder) (rw (b, i) refl)) true)
 
--- a log whose lines are all answered agrees
+-- a log whose lines are all matched agrees
 pub walked-agrees : (right log : List Line) (to : Left) → left_by right log ≡ Some to → Agrees right log
 walked-agrees right log to e true = (to.responder, walked log (both right right) to e true)
 walked-agrees right log to e false = (to.initiator, walked log (both right right) to e false)
 
 -- the right lines that are left for a line
 pub walked-left : (right log : List Line) (to : Left) (line : Line) → left_by right log ≡ Some to
-    → AreAnswered (of_role (is_of_responder line) log) right (left_for to line)
+    → AreMatched (of_role (is_of_responder line) log) right (left_for to line)
 walked-left right log to line e = at (is_of_responder line) refl
   where
-    at : (b : Bool) → is_of_responder line ≡ b → AreAnswered (of_role (is_of_responder line) log) right (left_for to line)
+    at : (b : Bool) → is_of_responder line ≡ b → AreMatched (of_role (is_of_responder line) log) right (left_for to line)
     at true b = rw b (walked log (both right right) to e true)
     at false b = rw b (walked log (both right right) to e false)
 
--- where a line isn't answered, the first that is left with its place has other values
+-- where a line isn't matched, the first that is left with its place has other values
 pub stopped-differs : (left : Left) (line : Line) → left_after left line ≡ None
     → IfSome (find (is_of_place line) (left_for left line)) (λ right. has_values line right ≡ false)
-stopped-differs left line e = at (is_of_responder line) refl (answered line left.responder) refl (answered line left.initiator) refl
+stopped-differs left line e = at (is_of_responder line) refl (after_match line left.responder) refl (after_match line left.initiator) refl
   where
-    at : (b : Bool) → is_of_responder line ≡ b → (r : Option (List Line)) → answered line left.responder ≡ r
-        → (i : Option (List Line)) → answered line left.initiator ≡ i
+    at : (b : Bool) → is_of_responder line ≡ b → (r : Option (List Line)) → after_match line left.responder ≡ r
+        → (i : Option (List Line)) → after_match line left.initiator ≡ i
         → IfSome (find (is_of_place line) (left_for left line)) (λ right. has_values line right ≡ false)
-    at true b None r i is = rw b (unanswered-differs line left.responder r)
+    at true b None r i is = rw b (unmatched-differs line left.responder r)
     at true b (Some rest) r i is =
         let more : left_after left line ≡ Some (both left.initiator rest) = rw (b, r) refl in
         absurd (cc (more, e))
-    at false b r is None i = rw b (unanswered-differs line left.initiator i)
+    at false b r is None i = rw b (unmatched-differs line left.initiator i)
     at false b r is (Some rest) i =
         let more : left_after left line ≡ Some (both rest left.responder) = rw (b, i) refl in
         absurd (cc (more, e))

@@ -17,6 +17,6 @@ IsReport right log Agrees text = AllAgree right log × (step_after right log ≡
     × (text ≡ agreement_text (length log))
 IsReport right log Ends text = AllAgree right log × (next : Line) × (step_after right log ≡ Some next)
     × (advice : List ℕ) × (text ≡ ending_text next advice)
-IsReport right log Differs text = (index : ℕ) × (answer : Option Line) × IsFirstDifference right log index answer
+IsReport right log Differs text = (index : ℕ) × (expected : Option Line) × IsFirstDifference right log index expected
     × (line : Line) × (line ≡ slice_index_or log index line) × (advice : List ℕ)
-    × (text ≡ difference_text line answer advice)
+    × (text ≡ difference_text line expected advice)

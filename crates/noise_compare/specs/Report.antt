@@ -31,15 +31,15 @@ values_text logged right = value_text (codes "bytes") 7 logged right
     ++ (value_text (codes "chaining-key") 9 logged right
     ++ (value_text (codes "key") 10 logged right ++ value_text (codes "nonce") 11 logged right)))
 
-abbrev pub answer_text : Line → Option Line → List ℕ
-answer_text logged None = []
-answer_text logged (Some right) = values_text logged right
+abbrev pub right_text : Line → Option Line → List ℕ
+right_text logged None = []
+right_text logged (Some right) = values_text logged right
 
 -- the line of the log, the values that differ, and a line of advice
 unfoldable pub difference_text : Line → Option Line → List ℕ → List ℕ
-difference_text logged answer advice =
+difference_text logged expected advice =
     ended (codes "differs at line " ++ (decimal logged.number ++ (codes ": " ++ place_text logged)))
-    ++ (answer_text logged answer ++ ended advice)
+    ++ (right_text logged expected ++ ended advice)
 
 unfoldable pub agreement_text : ℕ → List ℕ
 agreement_text count = codes "agrees in " ++ (decimal count ++ ended (codes " lines"))

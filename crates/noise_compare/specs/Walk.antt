@@ -1,9 +1,9 @@
 -- What a walk through a log leaves of the right lines.
 use Rattle.std.specs.Prelude.{ℕ, List, Option, Some, None, drop, fold, if◌then◌else◌, option_map}
-use Rattle.noise_compare.specs.Differences.{answered, is_of_responder}
+use Rattle.noise_compare.specs.Differences.{after_match, is_of_responder}
 use Rattle.noise_compare.specs.declared.line.Line.{Line}
 
--- the right lines of each role that are left to answer with
+-- the right lines of each role that are left to match with
 pub record Left : Type 0 where
   pub initiator : List Line
   pub responder : List Line
@@ -21,13 +21,13 @@ left_for left logged = if is_of_responder logged then left.responder else left.i
 
 abbrev pub left_after : Left → Line → Option Left
 left_after left logged = if is_of_responder logged
-    then option_map (λ more. both left.initiator more) (answered logged left.responder)
-    else option_map (λ more. both more left.responder) (answered logged left.initiator)
+    then option_map (λ more. both left.initiator more) (after_match logged left.responder)
+    else option_map (λ more. both more left.responder) (after_match logged left.initiator)
 
 abbrev pub step : Option Left → Line → Option Left
 step None logged = None
 step (Some left) logged = left_after left logged
 
--- what is left of the right lines after all lines of a log, or None where one isn't answered
+-- what is left of the right lines after all lines of a log, or None where one isn't matched
 abbrev pub left_by : List Line → List Line → Option Left
 left_by right log = fold step (Some (both right right)) log

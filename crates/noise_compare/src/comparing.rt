@@ -80,7 +80,7 @@ fn agreeing(alloc: Global, log: &[Line<'_>], right: &[Line<'_>]) -> Result<LogRe
     }
 }
 
-// The next right line of the handshake after the one that answers the last of a log.
+// The next right line of the handshake after the one that matches the last of a log.
 fn step_after<'a, 'b>(log: &[Line<'_>], right: &'a [Line<'b>]) -> Option<&'a Line<'b>>
     ensures { option_copied result ≡ step_after right.now log.now }
 {

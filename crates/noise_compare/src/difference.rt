@@ -1,13 +1,13 @@
 //! Where a log first parts from a key schedule.
 
 ghost use Rattle.std.specs.Prelude.{◌≡◌, ◌≤◌, Some, None, MatchOption, MatchResult, drop, find, length, option_copied};
-ghost use Rattle.noise_compare.specs.Differences.{Agrees, IsFirstDifference, answered, is_of_responder, is_step_of, next_step};
+ghost use Rattle.noise_compare.specs.Differences.{Agrees, IsFirstDifference, after_match, is_of_responder, is_step_of, next_step};
 ghost use Rattle.noise_compare.specs.Lines.{is_of_place};
 ghost use Rattle.noise_compare.specs.Walk.{left_after, left_for, left_from};
 
 use crate::line::Line;
 
-/// The first line of a log that isn't answered.
+/// The first line of a log that isn't matched.
 #[derive(Clone, Copy)]
 pub struct Difference<'a, 'b> {
     /// Its index in the log.
@@ -17,7 +17,7 @@ pub struct Difference<'a, 'b> {
     pub right: Option<&'a Line<'b>>,
 }
 
-/// The first line of a log that these right lines don't answer, or None where they agree. A line is answered by the
+/// The first line of a log that these right lines don't match, or None where they agree. A line is matched by the
 /// next right line of its role, part and name, if the bytes, the hash, the chaining key, the key and the nonce are
 /// the same, or `?` in the log. Right lines that the log lacks are passed over.
 pub fn first_difference<'a, 'b>(
@@ -41,7 +41,7 @@ pub fn first_difference<'a, 'b>(
 }
 
 // Where the right lines that are left of each role begin after a logged line, by where they began before it; or the
-// right line of its place, if there is one, where it isn't answered.
+// right line of its place, if there is one, where it isn't matched.
 fn after<'a, 'b>(
     right: &'a [Line<'b>],
     initiator: usize,
@@ -58,10 +58,10 @@ fn after<'a, 'b>(
         ≡ find (is_of_place logged.now) (left_for (left_from right.now initiator responder) logged.now))) }
 {
     if is_of_responder(logged) {
-        let next = answer(right, responder, logged)?;
+        let next = after_match(right, responder, logged)?;
         return Ok((initiator, next));
     }
-    let next = answer(right, initiator, logged)?;
+    let next = after_match(right, initiator, logged)?;
     Ok((next, responder))
 }
 
@@ -74,15 +74,15 @@ fn is_of_responder(logged: &Line<'_>) -> bool
 
 // From this place on, the place after the first line that has the place of a logged one, where that has its values too;
 // else that line, if there is one.
-fn answer<'a, 'b>(
+fn after_match<'a, 'b>(
     right: &'a [Line<'b>],
     from: usize,
     logged: &Line<'_>,
 ) -> Result<usize, Option<&'a Line<'b>>>
     requires { from ≤ length right.now }
     ensures { MatchResult result
-        (λ next. (next ≤ length right.now) × (answered logged.now (drop from right.now) ≡ Some (drop next right.now)))
-        (λ other. (answered logged.now (drop from right.now) ≡ None)
+        (λ next. (next ≤ length right.now) × (after_match logged.now (drop from right.now) ≡ Some (drop next right.now)))
+        (λ other. (after_match logged.now (drop from right.now) ≡ None)
         × (option_copied other ≡ find (is_of_place logged.now) (drop from right.now))) }
 {
     for place in from..right.len() {
@@ -97,11 +97,11 @@ fn answer<'a, 'b>(
     Err(None)
 }
 
-/// The next right line of the handshake, of the same role, after the one that answers this logged line.
+/// The next right line of the handshake, of the same role, after the one that matches this logged line.
 pub fn next_step<'a, 'b>(right: &'a [Line<'b>], logged: &Line<'_>) -> Option<&'a Line<'b>>
     ensures { option_copied result ≡ next_step right.now logged.now }
 {
-    match answer(right, 0, logged) {
+    match after_match(right, 0, logged) {
         Ok(next) => first_step(&right[next..], logged),
         Err(_) => None,
     }

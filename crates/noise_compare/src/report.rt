@@ -1,7 +1,7 @@
 //! What is printed of a log.
 
 ghost use Rattle.std.specs.Prelude.{◌≡◌, ◌++◌, ◌∷◌, [], IfOk, OnOk, codes, decimal, option_copied};
-ghost use Rattle.noise_compare.specs.Report.{agreement_text, answer_text, difference_text, ended, ending_text, is_number, part_text, place_text};
+ghost use Rattle.noise_compare.specs.Report.{agreement_text, right_text, difference_text, ended, ending_text, is_number, part_text, place_text};
 ghost use Rattle.noise_compare.specs.Report.{value_text, values_text};
 
 use crate::line::Line;
@@ -43,7 +43,7 @@ pub fn difference_text(
     let mut text = Vec::from_slice(alloc, front.as_bytes())?;
     push_place(logged, &mut text)?;
     text.push(b'\n')?;
-    push_answer(logged, right, &mut text)?;
+    push_right(logged, right, &mut text)?;
     push_line(advice, &mut text)?;
     Ok(text)
 }
@@ -86,12 +86,12 @@ fn is_number(part: &[u8]) -> bool
     }
 }
 
-fn push_answer(
+fn push_right(
     logged: &Line<'_>,
     right: Option<&Line<'_>>,
     text: &mut Vec<u8>,
 ) -> Result<(), AllocError>
-    ensures { OnOk result (text.new.items ≡ text.old.items ++ answer_text logged.now (option_copied right.entry)) }
+    ensures { OnOk result (text.new.items ≡ text.old.items ++ right_text logged.now (option_copied right.entry)) }
 {
     match right {
         Some(right) => push_values(logged, right, text),

@@ -133,25 +133,25 @@ module _ (one : (v : Party) (message : List ℕ) (xs ys : List (List ℕ)) (p q 
     → (xs ≡ ys) × (p ≡ q))
     (refused-one : (v : Party) (message : List ℕ) (k j : ℕ) (c d : Cause) → Refuses v message k c → Refuses v message j d → (k ≡ j) × (c ≡ d))
     (apart : (v : Party) (message : List ℕ) (xs : List (List ℕ)) (p : List ℕ) (k : ℕ) (c : Cause) → Accepts v message xs p → Refuses v message k c → ⊥) where
-  is-payload : (v : Party) (message payload : List ℕ) (answer : Result (List ℕ) ReadFault) → IsReadResult v message answer → answer ≡ Ok payload
+  is-payload : (v : Party) (message payload : List ℕ) (returned : Result (List ℕ) ReadFault) → IsReadResult v message returned → returned ≡ Ok payload
       → (xs : List (List ℕ)) × Accepts v message xs payload
   is-payload v message payload (Ok p) a e = (a.0, subst (λ (q : List ℕ). Accepts v message a.0 q) (ok-same p payload (Ok p) refl e) a.1)
   is-payload v message payload (Err f) a e = absurd (cc)
 
-  payload-is : (v : Party) (message payload : List ℕ) (answer : Result (List ℕ) ReadFault) → Listens v → IsReadResult v message answer
-      → (xs : List (List ℕ)) → Accepts v message xs payload → answer ≡ Ok payload
+  payload-is : (v : Party) (message payload : List ℕ) (returned : Result (List ℕ) ReadFault) → Listens v → IsReadResult v message returned
+      → (xs : List (List ℕ)) → Accepts v message xs payload → returned ≡ Ok payload
   payload-is v message payload (Ok p) l a xs b = ap Ok (one v message a.0 xs p payload a.1 b).1
   payload-is v message payload (Err f) l a xs b =
       let r = declined v message f l a in absurd (apart v message xs payload r.token r.cause b r.refuses)
 
-  is-refused : (v : Party) (message : List ℕ) (token : ℕ) (cause : Cause) (answer : Result (List ℕ) ReadFault) → IsReadResult v message answer
-      → answer ≡ Err (read.Refused token cause) → Refuses v message token cause
+  is-refused : (v : Party) (message : List ℕ) (token : ℕ) (cause : Cause) (returned : Result (List ℕ) ReadFault) → IsReadResult v message returned
+      → returned ≡ Err (read.Refused token cause) → Refuses v message token cause
   is-refused v message token cause (Ok p) a e = absurd (cc)
   is-refused v message token cause (Err f) a e =
       subst (λ (g : ReadFault). DoesNotRead v message g) (err-same f (read.Refused token cause) (Err f) refl e) a
 
-  refused-is : (v : Party) (message : List ℕ) (token : ℕ) (cause : Cause) (answer : Result (List ℕ) ReadFault) → Listens v → IsReadResult v message answer
-      → Refuses v message token cause → answer ≡ Err (read.Refused token cause)
+  refused-is : (v : Party) (message : List ℕ) (token : ℕ) (cause : Cause) (returned : Result (List ℕ) ReadFault) → Listens v → IsReadResult v message returned
+      → Refuses v message token cause → returned ≡ Err (read.Refused token cause)
   refused-is v message token cause (Ok p) l a b = absurd (apart v message a.0 p token cause a.1 b)
   refused-is v message token cause (Err f) l a b =
       let r = declined v message f l a in
@@ -159,7 +159,7 @@ module _ (one : (v : Party) (message : List ℕ) (xs ys : List (List ℕ)) (p q 
       ap Err (r.is ∙ ap (λ (k : ℕ). read.Refused k r.cause) same.0 ∙ ap (λ (c : Cause). read.Refused token c) same.1)
 
   pub read-exactly : ReadExactly
-  read-exactly v message answer l a = record {
-    payload = λ p. (is-payload v message p answer a, λ e. payload-is v message p answer l a e.0 e.1);
-    refused = λ k c. (is-refused v message k c answer a, refused-is v message k c answer l a);
+  read-exactly v message returned l a = record {
+    payload = λ p. (is-payload v message p returned a, λ e. payload-is v message p returned l a e.0 e.1);
+    refused = λ k c. (is-refused v message k c returned a, refused-is v message k c returned l a);
   }

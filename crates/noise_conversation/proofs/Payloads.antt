@@ -18,7 +18,7 @@ use Rattle.noise_session.specs.Ends.{EndState, ended_session, end_of}
 use Rattle.noise_session.specs.Taking.{Judges}
 use Rattle.noise_session.specs.Taking.Judges.{accepted, refused, opened, dropped, exhausted}
 use Rattle.noise_session.specs.Sending.{Sends, after_fault}
-use Rattle.noise_session.specs.Sending.Sends.{refuses, lacks_answer}
+use Rattle.noise_session.specs.Sending.Sends.{refuses, lacks_dh_result}
 use Rattle.noise_events.specs.Events.{Event}
 use Rattle.noise_duel.specs.Conversation.{sides_at_start}
 use Rattle.noise_duel.specs.Forgery.{contents}
@@ -211,7 +211,7 @@ module _ (plan : Plan) (role : Role) where
         go : (why : SendFault) (next : EndState) → Sends s.state payload (Err why) next
             → Took s (with_state s next) (payload ∷ []) (WriteFault why ∷ [])
         go why next (refuses _ _ _ e) = none why (after_fault s.state why) (after-unchanged (ends why))
-        go why next (lacks_answer _ _ token e lacks) = none (Agreement token) (ended_session s.state) (after-unchanged true)
+        go why next (lacks_dh_result _ _ token e lacks) = none (Agreement token) (ended_session s.state) (after-unchanged true)
     writes-took payload t note (writes_handshake _ message _ xs e w) =
         wrote-took (record { message = message; carried = xs; payload = payload }) (length s.frames) w.speaks.turn w.speaks.more
     writes-took payload t note (writes_transport _ message _ e due is) =

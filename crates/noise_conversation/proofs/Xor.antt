@@ -7,14 +7,14 @@ use Rattle.noise_names.specs.declared.token.Token.{Token}
 use Rattle.noise_names.specs.declared.token.Token.TheVariants.{E, S, Ee, Es, Se, Ss, Psk}
 use Rattle.noise_keys.specs.declared.keys.Own.{Own}
 use Rattle.noise_keys.specs.declared.keys.Own.TheVariants.{Ephemeral, Static}
-use Rattle.noise_keys.specs.Keys.{key_of, xor_answer}
+use Rattle.noise_keys.specs.Keys.{key_of, xor_dh_result}
 use Rattle.noise_handshake.specs.Counterparts.{is_dh}
 use Rattle.noise_handshake.specs.Setup.{public_keys}
 use Rattle.noise_handshake.specs.Party.{dh_result_of, own_at, remote_at}
-use Rattle.noise_conversation.specs.Setup.{XorKeysAnswer}
+use Rattle.noise_conversation.specs.Setup.{XorKeysHaveDhResults}
 
 gives : (e s : Option (List ℕ)) (x : Own) (l : Option (List ℕ)) → IsSome e → IsSome s → IsSome l
-    → is_some (dh_result_of (λ own remote. xor_answer (key_of own e s) remote) x l) ≡ true
+    → is_some (dh_result_of (λ own remote. xor_dh_result (key_of own e s) remote) x l) ≡ true
 gives None s x l he hs hl = absurd (cc)
 gives (Some e) None x l he hs hl = absurd (cc)
 gives (Some e) (Some s) x None he hs hl = absurd (cc)
@@ -35,8 +35,8 @@ there Responder e s Es d f g = f
 there Responder e s Se d f g = g
 there Responder e s Ss d f g = g
 
-pub xor-keys-answer : XorKeysAnswer
-xor-keys-answer p a b ae as-is be bs t d o = (
+pub xor-keys-have-dh-results : XorKeysHaveDhResults
+xor-keys-have-dh-results p a b ae as-is be bs t d o = (
   gives a.e a.s (own_at Initiator t) (remote_at Initiator (public_keys (λ own. key_of own b.e b.s)) t) ae as-is (there Initiator b.e b.s t d be bs),
   gives b.e b.s (own_at Responder t) (remote_at Responder (public_keys (λ own. key_of own a.e a.s)) t) be bs (there Responder a.e a.s t d ae as-is),
 )

@@ -41,15 +41,15 @@ ReportedExactly = (v next : EndState) (message : List ℕ) (reported : StepValue
 
 -- What reading returns: a payload that the party accepts, or why it doesn't accept the message.
 abbrev pub IsReadResult : Party → List ℕ → Result (List ℕ) ReadFault → Type 0
-IsReadResult v message answer =
-    MatchResult answer (λ payload. (xs : List (List ℕ)) × Accepts v message xs payload)
+IsReadResult v message returned =
+    MatchResult returned (λ payload. (xs : List (List ℕ)) × Accepts v message xs payload)
     (λ fault. DoesNotRead v message fault)
 
 -- What a party returns to which a message is due.
-pub record IsReadExactly (v : Party) (message : List ℕ) (answer : Result (List ℕ) ReadFault) : Type 0 where
-  pub payload : (payload : List ℕ) → answer ≡ Ok payload ↔ ((xs : List (List ℕ)) × Accepts v message xs payload)
-  pub refused : (token : ℕ) (cause : Cause) → answer ≡ Err (read.Refused token cause) ↔ Refuses v message token cause
+pub record IsReadExactly (v : Party) (message : List ℕ) (returned : Result (List ℕ) ReadFault) : Type 0 where
+  pub payload : (payload : List ℕ) → returned ≡ Ok payload ↔ ((xs : List (List ℕ)) × Accepts v message xs payload)
+  pub refused : (token : ℕ) (cause : Cause) → returned ≡ Err (read.Refused token cause) ↔ Refuses v message token cause
 
 abbrev pub ReadExactly : Type 0
-ReadExactly = (v : Party) (message : List ℕ) (answer : Result (List ℕ) ReadFault) → Listens v
-    → IsReadResult v message answer → IsReadExactly v message answer
+ReadExactly = (v : Party) (message : List ℕ) (returned : Result (List ℕ) ReadFault) → Listens v
+    → IsReadResult v message returned → IsReadExactly v message returned

@@ -10,7 +10,7 @@ use Rattle.noise_state.specs.History.{History, hash}
 use Rattle.noise_keys.specs.declared.faults.SetupFault.{SetupFault}
 use Rattle.noise_keys.specs.declared.keys.Own.{Own}
 use Rattle.noise_keys.specs.declared.xor_keys.XorKeys.{XorKeys}
-use Rattle.noise_keys.specs.Keys.{key_of, xor_answer}
+use Rattle.noise_keys.specs.Keys.{key_of, xor_dh_result}
 use Rattle.noise_handshake.specs.Counterparts.{is_dh, shown_before}
 use Rattle.noise_handshake.specs.Setup.{public_keys, setup_fault}
 use Rattle.noise_handshake.specs.Party.{dh_result_of, own_at, remote_at}
@@ -96,7 +96,7 @@ IsReportedFault found (Setup why) = found ≡ Some why
 IsReportedFault found Memory = ⊤
 
 -- Two parties with both key pairs each, whose DH is the xor of bytes, have a result at each DH of every pattern.
-abbrev pub XorKeysAnswer : Type 0
-XorKeysAnswer = (p : Plan) (a b : XorKeys) → IsSome a.e → IsSome a.s → IsSome b.e → IsSome b.s
+abbrev pub XorKeysHaveDhResults : Type 0
+XorKeysHaveDhResults = (p : Plan) (a b : XorKeys) → IsSome a.e → IsSome a.s → IsSome b.e → IsSome b.s
     → HaveDhResults (λ keys own. key_of own keys.e keys.s)
-    (λ keys own remote. xor_answer (key_of own keys.e keys.s) remote) p a b
+    (λ keys own remote. xor_dh_result (key_of own keys.e keys.s) remote) p a b

@@ -16,28 +16,28 @@ use Rattle.noise_session.specs.Taking.{Takes}
 module _ {K : Type 0} (public_of : K → Own → Option (List ℕ)) (agreement : K → Own → List ℕ → Option (List ℕ)) where
   -- The end takes so many of the bytes, once, and matches the state after them; the result is whether the step is
   -- this payload.
-  pub record IsTakenAs (v : EndState) (bytes payload : List ℕ) (end : EndValue K) (answer : Bool) : Type 0 where
+  pub record IsTakenAs (v : EndState) (bytes payload : List ℕ) (end : EndValue K) (returned : Bool) : Type 0 where
     pub taken : ℕ
     pub step : StepValue
     pub next : EndState
     pub takes : Takes v bytes taken step next
     pub matches : EndMatches public_of agreement end next
-    pub is : answer ≡ true ↔ step ≡ Payload payload
+    pub is : returned ≡ true ↔ step ≡ Payload payload
 
   -- Where the end listens, and the bytes end the frame of a message of at most 65535 bytes, the result is whether the
   -- message is one of this payload there.
   abbrev pub ComesExactly : EndValue K → List ℕ → List ℕ → Bool → Type 0
-  ComesExactly end bytes payload answer = (v : EndState) (message : List ℕ) → EndMatches public_of agreement end v
+  ComesExactly end bytes payload returned = (v : EndState) (message : List ℕ) → EndMatches public_of agreement end v
       → idle_step (progress_of v) ≡ None → v.partial ++ bytes ≡ frame message → length message ≤ 65535
-      → (answer ≡ true ↔ Encodes v message payload)
+      → (returned ≡ true ↔ Encodes v message payload)
 
   -- The handshake accepts the message, or declines it, and matches the state after that; the result is whether it
   -- gives this payload.
   pub record IsReadAs (v : Party) (message payload : List ℕ) (handshake : HandshakeValue K)
-      (answer : Bool) : Type 0 where
+      (returned : Bool) : Type 0 where
     pub read : Result (List ℕ) ReadFault
     pub reads : MatchResult read
         (λ given. (xs : List (List ℕ)) × Accepts v message xs given
         × Matches public_of agreement handshake (after_message v xs given))
         (λ fault. DoesNotRead v message fault × Matches public_of agreement handshake (after_not_read v fault))
-    pub is : answer ≡ true ↔ read ≡ Ok payload
+    pub is : returned ≡ true ↔ read ≡ Ok payload

@@ -33,7 +33,7 @@ pub fn converse<K: Agreeing>(
 ) -> Result<(Duel<K, K>, Report), ConversationFault>
     requires prologue { length prologue.now ≤ 65535 }
     requires lines { lines_fit_from pattern 0 (roles_and_payloads lines.now) ≡ true }
-    requires answers { HaveDhResults K.public_of K.agreement pattern initiator responder }
+    requires dh_results { HaveDhResults K.public_of K.agreement pattern initiator responder }
     ensures { Converses K.public_of K.agreement pattern
         (starts K.public_of K.agreement pattern prologue.now psks.now initiator responder)
         interval (roles_and_payloads lines.now) result }

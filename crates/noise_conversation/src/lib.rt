@@ -1,10 +1,10 @@
 //! A whole conversation between two ends of equal setup: the handshake and what follows, in one call.
 #![tactic(auto)]
 
-mod answers;
 mod clash;
 mod conversation;
 mod datagrams;
+mod dh_results;
 mod ends;
 mod entries;
 mod fault;
@@ -15,10 +15,10 @@ mod prologues;
 mod reading;
 mod taking;
 
-pub use answers::xor_keys_answer;
 pub use clash::{HashClash, find_clash, find_mix_hash_clash};
 pub use conversation::converse;
 pub use datagrams::{datagram_entries_agree, run_datagrams};
+pub use dh_results::xor_keys_have_dh_results;
 pub use entries::{entries_agree, keys_meet, payloads_reported};
 pub use fault::ConversationFault;
 pub use fitting::{fitting_lines_take_turns, lines_fit};

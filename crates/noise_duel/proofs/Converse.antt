@@ -15,7 +15,7 @@ use Rattle.noise_handshake.specs.Party.{Party, psks_after, tokens_at, with_preme
 use Rattle.noise_handshake.specs.Matching.{after_own, after_message}
 use Rattle.noise_handshake.specs.Setup.{public_keys}
 use Rattle.noise_duel.specs.Below.{LawsBelow}
-use Rattle.noise_duel.specs.Messages.{HandshakeMessage, Exchanged, begun_as, answers, answers_from, messages_of}
+use Rattle.noise_duel.specs.Messages.{HandshakeMessage, Exchanged, begun_as, dh_results, dh_results_from, messages_of}
 use Rattle.noise_duel.specs.Messages.Exchanged.{none, wrote, took}
 use Rattle.noise_duel.specs.Agreement.{VisiblyEqualIsOne}
 use Rattle.noise_duel.proofs.HashedMessages.{after_all, AreLines, passes-lines}
@@ -36,8 +36,8 @@ passes-carry laws v w (p ∷ ps) (took _ _ _ _ here more) =
 
 token-equal : (r : History) (psks : List (List ℕ)) (t : Token) (ts : List Token) (x y p q : List ℕ) (xs ys others rest : List (List ℕ)) → Carries t x
     → Carries t y
-    → PskAt psks t x → PskAt psks t y → answers (t ∷ ts) (x ∷ xs) ++ others ≡ answers (t ∷ ts) (y ∷ ys) ++ rest
-    → token_bytes r t x ++ p ≡ token_bytes r t y ++ q → (x ≡ y) × (p ≡ q) × (answers ts xs ++ others ≡ answers ts ys ++ rest)
+    → PskAt psks t x → PskAt psks t y → dh_results (t ∷ ts) (x ∷ xs) ++ others ≡ dh_results (t ∷ ts) (y ∷ ys) ++ rest
+    → token_bytes r t x ++ p ≡ token_bytes r t y ++ q → (x ≡ y) × (p ≡ q) × (dh_results ts xs ++ others ≡ dh_results ts ys ++ rest)
 token-equal r psks E ts x y p q xs ys others rest c d f g h e = let z = split-apart x y p q (c ∙ sym d) e in (z.0, z.1, h)
 token-equal r psks S ts x y p q xs ys others rest c d f g h e =
     let n : length (ciphertext r x) ≡ length (ciphertext r y) =
@@ -52,7 +52,7 @@ token-equal r psks Ss ts x y p q xs ys others rest c d f g h e = (heads x y _ _ 
 
 front-equal : (has_psks : Bool) (r : History) (psks : List (List ℕ)) (ts : List Token) (xs ys : List (List ℕ)) (p q : List ℕ) (others rest : List (List ℕ))
     → Carry ts xs → Carry ts ys
-    → PsksFit psks ts xs → PsksFit psks ts ys → answers ts xs ++ others ≡ answers ts ys ++ rest
+    → PsksFit psks ts xs → PsksFit psks ts ys → dh_results ts xs ++ others ≡ dh_results ts ys ++ rest
     → before_payload has_psks r ts xs ++ p ≡ before_payload has_psks r ts ys ++ q → (xs ≡ ys) × (p ≡ q) × (others ≡ rest)
 front-equal has_psks r psks [] [] [] p q others rest c d f g h e = (refl, e, h)
 front-equal has_psks r psks [] [] (y ∷ ys) p q others rest c d f g h e = absurd d
@@ -70,7 +70,7 @@ front-equal has_psks r psks (t ∷ ts) (x ∷ xs) (y ∷ ys) p q others rest c d
 
 all-equal : (p : Plan) (n : ℕ) (r : History) (psks : List (List ℕ)) (ps qs : List HandshakeMessage) → messages_of ps ≡ messages_of qs → AllCarry p n ps
     → AllCarry p n qs
-    → AreLines p n r ps → AreLines p n r qs → UsePsks p n psks ps → UsePsks p n psks qs → answers_from p n ps ≡ answers_from p n qs → ps ≡ qs
+    → AreLines p n r ps → AreLines p n r qs → UsePsks p n psks ps → UsePsks p n psks qs → dh_results_from p n ps ≡ dh_results_from p n qs → ps ≡ qs
 all-equal p n r psks [] [] a k l b c f g h = refl
 all-equal p n r psks [] (q ∷ qs) a k l b c f g h = cc
 all-equal p n r psks (m ∷ ms) [] a k l b c f g h = cc
@@ -79,7 +79,7 @@ all-equal p n r psks (m ∷ ms) (q ∷ qs) a k l b c f g h =
     let bytes : m.message ≡ q.message = heads m.message q.message (messages_of ms) (messages_of qs) a in
     let here = front-equal (has_psk p) r psks ts m.carried q.carried (ciphertext (after_tokens (has_psk p) r ts m.carried) m.payload)
     (ciphertext (after_tokens (has_psk p) r ts q.carried) q.payload)
-    (answers_from p (n + 1) ms) (answers_from p (n + 1) qs) k.0 l.0 f.0 g.0 h (sym b.0.1 ∙ bytes ∙ c.0.1) in
+    (dh_results_from p (n + 1) ms) (dh_results_from p (n + 1) qs) k.0 l.0 f.0 g.0 h (sym b.0.1 ∙ bytes ∙ c.0.1) in
     let payload : m.payload ≡ q.payload =
     ciphertext-same (after_tokens (has_psk p) r ts m.carried) m.payload q.payload
     (here.1 ∙ ap (λ (zs : List (List ℕ)). ciphertext (after_tokens (has_psk p) r ts zs) q.payload) (sym here.0)) in
@@ -92,7 +92,7 @@ all-equal p n r psks (m ∷ ms) (q ∷ qs) a k l b c f g h =
     (subst (λ (s : History). AreLines p (n + 1) s qs) (sym after) c.1) f.1 g.1 here.2)
 
 pub visibly-equal-is-one : LawsBelow → VisiblyEqualIsOne
-visibly-equal-is-one laws p a b ps qs v w left right prologue before messages psks answered =
+visibly-equal-is-one laws p a b ps qs v w left right prologue before messages psks computed =
     let name : List ℕ = name_bytes (record { base = p.base; places = p.places }) in
     let r0 : History = (begun_as p Initiator a).history in
     let s0 : History = (begun_as p Responder b).history in
@@ -109,5 +109,5 @@ visibly-equal-is-one laws p a b ps qs v w left right prologue before messages ps
     (passes-carry laws (begun_as p Initiator a) v ps left) (passes-carry laws (begun_as p Responder b) w qs right) l.lines
     (subst (λ (z : History). AreLines p 0 z qs) (sym first) m.lines)
     (passes-psks (begun_as p Initiator a) v ps left)
-    (subst (λ (z : List (List ℕ)). UsePsks p 0 z qs) (sym psks) (passes-psks (begun_as p Responder b) w qs right)) answered in
+    (subst (λ (z : List (List ℕ)). UsePsks p 0 z qs) (sym psks) (passes-psks (begun_as p Responder b) w qs right)) computed in
     (one, l.history ∙ ap (λ (z : History). after_all p 0 z ps) first ∙ ap (after_all p 0 s0) one ∙ sym m.history)

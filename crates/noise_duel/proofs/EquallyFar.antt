@@ -30,7 +30,7 @@ use Rattle.noise_events.specs.Events.{Say}
 use Rattle.noise_duel.specs.Notes.{Note, Wrote, Judged}
 use Rattle.noise_duel.specs.Runs.{Happens}
 use Rattle.noise_duel.specs.Conversation.{KeyMaterial, carried_by, transport_messages_of, frames_by}
-use Rattle.noise_duel.proofs.Parts.{HasMaterial, equipped, given-carried, true-answer}
+use Rattle.noise_duel.proofs.Parts.{HasMaterial, equipped, given-carried, true-dh-result}
 use Rattle.noise_duel.proofs.Lines.{say-happens}
 use Rattle.noise_duel.proofs.Steps.{HandshakeStep, step-handshake, TransportStep, step-transport, below-too, not-both}
 use Rattle.std.proofs.lemmas.Bool.{false_from_ne_true, and_left, and_right}
@@ -124,7 +124,7 @@ carried-is laws w v u role xs valid m is turn mine theirs given =
     given-carried laws w (has_psk p) role v.own u.own v.agree (is_among (other role) E (passed_places p v.passed))
     (is_among (other role) S (passed_places p v.passed)) v.psks (tokens_now v) xs (
       λ x h. mine.keys x (at (token_of x) (laws.sent_is_among p v.passed (token_of x) h)),
-      λ t h d. true-answer laws w p valid role v.own u.own v.agree u.agree mine theirs t d
+      λ t h d. true-dh-result laws w p valid role v.own u.own v.agree u.agree mine theirs t d
           (laws.among_occurs (turn_from Initiator v.passed) t (places_of p) (laws.sent_is_among p v.passed t h)),
     )
     here

@@ -17,7 +17,7 @@ use Rattle.noise_handshake.specs.Writing.{Writer, Given, Gives, writer}
 use Rattle.noise_handshake.specs.Matching.{after_own, after_message}
 use Rattle.noise_handshake.specs.Setup.{public_keys}
 use Rattle.noise_duel.specs.Collision.{hashed}
-use Rattle.noise_duel.specs.Messages.{HandshakeMessage, Exchanged, begun_as, answers, answers_from, pre_keys}
+use Rattle.noise_duel.specs.Messages.{HandshakeMessage, Exchanged, begun_as, dh_results, dh_results_from, pre_keys}
 use Rattle.noise_duel.specs.Messages.Exchanged.{none, wrote, took}
 use Rattle.noise_duel.specs.Agreement.{PsksReport}
 use Rattle.noise_duel.proofs.HashedTexts.{Alike, pre-back}
@@ -75,8 +75,8 @@ passes-psks v w (p ∷ ps) (took _ _ _ _ here more) =
 module _ (has_psks : Bool) where
   token-on : (r : History) (psks : List (List ℕ)) (t : Token) (ts : List Token) (x y : List ℕ) (xs ys others rest : List (List ℕ))
       → token_bytes r t x ≡ token_bytes r t y
-      → PskAt psks t x → PskAt psks t y → answers (t ∷ ts) (x ∷ xs) ++ others ≡ answers (t ∷ ts) (y ∷ ys) ++ rest
-      → (x ≡ y) × (answers ts xs ++ others ≡ answers ts ys ++ rest)
+      → PskAt psks t x → PskAt psks t y → dh_results (t ∷ ts) (x ∷ xs) ++ others ≡ dh_results (t ∷ ts) (y ∷ ys) ++ rest
+      → (x ≡ y) × (dh_results ts xs ++ others ≡ dh_results ts ys ++ rest)
   token-on r psks E ts x y xs ys others rest e f g h = (e, h)
   token-on r psks S ts x y xs ys others rest e f g h = (ciphertext-same r x y e, h)
   token-on r psks Psk ts x y xs ys others rest e f g h = (f ∙ sym g, h)
@@ -87,7 +87,7 @@ module _ (has_psks : Bool) where
 
   front-on : (r : History) (psks : List (List ℕ)) (ts : List Token) (xs ys others rest : List (List ℕ)) → Alike has_psks r r ts xs ys
       → PsksFit psks ts xs → PsksFit psks ts ys
-      → answers ts xs ++ others ≡ answers ts ys ++ rest → (xs ≡ ys) × (others ≡ rest)
+      → dh_results ts xs ++ others ≡ dh_results ts ys ++ rest → (xs ≡ ys) × (others ≡ rest)
   front-on r psks [] [] [] others rest a f g h = (refl, h)
   front-on r psks [] [] (y ∷ ys) others rest a f g h = absurd a
   front-on r psks [] (x ∷ xs) ys others rest a f g h = absurd a
@@ -107,13 +107,13 @@ message-same m q e f g =
 
 all-on : (p : Plan) (n : ℕ) (r : History) (psks : List (List ℕ)) (ps qs : List HandshakeMessage) → AllAlike p n r r ps qs → AreLines p n r ps
     → AreLines p n r qs
-    → UsePsks p n psks ps → UsePsks p n psks qs → answers_from p n ps ≡ answers_from p n qs → ps ≡ qs
+    → UsePsks p n psks ps → UsePsks p n psks qs → dh_results_from p n ps ≡ dh_results_from p n qs → ps ≡ qs
 all-on p n r psks [] [] a b c f g h = refl
 all-on p n r psks [] (q ∷ qs) a b c f g h = absurd a
 all-on p n r psks (m ∷ ms) [] a b c f g h = absurd a
 all-on p n r psks (m ∷ ms) (q ∷ qs) a b c f g h =
     let ts : List Token = tokens_at p.messages n in
-    let here = front-on (has_psk p) r psks ts m.carried q.carried (answers_from p (n + 1) ms) (answers_from p (n + 1) qs) a.0.0 f.0 g.0 h in
+    let here = front-on (has_psk p) r psks ts m.carried q.carried (dh_results_from p (n + 1) ms) (dh_results_from p (n + 1) qs) a.0.0 f.0 g.0 h in
     let payload : m.payload ≡ q.payload =
     ciphertext-same (after_tokens (has_psk p) r ts m.carried) m.payload q.payload
     (a.0.1 ∙ ap (λ (zs : List (List ℕ)). ciphertext (after_tokens (has_psk p) r ts zs) q.payload) (sym here.0)) in
@@ -160,7 +160,7 @@ starts-same name p a b i j k l e =
     (pre-same (has_psk p) i k (pre_of Initiator p) r s first here.1) later.1
 
 pub psks-report : PsksReport
-psks-report p a b ps qs v w left right count e psks answered =
+psks-report p a b ps qs v w left right count e psks computed =
     elim (bytes-or p a b ps qs v w left right count e) [ inl h ↦ inl (whole h) | inr c ↦ inr c ]
   where
     whole : SameBytes p a b ps qs v w left right count → (ps ≡ qs) × (v.history ≡ w.history)
@@ -175,5 +175,5 @@ psks-report p a b ps qs v w left right count e psks answered =
         (subst (λ (s : History). AllAlike p 0 r0 s ps qs) (sym first) h.lines) l.lines
         (subst (λ (s : History). AreLines p 0 s qs) (sym first) m.lines)
         (passes-psks (begun_as p Initiator a) v ps left)
-        (subst (λ (z : List (List ℕ)). UsePsks p 0 z qs) (sym psks) (passes-psks (begun_as p Responder b) w qs right)) answered in
+        (subst (λ (z : List (List ℕ)). UsePsks p 0 z qs) (sym psks) (passes-psks (begun_as p Responder b) w qs right)) computed in
         (one, l.history ∙ ap (λ (s : History). after_all p 0 s ps) first ∙ ap (after_all p 0 s0) one ∙ sym m.history)

@@ -20,7 +20,7 @@ use Rattle.noise_session.specs.Ends.{EndState, progress_of, ended_session, end_o
 use Rattle.noise_session.specs.Taking.{Judges}
 use Rattle.noise_session.specs.Taking.Judges.{accepted, refused, opened, dropped, exhausted}
 use Rattle.noise_session.specs.Sending.{Sends, after_fault}
-use Rattle.noise_session.specs.Sending.Sends.{refuses, lacks_answer}
+use Rattle.noise_session.specs.Sending.Sends.{refuses, lacks_dh_result}
 use Rattle.noise_duel.specs.Messages.{HandshakeMessage, Exchanged, begun_as}
 use Rattle.noise_duel.specs.Messages.Exchanged.{none, wrote, took}
 use Rattle.noise_duel.specs.Sides.{TransportMessage, Side, Sides, new_side, with_state}
@@ -137,7 +137,7 @@ module _ (first : Party) (interval : ℕ) where
     where
       go : (why : SendFault) (next : EndState) → Sends s.state payload (Err why) next → ComesOfMessages first interval (with_state s next)
       go why next (refuses _ _ _ e) = refusal-seen s why h
-      go why next (lacks_answer _ _ k e lacks) = seen s (ended_session s.state) h refl refl refl refl
+      go why next (lacks_dh_result _ _ k e lacks) = seen s (ended_session s.state) h refl refl refl refl
   writes-matches s t payload note h (writes_handshake _ message _ xs e w) =
       let p : HandshakeMessage = record { message = message; carried = xs; payload = payload } in
       let same : s.state.party ≡ h.last = unended s.state.party h.last h.party w.speaks.going in

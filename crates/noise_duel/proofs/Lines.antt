@@ -4,7 +4,7 @@ use Rattle.std.specs.Prelude.{false, Err, IsTrue, Option}
 use Rattle.noise_names.specs.declared.token.Role.{Role}
 use Rattle.noise_names.specs.Tokens.{other}
 use Rattle.noise_handshake.specs.Party.{Accepts}
-use Rattle.noise_handshake.specs.Writing.{Writes, LacksAnswer}
+use Rattle.noise_handshake.specs.Writing.{Writes, LacksDhResult}
 use Rattle.noise_duel.specs.Below.{LawsBelow}
 use Rattle.noise_session.specs.declared.faults.SendFault.{SendFault}
 use Rattle.noise_session.specs.Frames.{frame, IsPartial}
@@ -16,7 +16,7 @@ use Rattle.noise_session.specs.Ends.{EndState, progress_of}
 use Rattle.noise_session.specs.Taking.{Judges}
 use Rattle.noise_session.specs.Taking.Judges.{accepted, refused, opened, dropped, exhausted}
 use Rattle.noise_session.specs.Sending.{Sends}
-use Rattle.noise_session.specs.Sending.Sends.{refuses, lacks_answer}
+use Rattle.noise_session.specs.Sending.Sends.{refuses, lacks_dh_result}
 use Rattle.noise_session.specs.Framing.{frame-whole, frame-same}
 use Rattle.noise_duel.specs.Sides.{Side, Sides, side, with_side, with_state, wrote_handshake, accepted_handshake, wrote_transport, accepted_transport}
 use Rattle.noise_events.specs.Events.{Say}
@@ -33,13 +33,13 @@ use Rattle.noise_names.specs.Lists.{get-last}
 -- ---- writing
 
 -- nothing keeps the end from writing
-sends-no-fault : (v next : EndState) (payload : List ℕ) (why : SendFault) → refusal (progress_of v) (length payload) ≡ None → ((k : ℕ) → LacksAnswer v.party k → ⊥)
+sends-no-fault : (v next : EndState) (payload : List ℕ) (why : SendFault) → refusal (progress_of v) (length payload) ≡ None → ((k : ℕ) → LacksDhResult v.party k → ⊥)
     → Sends v payload (Err why) next → ⊥
 sends-no-fault v next payload why e lacks (refuses _ _ _ f) = cc
-sends-no-fault v next payload why e lacks (lacks_answer _ _ k f l) = lacks k l
+sends-no-fault v next payload why e lacks (lacks_dh_result _ _ k f l) = lacks k l
 
 pub writes-no-fault : (s next : Side) (payload : List ℕ) (why : SendFault) → refusal (progress_of s.state) (length payload) ≡ None
-    → ((k : ℕ) → LacksAnswer s.state.party k → ⊥)
+    → ((k : ℕ) → LacksDhResult s.state.party k → ⊥)
     → SideWrites s payload (WriteFault why) next → ⊥
 writes-no-fault s next payload why e lacks (writes_nothing _ _ _ after sends) = sends-no-fault s.state after payload why e lacks sends
 

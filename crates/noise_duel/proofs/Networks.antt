@@ -99,7 +99,7 @@ module _ (laws : LawsBelow) (p : Plan) (a b : Start) (i j : ℕ) (events : List 
 
   pub makes-one : SharePsks p a b d → HaveOneHistory d ⊎ HistoriesCollide d
   makes-one (inl s) = ones
-      (psks-report p a b d.initiator.passed d.responder.passed left.last right.last left.passes right.passes same-count same-hash s.psks s.answers)
+      (psks-report p a b d.initiator.passed d.responder.passed left.last right.last left.passes right.passes same-count same-hash s.psks s.dh_results)
   makes-one (inr s) = ones
       (keys-report laws p a b d.initiator.passed d.responder.passed left.last right.last s.initiator s.responder left.passes right.passes same-count same-hash
       s.psks s.keys)
@@ -144,5 +144,5 @@ visibly-equal-gives-one laws p a b i j events notes d run prologue before messag
     let l = stand.0 in
     let r = stand.1 in
     let one = visibly-equal-is-one laws p a b d.initiator.passed d.responder.passed l.last r.last l.passes r.passes prologue before messages used.psks
-    used.answers in
+    used.dh_results in
     record { passed = one.0; history = ap (λ (v : Party). v.history) l.party ∙ one.1 ∙ sym (ap (λ (v : Party). v.history) r.party) }

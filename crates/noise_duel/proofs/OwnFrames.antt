@@ -13,7 +13,7 @@ use Rattle.noise_session.specs.Ends.{EndState, ended_session}
 use Rattle.noise_session.specs.Taking.{Judges}
 use Rattle.noise_session.specs.Taking.Judges.{accepted, refused, opened, dropped, exhausted}
 use Rattle.noise_session.specs.Sending.{Sends, after_fault}
-use Rattle.noise_session.specs.Sending.Sends.{refuses, lacks_answer}
+use Rattle.noise_session.specs.Sending.Sends.{refuses, lacks_dh_result}
 use Rattle.noise_duel.specs.Messages.{HandshakeMessage}
 use Rattle.noise_duel.specs.Sides.{TransportMessage, Side, Sides, with_state, wrote_handshake, accepted_handshake, wrote_transport}
 use Rattle.noise_events.specs.Events.{Event}
@@ -119,7 +119,7 @@ module _ (s : Side) (k : Unchanged s) where
 
       go : (why : SendFault) (next : EndState) → Sends s.state payload (Err why) next → Unchanged (with_state s next)
       go why next (refuses _ _ _ e) = refusal-unchanged why
-      go why next (lacks_answer _ _ token e lacks) = record { own = k.own; count = k.count; unsent = k.unsent }
+      go why next (lacks_dh_result _ _ token e lacks) = record { own = k.own; count = k.count; unsent = k.unsent }
   writes-unchanged payload t note (writes_handshake _ message _ xs e w) =
       wrote-unchanged (record { message = message; carried = xs; payload = payload }) w.speaks.turn w.speaks.more
   writes-unchanged payload t note (writes_transport _ message _ e due is) = sent-unchanged (record { message = message; payload = payload }) (all-passed s.state due)

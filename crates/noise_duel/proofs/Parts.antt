@@ -13,7 +13,7 @@ use Rattle.noise_keys.specs.declared.keys.Own.TheVariants.{Ephemeral, Static}
 use Rattle.noise_handshake.specs.Party.{dh_result_of, own_at, remote_at, other_psks}
 use Rattle.noise_handshake.specs.Writing.{Writer, Given}
 use Rattle.noise_handshake.specs.Setup.{public_keys, has_token, token_of}
-use Rattle.noise_handshake.specs.Counterparts.{is_dh, keys_if, AnswersMeet, IsEquipped}
+use Rattle.noise_handshake.specs.Counterparts.{is_dh, keys_if, DhResultsAgree, IsEquipped}
 use Rattle.noise_duel.specs.Below.{LawsBelow}
 use Rattle.noise_duel.specs.Conversation.{KeyMaterial, carried_by, public_keys_in}
 use Rattle.std.proofs.lemmas.Bool.{or_right}
@@ -42,34 +42,34 @@ remote-own Responder theirs Psk = refl
 -- a role has the keys and DH results of the key material
 pub record HasMaterial (w : KeyMaterial) (p : Plan) (role : Role) (own : Own → Option (List ℕ)) (agree : Own → List ℕ → Option (List ℕ)) : Type 0 where
   pub keys : (x : Own) → is_among role (token_of x) (places_of p) ≡ true → own x ≡ Some (w.public role x)
-  pub answers : (t : Token) → is_dh t ≡ true → occurs t (places_of p) ≡ true
-      → dh_result_of agree (own_at role t) (remote_at role (public_keys_in w (other role)) t) ≡ Some (w.answer t)
+  pub dh_results : (t : Token) → is_dh t ≡ true → occurs t (places_of p) ≡ true
+      → dh_result_of agree (own_at role t) (remote_at role (public_keys_in w (other role)) t) ≡ Some (w.dh_result t)
 
 module _ (laws : LawsBelow) (w : KeyMaterial) (p : Plan) (valid : IsValid p) where
   -- with the other party's true keys
-  pub true-answer : (role : Role) (own theirs : Own → Option (List ℕ)) (agree their_agree : Own → List ℕ → Option (List ℕ)) → HasMaterial w p role own agree
+  pub true-dh-result : (role : Role) (own theirs : Own → Option (List ℕ)) (agree their_agree : Own → List ℕ → Option (List ℕ)) → HasMaterial w p role own agree
       → HasMaterial w p (other role) theirs their_agree
       → (t : Token) → is_dh t ≡ true → occurs t (places_of p) ≡ true
-      → dh_result_of agree (own_at role t) (remote_at role (public_keys theirs) t) ≡ Some (w.answer t)
-  true-answer role own theirs agree their_agree i j t d h =
+      → dh_result_of agree (own_at role t) (remote_at role (public_keys theirs) t) ≡ Some (w.dh_result t)
+  true-dh-result role own theirs agree their_agree i j t d h =
       ap (dh_result_of agree (own_at role t))
       (remote-own role theirs t ∙ j.keys (own_at (other role) t) (laws.dh_key_is_among p (other role) t valid d h)
       ∙ sym (remote-own role (λ x. Some (w.public (other role) x)) t))
-      ∙ i.answers t d h
+      ∙ i.dh_results t d h
 
   pub equipped : (role : Role) (own theirs : Own → Option (List ℕ)) (agree their_agree : Own → List ℕ → Option (List ℕ))
       → ((party : Role) (x : Own) → length (w.public party x) ≡ 32)
       → HasMaterial w p role own agree → HasMaterial w p (other role) theirs their_agree → IsEquipped p role own agree theirs
   equipped role own theirs agree their_agree long i j = record {
     keys = λ x h. (w.public role x, i.keys x h, long role x);
-    answers = λ t d h. (w.answer t, true-answer role own theirs agree their_agree i j t d h);
+    dh_results = λ t d h. (w.dh_result t, true-dh-result role own theirs agree their_agree i j t d h);
   }
 
-  pub answers-meet : (own theirs : Own → Option (List ℕ)) (agree their_agree : Own → List ℕ → Option (List ℕ)) → HasMaterial w p Initiator own agree
+  pub dh-results-agree : (own theirs : Own → Option (List ℕ)) (agree their_agree : Own → List ℕ → Option (List ℕ)) → HasMaterial w p Initiator own agree
       → HasMaterial w p Responder theirs their_agree
-      → AnswersMeet p Initiator own agree theirs their_agree
-  answers-meet own theirs agree their_agree i j t d h =
-      true-answer Initiator own theirs agree their_agree i j t d h ∙ sym (true-answer Responder theirs own their_agree agree j i t d h)
+      → DhResultsAgree p Initiator own agree theirs their_agree
+  dh-results-agree own theirs agree their_agree i j t d h =
+      true-dh-result Initiator own theirs agree their_agree i j t d h ∙ sym (true-dh-result Responder theirs own their_agree agree j i t d h)
 
 -- what a writer's tokens carry is that of the key material
 module _ (laws : LawsBelow) (w : KeyMaterial) (has_psks : Bool) (role : Role) (own theirs : Own → Option (List ℕ)) (agree : Own → List ℕ → Option (List ℕ))
@@ -79,7 +79,7 @@ module _ (laws : LawsBelow) (w : KeyMaterial) (has_psks : Bool) (role : Role) (o
 
   abbrev IsCarried : List Token → Type 0
   IsCarried ts = ((x : Own) → has_token (token_of x) ts ≡ true → own x ≡ Some (w.public role x))
-      × ((t : Token) → has_token t ts ≡ true → is_dh t ≡ true → dh_result_of agree (own_at role t) (remote_at role (public_keys theirs) t) ≡ Some (w.answer t))
+      × ((t : Token) → has_token t ts ≡ true → is_dh t ≡ true → dh_result_of agree (own_at role t) (remote_at role (public_keys theirs) t) ≡ Some (w.dh_result t))
 
   on : (t : Token) (ts : List Token) → IsCarried (t ∷ ts) → IsCarried ts
   on t ts h = (
@@ -88,9 +88,9 @@ module _ (laws : LawsBelow) (w : KeyMaterial) (has_psks : Bool) (role : Role) (o
   )
 
   dh-carried : (t : Token) (x : List ℕ) → dh_result_of agree (own_at role t) (remote_at role (keys_if e s theirs) t) ≡ Some x
-      → dh_result_of agree (own_at role t) (remote_at role (public_keys theirs) t) ≡ Some (w.answer t) → x ≡ w.answer t
-  dh-carried t x g h = some-same (dh_result_of agree (own_at role t) (remote_at role (public_keys theirs) t)) x (w.answer t)
-      (laws.answer agree (own_at role t) role e s theirs t x g) h
+      → dh_result_of agree (own_at role t) (remote_at role (public_keys theirs) t) ≡ Some (w.dh_result t) → x ≡ w.dh_result t
+  dh-carried t x g h = some-same (dh_result_of agree (own_at role t) (remote_at role (public_keys theirs) t)) x (w.dh_result t)
+      (laws.dh_result agree (own_at role t) role e s theirs t x g) h
 
   pub given-carried : (psks : List (List ℕ)) (ts : List Token) (xs : List (List ℕ)) → IsCarried ts → Given gives (keys_if e s theirs) psks ts xs
       → xs ≡ carried_by w role psks ts

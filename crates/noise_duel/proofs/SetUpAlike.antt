@@ -12,13 +12,13 @@ use Rattle.noise_keys.specs.declared.keys.Own.TheVariants.{Ephemeral, Static}
 use Rattle.noise_handshake.specs.declared.remote.Remote.{Remote}
 use Rattle.noise_handshake.specs.Party.{dh_result_of, own_at, remote_at}
 use Rattle.noise_handshake.specs.Setup.{has_before, public_keys, token_of}
-use Rattle.noise_handshake.specs.Counterparts.{is_dh, AnswersMeet}
+use Rattle.noise_handshake.specs.Counterparts.{is_dh, DhResultsAgree}
 use Rattle.noise_duel.specs.Below.{LawsBelow}
 use Rattle.noise_duel.proofs.Parts.{remote-own}
 use Rattle.noise_duel.specs.Messages.{Start}
 use Rattle.noise_duel.specs.Agreement.{IsSetUp}
 use Rattle.noise_duel.specs.Conversation.{KeyMaterial, IsPart, public_keys_in}
-use Rattle.noise_duel.specs.SetUpAlike.{AreSetUpAlike, HasLongKeys, HasAnswers, AlikeAreParts, material_of, absent_key, public_key_or_zeros}
+use Rattle.noise_duel.specs.SetUpAlike.{AreSetUpAlike, HasLongKeys, HasDhResults, AlikeAreParts, material_of, absent_key, public_key_or_zeros}
 
 there-is : (o : Option (List ℕ)) (d : List ℕ) → is_some o ≡ true → o ≡ Some (unwrap_or o d)
 there-is None d h = cc
@@ -37,13 +37,13 @@ set-own : LawsBelow → (p : Plan) (role : Role) (s : Start) → IsSetUp p role 
 set-own laws p role s h x k = laws.set_own p role s.own s.remote (length s.psks) h x k
 
 -- two DH results that are there are one
-answers-same : (agree their_agree : Own → List ℕ → Option (List ℕ)) (x y : Own) (mine theirs : Option (List ℕ))
+dh-results-same : (agree their_agree : Own → List ℕ → Option (List ℕ)) (x y : Own) (mine theirs : Option (List ℕ))
     → ((k l r s : List ℕ) → mine ≡ Some k → theirs ≡ Some l → agree x l ≡ Some r → their_agree y k ≡ Some s → r ≡ s)
     → is_some (dh_result_of agree x theirs) ≡ true → is_some (dh_result_of their_agree y mine) ≡ true → dh_result_of agree x theirs ≡ dh_result_of their_agree y mine
-answers-same agree their_agree x y None None f g h = cc
-answers-same agree their_agree x y None (Some l) f g h = cc
-answers-same agree their_agree x y (Some k) None f g h = cc
-answers-same agree their_agree x y (Some k) (Some l) f g h =
+dh-results-same agree their_agree x y None None f g h = cc
+dh-results-same agree their_agree x y None (Some l) f g h = cc
+dh-results-same agree their_agree x y (Some k) None f g h = cc
+dh-results-same agree their_agree x y (Some k) (Some l) f g h =
     let r = there-is (agree x l) [] g in
     let s = there-is (their_agree y k) [] h in
     r ∙ ap Some (f k l (unwrap_or (agree x l) []) (unwrap_or (their_agree y k) []) refl refl r s) ∙ sym s
@@ -52,9 +52,9 @@ abbrev true-key : (s : Start) → Own → List ℕ
 true-key s x = unwrap_or (s.own x) absent_key
 
 module _ (laws : LawsBelow) (p : Plan) (prologue : List ℕ) (a b : Start) (valid : IsValid p) (alike : AreSetUpAlike p prologue a b)
-    (answers : HasAnswers p a b) where
-  abbrev answer-at : Token → Option (List ℕ)
-  answer-at t = dh_result_of a.agree (own_at Initiator t) (remote_at Initiator (public_keys b.own) t)
+    (dh_results : HasDhResults p a b) where
+  abbrev dh-result-at : Token → Option (List ℕ)
+  dh-result-at t = dh_result_of a.agree (own_at Initiator t) (remote_at Initiator (public_keys b.own) t)
 
   abbrev material : KeyMaterial
   material = material_of a b
@@ -65,32 +65,32 @@ module _ (laws : LawsBelow) (p : Plan) (prologue : List ℕ) (a b : Start) (vali
   own-b : (x : Own) → is_among Responder (token_of x) (places_of p) ≡ true → b.own x ≡ Some (true-key b x)
   own-b x h = there-is (b.own x) absent_key (set-own laws p Responder b alike.responder x h)
 
-  meets : AnswersMeet p Initiator a.own a.agree b.own b.agree
+  meets : DhResultsAgree p Initiator a.own a.agree b.own b.agree
   meets t d h =
       let x : Own = own_at Initiator t in
       let y : Own = own_at Responder t in
       let e = remote-own Initiator b.own t in
       let f = remote-own Responder a.own t in
       ap (dh_result_of a.agree x) e
-      ∙ answers-same a.agree b.agree x y (a.own x) (b.own y) (alike.keys x y)
-      (sym (ap (λ o. is_some (dh_result_of a.agree x o)) e) ∙ (answers t d h).0) (sym (ap (λ o. is_some (dh_result_of b.agree y o)) f) ∙ (answers t d h).1)
+      ∙ dh-results-same a.agree b.agree x y (a.own x) (b.own y) (alike.keys x y)
+      (sym (ap (λ o. is_some (dh_result_of a.agree x o)) e) ∙ (dh_results t d h).0) (sym (ap (λ o. is_some (dh_result_of b.agree y o)) f) ∙ (dh_results t d h).1)
       ∙ ap (dh_result_of b.agree y) (sym f)
 
-  answers-a : (t : Token) → is_dh t ≡ true → occurs t (places_of p) ≡ true
-      → dh_result_of a.agree (own_at Initiator t) (remote_at Initiator (public_keys_in material Responder) t) ≡ Some (unwrap_or (answer-at t) [])
-  answers-a t d h =
+  dh-results-a : (t : Token) → is_dh t ≡ true → occurs t (places_of p) ≡ true
+      → dh_result_of a.agree (own_at Initiator t) (remote_at Initiator (public_keys_in material Responder) t) ≡ Some (unwrap_or (dh-result-at t) [])
+  dh-results-a t d h =
       ap (dh_result_of a.agree (own_at Initiator t))
       (remote-own Initiator (λ x. Some (true-key b x)) t ∙ sym (own-b (own_at Responder t) (laws.dh_key_is_among p Responder t valid d h))
       ∙ sym (remote-own Initiator b.own t))
-      ∙ there-is (answer-at t) [] (answers t d h).0
+      ∙ there-is (dh-result-at t) [] (dh_results t d h).0
 
-  answers-b : (t : Token) → is_dh t ≡ true → occurs t (places_of p) ≡ true
-      → dh_result_of b.agree (own_at Responder t) (remote_at Responder (public_keys_in material Initiator) t) ≡ Some (unwrap_or (answer-at t) [])
-  answers-b t d h =
+  dh-results-b : (t : Token) → is_dh t ≡ true → occurs t (places_of p) ≡ true
+      → dh_result_of b.agree (own_at Responder t) (remote_at Responder (public_keys_in material Initiator) t) ≡ Some (unwrap_or (dh-result-at t) [])
+  dh-results-b t d h =
       ap (dh_result_of b.agree (own_at Responder t))
       (remote-own Responder (λ x. Some (true-key a x)) t ∙ sym (own-a (own_at Initiator t) (laws.dh_key_is_among p Initiator t valid d h))
       ∙ sym (remote-own Responder a.own t))
-      ∙ sym (meets t d h) ∙ there-is (answer-at t) [] (answers t d h).0
+      ∙ sym (meets t d h) ∙ there-is (dh-result-at t) [] (dh_results t d h).0
 
   part-a : IsPart material p Initiator prologue a
   part-a = record {
@@ -100,7 +100,7 @@ module _ (laws : LawsBelow) (p : Plan) (prologue : List ℕ) (a b : Start) (vali
         ∙ if-same (has_before p Responder E) (b.own Ephemeral) (Some (true-key b Ephemeral)) (λ h. own-b Ephemeral (laws.before_is_among p Responder E h));
     remote_s = ap (λ (r : Remote). r.s) alike.known
         ∙ if-same (has_before p Responder S) (b.own Static) (Some (true-key b Static)) (λ h. own-b Static (laws.before_is_among p Responder S h));
-    answers = answers-a;
+    dh_results = dh-results-a;
     psks = refl;
   }
 
@@ -112,7 +112,7 @@ module _ (laws : LawsBelow) (p : Plan) (prologue : List ℕ) (a b : Start) (vali
         ∙ if-same (has_before p Initiator E) (a.own Ephemeral) (Some (true-key a Ephemeral)) (λ h. own-a Ephemeral (laws.before_is_among p Initiator E h));
     remote_s = ap (λ (r : Remote). r.s) alike.known_too
         ∙ if-same (has_before p Initiator S) (a.own Static) (Some (true-key a Static)) (λ h. own-a Static (laws.before_is_among p Initiator S h));
-    answers = answers-b;
+    dh_results = dh-results-b;
     psks = alike.psks;
   }
 
@@ -121,8 +121,8 @@ module _ (laws : LawsBelow) (p : Plan) (prologue : List ℕ) (a b : Start) (vali
   long-in f g Responder k = long-or (b.own k) (g k)
 
 pub alike-are-parts : LawsBelow → AlikeAreParts
-alike-are-parts laws p prologue a b valid alike f g answers = record {
-  long = long-in laws p prologue a b valid alike answers f g;
-  initiator = part-a laws p prologue a b valid alike answers;
-  responder = part-b laws p prologue a b valid alike answers;
+alike-are-parts laws p prologue a b valid alike f g dh_results = record {
+  long = long-in laws p prologue a b valid alike dh_results f g;
+  initiator = part-a laws p prologue a b valid alike dh_results;
+  responder = part-b laws p prologue a b valid alike dh_results;
 }

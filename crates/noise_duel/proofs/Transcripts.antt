@@ -31,7 +31,7 @@ use Rattle.noise_duel.specs.Runs.{Happens, Run}
 use Rattle.noise_duel.specs.Runs.Run.{ends, begins}
 use Rattle.noise_duel.specs.Conversation.{KeyMaterial, conversation, after_conversation, public_keys_in, start_in, IsPart, InTurn, notes_of_lines}
 use Rattle.noise_duel.specs.Conversation.{say_events, sides_at_start, in_turn, transport_messages_of, frames_by, payloads_in, LinesComeThrough, LinesRun}
-use Rattle.noise_duel.proofs.Parts.{HasMaterial, answers-meet}
+use Rattle.noise_duel.proofs.Parts.{HasMaterial, dh-results-agree}
 use Rattle.noise_duel.proofs.Lines.{say-can}
 use Rattle.noise_duel.proofs.EquallyFar.{EquallyFar, due_of, after_due, handshake_message, HandshakeLine, handshake-at, handshake-line, with_payload}
 use Rattle.noise_duel.proofs.EquallyFar.{TransportLine, transport-at, transport-line}
@@ -323,16 +323,16 @@ module _ (laws : LawsBelow) (w : KeyMaterial) (p : Plan) (prologue : List ℕ) (
       (λ h. sym (i.own Static (before-own Initiator Static h))))
 
   mine_in : HasMaterial w p Initiator a.own a.agree
-  mine_in = record { keys = i.own; answers = i.answers }
+  mine_in = record { keys = i.own; dh_results = i.dh_results }
 
   theirs_in : HasMaterial w p Responder b.own b.agree
-  theirs_in = record { keys = j.own; answers = j.answers }
+  theirs_in = record { keys = j.own; dh_results = j.dh_results }
 
   starts : IsValid p → Counterparts (begun_as p Initiator a) (begun_as p Responder b)
   starts valid =
       let first : Counterparts (begun_as p Initiator a) (party_at_start p Responder a.prologue b.own b.agree b.remote a.psks) =
       laws.starts p a.prologue a.psks a.own b.own a.agree b.agree a.remote b.remote remote_a remote_b
-      (answers-meet laws w p valid a.own b.own a.agree b.agree mine_in theirs_in) in
+      (dh-results-agree laws w p valid a.own b.own a.agree b.agree mine_in theirs_in) in
       subst (λ (z : List (List ℕ)). Counterparts (begun_as p Initiator a) (party_at_start p Responder b.prologue b.own b.agree b.remote z)) (i.psks ∙ sym j.psks)
       (subst (λ (z : List ℕ). Counterparts (begun_as p Initiator a) (party_at_start p Responder z b.own b.agree b.remote a.psks))
       (i.prologue_is ∙ sym j.prologue_is) first)

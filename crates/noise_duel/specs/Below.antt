@@ -17,10 +17,10 @@ use Rattle.noise_handshake.specs.Message.{after_payload}
 use Rattle.noise_handshake.specs.Length.{Carry}
 use Rattle.noise_handshake.specs.Passed.{passed_places}
 use Rattle.noise_handshake.specs.Party.{Party, Accepts, Refuses, Speaks, dh_result_of, own_at, remote_at, start, tokens_at, tokens_now}
-use Rattle.noise_handshake.specs.Writing.{Writes, LacksAnswer}
+use Rattle.noise_handshake.specs.Writing.{Writes, LacksDhResult}
 use Rattle.noise_handshake.specs.Matching.{IsKeyed, after_message, after_own}
 use Rattle.noise_handshake.specs.Setup.{party_at_start, has_before, has_token, public_keys, setup_fault, token_of}
-use Rattle.noise_handshake.specs.Counterparts.{Counterparts, AnswersMeet, IsEquipped, is_dh, keys_if, shown_after, shown_before}
+use Rattle.noise_handshake.specs.Counterparts.{Counterparts, DhResultsAgree, IsEquipped, is_dh, keys_if, shown_after, shown_before}
 use Rattle.noise_session.specs.declared.faults.SendFault.{SendFault}
 use Rattle.noise_session.specs.Ends.{EndState}
 use Rattle.noise_session.specs.Sending.{Sends}
@@ -36,7 +36,7 @@ pub record LawsBelow : Type 0 where
   pub written_once : (v : Party) (payload m n : List ℕ) (xs ys : List (List ℕ))
       → Writes v payload xs m → Writes v payload ys n → (xs ≡ ys) × (m ≡ n)
   pub not_lacking : (v : Party) (payload m : List ℕ) (xs : List (List ℕ)) (k : ℕ)
-      → Writes v payload xs m → LacksAnswer v k → ⊥
+      → Writes v payload xs m → LacksDhResult v k → ⊥
   pub sent_once : (v x y : EndState) (payload : List ℕ) (r s : Result (List ℕ) SendFault)
       → Sends v payload r x → Sends v payload s y → (r ≡ s) × (x ≡ y)
   -- where there is a key, and what a message carries
@@ -76,14 +76,14 @@ pub record LawsBelow : Type 0 where
       → Counterparts (after_own v xs payload) (after_message w xs payload)
   pub turned : (v w : Party) → Counterparts v w → Counterparts w v
   pub known : (v w : Party) → Counterparts v w → v.remote ≡ shown_after v.pattern (other v.role) v.passed w.own
-  pub answer : (agree : Own → List ℕ → Option (List ℕ)) (x : Own) (role : Role) (e s : Bool)
-      (theirs : Own → Option (List ℕ)) (t : Token) (answer : List ℕ)
-      → dh_result_of agree x (remote_at role (keys_if e s theirs) t) ≡ Some answer
-      → dh_result_of agree x (remote_at role (public_keys theirs) t) ≡ Some answer
+  pub dh_result : (agree : Own → List ℕ → Option (List ℕ)) (x : Own) (role : Role) (e s : Bool)
+      (theirs : Own → Option (List ℕ)) (t : Token) (dh_result : List ℕ)
+      → dh_result_of agree x (remote_at role (keys_if e s theirs) t) ≡ Some dh_result
+      → dh_result_of agree x (remote_at role (public_keys theirs) t) ≡ Some dh_result
   pub starts : (p : Plan) (prologue : List ℕ) (psks : List (List ℕ)) (own theirs : Own → Option (List ℕ))
       (agree their_agree : Own → List ℕ → Option (List ℕ)) (known their_known : Remote)
       → known ≡ shown_before p Responder theirs → their_known ≡ shown_before p Initiator own
-      → AnswersMeet p Initiator own agree theirs their_agree
+      → DhResultsAgree p Initiator own agree theirs their_agree
       → Counterparts (party_at_start p Initiator prologue own agree known psks)
       (party_at_start p Responder prologue theirs their_agree their_known psks)
   pub due : (v w : Party) (payload : List ℕ)

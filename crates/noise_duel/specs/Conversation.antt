@@ -34,7 +34,7 @@ use Rattle.noise_duel.specs.Runs.{Run}
 -- the public keys of both parties, one DH result for each DH token, and the psks of the psk tokens, in their order
 pub record KeyMaterial : Type 0 where
   pub public : Role → Own → List ℕ
-  pub answer : Token → List ℕ
+  pub dh_result : Token → List ℕ
   pub psks : List (List ℕ)
 
 -- what the tokens of a party's message carry (Noise 5.3, 9.2)
@@ -43,7 +43,7 @@ carried_by w party psks [] = []
 carried_by w party psks (E ∷ ts) = w.public party Ephemeral ∷ carried_by w party psks ts
 carried_by w party psks (S ∷ ts) = w.public party Static ∷ carried_by w party psks ts
 carried_by w party psks (Psk ∷ ts) = first_psk psks ∷ carried_by w party (other_psks psks) ts
-carried_by w party psks (t ∷ ts) = w.answer t ∷ carried_by w party psks ts
+carried_by w party psks (t ∷ ts) = w.dh_result t ∷ carried_by w party psks ts
 
 -- what message n carries, the history after it, and the psks for the messages after it
 abbrev pub carried_at : KeyMaterial → Plan → ℕ → List (List ℕ) → List (List ℕ)
@@ -90,8 +90,8 @@ pub record IsPart (w : KeyMaterial) (p : Plan) (role : Role) (prologue : List �
   pub own : (k : Own) → is_among role (token_of k) (places_of p) ≡ true → s.own k ≡ Some (w.public role k)
   pub remote_e : s.remote.e ≡ (if has_before p (other role) E then Some (w.public (other role) Ephemeral) else None)
   pub remote_s : s.remote.s ≡ (if has_before p (other role) S then Some (w.public (other role) Static) else None)
-  pub answers : (t : Token) → is_dh t ≡ true → occurs t (places_of p) ≡ true
-      → dh_result_of s.agree (own_at role t) (remote_at role (public_keys_in w (other role)) t) ≡ Some (w.answer t)
+  pub dh_results : (t : Token) → is_dh t ≡ true → occurs t (places_of p) ≡ true
+      → dh_result_of s.agree (own_at role t) (remote_at role (public_keys_in w (other role)) t) ≡ Some (w.dh_result t)
   pub psks : s.psks ≡ w.psks
 
 -- Lines, a role and a payload each, in turn and not too long, from message n on: the handshake messages, and then

@@ -5,7 +5,7 @@ use Rattle.noise_names.specs.declared.token.Role.TheVariants.{Initiator, Respond
 use Rattle.noise_names.specs.Plan.{Plan}
 use Rattle.noise_session.specs.Ends.{session_hash}
 use Rattle.noise_duel.specs.Collision.{Collision}
-use Rattle.noise_duel.specs.Messages.{Start, answers_from, HaveSameKeysBefore, messages_of}
+use Rattle.noise_duel.specs.Messages.{Start, dh_results_from, HaveSameKeysBefore, messages_of}
 use Rattle.noise_duel.specs.Sides.{Sides}
 use Rattle.noise_events.specs.Events.{Event}
 use Rattle.noise_duel.specs.Notes.{Note}
@@ -27,7 +27,7 @@ HistoriesCollide d = (i : ℕ) × Collision d.initiator.state.party.history d.re
 -- the psks are the same, and so is the DH result that each end used at each DH token
 pub record UsedSamePsks (p : Plan) (a b : Start) (d : Sides) : Type 0 where
   pub psks : a.psks ≡ b.psks
-  pub answers : answers_from p 0 d.initiator.passed ≡ answers_from p 0 d.responder.passed
+  pub dh_results : dh_results_from p 0 d.initiator.passed ≡ dh_results_from p 0 d.responder.passed
 
 -- the psks are the same, and the keys' DH results are alike; both handshakes were made without a fault
 pub record HaveSamePsks (p : Plan) (a b : Start) : Type 0 where

@@ -30,8 +30,8 @@ abbrev pub HasLongKeys : Start → Type 0
 HasLongKeys s = (x : Own) (k : List ℕ) → s.own x ≡ Some k → length k ≡ 32
 
 -- both parties have a DH result at each DH of the pattern
-abbrev pub HasAnswers : Plan → Start → Start → Type 0
-HasAnswers p a b = (t : Token) → is_dh t ≡ true → occurs t (places_of p) ≡ true
+abbrev pub HasDhResults : Plan → Start → Start → Type 0
+HasDhResults p a b = (t : Token) → is_dh t ≡ true → occurs t (places_of p) ≡ true
     → (is_some (dh_result_of a.agree (own_at Initiator t) (remote_at Initiator (public_keys b.own) t)) ≡ true)
     × (is_some (dh_result_of b.agree (own_at Responder t) (remote_at Responder (public_keys a.own) t)) ≡ true)
 
@@ -48,7 +48,7 @@ public_key_or_zeros a b Responder x = unwrap_or (b.own x) absent_key
 abbrev pub material_of : Start → Start → KeyMaterial
 material_of a b = record {
   public = public_key_or_zeros a b;
-  answer = λ t. unwrap_or (dh_result_of a.agree (own_at Initiator t) (remote_at Initiator (public_keys b.own) t)) [];
+  dh_result = λ t. unwrap_or (dh_result_of a.agree (own_at Initiator t) (remote_at Initiator (public_keys b.own) t)) [];
   psks = a.psks;
 }
 
@@ -61,4 +61,4 @@ pub record HaveOneMaterial (p : Plan) (prologue : List ℕ) (a b : Start) : Type
 -- Two parties of a valid pattern that are set up alike have their parts of one key material.
 abbrev pub AlikeAreParts : Type 0
 AlikeAreParts = (p : Plan) (prologue : List ℕ) (a b : Start) → IsValid p → AreSetUpAlike p prologue a b
-    → HasLongKeys a → HasLongKeys b → HasAnswers p a b → HaveOneMaterial p prologue a b
+    → HasLongKeys a → HasLongKeys b → HasDhResults p a b → HaveOneMaterial p prologue a b

@@ -14,8 +14,8 @@ use Rattle.noise_handshake.specs.declared.layout.PlacedToken.{PlacedToken}
 use Rattle.noise_handshake.specs.Length.{keyed_after}
 use Rattle.noise_handshake.specs.Message.{after_tokens}
 use Rattle.noise_handshake.specs.Party.{Reader, BeginsAs, CanBegin, cause_at, remote_after}
-use Rattle.noise_handshake.specs.Wanting.{LacksAnswerFor}
-use Rattle.noise_handshake.specs.Writing.{Writer, Given, LacksAnswerAt}
+use Rattle.noise_handshake.specs.Wanting.{LacksDhResultFor}
+use Rattle.noise_handshake.specs.Writing.{Writer, Given, LacksDhResultAt}
 use Rattle.noise_handshake.specs.inner.Known.{are_known, is_known, e_after, s_after}
 use Rattle.noise_handshake.specs.inner.Layout.{tokens_of, ArePlaced}
 use Rattle.noise_handshake.specs.inner.Listening.{StopsKnowing}
@@ -73,7 +73,7 @@ stops-all v known s r ts m k j cause here h (stop, knows) =
     )
 
 -- what the first tokens lack
-pub lacks-all : (w : Writer) (known : Remote) (s : List (List ℕ)) (ts : List Token) (k j : ℕ) → LacksAnswerAt w known s (take k ts) j → LacksAnswerAt w known s ts j
+pub lacks-all : (w : Writer) (known : Remote) (s : List (List ℕ)) (ts : List Token) (k j : ℕ) → LacksDhResultAt w known s (take k ts) j → LacksDhResultAt w known s ts j
 lacks-all w known s ts k j l =
     let less : j < k = omega (arith, l.within, length-take k ts) in
     record {
@@ -83,8 +83,8 @@ lacks-all w known s ts k j l =
       none = λ xs g. l.none xs (subst (λ (us : List Token). Given w known s us xs) (sym (take-take (suc j) k ts (omega (arith, less)))) g);
     }
 
-pub lacks-first : (w : Writer) (known : Remote) (s : List (List ℕ)) (ts : List Token) (k j : ℕ) → j < k → LacksAnswerAt w known s ts j
-    → LacksAnswerAt w known s (take k ts) j
+pub lacks-first : (w : Writer) (known : Remote) (s : List (List ℕ)) (ts : List Token) (k j : ℕ) → j < k → LacksDhResultAt w known s ts j
+    → LacksDhResultAt w known s (take k ts) j
 lacks-first w known s ts k j less l = record {
   within = omega (arith, less, l.within, length-take k ts);
   before = l.before;
@@ -93,7 +93,7 @@ lacks-first w known s ts k j less l = record {
 }
 
 pub lacks-for-all : (w : Writer) (known : Remote) (s : List (List ℕ)) (ts : List Token) (k : ℕ) (own : Own) (key : List ℕ)
-    → LacksAnswerFor w known s (take k ts) own key → LacksAnswerFor w known s ts own key
+    → LacksDhResultFor w known s (take k ts) own key → LacksDhResultFor w known s ts own key
 lacks-for-all w known s ts k own key l = record {
   before = l.before;
   token = l.token;

@@ -9,11 +9,11 @@ use Rattle.noise_handshake.specs.declared.remote.Remote.{Remote}
 use Rattle.noise_handshake.specs.Message.{token_bytes, after_token, before_payload, after_tokens, message_bytes}
 use Rattle.noise_handshake.specs.Length.{keyed_after, keyed_after_tokens, tag_width, token_width, tokens_width, added_width}
 use Rattle.noise_handshake.specs.Party.{Party, psks_after, tokens_now}
-use Rattle.noise_handshake.specs.Writing.{Writer, writer, Gives, Given, LacksAnswerAt, Writes, LacksAnswer}
+use Rattle.noise_handshake.specs.Writing.{Writer, writer, Gives, Given, LacksDhResultAt, Writes, LacksDhResult}
 
 -- one token more in front
 pub lacks-later : (w : Writer) (known : Remote) (psks : List (List ℕ)) (t : Token) (ts : List Token) (x : List ℕ) (k : ℕ)
-    → Gives w known psks t x → LacksAnswerAt w known (psks_after psks t) ts k → LacksAnswerAt w known psks (t ∷ ts) (suc k)
+    → Gives w known psks t x → LacksDhResultAt w known (psks_after psks t) ts k → LacksDhResultAt w known psks (t ∷ ts) (suc k)
 lacks-later w known psks t ts x k g l = record {
   within = omega (arith, l.within);
   before = x ∷ l.before;
@@ -54,10 +54,10 @@ module _ (w : Writer) (known : Remote) (psks others : List (List ℕ)) (r : Hist
       → matches state (after_tokens w.has_psks (after_token w.has_psks r t x) ts xs) → matches state (after_tokens w.has_psks r tokens (x ∷ xs))
   after-on matches state xs h = subst (λ (us : List Token). matches state (after_tokens w.has_psks r us (x ∷ xs))) (sym split) h
 
-  pub lacks-on : (k : ℕ) → LacksAnswerAt w known others ts k → LacksAnswerAt w known psks tokens (k + 1)
+  pub lacks-on : (k : ℕ) → LacksDhResultAt w known others ts k → LacksDhResultAt w known psks tokens (k + 1)
   lacks-on k l =
-      let later : LacksAnswerAt w known (psks_after psks t) ts k = subst (λ (z : List (List ℕ)). LacksAnswerAt w known z ts k) holds l in
-      rw add-one (subst (λ (us : List Token). LacksAnswerAt w known psks us (suc k)) (sym split) (lacks-later w known psks t ts x k gives later))
+      let later : LacksDhResultAt w known (psks_after psks t) ts k = subst (λ (z : List (List ℕ)). LacksDhResultAt w known z ts k) holds l in
+      rw add-one (subst (λ (us : List Token). LacksDhResultAt w known psks us (suc k)) (sym split) (lacks-later w known psks t ts x k gives later))
 
 -- ---- what a party gives is determined
 
@@ -90,8 +90,8 @@ given-front w known psks [] (x ∷ xs) (suc n) g = absurd g
 given-front w known psks (t ∷ ts) [] (suc n) g = absurd g
 given-front w known psks (t ∷ ts) (x ∷ xs) (suc n) g = (g.0, given-front w known (psks_after psks t) ts xs n g.1)
 
-not-before : (w : Writer) (known : Remote) (psks : List (List ℕ)) (ts : List Token) (k j : ℕ) → LacksAnswerAt w known psks ts k
-    → LacksAnswerAt w known psks ts j → k < j → ⊥
+not-before : (w : Writer) (known : Remote) (psks : List (List ℕ)) (ts : List Token) (k j : ℕ) → LacksDhResultAt w known psks ts k
+    → LacksDhResultAt w known psks ts j → k < j → ⊥
 not-before w known psks ts k j a b h =
     a.none (take (suc k) b.before)
     (subst (λ (us : List Token). Given w known psks us (take (suc k) b.before)) (take-take (suc k) j ts (omega arith))
@@ -107,12 +107,12 @@ writes-one v payload m n xs ys a b =
     (e, a.spelled ∙ ap (λ (zs : List (List ℕ)). message_bytes (has_psk v.pattern) v.history (tokens_now v) zs payload) e ∙ sym b.spelled)
 
 -- it lacks a DH result at one token
-pub lacks-one : (v : Party) (k j : ℕ) → LacksAnswer v k → LacksAnswer v j → k ≡ j
+pub lacks-one : (v : Party) (k j : ℕ) → LacksDhResult v k → LacksDhResult v j → k ≡ j
 lacks-one v k j a b =
     same-place k j (not-before (writer v) v.remote v.psks (tokens_now v) k j a.lacks b.lacks)
     (not-before (writer v) v.remote v.psks (tokens_now v) j k b.lacks a.lacks)
 
 -- what lacks a DH result writes nothing
-pub writes-or : (v : Party) (payload m : List ℕ) (xs : List (List ℕ)) (k : ℕ) → Writes v payload xs m → LacksAnswer v k → ⊥
+pub writes-or : (v : Party) (payload m : List ℕ) (xs : List (List ℕ)) (k : ℕ) → Writes v payload xs m → LacksDhResult v k → ⊥
 writes-or v payload m xs k a b =
     b.lacks.none (take (suc k) xs) (given-front (writer v) v.remote v.psks (tokens_now v) xs (suc k) a.given)

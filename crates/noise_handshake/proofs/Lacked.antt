@@ -12,8 +12,8 @@ use Rattle.noise_handshake.specs.declared.remote.Remote.{Remote}
 use Rattle.noise_handshake.specs.HandshakeValue.{HandshakeValue, is_turn}
 use Rattle.noise_handshake.specs.Matching.{Matches}
 use Rattle.noise_handshake.specs.Party.{Party, Speaks, own_at, remote_at, psks_after, tokens_now}
-use Rattle.noise_handshake.specs.Wanting.{LacksAnswerFor, WantsToWrite}
-use Rattle.noise_handshake.specs.Writing.{Writer, writer, Gives, Given, LacksAnswerAt, LacksAnswer}
+use Rattle.noise_handshake.specs.Wanting.{LacksDhResultFor, WantsToWrite}
+use Rattle.noise_handshake.specs.Writing.{Writer, writer, Gives, Given, LacksDhResultAt, LacksDhResult}
 use Rattle.noise_handshake.specs.inner.Known.{remote_known}
 use Rattle.noise_handshake.specs.inner.Speaking.{Speaking}
 use Rattle.noise_handshake.proofs.Giving.{lacks-later}
@@ -23,7 +23,7 @@ use Rattle.noise_names.specs.Roles.{same-same_role, same_role-true}
 
 lacks-tail : (w : Writer) (known : Remote) (psks : List (List ℕ)) (t : Token) (ts : List Token) (x : List ℕ) (k : ℕ) (xs : List (List ℕ))
     → k < length ts → Gives w known psks t x → Given w known psks (take (suc k) (t ∷ ts)) xs
-    → ((ys : List (List ℕ)) → Given w known psks (take (suc (suc k)) (t ∷ ts)) ys → ⊥) → LacksAnswerAt w known (psks_after psks t) ts k
+    → ((ys : List (List ℕ)) → Given w known psks (take (suc (suc k)) (t ∷ ts)) ys → ⊥) → LacksDhResultAt w known (psks_after psks t) ts k
 lacks-tail w known psks t ts x k [] h g given none = absurd given
 lacks-tail w known psks t ts x k (y ∷ ys) h g given none = record {
   within = h;
@@ -34,15 +34,15 @@ lacks-tail w known psks t ts x k (y ∷ ys) h g given none = record {
 
 -- where the first token has its text the others lack what all lack
 lacks-after : (w : Writer) (known : Remote) (psks : List (List ℕ)) (t : Token) (ts : List Token) (x : List ℕ) → Gives w known psks t x
-    → ((k : ℕ) → LacksAnswerAt w known (psks_after psks t) ts k → ⊥) → (k : ℕ) → LacksAnswerAt w known psks (t ∷ ts) k → ⊥
+    → ((k : ℕ) → LacksDhResultAt w known (psks_after psks t) ts k → ⊥) → (k : ℕ) → LacksDhResultAt w known psks (t ∷ ts) k → ⊥
 lacks-after w known psks t ts x g f zero l = l.none (x ∷ []) (g, tt)
 lacks-after w known psks t ts x g f (suc k) l =
     f k (lacks-tail w known psks t ts x k l.before (omega (arith, l.within)) g l.given l.none)
 
 later-one : (w : Writer) (known : Remote) (psks : List (List ℕ)) (t : Token) (ts : List Token) (x : List ℕ) → Gives w known psks t x
     → (o : Option (Own × List ℕ))
-    → MatchOption o ((k : ℕ) → LacksAnswerAt w known (psks_after psks t) ts k → ⊥) (λ want. LacksAnswerFor w known (psks_after psks t) ts want.0 want.1)
-    → MatchOption o ((k : ℕ) → LacksAnswerAt w known psks (t ∷ ts) k → ⊥) (λ want. LacksAnswerFor w known psks (t ∷ ts) want.0 want.1)
+    → MatchOption o ((k : ℕ) → LacksDhResultAt w known (psks_after psks t) ts k → ⊥) (λ want. LacksDhResultFor w known (psks_after psks t) ts want.0 want.1)
+    → MatchOption o ((k : ℕ) → LacksDhResultAt w known psks (t ∷ ts) k → ⊥) (λ want. LacksDhResultFor w known psks (t ∷ ts) want.0 want.1)
 later-one w known psks t ts x g None h = lacks-after w known psks t ts x g h
 later-one w known psks t ts x g (Some want) h = record {
   before = t ∷ h.before;
@@ -57,15 +57,15 @@ later-one w known psks t ts x g (Some want) h = record {
 -- what the later tokens lack
 pub asked-later : (w : Writer) (known : Remote) (psks others : List (List ℕ)) (tokens ts : List Token) (t : Token) (x : List ℕ) → tokens ≡ t ∷ ts
     → others ≡ psks_after psks t → Gives w known psks t x → (o : Option (Own × List ℕ))
-    → MatchOption o ((k : ℕ) → LacksAnswerAt w known others ts k → ⊥) (λ want. LacksAnswerFor w known others ts want.0 want.1)
-    → MatchOption o ((k : ℕ) → LacksAnswerAt w known psks tokens k → ⊥) (λ want. LacksAnswerFor w known psks tokens want.0 want.1)
+    → MatchOption o ((k : ℕ) → LacksDhResultAt w known others ts k → ⊥) (λ want. LacksDhResultFor w known others ts want.0 want.1)
+    → MatchOption o ((k : ℕ) → LacksDhResultAt w known psks tokens k → ⊥) (λ want. LacksDhResultFor w known psks tokens want.0 want.1)
 asked-later w known psks others tokens ts t x e f g o h =
-    let h1 = subst (λ (z : List (List ℕ)). MatchOption o ((k : ℕ) → LacksAnswerAt w known z ts k → ⊥) (λ want. LacksAnswerFor w known z ts want.0 want.1)) f h in
-    subst (λ (us : List Token). MatchOption o ((k : ℕ) → LacksAnswerAt w known psks us k → ⊥) (λ want. LacksAnswerFor w known psks us want.0 want.1)) (sym e)
+    let h1 = subst (λ (z : List (List ℕ)). MatchOption o ((k : ℕ) → LacksDhResultAt w known z ts k → ⊥) (λ want. LacksDhResultFor w known z ts want.0 want.1)) f h in
+    subst (λ (us : List Token). MatchOption o ((k : ℕ) → LacksDhResultAt w known psks us k → ⊥) (λ want. LacksDhResultFor w known psks us want.0 want.1)) (sym e)
     (later-one w known psks t ts x g o h1)
 
 first-lacks : (w : Writer) (known : Remote) (psks : List (List ℕ)) (t : Token) (ts : List Token)
-    → ((x : List ℕ) → Gives w known psks t x → ⊥) → LacksAnswerAt w known psks (t ∷ ts) 0
+    → ((x : List ℕ) → Gives w known psks t x → ⊥) → LacksDhResultAt w known psks (t ∷ ts) 0
 first-lacks w known psks t ts bad = record { within = omega arith; before = []; given = tt; none = no-text }
   where
     no-text : (xs : List (List ℕ)) → Given w known psks (take 1 (t ∷ ts)) xs → ⊥
@@ -79,7 +79,7 @@ none-some None h e = cc
 first-one : (w : Writer) (known : Remote) (psks : List (List ℕ)) (t : Token) (ts : List Token) → ((x : List ℕ) → Gives w known psks t x → ⊥)
     → IsTrue (remote_known w.role (is_some known.e) (is_some known.s) t) → (o : Option (Own × List ℕ))
     → MatchOption o (remote_at w.role known t ≡ None) (λ want. (want.0 ≡ own_at w.role t) × (remote_at w.role known t ≡ Some want.1))
-    → MatchOption o ((k : ℕ) → LacksAnswerAt w known psks (t ∷ ts) k → ⊥) (λ want. LacksAnswerFor w known psks (t ∷ ts) want.0 want.1)
+    → MatchOption o ((k : ℕ) → LacksDhResultAt w known psks (t ∷ ts) k → ⊥) (λ want. LacksDhResultFor w known psks (t ∷ ts) want.0 want.1)
 first-one w known psks t ts bad dh None h = absurd (none-some (remote_at w.role known t) (is_some-remote w.role known t ∙ dh) h)
 first-one w known psks t ts bad dh (Some want) h = record {
   before = [];
@@ -96,9 +96,9 @@ pub asked-first : (w : Writer) (known : Remote) (psks : List (List ℕ)) (tokens
     → ((x : List ℕ) → Gives w known psks t x → ⊥)
     → IsTrue (remote_known w.role (is_some known.e) (is_some known.s) t) → (o : Option (Own × List ℕ))
     → MatchOption o (remote_at w.role known t ≡ None) (λ want. (want.0 ≡ own_at w.role t) × (remote_at w.role known t ≡ Some want.1))
-    → MatchOption o ((k : ℕ) → LacksAnswerAt w known psks tokens k → ⊥) (λ want. LacksAnswerFor w known psks tokens want.0 want.1)
+    → MatchOption o ((k : ℕ) → LacksDhResultAt w known psks tokens k → ⊥) (λ want. LacksDhResultFor w known psks tokens want.0 want.1)
 asked-first w known psks tokens ts t e bad dh o h =
-    subst (λ (us : List Token). MatchOption o ((k : ℕ) → LacksAnswerAt w known psks us k → ⊥) (λ want. LacksAnswerFor w known psks us want.0 want.1)) (sym e)
+    subst (λ (us : List Token). MatchOption o ((k : ℕ) → LacksDhResultAt w known psks us k → ⊥) (λ want. LacksDhResultFor w known psks us want.0 want.1)) (sym e)
     (first-one w known psks t ts bad dh o h)
 
 -- ---- whether a message of this party is due
@@ -159,18 +159,18 @@ module _ {K : Type 0} (h : HandshakeValue K) where
 -- ---- for a party that speaks
 
 wants-of : (v : Party) (o : Option (Own × List ℕ)) → Speaks v
-    → MatchOption o ((k : ℕ) → LacksAnswerAt (writer v) v.remote v.psks (tokens_now v) k → ⊥)
-    (λ want. LacksAnswerFor (writer v) v.remote v.psks (tokens_now v) want.0 want.1)
-    → MatchOption o ((k : ℕ) → LacksAnswer v k → ⊥) (λ want. WantsToWrite v want.0 want.1)
+    → MatchOption o ((k : ℕ) → LacksDhResultAt (writer v) v.remote v.psks (tokens_now v) k → ⊥)
+    (λ want. LacksDhResultFor (writer v) v.remote v.psks (tokens_now v) want.0 want.1)
+    → MatchOption o ((k : ℕ) → LacksDhResult v k → ⊥) (λ want. WantsToWrite v want.0 want.1)
 wants-of v None l h = λ k lacks. h k lacks.lacks
 wants-of v (Some want) l h = record { speaks = l; lacks = h }
 
 pub wants : (v : Party) (o : Option (Own × List ℕ)) (role : Role) (has_psks : Bool) (own : Own → Option (List ℕ))
     (agree : Own → List ℕ → Option (List ℕ)) (psks : List (List ℕ)) (known : Remote) (ts : List Token)
     → Speaking v role has_psks own agree psks known ts
-    → MatchOption o ((k : ℕ) → LacksAnswerAt (record { role = role; has_psks = has_psks; own = own; agree = agree }) known psks ts k → ⊥)
-    (λ want. LacksAnswerFor (record { role = role; has_psks = has_psks; own = own; agree = agree }) known psks ts want.0 want.1)
-    → MatchOption o ((k : ℕ) → LacksAnswer v k → ⊥) (λ want. WantsToWrite v want.0 want.1)
+    → MatchOption o ((k : ℕ) → LacksDhResultAt (record { role = role; has_psks = has_psks; own = own; agree = agree }) known psks ts k → ⊥)
+    (λ want. LacksDhResultFor (record { role = role; has_psks = has_psks; own = own; agree = agree }) known psks ts want.0 want.1)
+    → MatchOption o ((k : ℕ) → LacksDhResult v k → ⊥) (λ want. WantsToWrite v want.0 want.1)
 wants v o role has_psks own agree psks known ts l h =
     wants-of v o l.speaks (for-view v role has_psks own agree psks known ts l
-    (λ w z s us. MatchOption o ((k : ℕ) → LacksAnswerAt w z s us k → ⊥) (λ want. LacksAnswerFor w z s us want.0 want.1)) h)
+    (λ w z s us. MatchOption o ((k : ℕ) → LacksDhResultAt w z s us k → ⊥) (λ want. LacksDhResultFor w z s us want.0 want.1)) h)

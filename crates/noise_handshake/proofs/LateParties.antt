@@ -19,8 +19,8 @@ use Rattle.noise_keys.specs.declared.faults.SetupFault.{SetupFault}
 use Rattle.noise_handshake.specs.Late.{with_later, WantsPskToRead, WantsPskToWrite}
 use Rattle.noise_handshake.specs.Matching.{Matches, DoesNotRead, DoesNotWrite, after_message, after_own, after_not_read, after_not_written, ended_party}
 use Rattle.noise_handshake.specs.Party.{Party, Accepts, BeginsAs, Listens, CanBegin, Refuses, Speaks, remote_after, reader, tokens_at, tokens_now}
-use Rattle.noise_handshake.specs.Wanting.{LacksAnswerFor, WantsToRead, WantsToWrite}
-use Rattle.noise_handshake.specs.Writing.{Writes, LacksAnswer, LacksAnswerAt, writer}
+use Rattle.noise_handshake.specs.Wanting.{LacksDhResultFor, WantsToRead, WantsToWrite}
+use Rattle.noise_handshake.specs.Writing.{Writes, LacksDhResult, LacksDhResultAt, writer}
 use Rattle.noise_handshake.specs.Opening.{Opening, Opens}
 use Rattle.noise_handshake.specs.Parts.{IsWhole}
 use Rattle.noise_handshake.proofs.Fronts.{lacks-all, lacks-first, lacks-for-all}
@@ -109,7 +109,7 @@ module _ (v : Party) (u : List (List ℕ)) (n : ℕ) (e : take n u ≡ take n v.
     fits = a.fits;
   }
 
-  pub lacks-back : (k : ℕ) → count_by is_psk (take (suc k) (tokens_now v)) ≤ n → LacksAnswer v k → LacksAnswer (holding v u) k
+  pub lacks-back : (k : ℕ) → count_by is_psk (take (suc k) (tokens_now v)) ≤ n → LacksDhResult v k → LacksDhResult (holding v u) k
   lacks-back k c a = record {
     speaks = speaks-back v u a.speaks;
     lacks = lacks-same (writer v) v.remote v.psks u n (sym e) (tokens_now v) k c a.lacks;
@@ -314,15 +314,15 @@ module _ {K : Type 0} (public_of : K → Own → Option (List ℕ)) (agreement :
   pub few-now : count_by is_psk (tokens_at h.pattern.messages h.passed) ≤ n → count_by is_psk (tokens_now v) ≤ n
   few-now c = subst (λ (us : List Token). count_by is_psk us ≤ n) same-tokens c
 
-  pub write-none : count_by is_psk (tokens_at h.pattern.messages h.passed) ≤ n → ((token : ℕ) → LacksAnswer (holding v h.psks) token → ⊥)
-      → (token : ℕ) → LacksAnswer v token → ⊥
+  pub write-none : count_by is_psk (tokens_at h.pattern.messages h.passed) ≤ n → ((token : ℕ) → LacksDhResult (holding v h.psks) token → ⊥)
+      → (token : ℕ) → LacksDhResult v token → ⊥
   write-none c f token l =
       f token (lacks-back v h.psks n (agrees public_of agreement h lacking w g seen v later s) token
       (omega (arith, few-now c, count-take (tokens_now v) (suc token))) l)
 
-  pub write-answer : (own : Own) (key : List ℕ) → count_by is_psk (tokens_at h.pattern.messages h.passed) ≤ n
+  pub write-dh-result : (own : Own) (key : List ℕ) → count_by is_psk (tokens_at h.pattern.messages h.passed) ≤ n
       → WantsToWrite (holding v h.psks) own key → WantsToWrite v own key
-  write-answer own key c a =
+  write-dh-result own key c a =
       wants-write-partial v h.psks n (agrees public_of agreement h lacking w g seen v later s) own key (length (tokens_now v))
       (omega (arith, few-now c, count-take (tokens_now v) (length (tokens_now v)))) a (wants-all (holding v h.psks) own key a)
 
@@ -330,36 +330,36 @@ module _ {K : Type 0} (public_of : K → Own → Option (List ℕ)) (agreement :
     pub at-now : IsPskAfter (tokens_now v) n k
     at-now = subst (λ (us : List Token). IsPskAfter us n k) same-tokens (subst (λ (i : ℕ). IsPskAfter (tokens_at h.pattern.messages h.passed) i k) e at)
 
-    first-answer : (own : Own) (key : List ℕ) → LacksAnswerFor (writer v) v.remote h.psks (take k (tokens_now v)) own key
-        → LacksAnswerFor (writer v) v.remote v.psks (take k (tokens_now v)) own key
-    first-answer own key l =
+    first-dh-result : (own : Own) (key : List ℕ) → LacksDhResultFor (writer v) v.remote h.psks (take k (tokens_now v)) own key
+        → LacksDhResultFor (writer v) v.remote v.psks (take k (tokens_now v)) own key
+    first-dh-result own key l =
         lacks-for-same (writer v) v.remote h.psks v.psks n (agrees public_of agreement h lacking w g seen v later s) (take k (tokens_now v)) own key l
         (omega (arith, at-now.count, count-take (take k (tokens_now v)) (suc (length l.before))))
 
-    pub write-before : (own : Own) (key : List ℕ) → Speaks (holding v h.psks) → LacksAnswerFor (writer v) v.remote h.psks (take k (tokens_now v)) own key
+    pub write-before : (own : Own) (key : List ℕ) → Speaks (holding v h.psks) → LacksDhResultFor (writer v) v.remote h.psks (take k (tokens_now v)) own key
         → WantsToWrite v own key
     write-before own key sp l = record {
       speaks = speaks-partial v h.psks sp;
-      lacks = lacks-for-all (writer v) v.remote v.psks (tokens_now v) k own key (first-answer own key l);
+      lacks = lacks-for-all (writer v) v.remote v.psks (tokens_now v) k own key (first-dh-result own key l);
     }
 
-    pub write-before-not : (own : Own) (key : List ℕ) → LacksAnswerFor (writer v) v.remote h.psks (take k (tokens_now v)) own key
+    pub write-before-not : (own : Own) (key : List ℕ) → LacksDhResultFor (writer v) v.remote h.psks (take k (tokens_now v)) own key
         → WantsPskToWrite v n → ⊥
     write-before-not own key l x =
         let same : x.before ≡ take k (tokens_now v) = psk-place (tokens_now v) x.before x.later n k at-now x.tokens x.count in
-        let mine = first-answer own key l in
-        x.answered (length mine.before) (omega (arith, mine.lacks.within, ap length same))
+        let mine = first-dh-result own key l in
+        x.computed (length mine.before) (omega (arith, mine.lacks.within, ap length same))
         (record { speaks = x.speaks; lacks = lacks-all (writer v) v.remote v.psks (tokens_now v) k (length mine.before) mine.lacks })
 
     pub write-psk : Speaks (holding v h.psks)
-        → ((token : ℕ) → LacksAnswerAt (writer v) v.remote h.psks (take k (tokens_now v)) token → ⊥) → WantsPskToWrite v n
+        → ((token : ℕ) → LacksDhResultAt (writer v) v.remote h.psks (take k (tokens_now v)) token → ⊥) → WantsPskToWrite v n
     write-psk sp f = record {
       speaks = speaks-partial v h.psks sp;
       before = take k (tokens_now v);
       later = drop (suc k) (tokens_now v);
       tokens = at-now.tokens;
       count = at-now.count;
-      answered = λ j less l.
+      computed = λ j less l.
           f j (lacks-same (writer v) v.remote v.psks h.psks n (sym (agrees public_of agreement h lacking w g seen v later s)) (take k (tokens_now v)) j
           (omega (arith, at-now.count, count-take (take k (tokens_now v)) (suc j)))
           (lacks-first (writer v) v.remote v.psks (tokens_now v) k j (omega (arith, less, length-take k (tokens_now v))) l.lacks));
@@ -427,8 +427,8 @@ module _ {K : Type 0} (public_of : K → Own → Option (List ℕ)) (agreement :
     pub read-accepts : (xs : List (List ℕ)) (p : List ℕ) → Accepts (holding v h.psks) m xs p → Accepts v m xs p
     read-accepts xs p a = accepts-partial v h.psks given-now alike m xs p (few-now public_of agreement h lacking w g seen v later s few) a
 
-    pub read-answer : (own : Own) (key : List ℕ) → WantsToRead (holding v h.psks) m own key → WantsToRead v m own key
-    read-answer own key a =
+    pub read-dh-result : (own : Own) (key : List ℕ) → WantsToRead (holding v h.psks) m own key → WantsToRead v m own key
+    read-dh-result own key a =
         wants-partial v h.psks given-now alike m own key (length (tokens_now v)) (few-here (length (tokens_now v))) a
         (wants-read-all (holding v h.psks) m own key a)
 
@@ -497,8 +497,8 @@ module _ {K : Type 0} (public_of : K → Own → Option (List ℕ)) (agreement :
           refuses-not v h.psks given-now alike m stop.token j stop.cause few-to stops.1
           (wants-none (holding v h.psks) m stop.want stops.2 e) r
 
-      pub before-answer : (want : Own × List ℕ) → stop.want ≡ Some want → WantsToRead v m want.0 want.1
-      before-answer want e =
+      pub before-dh-result : (want : Own × List ℕ) → stop.want ≡ Some want → WantsToRead v m want.0 want.1
+      before-dh-result want e =
           let a = wants-some (holding v h.psks) m stop.want stops.2 want e in
           let one = refuses-one (holding v h.psks) m (length a.stops.before) stop.token Agreement stop.cause
           (record { listens = a.listens; stops = a.stops.stops }) stops.1 in
@@ -548,7 +548,7 @@ pub fault-no-agreement : {K : Type 0} (h : HandshakeValue K) (payload : ℕ) (f 
 fault-no-agreement h payload f e =
     no-agreement h.ended (h.passed == length h.pattern.messages) (is_turn h.role h.passed) (nat_lt 65535 (length_now h payload)) f e
 
-pub written-no-agreement : (v : Party) (payload : ℕ) (f : WriteFault) → DoesNotWrite v payload f → ((token : ℕ) → LacksAnswer v token → ⊥) → IsAgreement f → ⊥
+pub written-no-agreement : (v : Party) (payload : ℕ) (f : WriteFault) → DoesNotWrite v payload f → ((token : ℕ) → LacksDhResult v token → ⊥) → IsAgreement f → ⊥
 written-no-agreement v payload write.Ended w none x = x
 written-no-agreement v payload write.Done w none x = x
 written-no-agreement v payload write.NotYourTurn w none x = x
@@ -591,7 +591,7 @@ module _ {K : Type 0} (h : HandshakeValue K) (lacking : ℕ) (w : lacking ≤ le
       (write-due-test h payload none)) clear)
 
 pub lacks-partial : (v : Party) (u : List (List ℕ)) (n : ℕ) → take n u ≡ take n v.psks → (k : ℕ) → count_by is_psk (take (suc k) (tokens_now v)) ≤ n
-    → LacksAnswer (holding v u) k → LacksAnswer v k
+    → LacksDhResult (holding v u) k → LacksDhResult v k
 lacks-partial v u n e k c a = record {
   speaks = speaks-partial v u a.speaks;
   lacks = lacks-same (writer v) v.remote u v.psks n e (tokens_now v) k c a.lacks;

@@ -10,8 +10,8 @@ use Rattle.noise_keys.specs.declared.keys.Own.{Own}
 use Rattle.noise_handshake.specs.declared.remote.Remote.{Remote}
 use Rattle.noise_handshake.specs.declared.faults.Cause.{Cause}
 use Rattle.noise_handshake.specs.Party.{Reader, Fit, BeginsAs, CanBegin, Reads, Stops, first_psk, other_psks, known_after}
-use Rattle.noise_handshake.specs.Wanting.{StopsFor, LacksAnswerFor}
-use Rattle.noise_handshake.specs.Writing.{Writer, Given, LacksAnswerAt}
+use Rattle.noise_handshake.specs.Wanting.{StopsFor, LacksDhResultFor}
+use Rattle.noise_handshake.specs.Writing.{Writer, Given, LacksDhResultAt}
 
 -- ---- psk tokens
 
@@ -128,7 +128,7 @@ module _ (v : Reader) (known : Remote) (s u : List (List ℕ)) (r : History) (n 
 -- ---- writing
 
 module _ (w : Writer) (known : Remote) (s u : List (List ℕ)) (n : ℕ) (e : take n s ≡ take n u) (ts : List Token) where
-  pub lacks-same : (k : ℕ) → count_by is_psk (take (suc k) ts) ≤ n → LacksAnswerAt w known s ts k → LacksAnswerAt w known u ts k
+  pub lacks-same : (k : ℕ) → count_by is_psk (take (suc k) ts) ≤ n → LacksDhResultAt w known s ts k → LacksDhResultAt w known u ts k
   lacks-same k c l = record {
     within = l.within;
     before = l.before;
@@ -136,8 +136,8 @@ module _ (w : Writer) (known : Remote) (s u : List (List ℕ)) (n : ℕ) (e : ta
     none = λ xs h. l.none xs (given-same w known u s n (take (suc k) ts) xs c (sym e) h);
   }
 
-  pub lacks-for-same : (own : Own) (key : List ℕ) (l : LacksAnswerFor w known s ts own key) → count_by is_psk (take (suc (length l.before)) ts) ≤ n
-      → LacksAnswerFor w known u ts own key
+  pub lacks-for-same : (own : Own) (key : List ℕ) (l : LacksDhResultFor w known s ts own key) → count_by is_psk (take (suc (length l.before)) ts) ≤ n
+      → LacksDhResultFor w known u ts own key
   lacks-for-same own key l c = record {
     before = l.before;
     token = l.token;

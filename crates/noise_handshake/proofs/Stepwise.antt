@@ -7,7 +7,7 @@ use Rattle.noise_names.specs.declared.token.Role.{Role}
 use Rattle.noise_names.specs.Tokens.{is_psk}
 use Rattle.noise_handshake.specs.Length.{keyed_after, keyed_after_tokens, token_width, tokens_width}
 use Rattle.noise_handshake.specs.declared.remote.Remote.{Remote}
-use Rattle.noise_handshake.specs.Writing.{Writer, Gives, Given, LacksAnswerAt}
+use Rattle.noise_handshake.specs.Writing.{Writer, Gives, Given, LacksDhResultAt}
 use Rattle.noise_handshake.specs.Nonces.{nonce_after, nonce_after_tokens}
 use Rattle.noise_handshake.specs.inner.Known.{is_known, are_known, e_after, s_after, e_after_tokens, s_after_tokens}
 use Rattle.std.specs.List.{list_all}
@@ -104,9 +104,9 @@ module _ (tokens ts : List Token) (t : Token) (split : tokens ≡ t ∷ ts) wher
 
   -- the first is a DH without a result
   pub lacks-first : (w : Writer) (known : Remote) (psks : List (List ℕ)) → ((x : List ℕ) → Gives w known psks t x → ⊥)
-      → LacksAnswerAt w known psks tokens 0
+      → LacksDhResultAt w known psks tokens 0
   lacks-first w known psks h =
-      subst (λ (us : List Token). LacksAnswerAt w known psks us 0) (sym split) (record {
+      subst (λ (us : List Token). LacksDhResultAt w known psks us 0) (sym split) (record {
         within = one-of ts;
         before = [];
         given = tt;

@@ -15,7 +15,7 @@ use Rattle.noise_keys.specs.declared.keys.Own.{Own}
 use Rattle.noise_handshake.specs.declared.faults.WriteFault.{WriteFault}
 use Rattle.noise_handshake.specs.declared.faults.WriteFault.TheVariants as write
 use Rattle.noise_handshake.specs.declared.remote.Remote.{Remote}
-use Rattle.noise_handshake.specs.Writing.{Writer, writer, Given, LacksAnswerAt, Writes, LacksAnswer}
+use Rattle.noise_handshake.specs.Writing.{Writer, writer, Given, LacksDhResultAt, Writes, LacksDhResult}
 use Rattle.noise_handshake.specs.Message.{message_bytes, after_payload}
 use Rattle.noise_handshake.specs.Length.{added_width}
 use Rattle.noise_handshake.specs.Party.{Party, Speaks, tokens_at, tokens_now}
@@ -152,5 +152,5 @@ module _ (v : Party) (role : Role) (has_psks : Bool) (own : Own → Option (List
     fits = fits;
   }
 
-  pub lacking : (k : ℕ) → LacksAnswerAt (record { role = role; has_psks = has_psks; own = own; agree = agree }) known psks tokens k → LacksAnswer v k
-  lacking k h = record { speaks = l.speaks; lacks = for-view (λ w z s ts. LacksAnswerAt w z s ts k) h }
+  pub lacking : (k : ℕ) → LacksDhResultAt (record { role = role; has_psks = has_psks; own = own; agree = agree }) known psks tokens k → LacksDhResult v k
+  lacking k h = record { speaks = l.speaks; lacks = for-view (λ w z s ts. LacksDhResultAt w z s ts k) h }

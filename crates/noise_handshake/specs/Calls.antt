@@ -10,7 +10,7 @@ use Rattle.noise_handshake.specs.HandshakeValue.{HandshakeValue, is_turn}
 use Rattle.noise_handshake.specs.Matching.{Matches, DoesNotRead, DoesNotWrite, after_message, after_not_read, after_not_written, after_own}
 use Rattle.noise_handshake.specs.Party.{Party, Reader, Accepts, Refuses}
 use Rattle.noise_handshake.specs.Wanting.{WantsToRead, WantsToWrite}
-use Rattle.noise_handshake.specs.Writing.{Writer, LacksAnswer, Writes}
+use Rattle.noise_handshake.specs.Writing.{Writer, LacksDhResult, Writes}
 
 -- what reading asks of a party with these keys
 abbrev pub reader_of : {K : Type 0} → (K → Own → List ℕ → Option (List ℕ)) → Role → Bool → K → Reader
@@ -45,7 +45,7 @@ ReadingWants v message want =
 
 -- The party can't write its message because it lacks this DH result; or it lacks none.
 abbrev pub WritingWants : Party → Option (Own × List ℕ) → Type 0
-WritingWants v want = MatchOption want ((token : ℕ) → LacksAnswer v token → ⊥) (λ w. WantsToWrite v w.0 w.1)
+WritingWants v want = MatchOption want ((token : ℕ) → LacksDhResult v token → ⊥) (λ w. WantsToWrite v w.0 w.1)
 
 module _ {K : Type 0} (public_of : K → Own → Option (List ℕ)) (agreement : K → Own → List ℕ → Option (List ℕ)) where
   -- The party accepts the message as this payload, and the handshake matches the party after it.

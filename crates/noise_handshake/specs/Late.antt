@@ -11,7 +11,7 @@ use Rattle.noise_keys.specs.declared.faults.SetupFault.{SetupFault}
 use Rattle.noise_handshake.specs.declared.remote.Remote.{Remote}
 use Rattle.noise_handshake.specs.declared.faults.Cause.TheVariants.{Agreement}
 use Rattle.noise_handshake.specs.declared.late_faults.Want.{Want}
-use Rattle.noise_handshake.specs.declared.late_faults.Want.TheVariants.{Answer}
+use Rattle.noise_handshake.specs.declared.late_faults.Want.TheVariants.{DhResult}
 use Rattle.noise_handshake.specs.declared.late_faults.Want.TheVariants as want
 use Rattle.noise_handshake.specs.declared.late_faults.LateUnread.{LateUnread}
 use Rattle.noise_handshake.specs.declared.late_faults.LateUnread.TheVariants as unread
@@ -23,7 +23,7 @@ use Rattle.noise_handshake.specs.Matching.{Matches, DoesNotRead, DoesNotWrite, a
 use Rattle.noise_handshake.specs.Setup.{psks_of, setup_fault}
 use Rattle.noise_handshake.specs.Party.{Party, BeginsAs, Listens, Refuses, Speaks, remote_after, reader, tokens_now}
 use Rattle.noise_handshake.specs.Wanting.{WantsToRead, WantsToWrite}
-use Rattle.noise_handshake.specs.Writing.{LacksAnswer}
+use Rattle.noise_handshake.specs.Writing.{LacksDhResult}
 
 -- the handshake with these psks after those that were handed in
 abbrev pub with_later : {K : Type 0} → HandshakeValue K → List (List ℕ) → HandshakeValue K
@@ -58,11 +58,11 @@ pub record WantsPskToWrite (v : Party) (n : ℕ) : Type 0 where
   pub later : List Token
   pub tokens : tokens_now v ≡ before ++ Psk ∷ later
   pub count : count_by is_psk before ≡ n
-  pub answered : (k : ℕ) → k < length before → LacksAnswer v k → ⊥
+  pub computed : (k : ℕ) → k < length before → LacksDhResult v k → ⊥
 
 -- Why the message isn't read, where n psks have been handed in for the psk tokens that are still to come.
 abbrev pub LeavesLateUnread : Party → ℕ → List ℕ → LateUnread → Type 0
-LeavesLateUnread v n message (unread.Wants (Answer own key)) = WantsToRead v message own key
+LeavesLateUnread v n message (unread.Wants (DhResult own key)) = WantsToRead v message own key
 LeavesLateUnread v n message (unread.Wants (want.Psk remote)) = WantsPskToRead v n message remote
 LeavesLateUnread v n message (unread.Declined fault) = DoesNotRead v message fault
     × ((token : ℕ) → Refuses v message token Agreement → ⊥)
@@ -84,7 +84,7 @@ IsLateOfDue (unread.Declined fault) = IsRefusal fault
 
 -- Which of both the party wants to write its message.
 abbrev pub WantsLate : Party → ℕ → Want → Type 0
-WantsLate v n (Answer own key) = WantsToWrite v own key
+WantsLate v n (DhResult own key) = WantsToWrite v own key
 WantsLate v n (want.Psk remote) = WantsPskToWrite v n × (remote ≡ v.remote.s)
 
 -- Why a payload of this length isn't written, where n psks have been handed in; the want of a DH result or a psk is

@@ -13,7 +13,7 @@ use Rattle.noise_handshake.specs.declared.faults.WriteFault.TheVariants as write
 use Rattle.noise_handshake.specs.Message.{after_payload}
 use Rattle.noise_handshake.specs.Passed.{passed_places}
 use Rattle.noise_handshake.specs.Party.{Party, Listens, Refuses, Speaks, remote_after, tokens_now}
-use Rattle.noise_handshake.specs.Writing.{LacksAnswer}
+use Rattle.noise_handshake.specs.Writing.{LacksDhResult}
 use Rattle.noise_handshake.specs.HandshakeValue.{HandshakeValue}
 
 -- the party after a message that was accepted
@@ -73,7 +73,7 @@ DoesNotWrite v payload write.Done = (v.ended ≡ false) × (v.passed ≡ length 
 DoesNotWrite v payload write.NotYourTurn = Listens v
 DoesNotWrite v payload write.TooLong = Speaks v × (65535 < overhead_of v.pattern (v.passed + 1) + payload)
 DoesNotWrite v payload (write.Agreement token) = (overhead_of v.pattern (v.passed + 1) + payload ≤ 65535)
-    × LacksAnswer v token
+    × LacksDhResult v token
 
 -- the party after such a fault: only a DH without a result ends the handshake
 abbrev pub after_not_written : Party → WriteFault → Party

@@ -7,7 +7,7 @@ use Rattle.noise_handshake.specs.declared.faults.Cause.TheVariants.{Agreement}
 use Rattle.noise_handshake.specs.declared.remote.Remote.{Remote}
 use Rattle.noise_state.specs.History.{History}
 use Rattle.noise_handshake.specs.Party.{Party, Reader, reader, Listens, Speaks, Stops, remote_after, own_at, remote_at, tokens_now}
-use Rattle.noise_handshake.specs.Writing.{Writer, writer, LacksAnswerAt}
+use Rattle.noise_handshake.specs.Writing.{Writer, writer, LacksDhResultAt}
 
 -- Reading stops at a DH for want of its DH result: that of this key pair to this key of the other party, as it is known
 -- after the tokens before.
@@ -28,17 +28,17 @@ pub record WantsToRead (v : Party) (message : List ℕ) (own : Own) (key : List 
   pub stops : StopsFor (reader v) v.remote v.psks v.history (tokens_now v) message own key
 
 -- The first token without a text is a DH without its result: that of this key pair to this key of the other party.
-pub record LacksAnswerFor (w : Writer) (known : Remote) (psks : List (List ℕ)) (ts : List Token) (own : Own)
+pub record LacksDhResultFor (w : Writer) (known : Remote) (psks : List (List ℕ)) (ts : List Token) (own : Own)
     (key : List ℕ) : Type 0 where
   pub before : List Token
   pub token : Token
   pub later : List Token
   pub tokens : ts ≡ before ++ token ∷ later
-  pub lacks : LacksAnswerAt w known psks ts (length before)
+  pub lacks : LacksDhResultAt w known psks ts (length before)
   pub own_is : own ≡ own_at w.role token
   pub key_is : remote_at w.role known token ≡ Some key
 
 -- The party would not write its message for want of this DH result.
 pub record WantsToWrite (v : Party) (own : Own) (key : List ℕ) : Type 0 where
   pub speaks : Speaks v
-  pub lacks : LacksAnswerFor (writer v) v.remote v.psks (tokens_now v) own key
+  pub lacks : LacksDhResultFor (writer v) v.remote v.psks (tokens_now v) own key

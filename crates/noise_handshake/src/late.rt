@@ -65,7 +65,7 @@ impl<K: Keys> LateHandshake<K> {
     ghost use Rattle.noise_handshake.specs.Opening.{Opens};
     ghost use Rattle.noise_handshake.specs.Parts.{held_of, HasProgress};
     ghost use Rattle.noise_handshake.specs.Setup.{party_at_start, psks_of};
-    ghost use Rattle.noise_handshake.specs.Writing.{Writes, LacksAnswer};
+    ghost use Rattle.noise_handshake.specs.Writing.{Writes, LacksDhResult};
     ghost use Rattle.noise_handshake.specs.Calls.{HasBegun, HasReadAt, HasWrittenTo, IsPlaceIn, IsSameAround, speaks_now};
     ghost use Rattle.noise_handshake.specs.Late.{IsLeftUnread, IsLeftUnwritten, MatchesWith, with_later, late_fault, IsLateWhole, WantsPskToRead, WantsPskToWrite, WantsLate, LeavesLateUnread};
     ghost use Rattle.noise_handshake.specs.Late.{after_late_unread, after_late_unwritten, IsLateOfDue, IsLateOfTurn, IsLateWant};
@@ -261,7 +261,7 @@ impl<K: Keys> LateHandshake<K> {
                 let place = match self.filled.read_or_ask(message) {
                     Ok(place) => place,
                     Err(Unread::Wanted { own, key }) => {
-                        return Err(LateUnread::Wants(Want::Answer { own, key }));
+                        return Err(LateUnread::Wants(Want::DhResult { own, key }));
                     }
                     Err(Unread::Declined(fault)) => return Err(LateUnread::Declined(fault)),
                 };
@@ -273,7 +273,7 @@ impl<K: Keys> LateHandshake<K> {
                 Err(stop) => match stop.want {
                     Some(want) => {
                         let (own, key) = want;
-                        Err(LateUnread::Wants(Want::Answer { own, key }))
+                        Err(LateUnread::Wants(Want::DhResult { own, key }))
                     }
                     None => {
                         self.filled.end();
@@ -301,7 +301,7 @@ impl<K: Keys> LateHandshake<K> {
             None => match self.filled.wants_to_read(message) {
                 Some(want) => {
                     let (own, key) = want;
-                    Some(Want::Answer { own, key })
+                    Some(Want::DhResult { own, key })
                 }
                 None => None,
             },
@@ -310,7 +310,7 @@ impl<K: Keys> LateHandshake<K> {
                 Err(stop) => match stop.want {
                     Some(want) => {
                         let (own, key) = want;
-                        Some(Want::Answer { own, key })
+                        Some(Want::DhResult { own, key })
                     }
                     None => None,
                 },
@@ -322,7 +322,7 @@ impl<K: Keys> LateHandshake<K> {
     /// where none is due. Nothing changes.
     pub fn wants_to_write(&self) -> Option<Want>
         ensures wants { (v : Party) (later : List (List ℕ)) → MatchesWith K.public_of K.agreement self.now later v
-            → MatchOption result ((token : ℕ) → LacksAnswer v token → ⊥)
+            → MatchOption result ((token : ℕ) → LacksDhResult v token → ⊥)
             (λ want. WantsLate v (length self.now.psks) want) }
         ensures asked { (v : Party) (later : List (List ℕ)) → MatchesWith K.public_of K.agreement self.now later v
             → WantsPskToWrite v (length self.now.psks) → result ≡ Some (Want.Psk self.now.remote.s) }
@@ -337,14 +337,14 @@ impl<K: Keys> LateHandshake<K> {
             None => match self.filled.wants_to_write() {
                 Some(want) => {
                     let (own, key) = want;
-                    Some(Want::Answer { own, key })
+                    Some(Want::DhResult { own, key })
                 }
                 None => None,
             },
             Some(k) => match self.filled.wants_before(k) {
                 Some(want) => {
                     let (own, key) = want;
-                    Some(Want::Answer { own, key })
+                    Some(Want::DhResult { own, key })
                 }
                 None => Some(Want::Psk {
                     remote: self.filled.remote_static(),

@@ -7,7 +7,7 @@ use crate::{Own, ReadFault, WriteFault};
 #[derive(Clone, Copy, Debug, PartialEq, Eq)]
 pub enum Want {
     /// The DH result of this key pair of the party to this public key of the other.
-    Answer { own: Own, key: [u8; 32] },
+    DhResult { own: Own, key: [u8; 32] },
     /// The psk of a psk token. `remote` is the other party's static key as it is known before that token: the
     /// message that is read may have shown it.
     Psk { remote: Option<[u8; 32]> },

@@ -21,7 +21,7 @@ ghost use Rattle.noise_handshake.specs.declared.faults.Cause.TheVariants.{Short,
 
 use crate::layout::PlacedToken;
 use crate::stop::Stop;
-use crate::tokens::{Means, answer_at, asked_at, mix_ephemeral, psks_after};
+use crate::tokens::{Means, asked_at, dh_result_at, mix_ephemeral, psks_after};
 use crate::{Cause, Keys, Own, Remote};
 use noise_names::{Role, Token};
 use noise_state::{CipherFault, SymmetricState};
@@ -146,9 +146,9 @@ fn read_token<K: Keys>(
             state.mix_key_and_hash(&psks[0]);
             Ok(0)
         }
-        token => match answer_at(&means.keys, means.role, known, token) {
-            Some(answer) => {
-                state.mix_key(&answer);
+        token => match dh_result_at(&means.keys, means.role, known, token) {
+            Some(dh_result) => {
+                state.mix_key(&dh_result);
                 Ok(0)
             }
             None => Err(Cause::Agreement),

@@ -55,7 +55,7 @@ pub(crate) fn asked_at(role: Role, known: &Remote, token: Token) -> Option<(Own,
 }
 
 // The DH result at a DH token.
-pub(crate) fn answer_at<K: Keys>(
+pub(crate) fn dh_result_at<K: Keys>(
     keys: &K,
     role: Role,
     known: &Remote,

@@ -20,7 +20,7 @@ ghost use Rattle.noise_handshake.specs.inner.Layout.{tokens_of};
 ghost use Rattle.noise_names.specs.Tokens.{is_psk};
 
 use crate::layout::PlacedToken;
-use crate::tokens::{Means, answer_at, asked_at, mix_ephemeral, psks_after};
+use crate::tokens::{Means, asked_at, dh_result_at, mix_ephemeral, psks_after};
 use crate::{Keys, Own, Remote};
 use noise_names::Token;
 use noise_state::SymmetricState;
@@ -118,8 +118,8 @@ fn write_token<K: Keys>(
             Some(0)
         }
         _ => {
-            let answer = answer_at(&means.keys, means.role, known, token)?;
-            state.mix_key(&answer);
+            let dh_result = dh_result_at(&means.keys, means.role, known, token)?;
+            state.mix_key(&dh_result);
             Some(0)
         }
     }
@@ -187,7 +187,7 @@ fn text_at<K: Keys>(
         Token::E => means.keys.public(Own::Ephemeral),
         Token::S => means.keys.public(Own::Static),
         Token::Psk => Some(psks[0]),
-        _ => answer_at(&means.keys, means.role, known, token),
+        _ => dh_result_at(&means.keys, means.role, known, token),
     }
 }
 

@@ -17,9 +17,9 @@ abbrev pub xored : List ℕ → List ℕ → List ℕ
 xored xs ys = map (λ pair. bit_xor pair.0 pair.1) (zip xs ys)
 
 -- the DH result of a key, where there is one
-abbrev pub xor_answer : Option (List ℕ) → List ℕ → Option (List ℕ)
-xor_answer None remote = None
-xor_answer (Some key) remote = Some (xored key remote)
+abbrev pub xor_dh_result : Option (List ℕ) → List ℕ → Option (List ℕ)
+xor_dh_result None remote = None
+xor_dh_result (Some key) remote = Some (xored key remote)
 
 xored-comm : (xs ys : List ℕ) → xored xs ys ≡ xored ys xs
 xored-comm [] [] = refl
@@ -29,13 +29,13 @@ xored-comm (x ∷ xs) (y ∷ ys) =
     ap (λ (b : ℕ). b ∷ xored xs ys) (xor_comm x y) ∙ ap (λ (bs : List ℕ). bit_xor y x ∷ bs) (xored-comm xs ys)
 
 -- two keys' DH results are alike
-pub xor_answer-commutes : (k l : Option (List ℕ)) (p q : List ℕ) → k ≡ Some p → l ≡ Some q
-    → xor_answer k q ≡ xor_answer l p
-xor_answer-commutes k l p q ek el =
-    ap (λ (o : Option (List ℕ)). xor_answer o q) ek ∙ ap Some (xored-comm p q)
-    ∙ sym (ap (λ (o : Option (List ℕ)). xor_answer o p) el)
+pub xor_dh_result-commutes : (k l : Option (List ℕ)) (p q : List ℕ) → k ≡ Some p → l ≡ Some q
+    → xor_dh_result k q ≡ xor_dh_result l p
+xor_dh_result-commutes k l p q ek el =
+    ap (λ (o : Option (List ℕ)). xor_dh_result o q) ek ∙ ap Some (xored-comm p q)
+    ∙ sym (ap (λ (o : Option (List ℕ)). xor_dh_result o p) el)
 
 -- where both keys have a DH result, the two DH results are the same
-pub xor_answer-same : (k l : Option (List ℕ)) (p q r s : List ℕ) → k ≡ Some p → l ≡ Some q
-    → xor_answer k q ≡ Some r → xor_answer l p ≡ Some s → r ≡ s
-xor_answer-same k l p q r s ek el er es = same_Some r s (sym er ∙ xor_answer-commutes k l p q ek el ∙ es)
+pub xor_dh_result-same : (k l : Option (List ℕ)) (p q r s : List ℕ) → k ≡ Some p → l ≡ Some q
+    → xor_dh_result k q ≡ Some r → xor_dh_result l p ≡ Some s → r ≡ s
+xor_dh_result-same k l p q r s ek el er es = same_Some r s (sym er ∙ xor_dh_result-commutes k l p q ek el ∙ es)

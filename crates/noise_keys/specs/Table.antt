@@ -28,5 +28,5 @@ abbrev pub is_for : Own → List ℕ → TableEntry → Bool
 is_for own remote entry = same_own entry.own own && pointwise nat_eq entry.remote remote
 
 -- the DH result of the first entry for them, if there is one
-abbrev pub answer_in : List TableEntry → Own → List ℕ → Option (List ℕ)
-answer_in entries own remote = option_map (λ entry. entry.answer) (find (is_for own remote) entries)
+abbrev pub dh_result_in : List TableEntry → Own → List ℕ → Option (List ℕ)
+dh_result_in entries own remote = option_map (λ entry. entry.answer) (find (is_for own remote) entries)

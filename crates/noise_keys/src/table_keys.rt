@@ -97,11 +97,11 @@ impl TableKeys {
 
 impl Keys for TableKeys {
     ghost use Rattle.noise_keys.specs.Keys.{key_of};
-    ghost use Rattle.noise_keys.specs.Table.{answer_in};
+    ghost use Rattle.noise_keys.specs.Table.{dh_result_in};
 
     ghost public_of = { λ keys own. key_of own keys.e keys.s };
 
-    ghost agreement = { λ keys own remote. answer_in keys.entries own remote };
+    ghost agreement = { λ keys own remote. dh_result_in keys.entries own remote };
 
     fn public(&self, own: Own) -> Option<[u8; 32]> {
         match own {

@@ -18,11 +18,11 @@ pub struct XorKeys {
 }
 
 impl Keys for XorKeys {
-    ghost use Rattle.noise_keys.specs.Keys.{key_of, xor_answer};
+    ghost use Rattle.noise_keys.specs.Keys.{key_of, xor_dh_result};
 
     ghost public_of = { λ keys own. key_of own keys.e keys.s };
 
-    ghost agreement = { λ keys own remote. xor_answer (key_of own keys.e keys.s) remote };
+    ghost agreement = { λ keys own remote. xor_dh_result (key_of own keys.e keys.s) remote };
 
     fn public(&self, own: Own) -> Option<[u8; 32]> {
         match own {
@@ -40,10 +40,10 @@ impl Keys for XorKeys {
 }
 
 impl Agreeing for XorKeys {
-    ghost use Rattle.noise_keys.specs.Keys.{key_of, xor_answer-same};
+    ghost use Rattle.noise_keys.specs.Keys.{key_of, xor_dh_result-same};
 
     ghost commutes = { λ a b x y p q r s ep eq er es.
-        xor_answer-same (key_of x a.e a.s) (key_of y b.e b.s) p q r s ep eq er es };
+        xor_dh_result-same (key_of x a.e a.s) (key_of y b.e b.s) p q r s ep eq er es };
 }
 
 // The xor of two keys, byte by byte.

@@ -38,7 +38,7 @@ plain_of p = record p { places = []; messages = map own_tokens p.messages }
 abbrev pub has_psk : Plan → Bool
 has_psk p = list_any (λ tokens. list_any is_psk tokens) p.messages
 
--- one message and no answer: a one-way pattern (7.4)
+-- one message alone: a one-way pattern (7.4)
 abbrev pub is_one_way : Plan → Bool
 is_one_way p = length p.messages == 1
 

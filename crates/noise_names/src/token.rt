@@ -8,7 +8,7 @@ ghost use Rattle.noise_names.specs.Tokens.{other};
 pub enum Role {
     /// Sends the first message, `->` in a pattern.
     Initiator,
-    /// Answers it, `<-` in a pattern.
+    /// The other party, `<-` in a pattern.
     Responder,
 }
 

@@ -66,7 +66,7 @@ impl ValidPattern {
         let _ = &self.pattern;
     }
 
-    /// Whether it is one-way (Noise, 7.4): one message and no answer.
+    /// Whether it is one-way (Noise, 7.4): one message alone.
     pub fn one_way(&self) -> bool
         ensures { result ≡ is_one_way self.now }
     {

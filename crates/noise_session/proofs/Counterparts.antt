@@ -25,7 +25,7 @@ use Rattle.noise_session.specs.Progress.Progress.{Open}
 use Rattle.noise_session.specs.Ends.{EndState, progress_of}
 use Rattle.noise_session.specs.Counterparts.{EndCounterparts}
 use Rattle.noise_session.specs.Sending.{Sends}
-use Rattle.noise_session.specs.Sending.Sends.{refuses, lacks_answer, sends_handshake, sends_transport}
+use Rattle.noise_session.specs.Sending.Sends.{refuses, lacks_dh_result, sends_handshake, sends_transport}
 use Rattle.noise_session.specs.Taking.{Takes}
 use Rattle.noise_session.specs.Taking.Takes.{judges}
 use Rattle.noise_session.specs.Taking.Judges.{accepted, opened}
@@ -157,7 +157,7 @@ module _ (accepts : (v w : Party) (payload message : List ℕ) (xs : List (List 
   sent-taken : (v w x : EndState) (payload f : List ℕ) (r : Result (List ℕ) SendFault) → r ≡ Ok f → IsValid v.party.pattern → EndCounterparts v w
       → Sends v payload r x → IsTaken x w payload f
   sent-taken v w x payload f r e valid c (refuses _ _ why _) = absurd (not-ok why f e)
-  sent-taken v w x payload f r e valid c (lacks_answer _ _ token _ _) = absurd (not-ok (fault.Agreement token) f e)
+  sent-taken v w x payload f r e valid c (lacks_dh_result _ _ token _ _) = absurd (not-ok (fault.Agreement token) f e)
   sent-taken v w x payload f r e valid c (sends_handshake _ _ message xs due writes) =
       subst (IsTaken (record v { party = after_own v.party xs payload }) w payload) (ok-same (frame message) f (Ok (frame message)) refl e)
       (handshake-taken v w payload message xs valid c writes)

@@ -15,14 +15,14 @@ abbrev asked : Bool → Bool → Bool → Bool → Option WriteFault
 asked ended done turn long =
     if ended then Some write.Ended else if done then Some write.Done else if not turn then Some write.NotYourTurn else if long then Some write.TooLong else None
 
-abbrev answered : Bool → Bool → Option SendFault
-answered turn long = if not turn then Some fault.NotYourTurn else if long then Some fault.TooLong else None
+abbrev computed : Bool → Bool → Option SendFault
+computed turn long = if not turn then Some fault.NotYourTurn else if long then Some fault.TooLong else None
 
 -- what a result of the handshake reports of that
 abbrev StepValue : Bool → Bool → Bool → Bool → List ℕ → List ℕ → Result ℕ WriteFault → Type 0
 StepValue ended done turn long old new r = MatchOption (asked ended done turn long) (IfErr r IsAgreement) (λ f. (r ≡ Err f) × (new ≡ old))
 
-ok-reported : (ended done turn long : Bool) (old new : List ℕ) (n : ℕ) → StepValue ended done turn long old new (Ok n) → answered turn long ≡ None
+ok-reported : (ended done turn long : Bool) (old new : List ℕ) (n : ℕ) → StepValue ended done turn long old new (Ok n) → computed turn long ≡ None
 ok-reported true done turn long old new n h = cc
 ok-reported false true turn long old new n h = cc
 ok-reported false false false long old new n h = cc
@@ -30,7 +30,7 @@ ok-reported false false true true old new n h = cc
 ok-reported false false true false old new n h = refl
 
 turn-reported : (ended done turn long : Bool) (old new : List ℕ) → not ended && not done ≡ true → StepValue ended done turn long old new (Err write.NotYourTurn)
-    → answered turn long ≡ Some fault.NotYourTurn
+    → computed turn long ≡ Some fault.NotYourTurn
 turn-reported true done turn long old new due h = cc
 turn-reported false true turn long old new due h = cc
 turn-reported false false false long old new due h = refl
@@ -38,7 +38,7 @@ turn-reported false false true true old new due h = cc
 turn-reported false false true false old new due h = absurd h
 
 long-reported : (ended done turn long : Bool) (old new : List ℕ) → not ended && not done ≡ true → StepValue ended done turn long old new (Err write.TooLong)
-    → answered turn long ≡ Some fault.TooLong
+    → computed turn long ≡ Some fault.TooLong
 long-reported true done turn long old new due h = cc
 long-reported false true turn long old new due h = cc
 long-reported false false false long old new due h = cc
@@ -46,7 +46,7 @@ long-reported false false true true old new due h = refl
 long-reported false false true false old new due h = absurd h
 
 lack-reported : (ended done turn long : Bool) (old new : List ℕ) (k : ℕ) → StepValue ended done turn long old new (Err (write.Agreement k))
-    → answered turn long ≡ None
+    → computed turn long ≡ None
 lack-reported true done turn long old new k h = cc
 lack-reported false true turn long old new k h = cc
 lack-reported false false false long old new k h = cc

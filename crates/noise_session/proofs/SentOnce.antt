@@ -1,7 +1,7 @@
 -- A payload comes to one thing at an end.
 use Rattle.std.proofs.Common.{◌≡◌, ℕ, List, length, Option, Some, Result, Ok, Err, refl, ap, arith}
 use Rattle.noise_handshake.specs.Party.{Party}
-use Rattle.noise_handshake.specs.Writing.{Writes, LacksAnswer}
+use Rattle.noise_handshake.specs.Writing.{Writes, LacksDhResult}
 use Rattle.noise_handshake.specs.Matching.{after_own}
 use Rattle.noise_session.specs.declared.faults.SendFault.{SendFault}
 use Rattle.noise_session.specs.declared.faults.SendFault.TheVariants as fault
@@ -10,30 +10,30 @@ use Rattle.noise_session.specs.Progress.{refusal}
 use Rattle.noise_session.specs.Ends.{EndState, progress_of}
 use Rattle.noise_session.specs.Sending.{Sends, after_fault}
 use Rattle.noise_session.proofs.Parties.{open-passed}
-use Rattle.noise_session.specs.Sending.Sends.{refuses, lacks_answer, sends_handshake, sends_transport}
+use Rattle.noise_session.specs.Sending.Sends.{refuses, lacks_dh_result, sends_handshake, sends_transport}
 
 module _ (written-one : (v : Party) (payload m n : List ℕ) (xs ys : List (List ℕ)) → Writes v payload xs m → Writes v payload ys n → (xs ≡ ys) × (m ≡ n))
-    (lacks-one : (v : Party) (k j : ℕ) → LacksAnswer v k → LacksAnswer v j → k ≡ j)
-    (apart : (v : Party) (payload m : List ℕ) (xs : List (List ℕ)) (k : ℕ) → Writes v payload xs m → LacksAnswer v k → ⊥) where
+    (lacks-one : (v : Party) (k j : ℕ) → LacksDhResult v k → LacksDhResult v j → k ≡ j)
+    (apart : (v : Party) (payload m : List ℕ) (xs : List (List ℕ)) (k : ℕ) → Writes v payload xs m → LacksDhResult v k → ⊥) where
   refused-one : (o : Option SendFault) (a b : SendFault) → o ≡ Some a → o ≡ Some b → a ≡ b
   refused-one o a b e f = cc
 
   pub sends-once : (v x y : EndState) (payload : List ℕ) (r s : Result (List ℕ) SendFault) → Sends v payload r x → Sends v payload s y → (r ≡ s) × (x ≡ y)
   sends-once v x y payload r s (refuses _ _ a e) (refuses _ _ b f) =
       let one = refused-one (refusal (progress_of v) (length payload)) a b e f in (ap (λ (w : SendFault). Err w) one, ap (after_fault v) one)
-  sends-once v x y payload r s (refuses _ _ a e) (lacks_answer _ _ k f lacks) = cc
+  sends-once v x y payload r s (refuses _ _ a e) (lacks_dh_result _ _ k f lacks) = cc
   sends-once v x y payload r s (refuses _ _ a e) (sends_handshake _ _ m xs f writes) = cc
   sends-once v x y payload r s (refuses _ _ a e) (sends_transport _ _ f opens) = cc
-  sends-once v x y payload r s (lacks_answer _ _ k e lacks) (refuses _ _ b f) = cc
-  sends-once v x y payload r s (lacks_answer _ _ k e lacks) (lacks_answer _ _ j f other) =
+  sends-once v x y payload r s (lacks_dh_result _ _ k e lacks) (refuses _ _ b f) = cc
+  sends-once v x y payload r s (lacks_dh_result _ _ k e lacks) (lacks_dh_result _ _ j f other) =
       (ap (λ (i : ℕ). Err (fault.Agreement i)) (lacks-one v.party k j lacks other), refl)
-  sends-once v x y payload r s (lacks_answer _ _ k e lacks) (sends_handshake _ _ m xs f writes) = absurd (apart v.party payload m xs k writes lacks)
-  sends-once v x y payload r s (lacks_answer _ _ k e lacks) (sends_transport _ _ f opens) =
+  sends-once v x y payload r s (lacks_dh_result _ _ k e lacks) (sends_handshake _ _ m xs f writes) = absurd (apart v.party payload m xs k writes lacks)
+  sends-once v x y payload r s (lacks_dh_result _ _ k e lacks) (sends_transport _ _ f opens) =
       let more = lacks.speaks.more in
       let all = open-passed v opens in
       absurd (omega arith)
   sends-once v x y payload r s (sends_handshake _ _ m xs e writes) (refuses _ _ b f) = cc
-  sends-once v x y payload r s (sends_handshake _ _ m xs e writes) (lacks_answer _ _ k f lacks) = absurd (apart v.party payload m xs k writes lacks)
+  sends-once v x y payload r s (sends_handshake _ _ m xs e writes) (lacks_dh_result _ _ k f lacks) = absurd (apart v.party payload m xs k writes lacks)
   sends-once v x y payload r s (sends_handshake _ _ m xs e writes) (sends_handshake _ _ n ys f other) =
       let one = written-one v.party payload m n xs ys writes other in
       (ap (λ (bytes : List ℕ). Ok (frame bytes)) one.1, ap (λ (zs : List (List ℕ)). record v { party = after_own v.party zs payload }) one.0)
@@ -42,7 +42,7 @@ module _ (written-one : (v : Party) (payload m n : List ℕ) (xs ys : List (List
       let all = open-passed v opens in
       absurd (omega arith)
   sends-once v x y payload r s (sends_transport _ _ e opens) (refuses _ _ b f) = cc
-  sends-once v x y payload r s (sends_transport _ _ e opens) (lacks_answer _ _ k f lacks) =
+  sends-once v x y payload r s (sends_transport _ _ e opens) (lacks_dh_result _ _ k f lacks) =
       let more = lacks.speaks.more in
       let all = open-passed v opens in
       absurd (omega arith)

@@ -1,7 +1,7 @@
 -- What an end makes of a payload (Noise 5.3, 11.3 and 13).
 use Rattle.std.specs.Prelude.{◌≡◌, ℕ, ◌+◌, ◌≤◌, ⊤, List, length, take, drop, Option, Some, None, Result, Ok, Err, IsTrue, IfOk, MatchOption, if◌then◌else◌}
 use Rattle.noise_keys.specs.declared.keys.Own.{Own}
-use Rattle.noise_handshake.specs.Writing.{Writes, LacksAnswer}
+use Rattle.noise_handshake.specs.Writing.{Writes, LacksDhResult}
 use Rattle.noise_handshake.specs.Matching.{after_own}
 use Rattle.noise_session.specs.declared.faults.SendFault.{SendFault}
 use Rattle.noise_session.specs.declared.faults.SendFault.TheVariants as fault
@@ -19,8 +19,8 @@ after_fault v why = if ends why then ended_session v else v
 pub data Sends : EndState → List ℕ → Result (List ℕ) SendFault → EndState → Type 0 where
   refuses : (v : EndState) (payload : List ℕ) (why : SendFault) → refusal (progress_of v) (length payload) ≡ Some why
       → Sends v payload (Err why) (after_fault v why)
-  lacks_answer : (v : EndState) (payload : List ℕ) (token : ℕ) → refusal (progress_of v) (length payload) ≡ None
-      → LacksAnswer v.party token
+  lacks_dh_result : (v : EndState) (payload : List ℕ) (token : ℕ) → refusal (progress_of v) (length payload) ≡ None
+      → LacksDhResult v.party token
       → Sends v payload (Err (fault.Agreement token)) (ended_session v)
   sends_handshake : (v : EndState) (payload message : List ℕ) (xs : List (List ℕ))
       → refusal (progress_of v) (length payload) ≡ None

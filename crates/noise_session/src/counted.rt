@@ -10,7 +10,7 @@ ghost use Rattle.noise_session.specs.declared.counted.Filling.TheVariants.{Fille
 
 use std::io::{self, Read, Write};
 
-/// A reader or writer with a count of its failed reads and writes: those that answered an error, an interruption too,
+/// A reader or writer with a count of its failed reads and writes: those that returned an error, an interruption too,
 /// and each write that took none of some bytes. A flush isn't counted. The count begins again at 0 after 2^64 - 1.
 #[derive(Debug, Drop)]
 pub struct Counted<T> {

@@ -12,7 +12,7 @@ use Rattle.noise_session.specs.Ends.{EndState, ended_session}
 use Rattle.noise_session.specs.Faults.{ends}
 use Rattle.noise_session.specs.Frames.{frame}
 use Rattle.noise_session.specs.Sending.{Sends}
-use Rattle.noise_session.specs.Sending.Sends.{refuses, lacks_answer, sends_handshake, sends_transport}
+use Rattle.noise_session.specs.Sending.Sends.{refuses, lacks_dh_result, sends_handshake, sends_transport}
 use Rattle.noise_session.specs.Steps.{StepValue}
 use Rattle.noise_session.specs.Taking.{Judges}
 use Rattle.noise_session.specs.Taking.Judges.{accepted, refused, opened, dropped, exhausted}
@@ -56,7 +56,7 @@ over-pattern false v = refl
 
 sent-pattern : (v next : EndState) (payload : List ℕ) (reported : Result (List ℕ) SendFault) → Sends v payload reported next → next.party.pattern ≡ v.party.pattern
 sent-pattern v next payload reported (refuses _ _ why refusal) = over-pattern (ends why) v
-sent-pattern v next payload reported (lacks_answer _ _ token free lacks) = refl
+sent-pattern v next payload reported (lacks_dh_result _ _ token free lacks) = refl
 sent-pattern v next payload reported (sends_handshake _ _ message xs free w) = refl
 sent-pattern v next payload reported (sends_transport _ _ free opens) = refl
 
@@ -76,7 +76,7 @@ sent-partial : (v next : EndState) (payload : List ℕ) (reported : Result (List
 sent-partial v next payload reported (refuses _ _ other refusal) why is partial e =
     let same : other ≡ why = cc in
     ap (λ (f : SendFault). if ends f then [] else partial) (sym same) ∙ over-partial (ends other) v partial e
-sent-partial v next payload reported (lacks_answer _ _ token free lacks) why is partial e =
+sent-partial v next payload reported (lacks_dh_result _ _ token free lacks) why is partial e =
     let same : Agreement token ≡ why = cc in ap (λ (f : SendFault). if ends f then [] else partial) (sym same)
 sent-partial v next payload reported (sends_handshake _ _ message xs free w) why is partial e = absurd (cc is)
 sent-partial v next payload reported (sends_transport _ _ free opens) why is partial e = absurd (cc is)

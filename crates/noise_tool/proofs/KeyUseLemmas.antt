@@ -10,7 +10,7 @@ use Rattle.noise_handshake.specs.declared.faults.Cause.{Cause}
 use Rattle.noise_handshake.specs.HandshakeValue.{is_turn}
 use Rattle.noise_handshake.specs.Matching.{after_message, after_own}
 use Rattle.noise_handshake.specs.Party.{Accepts, Refuses}
-use Rattle.noise_handshake.specs.Writing.{LacksAnswer, Writes}
+use Rattle.noise_handshake.specs.Writing.{LacksDhResult, Writes}
 use Rattle.noise_session.specs.declared.faults.SendFault.{SendFault}
 use Rattle.noise_session.specs.declared.faults.SendFault.TheVariants as fault
 use Rattle.noise_session.specs.Ends.{EndState, ended_session, progress_of}
@@ -18,7 +18,7 @@ use Rattle.noise_session.specs.Faults.{ends}
 use Rattle.noise_session.specs.Progress.{Progress, is_open, refusal}
 use Rattle.noise_session.specs.Progress.Progress.{Handshaking, Open, HasEnded}
 use Rattle.noise_session.specs.Sending.{Sends}
-use Rattle.noise_session.specs.Sending.Sends.{refuses, lacks_answer, sends_handshake, sends_transport}
+use Rattle.noise_session.specs.Sending.Sends.{refuses, lacks_dh_result, sends_handshake, sends_transport}
 use Rattle.noise_session.specs.Steps.{StepValue}
 use Rattle.noise_session.specs.Steps.StepValue.{Payload, Dropped, Refused, Exhausted}
 use Rattle.noise_session.specs.Taking.{Judges}
@@ -83,7 +83,7 @@ sent-free v payload free opens =
     open-free v.party.ended (v.party.passed == length v.party.pattern.messages) v.party.pattern v.party.role v.party.passed v.sent v.received payload
     (is_one_way v.party.pattern) free opens
 
--- no refusal is for want of an answer
+-- no refusal is for want of a DH result
 two-faults : (a b : Bool) (x y z : SendFault) → (if a then Some x else if b then Some y else None) ≡ Some z → (x ≢ z) → (y ≢ z) → ⊥
 two-faults true b x y z e nx ny = let same : x ≡ z = cc in nx same
 two-faults false true x y z e nx ny = let same : y ≡ z = cc in ny same
@@ -146,18 +146,18 @@ module _ (t : Trace) (closes : Closes t) where
   after-closes v true follows = closes v follows
   after-closes v false follows = follows
 
-  -- a payload for which there is no DH answer
+  -- a payload for which there is no DH result
   unsent-lacking : (m : KeyUse) (v next : EndState) (payload : List ℕ) (reported : Result (List ℕ) SendFault) (sends : Sends v payload reported next) (token : ℕ)
       → reported ≡ Err (fault.Agreement token) → Follow t v
-      → ((w : EndState) → Follow t w → (lacks : LacksAnswer w.party token) → use_value m ≡ stopped_use w token lacks.lacks.before)
+      → ((w : EndState) → Follow t w → (lacks : LacksDhResult w.party token) → use_value m ≡ stopped_use w token lacks.lacks.before)
       → Used (use_value m) (unsent_use v next payload reported sends) t next
   unsent-lacking m v next payload reported (refuses _ _ why declined) token is follows clause =
       let same : why ≡ fault.Agreement token = cc in
       absurd (refusal-other (progress_of v) (length payload) token (declined ∙ ap (λ (f : SendFault). Some f) same))
-  unsent-lacking m v next payload reported (lacks_answer _ _ actual free lacks) token is follows clause =
+  unsent-lacking m v next payload reported (lacks_dh_result _ _ actual free lacks) token is follows clause =
       let same : fault.Agreement token ≡ fault.Agreement actual = cc in
       let here : use_value m ≡ stopped_use v actual lacks.lacks.before =
-      subst (λ (k : ℕ). (l : LacksAnswer v.party k) → use_value m ≡ stopped_use v k l.lacks.before) (token-same token actual same) (clause v follows) lacks in
+      subst (λ (k : ℕ). (l : LacksDhResult v.party k) → use_value m ≡ stopped_use v k l.lacks.before) (token-same token actual same) (clause v follows) lacks in
       (here, subst IsCounted (sym here) tt, closes v follows)
   unsent-lacking m v next payload reported (sends_handshake _ _ text xs free w) token is follows clause = absurd (cc is)
   unsent-lacking m v next payload reported (sends_transport _ _ free opens) token is follows clause = absurd (cc is)
@@ -166,13 +166,13 @@ module _ (t : Trace) (closes : Closes t) where
   unsent-refused : (v next : EndState) (payload : List ℕ) (reported : Result (List ℕ) SendFault) (sends : Sends v payload reported next) (why : SendFault)
       → reported ≡ Err why → ((token : ℕ) → why ≢ fault.Agreement token) → Follow t v → Used Nothing (unsent_use v next payload reported sends) t next
   unsent-refused v next payload reported (refuses _ _ given declined) why is not_lacking follows = (refl, tt, after-closes v (ends given) follows)
-  unsent-refused v next payload reported (lacks_answer _ _ token free lacks) why is not_lacking follows =
+  unsent-refused v next payload reported (lacks_dh_result _ _ token free lacks) why is not_lacking follows =
       let same : why ≡ fault.Agreement token = cc in absurd (not_lacking token same)
   unsent-refused v next payload reported (sends_handshake _ _ text xs free w) why is not_lacking follows = absurd (cc is)
   unsent-refused v next payload reported (sends_transport _ _ free opens) why is not_lacking follows = absurd (cc is)
 
   pub withheld-shown : (m : KeyUse) (token : ℕ)
-      → ((w : EndState) → Follow t w → (lacks : LacksAnswer w.party token) → use_value m ≡ stopped_use w token lacks.lacks.before)
+      → ((w : EndState) → Follow t w → (lacks : LacksDhResult w.party token) → use_value m ≡ stopped_use w token lacks.lacks.before)
       → (s next : Side) (payload : List ℕ) (note : Note) (w : SideWrites s payload note next) → Follow t s.state
       → WriteFault (fault.Agreement token) ≡ note → Used (use_value m) (written_use s next payload note w) t next.state
   withheld-shown m token clause s next payload note (writes_nothing _ _ why after sends) follows reported =
@@ -320,7 +320,7 @@ neither-written (entry.Missing n) p q s next payload note w reported = wrote-or-
 neither-written (entry.Held n) p q s next payload note w reported = wrote-or-not s next payload note w (λ k e. let bad = reported ∙ sym e in cc bad)
     (λ why e. let bad = reported ∙ sym e in cc bad)
 
--- another fault than that of a DH answer
+-- another fault than that of a DH result
 pub six-others : (f : SendFault)
     → (f ≡ fault.NotYourTurn) ⊎ (f ≡ fault.TooLong) ⊎ (f ≡ fault.Ended) ⊎ (f ≡ fault.OneWay) ⊎ (f ≡ fault.Exhausted)
     ⊎ ((n : ℕ) × (f ≡ fault.Output n)) → (token : ℕ) → f ≢ fault.Agreement token

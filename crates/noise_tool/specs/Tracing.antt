@@ -11,7 +11,7 @@ use Rattle.noise_session.specs.declared.faults.SendFault.{SendFault}
 use Rattle.noise_session.specs.Ends.{EndState}
 use Rattle.noise_session.specs.Frames.{frame}
 use Rattle.noise_session.specs.Sending.{Sends}
-use Rattle.noise_session.specs.Sending.Sends.{refuses, lacks_answer, sends_handshake, sends_transport}
+use Rattle.noise_session.specs.Sending.Sends.{refuses, lacks_dh_result, sends_handshake, sends_transport}
 use Rattle.noise_session.specs.Steps.{StepValue}
 use Rattle.noise_session.specs.Steps.StepValue.{Payload}
 use Rattle.noise_session.specs.Taking.{Judges}
@@ -46,11 +46,11 @@ use Rattle.noise_tool.specs.declared.trace_lines.Act.TheVariants.{Writes as Writ
 
 -- ---- the keys of a write
 
--- of what isn't sent: the steps up to the token for which there is no DH answer
+-- of what isn't sent: the steps up to the token for which there is no DH result
 abbrev pub unsent_use : (v next : EndState) (payload : List ℕ) (reported : Result (List ℕ) SendFault)
     → Sends v payload reported next → KeyUseValue
 unsent_use v next payload reported (refuses _ _ why refusal) = Nothing
-unsent_use v next payload reported (lacks_answer _ _ token free lacks) = stopped_use v token lacks.lacks.before
+unsent_use v next payload reported (lacks_dh_result _ _ token free lacks) = stopped_use v token lacks.lacks.before
 unsent_use v next payload reported (sends_handshake _ _ message xs free w) = Nothing
 unsent_use v next payload reported (sends_transport _ _ free opens) = Nothing
 

@@ -7,7 +7,7 @@ ghost use Rattle.noise_names.specs.Plan.{has_psk};
 ghost use Rattle.noise_state.specs.Standing.{nonce_now};
 ghost use Rattle.noise_handshake.specs.Party.{Party, Accepts, Refuses, tokens_at, tokens_now};
 ghost use Rattle.noise_handshake.specs.Message.{before_payload};
-ghost use Rattle.noise_handshake.specs.Writing.{LacksAnswer, Writes};
+ghost use Rattle.noise_handshake.specs.Writing.{LacksDhResult, Writes};
 ghost use Rattle.noise_handshake.specs.Matching.{Matches};
 ghost use Rattle.noise_handshake.specs.declared.faults.Cause.{Cause};
 
@@ -241,7 +241,7 @@ impl BeforeMessage {
     /// `keys` are those of the handshake. Of other keys or tokens the steps may end early.
     pub fn withheld_steps<K: Keys>(&self, keys: &K, token: u8) -> ArrayVec<Step, 11>
         ensures withheld { (v : Party) → MatchesBefore self.now v → K.public_of keys.now ≡ v.own
-            → K.agreement keys.now ≡ v.agree → (lacks : LacksAnswer v token)
+            → K.agreement keys.now ≡ v.agree → (lacks : LacksDhResult v token)
             → result.items ≡ steps_before v token lacks.lacks.before }
     {
         let count = self.tokens.len().min(token as usize);

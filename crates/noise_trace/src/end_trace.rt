@@ -4,7 +4,7 @@
 ghost use Rattle.std.specs.Prelude.{◌≡◌, ◌≢◌, ◌+◌, ℕ, List, [], length, IsTrue, None};
 ghost use Rattle.noise_handshake.specs.declared.faults.Cause.{Cause};
 ghost use Rattle.noise_handshake.specs.Party.{Party, Accepts, Refuses};
-ghost use Rattle.noise_handshake.specs.Writing.{Writes, LacksAnswer};
+ghost use Rattle.noise_handshake.specs.Writing.{Writes, LacksDhResult};
 ghost use Rattle.noise_session.specs.Transport.{last_nonce};
 ghost use Rattle.noise_session.specs.Progress.{is_open, refusal};
 ghost use Rattle.noise_session.specs.Ends.{EndState, end_of, progress_of};
@@ -106,7 +106,7 @@ impl<K: Keys> EndTrace<K> {
     /// A handshake message that the end didn't write for want of a DH result at this token, counted from 0: the steps
     /// of the tokens before it.
     pub fn withheld(&self, token: u8) -> KeyUse
-        ensures { (v : EndState) → EndFollows K.public_of K.agreement self.now v → (lacks : LacksAnswer v.party token)
+        ensures { (v : EndState) → EndFollows K.public_of K.agreement self.now v → (lacks : LacksDhResult v.party token)
             → use_value result ≡ stopped_use v token lacks.lacks.before }
     {
         KeyUse::Message {

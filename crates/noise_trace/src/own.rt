@@ -8,7 +8,7 @@ ghost use Rattle.noise_state.specs.History.{History, Ciphertext, and_then, ciphe
 ghost use Rattle.noise_state.specs.Standing.{StateMatches, nonce_now};
 ghost use Rattle.noise_trace.specs.inner.Means.{GivesToken, GivesTokens};
 
-use crate::tokens::{answer_at, mix_ephemeral, psks_after};
+use crate::tokens::{dh_result_at, mix_ephemeral, psks_after};
 use crate::values::values_of;
 use crate::{Part, Step};
 use arrayvec::ArrayVec;
@@ -78,8 +78,8 @@ fn give_token<K: Keys>(
             Some(0)
         }
         _ => {
-            let answer = answer_at(means.keys, means.role, &means.known, token)?;
-            state.mix_key(&answer);
+            let dh_result = dh_result_at(means.keys, means.role, &means.known, token)?;
+            state.mix_key(&dh_result);
             Some(0)
         }
     }

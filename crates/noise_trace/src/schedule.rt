@@ -4,7 +4,7 @@
 ghost use Rattle.std.specs.Prelude.{◌≡◌, ◌<◌, ℕ, List, length};
 ghost use Rattle.noise_state.specs.History.{initiator_key, responder_key};
 ghost use Rattle.noise_handshake.specs.Party.{Party, Accepts, Refuses};
-ghost use Rattle.noise_handshake.specs.Writing.{LacksAnswer, Writes};
+ghost use Rattle.noise_handshake.specs.Writing.{LacksDhResult, Writes};
 ghost use Rattle.noise_handshake.specs.Matching.{Matches, after_message, after_own};
 ghost use Rattle.noise_handshake.specs.declared.faults.Cause.{Cause};
 ghost use Rattle.noise_trace.specs.Values.{values_of};
@@ -128,7 +128,7 @@ impl<K: Keys> Following<K> {
     ///
     /// Of another token the steps may end early.
     pub fn withheld(&self, token: u8) -> ArrayVec<Step, 11>
-        ensures { (v : Party) → Follows K.public_of K.agreement self.now v → (lacks : LacksAnswer v token)
+        ensures { (v : Party) → Follows K.public_of K.agreement self.now v → (lacks : LacksDhResult v token)
             → result.items ≡ steps_before v token lacks.lacks.before }
     {
         self.before.withheld_steps(&self.keys, token)

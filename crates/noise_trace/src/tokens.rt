@@ -50,7 +50,7 @@ fn remote_at(role: Role, known: &Remote, token: Token) -> Option<[u8; 32]>
 }
 
 // The DH result at a DH token, where there is one.
-pub(crate) fn answer_at<K: Keys>(
+pub(crate) fn dh_result_at<K: Keys>(
     keys: &K,
     role: Role,
     known: &Remote,
@@ -186,8 +186,8 @@ fn follow_token<K: Keys>(
             Some((0, *known))
         }
         _ => {
-            let answer = answer_at(means.keys, means.role, known, token)?;
-            state.mix_key(&answer);
+            let dh_result = dh_result_at(means.keys, means.role, known, token)?;
+            state.mix_key(&dh_result);
             Some((0, *known))
         }
     }

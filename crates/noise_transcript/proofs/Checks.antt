@@ -10,7 +10,7 @@ use Rattle.noise_names.specs.Tokens.{other}
 use Rattle.noise_names.specs.Validity.{IsValid}
 use Rattle.noise_keys.specs.declared.faults.SetupFault.{SetupFault}
 use Rattle.noise_keys.specs.declared.xor_keys.XorKeys.{XorKeys}
-use Rattle.noise_keys.specs.Keys.{key_of, xor_answer}
+use Rattle.noise_keys.specs.Keys.{key_of, xor_dh_result}
 use Rattle.noise_handshake.specs.Setup.{setup_fault}
 use Rattle.noise_events.specs.Events.{Event, Say, events_of}
 use Rattle.noise_duel.specs.Acts.{roles_and_payloads}
@@ -44,7 +44,7 @@ neither (Some why) u e = absurd (cc e)
 -- what both parties of two values of these keys start from
 abbrev pub xor_starts : Plan → List ℕ → List (List ℕ) → XorKeys → XorKeys → BothStarts
 xor_starts p prologue psks a b =
-    starts (λ keys own. key_of own keys.e keys.s) (λ keys own remote. xor_answer (key_of own keys.e keys.s) remote) p prologue psks a b
+    starts (λ keys own. key_of own keys.e keys.s) (λ keys own remote. xor_dh_result (key_of own keys.e keys.s) remote) p prologue psks a b
 
 abbrev setup_from : Plan → Role → FileKeys → FileKeys → ℕ → Option SetupFault
 setup_from p role own theirs n = setup_fault p role (public_of own) (known_before p (other role) (public_of theirs)) n

@@ -16,7 +16,7 @@ use Rattle.noise_duel.specs.Conversation.{HaveParts, KeyMaterial, LinesComeThrou
 use Rattle.noise_duel.specs.Messages.{Start}
 use Rattle.noise_duel.specs.Notes.{Note}
 use Rattle.noise_duel.specs.Runs.{Run}
-use Rattle.noise_duel.specs.SetUpAlike.{AlikeAreParts, HaveOneMaterial, AreSetUpAlike, HasAnswers, material_of}
+use Rattle.noise_duel.specs.SetUpAlike.{AlikeAreParts, HaveOneMaterial, AreSetUpAlike, HasDhResults, material_of}
 use Rattle.noise_duel.specs.Sides.{Sides}
 use Rattle.noise_conversation.specs.Turns.{LinesTakeTurns}
 use Rattle.noise_vectors.specs.declared.vector.FileDatagrams.{FileDatagrams}
@@ -29,7 +29,7 @@ use Rattle.noise_transcript.specs.Fitting.{HasFittingLines}
 use Rattle.noise_transcript.specs.Talked.{FittingLinesRun, exchange_lines}
 use Rattle.noise_transcript.proofs.Exchange.{noted-lines, same-writers}
 use Rattle.noise_transcript.proofs.Reached.{both-there}
-use Rattle.noise_transcript.proofs.Xor.{keys-agree, long-keys, remote-own, xor-answers}
+use Rattle.noise_transcript.proofs.Xor.{keys-agree, long-keys, remote-own, xor-dh-results}
 
 -- what the laws of the crates below say
 pub record Laws : Type 0 where
@@ -50,14 +50,14 @@ module _ (laws : Laws) (file : VectorFile) (p : Plan) (lines : List (Role × Lis
   abbrev b : Start
   b = start_of file p Responder
 
-  answers : HasAnswers p a b
-  answers t d o =
+  dh_results : HasDhResults p a b
+  dh_results t d o =
       let mine = laws.own p Initiator a.own a.remote (length a.psks) (fits.set_up Initiator) (own_at Initiator t) (laws.keys p Initiator t fits.valid d o) in
       let theirs = laws.own p Responder b.own b.remote (length b.psks) (fits.set_up Responder) (own_at Responder t)
       (laws.keys p Responder t fits.valid d o) in (
-        xor-answers file.initiator fits.initiator (own_at Initiator t) (remote_at Initiator (public_keys b.own) t) mine
+        xor-dh-results file.initiator fits.initiator (own_at Initiator t) (remote_at Initiator (public_keys b.own) t) mine
             (ap (λ (key : Option (List ℕ)). is_some key) (remote-own Initiator b.own t) ∙ theirs),
-        xor-answers file.responder fits.responder (own_at Responder t) (remote_at Responder (public_keys a.own) t) theirs
+        xor-dh-results file.responder fits.responder (own_at Responder t) (remote_at Responder (public_keys a.own) t) theirs
             (ap (λ (key : Option (List ℕ)). is_some key) (remote-own Responder a.own t) ∙ mine),
       )
 
@@ -75,7 +75,7 @@ module _ (laws : Laws) (file : VectorFile) (p : Plan) (lines : List (Role × Lis
 
   parts : HaveOneMaterial p file.prologue.items a b
   parts = laws.parts p file.prologue.items a b fits.valid alike (long-keys file.initiator fits.right.initiator)
-      (long-keys file.responder fits.right.responder) answers
+      (long-keys file.responder fits.right.responder) dh_results
 
   have : HaveParts (material_of a b) p file.prologue.items a b
   have = record { pattern = fits.pattern; valid = fits.valid; long = parts.long; initiator = parts.initiator; responder = parts.responder }

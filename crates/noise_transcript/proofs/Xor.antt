@@ -1,4 +1,4 @@
--- Keys whose DH is the xor of bytes: those of two parties agree, and have an answer wherever a setup without a fault needs one.
+-- Keys whose DH is the xor of bytes: those of two parties agree, and have a DH result wherever a setup without a fault needs one.
 use Rattle.std.proofs.Common.{◌≡◌, ◌∙◌, refl, ap, sym, ℕ, List, length, Option, Some, None}
 use Rattle.std.specs.Prelude.{true, is_some, IfSome}
 use Rattle.noise_names.specs.declared.token.Role.{Role}
@@ -8,7 +8,7 @@ use Rattle.noise_names.specs.declared.token.Token.{Token}
 use Rattle.noise_names.specs.declared.token.Token.TheVariants.{E, S, Ee, Es, Se, Ss, Psk}
 use Rattle.noise_keys.specs.declared.keys.Own.{Own}
 use Rattle.noise_keys.specs.declared.keys.Own.TheVariants.{Ephemeral, Static}
-use Rattle.noise_keys.specs.Keys.{key_of, xor_answer, xor_answer-same}
+use Rattle.noise_keys.specs.Keys.{key_of, xor_dh_result, xor_dh_result-same}
 use Rattle.noise_handshake.specs.Setup.{public_keys}
 use Rattle.noise_handshake.specs.Party.{dh_result_of, own_at, remote_at}
 use Rattle.noise_vectors.specs.FileKeys.{agreement_of, public_of}
@@ -37,25 +37,25 @@ long-keys (Table keys) h x k e = long-in (key_of x keys.e keys.s) (of-own keys.e
 
 pub keys-agree : (f g : FileKeys) → IsXor f → IsXor g → (x y : Own) (k l r s : List ℕ) → public_of f x ≡ Some k → public_of g y ≡ Some l
     → agreement_of f x l ≡ Some r → agreement_of g y k ≡ Some s → r ≡ s
-keys-agree (Xor a) (Xor b) i j x y k l r s e h m n = xor_answer-same (key_of x a.e a.s) (key_of y b.e b.s) k l r s e h m n
+keys-agree (Xor a) (Xor b) i j x y k l r s e h m n = xor_dh_result-same (key_of x a.e a.s) (key_of y b.e b.s) k l r s e h m n
 keys-agree (Xor a) (Table b) i j x y k l r s e h m n = absurd j
 keys-agree (Table a) g i j x y k l r s e h m n = absurd i
 
--- ---- they have answers
+-- ---- they have DH results
 
-gives : (key : Option (List ℕ)) (l : List ℕ) → is_some key ≡ true → is_some (xor_answer key l) ≡ true
+gives : (key : Option (List ℕ)) (l : List ℕ) → is_some key ≡ true → is_some (xor_dh_result key l) ≡ true
 gives None l h = absurd (cc)
 gives (Some k) l h = refl
 
-answers : (agree : Own → List ℕ → Option (List ℕ)) (x : Own) (l : Option (List ℕ)) → is_some l ≡ true
+dh_results : (agree : Own → List ℕ → Option (List ℕ)) (x : Own) (l : Option (List ℕ)) → is_some l ≡ true
     → ((k : List ℕ) → is_some (agree x k) ≡ true) → is_some (dh_result_of agree x l) ≡ true
-answers agree x None h f = absurd (cc)
-answers agree x (Some l) h f = f l
+dh_results agree x None h f = absurd (cc)
+dh_results agree x (Some l) h f = f l
 
-pub xor-answers : (keys : FileKeys) → IsXor keys → (x : Own) (l : Option (List ℕ)) → is_some (public_of keys x) ≡ true → is_some l ≡ true
+pub xor-dh-results : (keys : FileKeys) → IsXor keys → (x : Own) (l : Option (List ℕ)) → is_some (public_of keys x) ≡ true → is_some l ≡ true
     → is_some (dh_result_of (agreement_of keys) x l) ≡ true
-xor-answers (Xor keys) i x l h k = answers (agreement_of (Xor keys)) x l k (λ m. gives (key_of x keys.e keys.s) m h)
-xor-answers (Table keys) i x l h k = absurd i
+xor-dh-results (Xor keys) i x l h k = dh_results (agreement_of (Xor keys)) x l k (λ m. gives (key_of x keys.e keys.s) m h)
+xor-dh-results (Table keys) i x l h k = absurd i
 
 -- the other party's key at a DH token
 pub remote-own : (role : Role) (theirs : Own → Option (List ℕ)) (t : Token) → remote_at role (public_keys theirs) t ≡ theirs (own_at (other role) t)

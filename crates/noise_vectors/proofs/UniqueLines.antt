@@ -59,9 +59,9 @@ answer-one a b h k e =
     ap (λ (o : _). record a { own = o }) own ∙ ap (λ (t : List ℕ). record a { own = b.own; remote = t }) remote
     ∙ ap (λ (t : List ℕ). record b { answer = t }) answer
 
-pub answers-one : (xs bs : List TableEntry) (u v : List ℕ) → All IsEntry xs → All IsEntry bs → begins u ≡ false → begins v ≡ false
+pub dh-results-one : (xs bs : List TableEntry) (u v : List ℕ) → All IsEntry xs → All IsEntry bs → begins u ≡ false → begins v ≡ false
     → lines_of answer_words xs u ≡ lines_of answer_words bs v → (xs ≡ bs) × (u ≡ v)
-answers-one xs bs u v h k hu hv e =
+dh-results-one xs bs u v h k hu hv e =
     let parts = lines-same answer_words IsEntry (λ (rest : List ℕ). begins rest ≡ false) (λ x. x) lacks-answer_words answer-stands answer-one xs bs u v h k hu hv e in
     (sym (map-id xs) ∙ parts.0 ∙ map-id bs, parts.1)
 

@@ -34,7 +34,7 @@ use Rattle.noise_vectors.proofs.BlockLemmas.{block-lines, lined-pattern}
 use Rattle.noise_vectors.proofs.PartLemmas.{header-lacks}
 use Rattle.noise_vectors.proofs.PartyLemmas.{after_of, lacks-party, no-answer, party_text-line, words_of}
 use Rattle.noise_vectors.proofs.ReadingLemmas.{interval-plain, prologue-plain, protocol-plain}
-use Rattle.noise_vectors.proofs.UniqueLines.{answers-one, datagrams-one}
+use Rattle.noise_vectors.proofs.UniqueLines.{dh-results-one, datagrams-one}
 use Rattle.noise_vectors.proofs.UniqueLines.{events-one, expected-one, keys-one}
 use Rattle.noise_vectors.proofs.UniqueLines.{psks-one}
 use Rattle.noise_vectors.proofs.UniqueWords.{first-byte, hex-one, name-one, numbers-apart, parted-one, window-one}
@@ -114,7 +114,7 @@ keys-after (Xor a) (Xor b) u v h k hu hv e after =
 keys-after (Table a) (Table b) u v h k hu hv e after =
     let keys = append_cancel_left (codes "table ") (key_words a.e a.s) (key_words b.e b.s) e in
     let parts = keys-one a.e a.s b.e b.s h.0 h.1 k.0 k.1 keys in
-    let answers = answers-one a.entries b.entries u v h.3 k.3 hu hv after in (
+    let answers = dh-results-one a.entries b.entries u v h.3 k.3 hu hv after in (
       ap (λ (x : _). Table (record a { e = x })) parts.0 ∙ ap (λ (x : _). Table (record a { e = b.e; s = x })) parts.1
           ∙ ap (λ (x : _). Table (record b { entries = x })) answers.0,
       answers.1,

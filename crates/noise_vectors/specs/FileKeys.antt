@@ -1,8 +1,8 @@
 -- What the keys of a file answer: each kind as its own type does.
 use Rattle.std.specs.Prelude.{ℕ, List, Option}
 use Rattle.noise_keys.specs.declared.keys.Own.{Own}
-use Rattle.noise_keys.specs.Keys.{key_of, xor_answer}
-use Rattle.noise_keys.specs.Table.{answer_in}
+use Rattle.noise_keys.specs.Keys.{key_of, xor_dh_result}
+use Rattle.noise_keys.specs.Table.{dh_result_in}
 use Rattle.noise_vectors.specs.declared.file_keys.FileKeys.{FileKeys}
 use Rattle.noise_vectors.specs.declared.file_keys.FileKeys.TheVariants.{Xor, Table}
 
@@ -14,5 +14,5 @@ public_of (Table keys) own = key_of own keys.e keys.s
 -- The answer of a key pair to a remote public key, if there is one: the xor of the two keys, or what the table has for
 -- them.
 abbrev pub agreement_of : FileKeys → Own → List ℕ → Option (List ℕ)
-agreement_of (Xor keys) own remote = xor_answer (key_of own keys.e keys.s) remote
-agreement_of (Table keys) own remote = answer_in keys.entries own remote
+agreement_of (Xor keys) own remote = xor_dh_result (key_of own keys.e keys.s) remote
+agreement_of (Table keys) own remote = dh_result_in keys.entries own remote

@@ -8,7 +8,7 @@ use Rattle.noise_keys.specs.declared.keys.Own.{Own}
 use Rattle.noise_duel.specs.declared.report.Report.{Report}
 use Rattle.noise_duel.specs.Conversation.{sides_at_start}
 use Rattle.noise_duel.specs.DuelValue.{DuelMatches, DuelValue}
-use Rattle.noise_duel.specs.SetUpAlike.{AreSetUpAlike, HasAnswers, HasLongKeys}
+use Rattle.noise_duel.specs.SetUpAlike.{AreSetUpAlike, HasDhResults, HasLongKeys}
 use Rattle.noise_conversation.specs.declared.fault.ConversationFault.{ConversationFault}
 use Rattle.noise_conversation.specs.Conversed.{HaveConversed}
 use Rattle.noise_conversation.specs.Lines.{lines_fit_from}
@@ -34,5 +34,5 @@ module _ {K : Type 0} (public_of : K → Own → Option (List ℕ)) (agreement :
   abbrev pub SaysLines : {E : Type 0} → List (Role × List ℕ) → DuelValue K K → Result (DuelValue K K × Report) E
       → Type 0
   SaysLines lines duel result = (p : Plan) (s : BothStarts) (interval : ℕ)
-      → AreNewEnds p s interval duel → lines_fit_from p 0 lines ≡ true → HasAnswers p s.initiator s.responder
+      → AreNewEnds p s interval duel → lines_fit_from p 0 lines ≡ true → HasDhResults p s.initiator s.responder
       → IfOk result (λ r. HaveConversed public_of agreement p s interval lines r.0 r.1)

@@ -8,8 +8,8 @@ use Rattle.noise_keys.specs.declared.keys.Own.{Own}
 use Rattle.noise_keys.specs.declared.keys.Own.TheVariants.{Ephemeral, Static}
 use Rattle.noise_handshake.specs.declared.remote.Remote.{Remote}
 use Rattle.noise_handshake.specs.Party.{Party, Speaks, tokens_now}
-use Rattle.noise_handshake.specs.Wanting.{LacksAnswerFor}
-use Rattle.noise_handshake.specs.Writing.{Writer, LacksAnswerAt}
+use Rattle.noise_handshake.specs.Wanting.{LacksDhResultFor}
+use Rattle.noise_handshake.specs.Writing.{Writer, LacksDhResultAt}
 
 -- whether the party has the key of its own that a token sends
 abbrev pub has_own : (Own → Option (List ℕ)) → Token → Bool
@@ -19,8 +19,8 @@ has_own own _ = true
 
 -- The first token without a text is a DH without this result; or each token has a text.
 abbrev pub WriterWants : Writer → Remote → List (List ℕ) → List Token → Option (Own × List ℕ) → Type 0
-WriterWants w known psks ts want = MatchOption want ((k : ℕ) → LacksAnswerAt w known psks ts k → ⊥)
-    (λ lacking. LacksAnswerFor w known psks ts lacking.0 lacking.1)
+WriterWants w known psks ts want = MatchOption want ((k : ℕ) → LacksDhResultAt w known psks ts k → ⊥)
+    (λ lacking. LacksDhResultFor w known psks ts lacking.0 lacking.1)
 
 -- A party that speaks, with these parts, for a party.
 pub record Speaking (v : Party) (role : Role) (has_psks : Bool) (own : Own → Option (List ℕ))

@@ -6,7 +6,7 @@ use Rattle.noise_state.specs.Standing.{StateMatches}
 use Rattle.noise_state.specs.declared.symmetric.SymmetricState.{SymmetricState}
 use Rattle.noise_handshake.specs.declared.remote.Remote.{Remote}
 use Rattle.noise_handshake.specs.Message.{token_bytes, after_token, before_payload, after_tokens, message_bytes, after_payload}
-use Rattle.noise_handshake.specs.Writing.{Writer, Gives, Given, LacksAnswerAt}
+use Rattle.noise_handshake.specs.Writing.{Writer, Gives, Given, LacksDhResultAt}
 
 -- what a token of the party's own carries, or no text is given
 abbrev pub GivesOrNone : Writer → Remote → List (List ℕ) → Token → Option (List ℕ) → Type 0
@@ -26,7 +26,7 @@ abbrev pub WritesTokens : Writer → History → SymmetricState → Remote → L
 WritesTokens w r state known psks ts out result = MatchResult result
     (λ n. (xs : List (List ℕ)) × Given w known psks ts xs × (take n out ≡ before_payload w.has_psks r ts xs)
     × StateMatches state (after_tokens w.has_psks r ts xs))
-    (λ k. LacksAnswerAt w known psks ts k)
+    (λ k. LacksDhResultAt w known psks ts k)
 
 -- a message with this payload
 abbrev pub WritesMessage : Writer → History → SymmetricState → Remote → List (List ℕ) → List Token → List ℕ → List ℕ
@@ -34,4 +34,4 @@ abbrev pub WritesMessage : Writer → History → SymmetricState → Remote → 
 WritesMessage w r state known psks ts payload out result = MatchResult result
     (λ n. (xs : List (List ℕ)) × Given w known psks ts xs × (take n out ≡ message_bytes w.has_psks r ts xs payload)
     × StateMatches state (after_payload w.has_psks r ts xs payload))
-    (λ k. LacksAnswerAt w known psks ts k)
+    (λ k. LacksDhResultAt w known psks ts k)

@@ -4,7 +4,7 @@ ghost use Rattle.std.specs.Prelude.{IsSome};
 
 use super::transport::{KEY, sealed};
 use noise_aead::rekey;
-use noise_conversation::{converse, lines_fit, run_events, xor_keys_answer};
+use noise_conversation::{converse, lines_fit, run_events, xor_keys_have_dh_results};
 use noise_duel::{Cuts, Duel, Event, Report};
 use noise_handshake::XorKeys;
 use noise_names::{Pattern, PskPlaces, Role, ValidPattern, fundamental};
@@ -59,7 +59,7 @@ fn conversed(
     assert!(rt; fit);
     let initiator = both_keys(0x11, 0x33);
     let responder = both_keys(0x22, 0x44);
-    xor_keys_answer();
+    xor_keys_have_dh_results();
     let made = converse(
         alloc, pattern, b"tests", initiator, responder, psks, 1, lines,
     );

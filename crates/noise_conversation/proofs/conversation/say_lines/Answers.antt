@@ -12,12 +12,12 @@ use Rattle.noise_conversation.proofs.StepValue.{hash-reported}
 use Rattle.noise_conversation.proofs.conversation.say_lines.Goals as goal
 
 pub returns : goal.returns
-returns g c p s interval new fits answers =
+returns g c p s interval new fits dh_results =
     let lines = roles_and_payloads c.args.lines.now in
     let a = s.initiator in
     let b = s.responder in
     let r = history_of p s lines in
-    let parts = c.alike_are_parts.ensures p a.prologue a b new.valid new.alike new.initiator_keys new.responder_keys answers in
+    let parts = c.alike_are_parts.ensures p a.prologue a b new.valid new.alike new.initiator_keys new.responder_keys dh_results in
     let have : HaveParts (material_of a b) p a.prologue a b = record {
       pattern = new.pattern;
       valid = new.valid;

@@ -22,7 +22,7 @@ returns c = record {
   next = c.written_is_accepted.ensures.next;
   turned = c.written_is_accepted.ensures.turned;
   known = c.shown_is_known.ensures.known;
-  answer = c.shown_is_known.ensures.answer;
+  dh_result = c.shown_is_known.ensures.dh_result;
   starts = c.starts_are_counterparts.ensures;
   due = c.due_is_written.ensures;
 }

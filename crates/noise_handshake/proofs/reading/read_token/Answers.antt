@@ -21,8 +21,8 @@ returns-in-Psk-clause-read g c r s =
     c.args.known.now c.args.psks.now r c.args.placed.token c.args.message.now (get_or c.args.psks.now 0 [])
     c.in-Psk.is (first_psk-read c.args.psks.now) (c.mix_key_and_hash.ensures.matches r s)
 
-pub answer_at-requires : goal.answer_at-requires
-answer_at-requires g c =
+pub dh_result_at-requires : goal.dh_result_at-requires
+dh_result_at-requires g c =
     let d = c.in_default in
     known-dh c.args.means.now.role (is_some c.args.known.now.e) (is_some c.args.known.now.s) c.args.placed.token d.not-E d.not-S d.not-Psk c.requires.known
 
@@ -59,7 +59,7 @@ returns-in-Some-clause-read g c r s =
     let d = c.in_default in
     dh-read c.args.placed.token d.not-E d.not-S d.not-Psk StateMatches c.mix_key.new.self
     (reader_of g.K.Keys.agreement c.args.means.now.role c.args.means.now.has_psks c.args.means.now.keys)
-    c.args.known.now c.args.psks.now r c.args.message.now c.in-Some.answer c.answer_at.result c.answer_at.ensures c.in-Some.is (c.mix_key.ensures.matches r s)
+    c.args.known.now c.args.psks.now r c.args.message.now c.in-Some.dh_result c.dh_result_at.result c.dh_result_at.ensures c.in-Some.is (c.mix_key.ensures.matches r s)
 
 pub returns-in-None-clause-unchanged : goal.returns-in-None-clause-unchanged
 returns-in-None-clause-unchanged g c = refl
@@ -69,7 +69,7 @@ returns-in-None-clause-read g c r s =
     let d = c.in_default in
     dh-fails c.args.placed.token d.not-E d.not-S d.not-Psk
     (reader_of g.K.Keys.agreement c.args.means.now.role c.args.means.now.has_psks c.args.means.now.keys)
-    c.args.known.now c.args.psks.now r c.args.message.now (is_some (cipher_key r)) c.answer_at.result c.answer_at.ensures c.in-None.is
+    c.args.known.now c.args.psks.now r c.args.message.now (is_some (cipher_key r)) c.dh_result_at.result c.dh_result_at.ensures c.in-None.is
 
 pub returns-in-E-clause-width : goal.returns-in-E-clause-width
 returns-in-E-clause-width g c = subst (λ (t : Token). IfOk c.read_e.result (λ n. n ≡ token_width (keyed c.args.state.now) t)) (sym c.in-E.is) c.read_e.ensures.width

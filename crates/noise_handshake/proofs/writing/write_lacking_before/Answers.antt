@@ -6,8 +6,8 @@ use Rattle.noise_names.specs.declared.token.Token.{Token}
 use Rattle.noise_names.specs.Tokens.{is_psk}
 use Rattle.noise_keys.specs.declared.keys.Own.{Own}
 use Rattle.noise_handshake.specs.declared.remote.Remote.{Remote}
-use Rattle.noise_handshake.specs.Wanting.{LacksAnswerFor}
-use Rattle.noise_handshake.specs.Writing.{Writer, LacksAnswerAt}
+use Rattle.noise_handshake.specs.Wanting.{LacksDhResultFor}
+use Rattle.noise_handshake.specs.Writing.{Writer, LacksDhResultAt}
 use Rattle.noise_handshake.specs.inner.Known.{is_known}
 use Rattle.noise_handshake.specs.inner.Layout.{tokens_of}
 use Rattle.noise_handshake.specs.inner.Speaking.{has_own}
@@ -34,5 +34,5 @@ write_lacking-requires-clause-known g c =
 pub returns : goal.returns
 returns g c =
     let w : Writer = writer_of g.K.Keys.public_of g.K.Keys.agreement c.args.means.now.role c.args.means.now.has_psks c.args.means.now.keys in
-    subst (λ (us : List Token). MatchOption c.write_lacking.result ((j : ℕ) → LacksAnswerAt w c.args.known.now c.args.psks.now us j → ⊥)
-    (λ want. LacksAnswerFor w c.args.known.now c.args.psks.now us want.0 want.1)) (tokens-take c.args.placed.now c.args.k) c.write_lacking.ensures
+    subst (λ (us : List Token). MatchOption c.write_lacking.result ((j : ℕ) → LacksDhResultAt w c.args.known.now c.args.psks.now us j → ⊥)
+    (λ want. LacksDhResultFor w c.args.known.now c.args.psks.now us want.0 want.1)) (tokens-take c.args.placed.now c.args.k) c.write_lacking.ensures

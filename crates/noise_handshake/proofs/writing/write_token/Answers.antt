@@ -11,8 +11,8 @@ use Rattle.noise_handshake.proofs.Psks.{first_psk-read, written-as}
 use Rattle.noise_handshake.proofs.Knowing.{known-dh}
 use Rattle.noise_handshake.proofs.writing.write_token.Goals as goal
 
-pub answer_at-requires : goal.answer_at-requires
-answer_at-requires g c =
+pub dh_result_at-requires : goal.dh_result_at-requires
+dh_result_at-requires g c =
     let d = c.in_default in
     known-dh c.args.means.now.role (is_some c.args.known.now.e) (is_some c.args.known.now.s) c.args.token d.not-E d.not-S d.not-Psk c.requires.known
 

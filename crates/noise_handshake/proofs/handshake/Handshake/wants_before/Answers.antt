@@ -2,8 +2,8 @@ use Rattle.std.proofs.Common.{ℕ, ◌≤◌, List, length, take, ap, sym, subst
 use Rattle.std.specs.Prelude.{MatchOption}
 use Rattle.noise_handshake.specs.HandshakeValue.{HandshakeValue}
 use Rattle.noise_handshake.specs.Party.{tokens_at}
-use Rattle.noise_handshake.specs.Wanting.{LacksAnswerFor}
-use Rattle.noise_handshake.specs.Writing.{LacksAnswerAt}
+use Rattle.noise_handshake.specs.Wanting.{LacksDhResultFor}
+use Rattle.noise_handshake.specs.Writing.{LacksDhResultAt}
 use Rattle.noise_handshake.proofs.Layouts.{length-tokens_of}
 use Rattle.noise_handshake.proofs.Next.{speaks-next, speaks-ours, tokens-next, psks-next, own-ours, known-ours, due-next}
 use Rattle.noise_handshake.proofs.Wrote.{for-view}
@@ -43,6 +43,6 @@ returns g c v s =
     c.deref.result.now c.deref.ensures.0 c.requires.due in (
       l.speaks,
       for-view v a.means.role a.means.has_psks (P a.means.keys) (A a.means.keys) _ a.remote _ l
-          (λ w z s us. MatchOption c.write_lacking_before.result ((j : ℕ) → LacksAnswerAt w z s (take c.args.k us) j → ⊥)
-          (λ want. LacksAnswerFor w z s (take c.args.k us) want.0 want.1)) c.write_lacking_before.ensures,
+          (λ w z s us. MatchOption c.write_lacking_before.result ((j : ℕ) → LacksDhResultAt w z s (take c.args.k us) j → ⊥)
+          (λ want. LacksDhResultFor w z s (take c.args.k us) want.0 want.1)) c.write_lacking_before.ensures,
     )

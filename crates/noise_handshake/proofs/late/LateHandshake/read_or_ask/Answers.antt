@@ -12,8 +12,8 @@ use Rattle.noise_handshake.specs.declared.late_faults.Want.TheVariants.{Psk}
 use Rattle.noise_handshake.specs.inner.Late.{without_last}
 use Rattle.noise_handshake.proofs.Standing.{due}
 use Rattle.noise_handshake.proofs.LateParties.{holding, matches-filled, few-now, left-after, advances-after, after-read}
-use Rattle.noise_handshake.proofs.LateParties.{matches-same, matches-declined, matches-ended, read-accepts, read-answer, read-declines, read-none}
-use Rattle.noise_handshake.proofs.LateParties.{before-psk, before-one, before-refused, before-not, before-declined, before-answer}
+use Rattle.noise_handshake.proofs.LateParties.{matches-same, matches-declined, matches-ended, read-accepts, read-dh-result, read-declines, read-none}
+use Rattle.noise_handshake.proofs.LateParties.{before-psk, before-one, before-refused, before-not, before-declined, before-dh-result}
 use Rattle.noise_handshake.proofs.late.LateHandshake.read_or_ask.Goals as goal
 
 pub invariant_of-self-in-None : goal.invariant_of-self-in-None
@@ -48,7 +48,7 @@ returns-in-Err-Wanted-clause-reads g c v later s =
     let q = subst (λ (z : Unread). LeavesUnread (holding v c.self.inside.filled.psks) c.args.message.now z
     × Matches g.K.Keys.public_of g.K.Keys.agreement c.read_or_ask.new.self (after_asked (holding v c.self.inside.filled.psks) z)) c.in-Err-Wanted.field-0-is
     (c.in-Err-Wanted.ensures.reads (holding v c.self.inside.filled.psks) (matches-filled g.K.Keys.public_of g.K.Keys.agreement c.self.inside.filled c.self.inside.lacking c.self.invariant c.args.self.now c.self.view_is v later s)) in (
-      read-answer g.K.Keys.public_of g.K.Keys.agreement c.self.inside.filled c.self.inside.lacking c.self.invariant c.args.self.now c.self.view_is v later s c.args.message.now (omega (arith, c.in-None.ensures.found, c.given.ensures.count)) _ _ q.0,
+      read-dh-result g.K.Keys.public_of g.K.Keys.agreement c.self.inside.filled c.self.inside.lacking c.self.invariant c.args.self.now c.self.view_is v later s c.args.message.now (omega (arith, c.in-None.ensures.found, c.given.ensures.count)) _ _ q.0,
       matches-same g.K.Keys.public_of g.K.Keys.agreement c.self.inside.filled c.self.inside.lacking c.self.invariant c.args.self.now c.self.view_is v later s c.args.message.now c.read_or_ask.new.self q.1,
     )
 
@@ -88,7 +88,7 @@ returns-in-Ok-read_before-clause-asked g c v later s remote x =
 
 pub returns-in-Some-want-clause-reads : goal.returns-in-Some-want-clause-reads
 returns-in-Some-want-clause-reads g c v later s = (
-  before-answer g.K.Keys.public_of g.K.Keys.agreement c.self.inside.filled c.self.inside.lacking c.self.invariant c.args.self.now c.self.view_is v later s c.args.message.now c.given.result c.given.ensures.count c.in-Some-psk_after.k c.in-Some-psk_after.ensures.found
+  before-dh-result g.K.Keys.public_of g.K.Keys.agreement c.self.inside.filled c.self.inside.lacking c.self.invariant c.args.self.now c.self.view_is v later s c.args.message.now c.given.result c.given.ensures.count c.in-Some-psk_after.k c.in-Some-psk_after.ensures.found
       c.in-Err.stop (c.in-Err.ensures (holding v c.self.inside.filled.psks) (matches-filled g.K.Keys.public_of g.K.Keys.agreement c.self.inside.filled c.self.inside.lacking c.self.invariant c.args.self.now c.self.view_is v later s)) c.in-Some-want.want c.in-Some-want.is,
   s,
 )

@@ -1,12 +1,12 @@
 use Rattle.std.proofs.Common.{ℕ, List, ap, sym, ◌∙◌, arith}
 use Rattle.std.specs.Prelude.{Option, Some}
 use Rattle.noise_handshake.specs.declared.late_faults.Want.TheVariants.{Psk}
-use Rattle.noise_handshake.proofs.LateParties.{holding, matches-filled, read-answer, read-lacks, before-psk, before-one, before-not, before-declined, before-answer}
+use Rattle.noise_handshake.proofs.LateParties.{holding, matches-filled, read-dh-result, read-lacks, before-psk, before-one, before-not, before-declined, before-dh-result}
 use Rattle.noise_handshake.proofs.late.LateHandshake.wants_to_read.Goals as goal
 
 pub returns-in-Some-wants_to_read-clause-wants : goal.returns-in-Some-wants_to_read-clause-wants
 returns-in-Some-wants_to_read-clause-wants g c v later s =
-    read-answer g.K.Keys.public_of g.K.Keys.agreement c.self.inside.filled c.self.inside.lacking c.self.invariant c.args.self.now c.self.view_is v later s c.args.message.now
+    read-dh-result g.K.Keys.public_of g.K.Keys.agreement c.self.inside.filled c.self.inside.lacking c.self.invariant c.args.self.now c.self.view_is v later s c.args.message.now
     (omega (arith, c.in-None.ensures.found, c.given.ensures.count)) _ _ (c.in-Some-wants_to_read.ensures (holding v c.self.inside.filled.psks) (matches-filled g.K.Keys.public_of g.K.Keys.agreement c.self.inside.filled c.self.inside.lacking c.self.invariant c.args.self.now c.self.view_is v later s))
 
 pub returns-in-None-wants_to_read-clause-wants : goal.returns-in-None-wants_to_read-clause-wants
@@ -28,7 +28,7 @@ returns-in-Ok-clause-asked g c v later s remote x =
 
 pub returns-in-Some-want-clause-wants : goal.returns-in-Some-want-clause-wants
 returns-in-Some-want-clause-wants g c v later s =
-    before-answer g.K.Keys.public_of g.K.Keys.agreement c.self.inside.filled c.self.inside.lacking c.self.invariant c.args.self.now c.self.view_is v later s c.args.message.now c.given.result c.given.ensures.count c.in-Some-psk_after.k c.in-Some-psk_after.ensures.found
+    before-dh-result g.K.Keys.public_of g.K.Keys.agreement c.self.inside.filled c.self.inside.lacking c.self.invariant c.args.self.now c.self.view_is v later s c.args.message.now c.given.result c.given.ensures.count c.in-Some-psk_after.k c.in-Some-psk_after.ensures.found
     c.in-Err.stop (c.in-Err.ensures (holding v c.self.inside.filled.psks) (matches-filled g.K.Keys.public_of g.K.Keys.agreement c.self.inside.filled c.self.inside.lacking c.self.invariant c.args.self.now c.self.view_is v later s)) c.in-Some-want.want c.in-Some-want.is
 
 pub returns-in-Some-want-clause-asked : goal.returns-in-Some-want-clause-asked

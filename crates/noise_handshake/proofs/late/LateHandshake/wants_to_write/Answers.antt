@@ -2,7 +2,7 @@ use Rattle.std.proofs.Common.{◌≤◌, ℕ, length, ap, sym, subst, ◌∙◌,
 use Rattle.noise_handshake.specs.HandshakeValue.{HandshakeValue}
 use Rattle.noise_handshake.specs.declared.remote.Remote.{Remote}
 use Rattle.noise_handshake.proofs.Lacked.{due-within}
-use Rattle.noise_handshake.proofs.LateParties.{holding, matches-filled, write-none, write-answer, write-before, write-before-not, write-psk}
+use Rattle.noise_handshake.proofs.LateParties.{holding, matches-filled, write-none, write-dh-result, write-before, write-before-not, write-psk}
 use Rattle.noise_handshake.proofs.late.LateHandshake.wants_to_write.Goals as goal
 
 pub psk_after-requires : goal.psk_after-requires
@@ -14,7 +14,7 @@ psk_after-requires g c =
 
 pub returns-in-Some-wants_to_write-clause-wants : goal.returns-in-Some-wants_to_write-clause-wants
 returns-in-Some-wants_to_write-clause-wants g c v later s =
-    write-answer g.K.Keys.public_of g.K.Keys.agreement c.self.inside.filled c.self.inside.lacking c.self.invariant c.args.self.now c.self.view_is v later s _ _
+    write-dh-result g.K.Keys.public_of g.K.Keys.agreement c.self.inside.filled c.self.inside.lacking c.self.invariant c.args.self.now c.self.view_is v later s _ _
     (omega (arith, c.in-None.ensures.found, c.given.ensures.count)) (c.in-Some-wants_to_write.ensures (holding v c.self.inside.filled.psks) (matches-filled g.K.Keys.public_of g.K.Keys.agreement c.self.inside.filled c.self.inside.lacking c.self.invariant c.args.self.now c.self.view_is v later s))
 
 pub returns-in-None-wants_to_write-clause-wants : goal.returns-in-None-wants_to_write-clause-wants

@@ -5,7 +5,7 @@ use Rattle.noise_handshake.specs.HandshakeValue.{IsAgreement}
 use Rattle.noise_handshake.specs.Late.{WantsLate}
 use Rattle.noise_handshake.specs.Matching.{Matches}
 use Rattle.noise_handshake.specs.Party.{Party, tokens_at, tokens_now}
-use Rattle.noise_handshake.specs.Writing.{LacksAnswer}
+use Rattle.noise_handshake.specs.Writing.{LacksDhResult}
 use Rattle.noise_handshake.specs.declared.late_faults.Want.{Want}
 use Rattle.noise_handshake.proofs.LateParties.{holding, matches-filled, agrees, few-now, taken-within, left-after, advances-after, after-written, writes-partial}
 use Rattle.noise_handshake.proofs.LateParties.{matches-same, fault-no-agreement, written-no-agreement, withholds-partial, lacks-partial, withheld-view}
@@ -62,7 +62,7 @@ returns-in-Err-clause-writes g c v later s =
     let len : ℕ = length c.args.payload.now in
     let n : ℕ = length c.args.self.now.psks in
     let q = c.in-Err.ensures.writes (holding v c.self.inside.filled.psks) (matches-filled g.K.Keys.public_of g.K.Keys.agreement c.self.inside.filled c.self.inside.lacking c.self.invariant c.args.self.now c.self.view_is v later s) in
-    let lacks = subst (λ (o : Option Want). MatchOption o ((token : ℕ) → LacksAnswer v token → ⊥) (λ want. WantsLate v n want))
+    let lacks = subst (λ (o : Option Want). MatchOption o ((token : ℕ) → LacksDhResult v token → ⊥) (λ want. WantsLate v n want))
     c.in_default-wants_to_write.is (c.wants_to_write.ensures.wants v later s) in
     let clear : IsAgreement c.in-Err.fault → ⊥ = written-no-agreement (holding v c.self.inside.filled.psks) len c.in-Err.fault q.0
     (λ token l. lacks token (lacks-partial v c.self.inside.filled.psks n

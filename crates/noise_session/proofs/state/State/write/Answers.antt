@@ -9,7 +9,7 @@ use Rattle.noise_session.specs.Ends.{EndState, EndMatches, PhaseMatches, Handsha
 use Rattle.noise_session.specs.inner.Phases.{is_due}
 use Rattle.noise_session.specs.Frames.{frame}
 use Rattle.noise_session.specs.Sending.{Sends}
-use Rattle.noise_session.specs.Sending.Sends.{refuses, lacks_answer, sends_handshake, sends_transport}
+use Rattle.noise_session.specs.Sending.Sends.{refuses, lacks_dh_result, sends_handshake, sends_transport}
 use Rattle.noise_session.proofs.Parties.{no-hash, is-open, phase-progress}
 use Rattle.noise_session.proofs.Judging.{ended-open}
 use Rattle.noise_session.proofs.Making.{ok-due, not-turn, too-long, lack-due, seal-due, seal-refused}
@@ -75,7 +75,7 @@ returns-in-Err-Agreement-clause-sends g c v s =
     (sym (phase-progress g.K.Keys.public_of g.K.Keys.agreement (phase.Handshaking c.in-Handshaking.handshake c.in-Handshaking.interval) v h))
     ∙ lack-due c.in-Handshaking.handshake n c.args.out.now c.write.new.out c.in-Err-Agreement.token reported in
     let ended_party : EndedMatches c.write.new.self.role None (ended_session v) = record { ended = refl; role = w.1.role; hash = sym (no-hash v h.more) } in (
-      lacks_answer v c.args.payload.now c.in-Err-Agreement.token due w.0.1,
+      lacks_dh_result v c.args.payload.now c.in-Err-Agreement.token due w.0.1,
       record {
         phase = subst (λ (p : Phase g.row.K.Denot). PhaseMatches g.K.Keys.public_of g.K.Keys.agreement p (ended_session v)) (sym c.end.ensures) ended_party;
         partial = c.clear.ensures.empty;

@@ -14,54 +14,54 @@ use Rattle.noise_handshake.specs.Wanting.{WantsToRead, WantsToWrite}
 use Rattle.noise_handshake.specs.Writing.{Writes}
 
 -- the DH result of a key pair and a public key of the other party, where there is one
-abbrev pub Answers : Type 0
-Answers = Own → List ℕ → Option (List ℕ)
+abbrev pub DhResults : Type 0
+DhResults = Own → List ℕ → Option (List ℕ)
 
 -- each of the first DH results is one of all
-abbrev pub AreAmong : Answers → Answers → Type 0
+abbrev pub AreAmong : DhResults → DhResults → Type 0
 AreAmong first all = (own : Own) (key x : List ℕ) → first own key ≡ Some x → all own key ≡ Some x
 
 -- the party, with these DH results
-abbrev pub with_answers : Party → Answers → Party
-with_answers v answers = record v { agree = answers }
+abbrev pub with_dh_results : Party → DhResults → Party
+with_dh_results v results = record v { agree = results }
 
 -- this DH result is there and so are the earlier ones, and no others
-pub record IsHandedIn (before after : Answers) (own : Own) (key x : List ℕ) : Type 0 where
+pub record IsHandedIn (before after : DhResults) (own : Own) (key x : List ℕ) : Type 0 where
   pub there : after own key ≡ Some x
   pub stays : AreAmong before after
   pub only : (o : Own) (k y : List ℕ) → after o k ≡ Some y → (before o k ≡ Some y) ⊎ ((o ≡ own) × (k ≡ key) × (y ≡ x))
 
 -- So many DH results are handed in, each when a message that comes lacks it, and each as the keys have it: with the
 -- first to begin with, and with the last at the end.
-pub data AskedToRead (v : Party) (all : Answers) (message : List ℕ) : Answers → ℕ → Answers → Type 0 where
-  ready : (first : Answers) → AskedToRead v all message first 0 first
-  asked : (first next last : Answers) (own : Own) (key x : List ℕ) (n : ℕ)
-      → WantsToRead (with_answers v first) message own key
+pub data AskedToRead (v : Party) (all : DhResults) (message : List ℕ) : DhResults → ℕ → DhResults → Type 0 where
+  ready : (first : DhResults) → AskedToRead v all message first 0 first
+  asked : (first next last : DhResults) (own : Own) (key x : List ℕ) (n : ℕ)
+      → WantsToRead (with_dh_results v first) message own key
       → all own key ≡ Some x → IsHandedIn first next own key x → AskedToRead v all message next n last
       → AskedToRead v all message first (suc n) last
 
 -- The same where the party's own message lacks them.
-pub data AskedToWrite (v : Party) (all : Answers) : Answers → ℕ → Answers → Type 0 where
-  ready : (first : Answers) → AskedToWrite v all first 0 first
-  asked : (first next last : Answers) (own : Own) (key x : List ℕ) (n : ℕ) → WantsToWrite (with_answers v first) own key
+pub data AskedToWrite (v : Party) (all : DhResults) : DhResults → ℕ → DhResults → Type 0 where
+  ready : (first : DhResults) → AskedToWrite v all first 0 first
+  asked : (first next last : DhResults) (own : Own) (key x : List ℕ) (n : ℕ) → WantsToWrite (with_dh_results v first) own key
       → all own key ≡ Some x → IsHandedIn first next own key x → AskedToWrite v all next n last
       → AskedToWrite v all first (suc n) last
 
 -- With the first DH results a message is accepted, refused or written only as with all of them; `Agreement` is the one
 -- refusal that further ones can mend.
-pub record AnswersAsAll (v : Party) (first all : Answers) : Type 0 where
-  pub accepts : (message payload : List ℕ) (xs : List (List ℕ)) → Accepts (with_answers v first) message xs payload
-      → Accepts (with_answers v all) message xs payload
+pub record ActsAsAll (v : Party) (first all : DhResults) : Type 0 where
+  pub accepts : (message payload : List ℕ) (xs : List (List ℕ)) → Accepts (with_dh_results v first) message xs payload
+      → Accepts (with_dh_results v all) message xs payload
   pub refuses : (message : List ℕ) (token : ℕ) (cause : Cause) → (cause ≡ Agreement → ⊥)
-      → Refuses (with_answers v first) message token cause
-      → Refuses (with_answers v all) message token cause
-  pub writes : (payload message : List ℕ) (xs : List (List ℕ)) → Writes (with_answers v first) payload xs message
-      → Writes (with_answers v all) payload xs message
+      → Refuses (with_dh_results v first) message token cause
+      → Refuses (with_dh_results v all) message token cause
+  pub writes : (payload message : List ℕ) (xs : List (List ℕ)) → Writes (with_dh_results v first) payload xs message
+      → Writes (with_dh_results v all) payload xs message
 
 -- At a message of a valid pattern at most four DH results are asked for, one for each DH token, and with those it is
 -- accepted, refused or written as with all.
 abbrev pub FourSuffice : Type 0
-FourSuffice = (v : Party) (first last all : Answers) (message : List ℕ) (n : ℕ) → IsValid v.pattern → AreAmong first all
+FourSuffice = (v : Party) (first last all : DhResults) (message : List ℕ) (n : ℕ) → IsValid v.pattern → AreAmong first all
     → AskedToRead v all message first n last → (n ≤ count_by is_dh (tokens_now v)) × (n ≤ 4) × AreAmong last all
 
 -- the public key that a token shows
@@ -75,7 +75,7 @@ abbrev pub HasKeys : Party → Type 0
 HasKeys v = (before later : List Token) (t : Token) → tokens_now v ≡ before ++ t ∷ later → Shows v.own t
 
 abbrev pub FourSufficeToWrite : Type 0
-FourSufficeToWrite = (v : Party) (first last all : Answers) (n : ℕ) → IsValid v.pattern → HasKeys v → AreAmong first all
+FourSufficeToWrite = (v : Party) (first last all : DhResults) (n : ℕ) → IsValid v.pattern → HasKeys v → AreAmong first all
     → AskedToWrite v all first n last → (n ≤ count_by is_dh (tokens_now v)) × (n ≤ 4) × AreAmong last all
 
 -- what is asked for isn't there
@@ -84,5 +84,5 @@ AskedIsLacking = (v : Party) (own : Own) (key : List ℕ)
     → ((message : List ℕ) → WantsToRead v message own key → v.agree own key ≡ None)
     × (HasKeys v → WantsToWrite v own key → v.agree own key ≡ None)
 
-abbrev pub AnsweredIsWhole : Type 0
-AnsweredIsWhole = (v : Party) (first all : Answers) → AreAmong first all → AnswersAsAll v first all
+abbrev pub FirstActAsAll : Type 0
+FirstActAsAll = (v : Party) (first all : DhResults) → AreAmong first all → ActsAsAll v first all

@@ -1,7 +1,7 @@
 use Rattle.std.proofs.Common.{◌≡◌, ap, ◌∙◌}
 use Rattle.std.specs.Prelude.{true, false, is_some}
 use Rattle.noise_handshake.proofs.Knowing.{is_some-remote}
-use Rattle.noise_handshake.proofs.tokens.answer_at.Goals as goal
+use Rattle.noise_handshake.proofs.tokens.dh_result_at.Goals as goal
 
 pub unreachable-requires : goal.unreachable-requires
 unreachable-requires g c =

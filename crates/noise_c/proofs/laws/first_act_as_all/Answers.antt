@@ -1,12 +1,12 @@
 use Rattle.std.proofs.Common.{arith}
-use Rattle.noise_c.proofs.Among.{answers-as-all}
+use Rattle.noise_c.proofs.Among.{act-as-all}
 use Rattle.noise_c.proofs.AskingToRead.{asked-to-read, read-lacks}
 use Rattle.noise_c.proofs.AskingToWrite.{asked-to-write, write-lacks}
 use Rattle.noise_c.proofs.Four.{at-most-four}
-use Rattle.noise_c.proofs.laws.answered_is_whole.Goals as goal
+use Rattle.noise_c.proofs.laws.first_act_as_all.Goals as goal
 
 pub returns-clause-whole : goal.returns-clause-whole
-returns-clause-whole c = answers-as-all
+returns-clause-whole c = act-as-all
 
 pub returns-clause-lacks : goal.returns-clause-lacks
 returns-clause-lacks c v own key = (λ message. read-lacks v message own key, write-lacks v own key)
