@@ -1,6 +1,6 @@
 #!/usr/bin/env python3
 """Writes the first listings of docs/GO.md and docs/RUST.md as modules that compile: listings.py FOLDER. It also compares the other listings of docs/GO.md,
-and those of "A secret for each peer" in docs/RUST.md, with the programs and tests that run them.
+and those of "A psk for each peer" in docs/RUST.md, with the programs and tests that run them.
 
 FOLDER/go and FOLDER/rust get the program; their go.mod, Cargo.toml and .cargo/config.toml are those of the page, with the path of this repository, and for
 Go also with what the page adds for Debian's.
@@ -44,7 +44,7 @@ def stands(page: str, listing: str, test: str) -> None:
 
 def compare(page: str, language: str, *tests: str) -> None:
     """Whether the listings of a page's section stand in tests, in their order."""
-    section = (TOP / "docs" / page).read_text(encoding="utf-8").split("\n## A secret for each peer\n")[1].split("\n## ")[0]
+    section = (TOP / "docs" / page).read_text(encoding="utf-8").split("\n## A psk for each peer\n")[1].split("\n## ")[0]
     found = re.findall(rf"^```{language}\n(.*?)^```$", section, re.S | re.M)
     assert len(found) == len(tests), f"{page}: {len(found)} listings"
     for listing, test in zip(found, tests):

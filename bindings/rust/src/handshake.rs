@@ -101,7 +101,7 @@ impl<S: Dh, E: Ephemeral> Handshake<S, E> {
     /// use yulimosar::{Builder, Error, KeyPair};
     ///
     /// let (client_key, server_key) = (KeyPair::generate()?, KeyPair::generate()?);
-    /// let secrets = std::collections::HashMap::from([(*client_key.public_key(), [7; 32])]);
+    /// let psks = std::collections::HashMap::from([(*client_key.public_key(), [7; 32])]);
     /// let mut client = Builder::new("XXpsk3").static_key(client_key).psk(&[7; 32]).initiator::<KeyPair>()?;
     /// let mut server = Builder::new("XXpsk3").static_key(server_key).late_psks().responder::<KeyPair>()?;
     /// let mut message = [0; 100];
@@ -111,7 +111,7 @@ impl<S: Dh, E: Ephemeral> Handshake<S, E> {
     /// client.read(&mut message[..len])?;
     /// let len = client.write(b"", &mut message)?;
     /// if let Err(Error::WantedPsk { remote_static: Some(key) }) = server.read(&mut message[..len]) {
-    ///     server.set_psk(secrets.get(&key).ok_or(Error::Refused)?)?;
+    ///     server.set_psk(psks.get(&key).ok_or(Error::Refused)?)?;
     ///     server.read(&mut message[..len])?; // the same message again
     /// }
     /// assert_eq!(client.hash(), server.hash());

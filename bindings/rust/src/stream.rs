@@ -105,10 +105,10 @@ impl<T: Read + Write> Stream<T> {
     /// let (here, there) = UnixStream::pair()?;
     /// let (client, server) = (KeyPair::generate()?, KeyPair::generate()?);
     /// let client_key = *client.public_key();
-    /// let secrets = HashMap::from([(client_key, [7; 32])]);
+    /// let psks = HashMap::from([(client_key, [7; 32])]);
     /// let server = std::thread::spawn(move || {
     ///     let handshake = Builder::new("XXpsk3").static_key(server).late_psks().responder::<KeyPair>()?;
-    ///     Stream::with_psk_for(there, handshake, |key| secrets.get(key).copied())
+    ///     Stream::with_psk_for(there, handshake, |key| psks.get(key).copied())
     /// });
     /// let handshake = Builder::new("XXpsk3").static_key(client).psk(&[7; 32]).initiator::<KeyPair>()?;
     /// let client = Stream::anonymous(here, handshake)?;
