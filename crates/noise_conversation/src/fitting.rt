@@ -10,11 +10,8 @@ ghost use Rattle.noise_conversation.specs.Turns.{LinesTakeTurns};
 
 use noise_duel::Cuts;
 use noise_names::{Role, ValidPattern};
-
-// The longest message, and the longest payload of a transport message, in bytes (Noise, 3).
-const MESSAGE_MAX: usize = 65535;
-
-const PAYLOAD_MAX: usize = 65519;
+use noise_session::limits::PAYLOAD_MAX;
+use noise_state::limits::MAX_LEN;
 
 /// Whether lines, a role and a payload each, fit: the roles of the handshake's messages take turns, each message has at
 /// most 65535 bytes, in a one-way pattern the initiator alone writes what follows, and there is a nonce for each line.
@@ -51,7 +48,7 @@ fn line_fits(
 {
     if place < pattern.pattern().messages().len() {
         let overhead = usize::from(pattern.overhead(place as u8 + 1));
-        is_same(role, turn) && payload_len <= MESSAGE_MAX && overhead + payload_len <= MESSAGE_MAX
+        is_same(role, turn) && payload_len <= MAX_LEN && overhead + payload_len <= MAX_LEN
     } else {
         (!pattern.one_way() || is_same(role, Role::Initiator))
             && payload_len <= PAYLOAD_MAX

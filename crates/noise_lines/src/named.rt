@@ -15,8 +15,5 @@ pub fn named_pattern(name: &ProtocolName) -> Result<Pattern, Fault>
     let Some(plain) = fundamental(name.base()) else {
         return Err(Fault::UnknownPattern);
     };
-    match Pattern::with_psks(&plain, name.places()) {
-        Ok(pattern) => Ok(pattern),
-        Err(fault) => Err(Fault::Place(fault)),
-    }
+    Pattern::with_psks(&plain, name.places()).map_err(Fault::Place)
 }

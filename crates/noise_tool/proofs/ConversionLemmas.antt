@@ -11,7 +11,7 @@ use Rattle.noise_vectors.specs.declared.vector.Version.TheVariants.{One, Two}
 use Rattle.noise_vectors.specs.SameFile.{SaySame, VectorTextsAreUnique, datagrams_of, expected_of, held_datagrams}
 use Rattle.noise_tool.specs.Conversion.{ConversionsMeetThemselves}
 use Rattle.noise_tool.specs.OneRun.{OneRun, RunAlike}
-use Rattle.noise_tool.specs.Running.{IsRunOf, datagrams_in, expected_in}
+use Rattle.noise_tool.specs.Running.{IsRunOf, datagrams_of_version, expected_in}
 use Rattle.noise_lines.specs.Converted.{converted_text}
 use Rattle.noise_tool.proofs.OneRunLemmas.{run-moves}
 
@@ -46,7 +46,7 @@ expected-same : (v : Version) → expected_of v ≡ expected_in v
 expected-same One = refl
 expected-same (Two additions) = refl
 
-datagrams-same : (v : Version) → datagrams_of v ≡ held_datagrams (datagrams_in v)
+datagrams-same : (v : Version) → datagrams_of v ≡ held_datagrams (datagrams_of_version v)
 datagrams-same One = refl
 datagrams-same (Two additions) = refl
 
@@ -62,7 +62,7 @@ run-alike file other lines one same = record {
   initiator = same.initiator;
   responder = same.responder;
   events = same.events;
-  datagrams = ap (λ (v : Version). held_datagrams (datagrams_in v)) one ∙ same.datagrams ∙ datagrams-same other.version;
+  datagrams = ap (λ (v : Version). held_datagrams (datagrams_of_version v)) one ∙ same.datagrams ∙ datagrams-same other.version;
 }
 
 says-same : VectorTextsAreUnique → (file other : VectorFile) (lines : Vec (Vec ℕ Global) Global) → IsVectorFile file

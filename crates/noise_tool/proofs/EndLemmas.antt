@@ -18,7 +18,7 @@ use Rattle.noise_vectors.specs.declared.file_keys.FileKeys.{FileKeys}
 use Rattle.noise_vectors.specs.declared.vector.VectorFile.{VectorFile}
 use Rattle.noise_vectors.specs.FileKeys.{public_of, agreement_of}
 use Rattle.noise_vectors.specs.SameFile.{SaySame}
-use Rattle.noise_tool.specs.Ends.{IsPatternOf, IsStartFault, known_before, setup_of}
+use Rattle.noise_tool.specs.Ends.{IsFilePattern, IsStartFault, known_before, setup_of}
 use Rattle.noise_tool.specs.Selection.{heading_lines}
 use Rattle.noise_tool.specs.Tracing.{start_lines_of, start_traces}
 use Rattle.noise_tool.specs.declared.key_use_lines.Selection.{Selection}
@@ -27,19 +27,12 @@ use Rattle.noise_tool.specs.declared.key_use_lines.Selection.{Selection}
 pub begun-same : (role : Role) (keys : FileKeys) (plan other : Plan) (prologue text : List ℕ) (remote known : Remote) (psks same_psks : List (List ℕ))
     → plan ≡ other → prologue ≡ text → remote ≡ known → psks ≡ same_psks
     → party_at_start plan role prologue (public_of keys) (agreement_of keys) remote psks ≡ party_at_start other role text (public_of keys) (agreement_of keys) known same_psks
-begun-same role keys plan other prologue text remote known psks same_psks a b c d =
-    ap (λ (p : Plan). party_at_start p role prologue (public_of keys) (agreement_of keys) remote psks) a
-    ∙ ap (λ (t : List ℕ). party_at_start other role t (public_of keys) (agreement_of keys) remote psks) b
-    ∙ ap (λ (r : Remote). party_at_start other role text (public_of keys) (agreement_of keys) r psks) c
-    ∙ ap (λ (s : List (List ℕ)). party_at_start other role text (public_of keys) (agreement_of keys) known s) d
+begun-same role keys plan other prologue text remote known psks same_psks a b c d = rw (a, b, c, d) refl
 
 pub setup-same : (role : Role) (keys : FileKeys) (plan other : Plan) (remote known : Remote) (psks same_psks : List (List ℕ))
     → plan ≡ other → remote ≡ known → psks ≡ same_psks
     → setup_fault plan role (public_of keys) remote (length psks) ≡ setup_fault other role (public_of keys) known (length same_psks)
-setup-same role keys plan other remote known psks same_psks a c d =
-    ap (λ (p : Plan). setup_fault p role (public_of keys) remote (length psks)) a
-    ∙ ap (λ (r : Remote). setup_fault other role (public_of keys) r (length psks)) c
-    ∙ ap (λ (s : List (List ℕ)). setup_fault other role (public_of keys) known (length s)) d
+setup-same role keys plan other remote known psks same_psks a c d = rw (a, c, d) refl
 
 -- no fault is reported where nothing is wrong
 pub none-reported : (role : Role) (found : Option SetupFault) → None ≡ option_map (λ (why : SetupFault). Setup role why) found → found ≡ None
@@ -47,7 +40,7 @@ none-reported role None e = refl
 none-reported role (Some why) e = absurd (cc)
 
 -- the initiator's fault
-pub reported-first : (file : VectorFile) (plan : Plan) (fault : Fault) (found : Option SetupFault) → IsPatternOf file.block file.protocol plan → IsValid plan
+pub reported-first : (file : VectorFile) (plan : Plan) (fault : Fault) (found : Option SetupFault) → IsFilePattern file.block file.protocol plan → IsValid plan
     → found ≡ setup_of file plan Initiator → Some fault ≡ option_map (λ (why : SetupFault). Setup Initiator why) found → IsStartFault file fault
 reported-first file plan fault None named valid e f = absurd (cc)
 reported-first file plan fault (Some why) named valid e f =
@@ -55,7 +48,7 @@ reported-first file plan fault (Some why) named valid e f =
     subst (λ (z : Fault). IsStartFault file z) same (plan, named, valid, sym e)
 
 -- the responder's, where nothing is wrong with the initiator's setup
-pub reported-second : (file : VectorFile) (plan : Plan) (fault : Fault) (found : Option SetupFault) → IsPatternOf file.block file.protocol plan → IsValid plan
+pub reported-second : (file : VectorFile) (plan : Plan) (fault : Fault) (found : Option SetupFault) → IsFilePattern file.block file.protocol plan → IsValid plan
     → setup_of file plan Initiator ≡ None → found ≡ setup_of file plan Responder
     → Some fault ≡ option_map (λ (why : SetupFault). Setup Responder why) found → IsStartFault file fault
 reported-second file plan fault None named valid none e f = absurd (cc)

@@ -15,7 +15,7 @@ use Rattle.noise_duel.specs.Runs.{Happens, SideReceives, SideWrites}
 use Rattle.noise_duel.specs.Runs.Happens.{writes, says_nothing, says, delivers, misses, injects}
 use Rattle.noise_duel.specs.Runs.SideWrites.{writes_nothing, writes_handshake, writes_transport}
 use Rattle.noise_duel.specs.Sides.{Side, Sides, side, with_side}
-use Rattle.noise_tool.specs.Printed.{frame_at}
+use Rattle.noise_tool.specs.Printed.{frame_numbered}
 use Rattle.noise_tool.specs.TracedEnds.{EndsTraced, entry_frame}
 use Rattle.noise_tool.specs.Tracing.{came_traces, happened_traces, written_frame, written_trace}
 use Rattle.noise_tool.specs.declared.key_use_lines.Selection.{Selection}
@@ -238,7 +238,7 @@ number-same m n e = cc
 pub say-frame : {E : Type 0} (selection : Selection) (d next : Sides) (role by : Role) (payload : List ℕ) (notes more : List (Role × Note))
     (h : Happens d (Say role payload) notes next) (number : ℕ) (frame : List ℕ) (old one new : Traces) (before between after : TracedEnds)
     (to : Role) (r : Result Unit E) → EndsTraced before d
-    → (by, Wrote number) ∷ more ≡ notes → frame ≡ frame_at (side next role) number → to ≡ other role
+    → (by, Wrote number) ∷ more ≡ notes → frame ≡ frame_numbered (side next role) number → to ≡ other role
     → Writes-on selection d next role (Wrote number) old one before between
     → ((e : Sides) (reader : Side) (heard : List Note) (x : SideReceives (side e to) frame heard reader) → EndsTraced between e
     → more ≡ noted_by to (heard ++ held_note (length reader.state.partial))
@@ -285,14 +285,7 @@ say-frame {E = E} selection d next role by payload notes more h number frame old
 -- an entry that reports of no frame
 pub note-number : (e : Entry) → ((n : ℕ) → e ≡ entry.Wrote n → ⊥) → (n : ℕ) → note_of e ≢ Wrote n
 note-number (entry.Wrote m) none n e = none m refl
-note-number (entry.WriteFault why) none n e = cc e
-note-number (entry.Payload bytes) none n e = cc e
-note-number (entry.Dropped cause) none n e = cc e
-note-number (entry.Refused token cause) none n e = cc e
-note-number entry.Exhausted none n e = cc e
-note-number (entry.Left why m) none n e = cc e
-note-number (entry.Missing m) none n e = cc e
-note-number (entry.Held m) none n e = cc e
+note-number _ none n e = cc e
 
 pub no-entries : (entries : List (Role × Entry)) → length entries ≡ 0 → [] ≡ notes_of entries
 no-entries [] e = refl

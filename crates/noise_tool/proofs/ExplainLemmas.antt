@@ -119,17 +119,7 @@ names-cut names i = sym (map-append string_bytes (take i names) (drop i names)) 
 pub left-at-three : {O : Type 0} (contents : O → Option (List ℕ)) (why : Fault) (middle new : O) → status_of why ≡ 3 → LeavesOutput contents why middle new
     → new ≡ middle
 left-at-three contents (fault.Rule f) middle new three h = absurd (cc three)
-left-at-three contents (fault.Place f) middle new three h = h
-left-at-three contents (fault.Setup role f) middle new three h = h
-left-at-three contents (fault.Unmet n) middle new three h = h
-left-at-three contents (fault.Name f) middle new three h = h
-left-at-three contents fault.UnknownPattern middle new three h = h
-left-at-three contents (fault.Text f) middle new three h = h
-left-at-three contents (fault.Line n kind) middle new three h = h
-left-at-three contents fault.TooLong middle new three h = h
-left-at-three contents fault.Unreadable middle new three h = h
-left-at-three contents fault.Unwritable middle new three h = h
-left-at-three contents fault.Memory middle new three h = h
+left-at-three contents _ middle new three h = h
 
 -- memory ran out or a write was refused
 pub stops-at : {E : Type 0} (contents : E → Option (List ℕ)) (unreadable : List ℕ → Bool) (names : List (List ℕ)) (why : Fault) (result : ℕ) (old middle new : E)

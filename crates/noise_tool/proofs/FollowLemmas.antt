@@ -27,8 +27,8 @@ use Rattle.noise_duel.specs.Sides.{Side}
 use Rattle.noise_vectors.specs.Expectations.{bytes_of}
 use Rattle.noise_vectors.specs.FileKeys.{agreement_of, public_of}
 use Rattle.noise_vectors.specs.declared.file_keys.FileKeys.{FileKeys}
-use Rattle.noise_tool.specs.KeyUseLines.{IsCounted, key_use_lines}
-use Rattle.noise_tool.specs.TracedEnds.{Shows, TracedMatches, note_ends, Used}
+use Rattle.noise_tool.specs.KeyUseLines.{HasLaterNonce, key_use_lines}
+use Rattle.noise_tool.specs.TracedEnds.{ShowsEnd, TracedMatches, note_ends, Used}
 use Rattle.noise_tool.specs.Tracing.{about, act_of, read_use, read_trace, written_frame, written_message, written_use, written_trace}
 use Rattle.noise_tool.specs.declared.key_use_lines.Selection.{Selection}
 use Rattle.noise_tool.specs.declared.trace_lines.About.{About}
@@ -56,9 +56,7 @@ over-pattern false v = refl
 
 sent-pattern : (v next : EndState) (payload : List ℕ) (reported : Result (List ℕ) SendFault) → Sends v payload reported next → next.party.pattern ≡ v.party.pattern
 sent-pattern v next payload reported (refuses _ _ why refusal) = over-pattern (ends why) v
-sent-pattern v next payload reported (lacks_dh_result _ _ token free lacks) = refl
-sent-pattern v next payload reported (sends_handshake _ _ message xs free w) = refl
-sent-pattern v next payload reported (sends_transport _ _ free opens) = refl
+sent-pattern v next payload reported _ = refl
 
 written-pattern : (s next : Side) (payload : List ℕ) (note : Note) → SideWrites s payload note next → next.state.party.pattern ≡ s.state.party.pattern
 written-pattern s next payload note (writes_nothing _ _ why after sends) = sent-pattern s.state after payload (Err why) sends
@@ -101,10 +99,10 @@ written-text s next payload note (writes_transport _ message _ free opens is) = 
 -- ---- the lines
 
 pub read-lines : {E : Type 0} (selection : Selection) (t : TracedEnd) (end : EndTrace FileKeys) (given : About) (act : Act) (message text : List ℕ) (m : KeyUseValue)
-    (s next : Side) (step : StepValue) (r : SideReads s text step next) (result : Result (Vec (Vec ℕ Global) Global) E) → Shows t s.state → message ≡ text
+    (s next : Side) (step : StepValue) (r : SideReads s text step next) (result : Result (Vec (Vec ℕ Global) Global) E) → ShowsEnd t s.state → message ≡ text
     → act ≡ act_of step → given ≡ about t.role s.state act → Used m (read_use s next text step r) end next.state
     → IfOk result (λ lines. bytes_of lines.items ≡ key_use_lines selection given message m)
-    → IfOk result (λ lines. (bytes_of lines.items ≡ read_trace selection t.role s next text step r) × Shows (record t { end = end }) next.state)
+    → IfOk result (λ lines. (bytes_of lines.items ≡ read_trace selection t.role s next text step r) × ShowsEnd (record t { end = end }) next.state)
 read-lines selection t end given act message text m s next step r result shows is acts abouts seen made =
     IfOk-weaker result _ _ (λ lines h. (
       h
@@ -121,7 +119,7 @@ pub write-lines : {E : Type 0} (selection : Selection) (t : TracedEnd) (end : En
     → TracedMatches t s.state → message ≡ written_message s next payload note w
     → given ≡ about t.role s.state Writing → Used m (written_use s next payload note w) end next.state
     → IfOk result (λ lines. bytes_of lines.items ≡ key_use_lines selection given message m)
-    → IfOk result (λ lines. (bytes_of lines.items ≡ written_trace selection t.role s next payload note w) × Shows (record t { end = end }) next.state)
+    → IfOk result (λ lines. (bytes_of lines.items ≡ written_trace selection t.role s next payload note w) × ShowsEnd (record t { end = end }) next.state)
 write-lines selection t end given message m s next payload note w result matches is abouts seen made =
     IfOk-weaker result _ _ (λ lines h. (
       h
@@ -140,7 +138,7 @@ pub wrote-whole : {E : Type 0} (selection : Selection) (t u : TracedEnd) (end : 
     → (EndFollows public_of agreement_of t.end s.state → noted ≡ note → message ≡ written_message s next payload note w
     → Used m (written_use s next payload note w) end next.state)
     → u.role ≡ t.role → u.psks ≡ t.psks → u.end ≡ end → u.partial.items ≡ (if note_ends noted then [] else t.partial.items)
-    → (IsCounted m → IfOk result (λ lines. bytes_of lines.items ≡ key_use_lines selection given message m))
+    → (HasLaterNonce m → IfOk result (λ lines. bytes_of lines.items ≡ key_use_lines selection given message m))
     → IfOk result (λ lines. (bytes_of lines.items ≡ written_trace selection t.role s next payload note w) × TracedMatches u next.state)
 wrote-whole selection t u end given message bytes m noted s next payload note w result matches reported framed cut abouts clause role psks ends partial made =
     let text : message ≡ written_message s next payload note w = cut ∙ ap (drop 2) framed ∙ written-text s next payload note w in

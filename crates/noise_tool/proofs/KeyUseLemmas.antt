@@ -40,7 +40,7 @@ use Rattle.noise_duel.specs.Runs.SideWrites.{writes_nothing, writes_handshake, w
 use Rattle.noise_duel.specs.Runs.SideReads.{accepts_handshake, accepts_transport, refuses_message}
 use Rattle.noise_duel.specs.Sides.{Side}
 use Rattle.noise_vectors.specs.declared.file_keys.FileKeys.{FileKeys}
-use Rattle.noise_tool.specs.KeyUseLines.{IsCounted}
+use Rattle.noise_tool.specs.KeyUseLines.{HasLaterNonce}
 use Rattle.noise_tool.specs.TracedEnds.{Follow, Used}
 use Rattle.noise_tool.specs.Tracing.{judged_use, read_use, unsent_use, written_message, written_use}
 
@@ -49,11 +49,11 @@ Trace = EndTrace FileKeys
 
 -- ---- nonces
 
-counted : (n : ℕ) (key : List ℕ) (renewed : Option (List ℕ)) → n ≢ last_nonce → IsCounted (Transport n key renewed)
+counted : (n : ℕ) (key : List ℕ) (renewed : Option (List ℕ)) → n ≢ last_nonce → HasLaterNonce (Transport n key renewed)
 counted n key None more = tt
 counted n key (Some next) more = more
 
-counted-passed : (r : History) (writer : Role) (interval n : ℕ) → n ≢ last_nonce → IsCounted (counted_use r writer interval n)
+counted-passed : (r : History) (writer : Role) (interval n : ℕ) → n ≢ last_nonce → HasLaterNonce (counted_use r writer interval n)
 counted-passed r writer interval n more = counted n (transport_key r writer interval n) (renewed_after r writer interval n) more
 
 -- the first of three faults
@@ -119,11 +119,11 @@ module _ (old new : Trace) (m : KeyUse) where
   wrote-shown message number handshake transport s next payload note (writes_nothing _ _ why after sends) follows reported is = absurd (cc reported)
   wrote-shown message number handshake transport s next payload note (writes_handshake _ text _ xs free w) follows reported is =
       let done = handshake s.state xs payload follows (subst (λ (z : List ℕ). Writes s.state.party payload xs z) (sym is) w) in
-      (done.0, subst IsCounted (sym done.0) tt, done.1)
+      (done.0, subst HasLaterNonce (sym done.0) tt, done.1)
   wrote-shown message number handshake transport s next payload note (writes_transport _ text _ free opens spelled) follows reported is =
       let done = transport s.state payload follows free opens in (
         done.0,
-        subst IsCounted (sym done.0)
+        subst HasLaterNonce (sym done.0)
             (counted-passed s.state.party.history s.state.party.role s.state.interval s.state.sent (sent-free s.state (length payload) free opens)),
         done.1,
       )
@@ -158,7 +158,7 @@ module _ (t : Trace) (closes : Closes t) where
       let same : fault.Agreement token ≡ fault.Agreement actual = cc in
       let here : use_value m ≡ stopped_use v actual lacks.lacks.before =
       subst (λ (k : ℕ). (l : LacksDhResult v.party k) → use_value m ≡ stopped_use v k l.lacks.before) (token-same token actual same) (clause v follows) lacks in
-      (here, subst IsCounted (sym here) tt, closes v follows)
+      (here, subst HasLaterNonce (sym here) tt, closes v follows)
   unsent-lacking m v next payload reported (sends_handshake _ _ text xs free w) token is follows clause = absurd (cc is)
   unsent-lacking m v next payload reported (sends_transport _ _ free opens) token is follows clause = absurd (cc is)
 
@@ -211,11 +211,11 @@ module _ (old new : Trace) (m : KeyUse) where
       → Used (use_value m) (read_use s next message step r) new next.state
   took-shown given message bytes is handshake transport s next step (accepts_handshake _ _ payload xs accepts) follows reported =
       let done = handshake s.state xs payload follows (subst (λ (z : List ℕ). Accepts s.state.party z xs payload) (sym is) accepts) in
-      (done.0, subst IsCounted (sym done.0) tt, done.1)
+      (done.0, subst HasLaterNonce (sym done.0) tt, done.1)
   took-shown given message bytes is handshake transport s next step (accepts_transport _ _ payload opens more spelled) follows reported =
       let done = transport s.state follows opens more in (
         done.0,
-        subst IsCounted (sym done.0)
+        subst HasLaterNonce (sym done.0)
             (counted-passed s.state.party.history (other s.state.party.role) s.state.interval s.state.received more),
         done.1,
       )
@@ -230,34 +230,25 @@ module _ (t : Trace) (closes : Closes t) (holds : Holds t) where
   judged-dropped : (m : KeyUse) (v next : EndState) (message : List ℕ) (step : StepValue) (j : Judges v message step next) (cause : Cause)
       → Dropped cause ≡ step → Follow t v → ((w : EndState) → Follow t w → IsTrue (is_open (progress_of w)) → use_value m ≡ tried_use w)
       → Used (use_value m) (judged_use v next message step j) t next
-  judged-dropped m v next message step (accepted _ _ payload xs accepts) cause is follows clause = absurd (cc is)
-  judged-dropped m v next message step (refused _ _ token why r) cause is follows clause = absurd (cc is)
-  judged-dropped m v next message step (opened _ _ payload opens more spelled) cause is follows clause = absurd (cc is)
   judged-dropped m v next message step (dropped _ _ opens more none) cause is follows clause =
-      let here = clause v follows opens in (here, subst IsCounted (sym here) tt, holds v [] follows)
-  judged-dropped m v next message step (exhausted _ _ opens none) cause is follows clause = absurd (cc is)
+      let here = clause v follows opens in (here, subst HasLaterNonce (sym here) tt, holds v [] follows)
+  judged-dropped m v next message step _ cause is follows clause = absurd (cc is)
 
   judged-refused : (m : KeyUse) (v next : EndState) (message : List ℕ) (step : StepValue) (j : Judges v message step next) (token : ℕ) (cause : Cause)
       → Refused token cause ≡ step → Follow t v
       → ((w : EndState) (why : Cause) → Follow t w → (r : Refuses w.party message token why) → use_value m ≡ stopped_use w token r.stops.carried)
       → Used (use_value m) (judged_use v next message step j) t next
-  judged-refused m v next message step (accepted _ _ payload xs accepts) token cause is follows clause = absurd (cc is)
   judged-refused m v next message step (refused _ _ actual why r) token cause is follows clause =
       let here : use_value m ≡ stopped_use v actual r.stops.carried =
       subst (λ (k : ℕ). (z : Refuses v.party message k why) → use_value m ≡ stopped_use v k z.stops.carried) (refused-token token actual cause why is)
       (clause v why follows) r in
-      (here, subst IsCounted (sym here) tt, closes v follows)
-  judged-refused m v next message step (opened _ _ payload opens more spelled) token cause is follows clause = absurd (cc is)
-  judged-refused m v next message step (dropped _ _ opens more none) token cause is follows clause = absurd (cc is)
-  judged-refused m v next message step (exhausted _ _ opens none) token cause is follows clause = absurd (cc is)
+      (here, subst HasLaterNonce (sym here) tt, closes v follows)
+  judged-refused m v next message step _ token cause is follows clause = absurd (cc is)
 
   judged-exhausted : (v next : EndState) (message : List ℕ) (step : StepValue) (j : Judges v message step next) → Exhausted ≡ step → Follow t v
       → Used Nothing (judged_use v next message step j) t next
-  judged-exhausted v next message step (accepted _ _ payload xs accepts) is follows = absurd (cc is)
-  judged-exhausted v next message step (refused _ _ token why r) is follows = absurd (cc is)
-  judged-exhausted v next message step (opened _ _ payload opens more spelled) is follows = absurd (cc is)
-  judged-exhausted v next message step (dropped _ _ opens more none) is follows = absurd (cc is)
   judged-exhausted v next message step (exhausted _ _ opens none) is follows = (refl, tt, closes v follows)
+  judged-exhausted v next message step _ is follows = absurd (cc is)
 
   pub dropped-shown : (m : KeyUse) (message : List ℕ) (cause : Cause)
       → ((w : EndState) → Follow t w → IsTrue (is_open (progress_of w)) → use_value m ≡ tried_use w)
@@ -294,31 +285,15 @@ module _ (t : Trace) (closes : Closes t) (holds : Holds t) where
   default-shown (entry.Dropped cause) p d q message s next step r follows reported = absurd (d cause refl)
   default-shown (entry.Refused token cause) p d q message s next step r follows reported = absurd (q token cause refl)
   default-shown entry.Exhausted p d q message s next step r follows reported = exhausted-shown message s next step r follows reported
-  default-shown (entry.Wrote n) p d q message s next step r follows reported = absurd (cc reported)
-  default-shown (entry.WriteFault why) p d q message s next step r follows reported = absurd (cc reported)
-  default-shown (entry.Left why n) p d q message s next step r follows reported = absurd (cc reported)
-  default-shown (entry.Missing n) p d q message s next step r follows reported = absurd (cc reported)
-  default-shown (entry.Held n) p d q message s next step r follows reported = absurd (cc reported)
+  default-shown _ p d q message s next step r follows reported = absurd (cc reported)
 
 -- an entry of a write
 pub neither-written : (x : Entry) → ((n : ℕ) → x ≡ entry.Wrote n → ⊥) → ((why : SendFault) → x ≡ entry.WriteFault why → ⊥)
     → (s next : Side) (payload : List ℕ) (note : Note) → SideWrites s payload note next → note_of x ≡ note → ⊥
 neither-written (entry.Wrote n) p q s next payload note w reported = p n refl
 neither-written (entry.WriteFault why) p q s next payload note w reported = q why refl
-neither-written (entry.Payload bytes) p q s next payload note w reported = wrote-or-not s next payload note w (λ n e. let bad = reported ∙ sym e in cc bad)
-    (λ why e. let bad = reported ∙ sym e in cc bad)
-neither-written (entry.Dropped cause) p q s next payload note w reported = wrote-or-not s next payload note w (λ n e. let bad = reported ∙ sym e in cc bad)
-    (λ why e. let bad = reported ∙ sym e in cc bad)
-neither-written (entry.Refused token cause) p q s next payload note w reported = wrote-or-not s next payload note w (λ n e. let bad = reported ∙ sym e in cc bad)
-    (λ why e. let bad = reported ∙ sym e in cc bad)
-neither-written entry.Exhausted p q s next payload note w reported = wrote-or-not s next payload note w (λ n e. let bad = reported ∙ sym e in cc bad)
-    (λ why e. let bad = reported ∙ sym e in cc bad)
-neither-written (entry.Left why n) p q s next payload note w reported = wrote-or-not s next payload note w (λ k e. let bad = reported ∙ sym e in cc bad)
-    (λ f e. let bad = reported ∙ sym e in cc bad)
-neither-written (entry.Missing n) p q s next payload note w reported = wrote-or-not s next payload note w (λ k e. let bad = reported ∙ sym e in cc bad)
-    (λ why e. let bad = reported ∙ sym e in cc bad)
-neither-written (entry.Held n) p q s next payload note w reported = wrote-or-not s next payload note w (λ k e. let bad = reported ∙ sym e in cc bad)
-    (λ why e. let bad = reported ∙ sym e in cc bad)
+neither-written _ p q s next payload note w reported =
+    wrote-or-not s next payload note w (λ n e. let bad = reported ∙ sym e in cc bad) (λ why e. let bad = reported ∙ sym e in cc bad)
 
 -- another fault than that of a DH result
 pub six-others : (f : SendFault)

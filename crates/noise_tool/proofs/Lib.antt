@@ -20,6 +20,5 @@ pub mod SelectionLemmas
 pub mod FollowLemmas
 pub mod TracedRunLemmas
 pub mod LastTraceLemmas
-pub mod TracePerforming
 pub mod RoleLemmas
 pub mod TracedWhole

@@ -22,12 +22,12 @@ use Rattle.noise_vectors.specs.FileKeys.{agreement_of, public_of}
 use Rattle.noise_vectors.specs.declared.file_keys.FileKeys.{FileKeys}
 use Rattle.noise_vectors.specs.declared.vector.FileDatagrams.{FileDatagrams}
 use Rattle.noise_vectors.specs.declared.vector.VectorFile.{VectorFile}
-use Rattle.noise_tool.specs.Ends.{IsPatternOf, sides_of_file, known_before, setup_of}
+use Rattle.noise_tool.specs.Ends.{IsFilePattern, sides_of_file, known_before, setup_of}
 use Rattle.noise_handshake.specs.Setup.{setup_fault}
 use Rattle.noise_tool.specs.OneRun.{OneRun, RunAlike}
 use Rattle.noise_vectors.specs.SameFile.{held_datagrams}
 use Rattle.noise_tool.specs.Printed.{note_line}
-use Rattle.noise_tool.specs.Running.{AreLast, IsRunOf, datagram_lines, datagrams_in, gone_over}
+use Rattle.noise_tool.specs.Running.{AreLast, IsRunOf, datagram_run_lines, datagrams_of_version, gone_over}
 use Rattle.noise_tool.specs.Running.AreLast.{without, unready, ready}
 use Rattle.noise_tool.specs.OnePattern.{pattern-once}
 
@@ -63,14 +63,14 @@ sides-of-file-same f g plan same =
 -- ---- the last lines
 
 over-once : DatagramRunOnce → (d : Sides) (v w : Window) (es fs : List DatagramEvent) (ms ns : List (Role × DatagramNote)) (x y : DatagramSides)
-    → v ≡ w → es ≡ fs → DatagramRun (gone_over d v) es ms x → DatagramRun (gone_over d w) fs ns y → datagram_lines v ms x ≡ datagram_lines w ns y
+    → v ≡ w → es ≡ fs → DatagramRun (gone_over d v) es ms x → DatagramRun (gone_over d w) fs ns y → datagram_run_lines v ms x ≡ datagram_run_lines w ns y
 over-once once d v w es fs ms ns x y same events h k =
     let other : DatagramRun (gone_over d v) es ns y =
     subst (λ (z : Window). DatagramRun (gone_over d z) es ns y) (sym same)
     (subst (λ (z : List DatagramEvent). DatagramRun (gone_over d w) z ns y) (sym events) k) in
     let one = once (gone_over d v) x y es ms ns h other in
-    ap (λ (z : Window). datagram_lines z ms x) same
-    ∙ ap₂ (λ (a : List (Role × DatagramNote)) (b : DatagramSides). datagram_lines w a b) one.0 one.1
+    ap (λ (z : Window). datagram_run_lines z ms x) same
+    ∙ ap₂ (λ (a : List (Role × DatagramNote)) (b : DatagramSides). datagram_run_lines w a b) one.0 one.1
 
 last-once : DatagramRunOnce → (o u : Option FileDatagrams) (d : Sides) (xs ys : List (List ℕ)) → held_datagrams o ≡ held_datagrams u → AreLast o d xs → AreLast u d ys
     → xs ≡ ys
@@ -91,9 +91,9 @@ last-once once _ _ d xs ys e (ready over _ notes last may run) (ready also _ rep
 
 pub one-run : RunOnce → DatagramRunOnce → OneRun
 one-run once datagrams f g xs ys same a b =
-    let pattern : IsPatternOf f.block f.protocol b.plan =
-    subst (λ (z : Option Plan). IsPatternOf z f.protocol b.plan) (sym same.block)
-    (subst (λ (z : Section). IsPatternOf g.block z b.plan) (sym same.protocol) b.of_file.pattern) in
+    let pattern : IsFilePattern f.block f.protocol b.plan =
+    subst (λ (z : Option Plan). IsFilePattern z f.protocol b.plan) (sym same.block)
+    (subst (λ (z : Section). IsFilePattern g.block z b.plan) (sym same.protocol) b.of_file.pattern) in
     let plan : a.plan ≡ b.plan = pattern-once f.block f.protocol a.plan b.plan a.of_file.pattern pattern in
     let start : sides_of_file f a.plan ≡ sides_of_file g b.plan = ap (sides_of_file f) plan ∙ sides-of-file-same f g b.plan same in
     let run : Run (sides_of_file f a.plan) (events_of f.events.items) b.notes b.last =
@@ -101,8 +101,8 @@ one-run once datagrams f g xs ys same a b =
     (subst (λ (z : List Event). Run (sides_of_file g b.plan) z b.notes b.last) (sym same.events) b.run) in
     let one = once (sides_of_file f a.plan) a.last b.last (events_of f.events.items) a.notes b.notes a.run run in
     let after : a.after ≡ b.after =
-    last-once datagrams (datagrams_in f.version) (datagrams_in g.version) a.last a.after b.after same.datagrams a.are_last
-    (subst (λ (z : Sides). AreLast (datagrams_in g.version) z b.after) (sym one.1) b.are_last) in
+    last-once datagrams (datagrams_of_version f.version) (datagrams_of_version g.version) a.last a.after b.after same.datagrams a.are_last
+    (subst (λ (z : Sides). AreLast (datagrams_of_version g.version) z b.after) (sym one.1) b.are_last) in
     a.lines_are
     ∙ ap₂ (λ (ns : List (Role × Note)) (d : Sides). map (note_line d) ns ++ a.after) one.0 one.1
     ∙ ap (λ (z : List (List ℕ)). map (note_line b.last) b.notes ++ z) after
@@ -120,7 +120,7 @@ last-moves _ (Some also) d xs e (ready over _ notes last may run) =
     let same : (over.window, datagram_events_of over.events.items) ≡ (also.window, datagram_events_of also.events.items) = cc in
     let window : over.window ≡ also.window = ap (λ (p : Window × List DatagramEvent). p.0) same in
     let events : datagram_events_of over.events.items ≡ datagram_events_of also.events.items = ap (λ (p : Window × List DatagramEvent). p.1) same in
-    subst (λ (z : Window). AreLast (Some also) d (datagram_lines z notes last)) (sym window)
+    subst (λ (z : Window). AreLast (Some also) d (datagram_run_lines z notes last)) (sym window)
     (ready also d notes last may
     (subst (λ (z : Window). DatagramRun (gone_over d z) (datagram_events_of also.events.items) notes last) window
     (subst (λ (z : List DatagramEvent). DatagramRun (gone_over d over.window) z notes last) events run)))
@@ -139,8 +139,8 @@ pub run-moves : (f g : VectorFile) (xs : List (List ℕ)) → RunAlike f g → I
 run-moves f g xs same a = record {
   plan = a.plan;
   of_file = record {
-    pattern = subst (λ (z : Option Plan). IsPatternOf z g.protocol a.plan) same.block
-        (subst (λ (z : Section). IsPatternOf f.block z a.plan) same.protocol a.of_file.pattern);
+    pattern = subst (λ (z : Option Plan). IsFilePattern z g.protocol a.plan) same.block
+        (subst (λ (z : Section). IsFilePattern f.block z a.plan) same.protocol a.of_file.pattern);
     valid = a.of_file.valid;
     set_up = λ role. sym (setup-alike f g a.plan role same) ∙ a.of_file.set_up role;
   };
@@ -149,6 +149,6 @@ run-moves f g xs same a = record {
   run = subst (λ (z : Sides). Run z (events_of g.events.items) a.notes a.last) (sides-of-file-same f g a.plan same)
       (subst (λ (z : List Event). Run (sides_of_file f a.plan) z a.notes a.last) same.events a.run);
   after = a.after;
-  are_last = last-moves (datagrams_in f.version) (datagrams_in g.version) a.last a.after same.datagrams a.are_last;
+  are_last = last-moves (datagrams_of_version f.version) (datagrams_of_version g.version) a.last a.after same.datagrams a.are_last;
   lines_are = a.lines_are;
 }

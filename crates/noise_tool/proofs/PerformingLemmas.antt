@@ -1,7 +1,7 @@
 -- What `talk`, `replay` and `convert` have done, and why they haven't.
 use Rattle.std.proofs.Common.{◌≡◌, ◌≢◌, ◌∙◌, refl, sym, ap, subst, ◌⊎◌, inl, inr, ◌<◌, ◌≤◌, ℕ, List, [], ◌∷◌, Vec, Option, Some, None, Result, Ok, Err, OnOk, length, map}
 use Rattle.std.specs.Global.{Global}
-use Rattle.std.specs.Prelude.{IfErr, IfSome}
+use Rattle.std.specs.Prelude.{IfErr, IfOk, IfSome}
 use Rattle.std.specs.Io.KnownBytes.{Appends}
 use Rattle.noise_names.specs.declared.token.Role.{Role}
 use Rattle.noise_events.specs.Events.{events_of}
@@ -13,7 +13,7 @@ use Rattle.noise_lines.specs.Verdicts.{IsMet}
 use Rattle.noise_tool.specs.Conversion.{MeetsItself}
 use Rattle.noise_tool.specs.Ends.{IsStartFault}
 use Rattle.noise_lines.specs.Faults.{of_vector, status_of}
-use Rattle.noise_tool.specs.Performing.{HasConverted, HasRun, IsFault, IsOfLines, IsRunFault, IsTooLongConverted, IsUnlike, IsUnmet}
+use Rattle.noise_tool.specs.Performing.{AreMet, Converts, DifferAt, HasPrinted, HasRun, IsFault, IsNotMet, IsOfLines, IsPlain, IsReadVector, IsRunFault, IsTooLongConverted, IsUnlike, IsUnmet, Printing, RunsFile}
 use Rattle.noise_words.specs.declared.orders.Chosen.{Chosen}
 use Rattle.noise_words.specs.declared.orders.Chosen.TheVariants as order
 use Rattle.noise_lines.specs.Lines.{lines_text}
@@ -22,9 +22,12 @@ use Rattle.noise_lines.specs.Converted.{converted_text}
 use Rattle.noise_lines.specs.declared.faults.Fault.{Fault}
 use Rattle.noise_lines.specs.declared.faults.Fault.TheVariants as fault
 use Rattle.noise_tool.specs.declared.running.Outcome.{Outcome}
+use Rattle.noise_lines.specs.Prefixes.{AppendsPrefix}
 use Rattle.noise_lines.specs.Reported.{LeavesOther, ReportsRule}
-use Rattle.noise_tool.specs.TraceDone.{selection_of}
-use Rattle.noise_tool.proofs.TracePerforming.{trace-after}
+use Rattle.noise_tool.specs.Selection.{selection_of}
+use Rattle.noise_tool.specs.Tracing.{IsTraceOf}
+use Rattle.noise_tool.specs.Prefixes.{PrintsRun, PrintsRunPrefix}
+use Rattle.noise_tool.proofs.MetLemmas.{met-or-unmet}
 use Rattle.noise_vectors.specs.Expectations.{IsFirstUnmet, bytes_of}
 use Rattle.noise_vectors.specs.VectorFile.{IsAllowedFile, IsReadFault, IsVectorFile, say_of}
 use Rattle.noise_vectors.specs.WrongLine.{IsReported}
@@ -52,37 +55,15 @@ said-events events lines given said is =
 
 -- ---- of a file's bytes
 
--- The text that was read is a right file's, and this came of its run.
-pub record Ran (known : Option (List ℕ)) (file : VectorFile) (outcome : Outcome) : Type 0 where
-  pub text : List ℕ
-  pub bytes : IfSome known (λ bytes. text ≡ bytes)
-  pub right : IsVectorFile file
-  pub spelled : text ≡ text_of file
-  pub run : IsRunOf file (bytes_of outcome.lines.items)
-  pub expected : bytes_of outcome.expected.items ≡ expected_in file.version
+-- what holds of the text that was read holds of the file's bytes, where they are known
+pub at-known : (P : List ℕ → Type 0) (known : Option (List ℕ)) (text : List ℕ) → IfSome known (λ bytes. text ≡ bytes) → P text → IfSome known P
+at-known P None text h p = tt
+at-known P (Some bytes) text h p = subst P h p
 
-run-known : (known : Option (List ℕ)) (file : VectorFile) (outcome : Outcome) (before after : Option (List ℕ)) → Ran known file outcome
-    → Appends before after (lines_text (bytes_of outcome.lines.items)) → IsMet (bytes_of outcome.expected.items) (bytes_of outcome.lines.items)
-    → IfSome known (λ bytes. HasRun bytes before after)
-run-known None file outcome before after r printed met = tt
-run-known (Some bytes) file outcome before after r printed met = (
-  file,
-  r.right,
-  sym r.bytes ∙ r.spelled,
-  record {
-    lines = bytes_of outcome.lines.items;
-    run = r.run;
-    printed = printed;
-    met = subst (λ (expected : List (List ℕ)). IsMet expected (bytes_of outcome.lines.items)) r.expected met;
-  },
-)
-
-pub has-run : (known : Option (List ℕ)) (file : VectorFile) (outcome : Outcome) (before after : Option (List ℕ)) (result : Result Unit Fault)
-    → Ran known file outcome → OnOk result (Appends before after (lines_text (bytes_of outcome.lines.items)))
-    → OnOk result (IsMet (bytes_of outcome.expected.items) (bytes_of outcome.lines.items))
-    → OnOk result (IfSome known (λ bytes. HasRun bytes before after))
-has-run known file outcome before after (Ok u) r printed met = run-known known file outcome before after r printed met
-has-run known file outcome before after (Err fault) r printed met = tt
+pub stopped-known : (P : List ℕ → Type 0) (known : Option (List ℕ)) (text : List ℕ) (why : Fault) → IfSome known (λ bytes. text ≡ bytes)
+    → (status_of why ≡ 3) ⊎ P text → (status_of why ≡ 3) ⊎ IfSome known P
+stopped-known P known text why h (inl outside) = inl outside
+stopped-known P known text why h (inr p) = inr (at-known P known text h p)
 
 -- ---- a text that isn't read
 
@@ -95,176 +76,130 @@ no-file allowed text vector.Memory every = tt
 pub unread : (allowed : AllowedEvents) (known : Option (List ℕ)) (text items : List ℕ) (why : VectorFault) → IfSome known (λ bytes. items ≡ bytes)
     → text ≡ items → ((file : VectorFile) → IsVectorFile file → IsAllowedFile allowed file → text ≡ text_of file → why ≡ vector.Memory)
     → IsReported allowed text why → IfSome known (λ bytes. IsRunFault allowed bytes (of_vector why))
-unread allowed None text items why h e every reported = tt
-unread allowed (Some bytes) text items why h e every reported =
-    let same : text ≡ bytes = e ∙ h in
-    inr (inl (
-      why,
-      refl,
-      subst (λ (t : List ℕ). IsReadFault allowed t why) same (no-file allowed text why every),
-      subst (λ (t : List ℕ). IsReported allowed t why) same reported,
-    ))
+unread allowed known text items why h e every reported =
+    at-known (λ (bytes : List ℕ). IsRunFault allowed bytes (of_vector why)) known items h
+    (subst (λ (t : List ℕ). IsRunFault allowed t (of_vector why)) e (inr (inl (why, refl, no-file allowed text why every, reported))))
 
-pub unread-or : (allowed : AllowedEvents) (known : Option (List ℕ)) (fault : Fault) (Other : List ℕ → Type 0)
-    → IfSome known (λ bytes. IsRunFault allowed bytes fault) → IfSome known (λ bytes. IsRunFault allowed bytes fault ⊎ Other bytes)
-unread-or allowed None fault Other h = tt
-unread-or allowed (Some bytes) fault Other h = inl h
+-- whatever else it may be
+pub or-other : (allowed : AllowedEvents) (known : Option (List ℕ)) (fault : Fault) (Other : List ℕ → Type 0)
+    → (status_of fault ≡ 3) ⊎ IfSome known (λ bytes. IsRunFault allowed bytes fault)
+    → (status_of fault ≡ 3) ⊎ IfSome known (λ bytes. IsRunFault allowed bytes fault ⊎ Other bytes)
+or-other allowed known fault Other (inl outside) = inl outside
+or-other allowed None fault Other (inr h) = inr tt
+or-other allowed (Some bytes) fault Other (inr h) = inr (inl h)
 
--- a file that has no ends
-pub no-start : (allowed : AllowedEvents) (known : Option (List ℕ)) (text : List ℕ) (file : VectorFile) (fault : Fault) (Other : List ℕ → Type 0)
-    → IfSome known (λ bytes. text ≡ bytes) → IsVectorFile file → text ≡ text_of file → IsStartFault file fault
-    → IfSome known (λ bytes. IsRunFault allowed bytes fault ⊎ Other bytes)
-no-start allowed None text file fault Other h right e why = tt
-no-start allowed (Some bytes) text file fault Other h right e why = inl (inr (inr (file, right, sym h ∙ e, why)))
+-- ---- a file that was read, and what is printed of its run
 
-unmet-known : (allowed : AllowedEvents) (known : Option (List ℕ)) (file : VectorFile) (outcome : Outcome) (before after : Option (List ℕ)) (n : ℕ)
-    → Ran known file outcome → Appends before after (lines_text (bytes_of outcome.lines.items)) → bytes_of outcome.expected.items ≢ []
-    → IsFirstUnmet (bytes_of outcome.lines.items) (bytes_of outcome.expected.items) n
-    → IfSome known (λ bytes. IsRunFault allowed bytes (fault.Unmet n) ⊎ IsUnmet bytes before after (fault.Unmet n))
-unmet-known allowed None file outcome before after n r printed some unmet = tt
-unmet-known allowed (Some bytes) file outcome before after n r printed some unmet = inr (record {
-  file = file;
-  right = r.right;
-  text_is = sym r.bytes ∙ r.spelled;
-  lines = bytes_of outcome.lines.items;
-  run = r.run;
-  printed = printed;
-  some = λ none. some (r.expected ∙ none);
-  unmet = rw (← r.expected) unmet;
-})
+module _ {allowed : AllowedEvents} {known : Option (List ℕ)} {text : List ℕ} {file : VectorFile} (read : IsReadVector allowed known text file)
+    (Prints : Printing) (outcome : Outcome) (printed : List (List ℕ)) (run : Prints file (bytes_of outcome.lines.items) printed)
+    (expected : bytes_of outcome.expected.items ≡ expected_in file.version) where
+  printed-of : (ComeTo : VectorFile → List (List ℕ) → Type 0) (before after : Option (List ℕ)) → Appends before after (lines_text printed)
+      → ComeTo file (bytes_of outcome.lines.items) → HasPrinted Prints ComeTo text before after
+  printed-of ComeTo before after grown come_to = record {
+    file = file;
+    right = read.right;
+    text_is = read.text_is;
+    lines = bytes_of outcome.lines.items;
+    printed = printed;
+    run = run;
+    grown = grown;
+    come_to = come_to;
+  }
 
-unlike-of : (allowed : AllowedEvents) (known : Option (List ℕ)) (file : VectorFile) (outcome : Outcome) (before after : Option (List ℕ)) (why : Fault)
-    → Ran known file outcome → (status_of why ≡ 3) ⊎ IsUnlike outcome before after why
-    → (status_of why ≡ 3) ⊎ IfSome known (λ bytes. IsRunFault allowed bytes why ⊎ IsUnmet bytes before after why)
-unlike-of allowed known file outcome before after why r (inl outside) = inl outside
-unlike-of allowed known file outcome before after why r (inr h) =
-    let (printed, reports) = h in
-    let (n, is, some, unmet) = reports in
-    inr (rw is (unmet-known allowed known file outcome before after n r printed some unmet))
+  pub has-run : (before after : Option (List ℕ)) (result : Result Unit Fault) → OnOk result (Appends before after (lines_text printed))
+      → OnOk result (IsMet (bytes_of outcome.expected.items) (bytes_of outcome.lines.items)) → OnOk result (RunsFile Prints known before after)
+  has-run before after (Ok u) grown met =
+      at-known (λ (bytes : List ℕ). HasRun Prints bytes before after) known text read.bytes (printed-of AreMet before after grown
+      (subst (λ (es : List (List ℕ)). IsMet es (bytes_of outcome.lines.items)) expected met))
+  has-run before after (Err fault) grown met = tt
 
-pub no-run : (allowed : AllowedEvents) (known : Option (List ℕ)) (file : VectorFile) (outcome : Outcome) (before after : Option (List ℕ))
-    (result : Result Unit Fault) → Ran known file outcome
-    → IfErr result (λ why. (status_of why ≡ 3) ⊎ IsUnlike outcome before after why)
-    → IfErr result (λ why. (status_of why ≡ 3) ⊎ IfSome known (λ bytes. IsRunFault allowed bytes why ⊎ IsUnmet bytes before after why))
-no-run allowed known file outcome before after (Ok u) r h = tt
-no-run allowed known file outcome before after (Err why) r h = unlike-of allowed known file outcome before after why r h
+  pub no-run : (before after : Option (List ℕ)) (result : Result Unit Fault)
+      → IfErr result (λ why. (status_of why ≡ 3) ⊎ IsUnlike printed outcome before after why)
+      → IfErr result (λ why. (status_of why ≡ 3) ⊎ IsNotMet Prints allowed known before after why)
+  no-run before after (Ok u) h = tt
+  no-run before after (Err why) (inl outside) = inl outside
+  no-run before after (Err why) (inr (grown, (n, is, some, unmet))) =
+      inr (at-known (λ (bytes : List ℕ). IsRunFault allowed bytes why ⊎ IsUnmet Prints bytes before after why) known text read.bytes
+      (inr (rw is (printed-of (DifferAt n) before after grown (λ none. some (expected ∙ none), rw (← expected) unmet)))))
+
+  -- all that is printed, whether its lines are those expected or not
+  whole : (es : List (List ℕ)) → expected_in file.version ≡ es → PrintsRun Prints text (lines_text printed)
+  whole [] is = inl (printed-of AreMet (Some []) (Some (lines_text printed)) refl (inl is))
+  whole (e ∷ es) is = of-two (met-or-unmet (bytes_of outcome.lines.items) (expected_in file.version))
+    where
+      of-two : (bytes_of outcome.lines.items ≡ expected_in file.version)
+          ⊎ ((n : ℕ) × IsFirstUnmet (bytes_of outcome.lines.items) (expected_in file.version) n) → PrintsRun Prints text (lines_text printed)
+      of-two (inl same) = inl (printed-of AreMet (Some []) (Some (lines_text printed)) refl (inr same))
+      of-two (inr (n, unmet)) =
+          inr (n, printed-of (DifferAt n) (Some []) (Some (lines_text printed)) refl (λ none. let bad = sym is ∙ none in cc bad, unmet))
+
+  pub run-prefix : (before after : Option (List ℕ)) → AppendsPrefix before after (lines_text printed) → PrintsRunPrefix Prints known before after
+  run-prefix before after grown = (
+    lines_text printed,
+    at-known (λ (bytes : List ℕ). PrintsRun Prints bytes (lines_text printed)) known text read.bytes (whole (expected_in file.version) refl),
+    grown,
+  )
 
 -- ---- of a converted file
 
-converted-known : (known : Option (List ℕ)) (file : VectorFile) (outcome : Outcome) (before after : Option (List ℕ)) (converted : List ℕ)
-    → Ran known file outcome → file.version ≡ One → MeetsItself file (bytes_of outcome.lines.items)
-    → converted ≡ converted_text file (bytes_of outcome.lines.items) → length converted ≤ 4194304 → Appends before after converted
-    → IfSome known (λ bytes. HasConverted bytes before after)
-converted-known None file outcome before after converted r one meets is short printed = tt
-converted-known (Some bytes) file outcome before after converted r one meets is short printed = record {
+pub converts-of : (text : List ℕ) (file : VectorFile) (outcome : Outcome) (lines : List (Vec ℕ Global)) (result : Result (Vec ℕ Global) Fault)
+    → IsVectorFile file → file.version ≡ One → text ≡ text_of file → lines ≡ outcome.lines.items → IsRunOf file (bytes_of outcome.lines.items)
+    → MeetsItself file (bytes_of outcome.lines.items) → IfOk result (λ converted. converted.items ≡ converted_text file (bytes_of lines))
+    → IfOk result (λ converted. length converted.items ≤ 4194304) → IfOk result (λ converted. Converts text converted.items)
+converts-of text file outcome lines (Ok converted) right one spelled same run meets is short = record {
   file = file;
-  right = r.right;
+  right = right;
   first = one;
-  text_is = sym r.bytes ∙ r.spelled;
+  text_is = spelled;
   lines = bytes_of outcome.lines.items;
-  run = r.run;
+  run = run;
   meets = meets;
-  short = subst (λ (t : List ℕ). length t ≤ 4194304) is short;
-  printed = subst (λ (t : List ℕ). Appends before after t) is printed;
+  short = short;
+  converted_is = is ∙ ap (λ (ls : List (Vec ℕ Global)). converted_text file (bytes_of ls)) same;
 }
+converts-of text file outcome lines (Err why) right one spelled same run meets is short = tt
 
-pub has-converted : (known : Option (List ℕ)) (file : VectorFile) (outcome : Outcome) (before after : Option (List ℕ)) (converted : List ℕ)
-    (result : Result Unit Fault) → Ran known file outcome → file.version ≡ One → MeetsItself file (bytes_of outcome.lines.items)
-    → converted ≡ converted_text file (bytes_of outcome.lines.items) → length converted ≤ 4194304 → OnOk result (Appends before after converted) → OnOk result (IfSome known (λ bytes. HasConverted bytes before after))
-has-converted known file outcome before after converted (Ok u) r one meets is short printed =
-    converted-known known file outcome before after converted r one meets is short printed
-has-converted known file outcome before after converted (Err why) r one meets is short printed = tt
-
-pub too-long : (known : Option (List ℕ)) (file : VectorFile) (outcome : Outcome) (why : Fault) → Ran known file outcome → file.version ≡ One
-    → why ≡ fault.TooLong → 4194304 < length (converted_text file (bytes_of outcome.lines.items))
-    → IfSome known (λ bytes. IsRunFault VersionOne bytes why ⊎ IsTooLongConverted bytes why)
-too-long None file outcome why r one is long = tt
-too-long (Some bytes) file outcome why r one is long =
-    inr (is, file, r.right, one, sym r.bytes ∙ r.spelled, bytes_of outcome.lines.items, r.run, long)
-
--- what `convert` reports, of the file
-pub convert-fault : (file : VectorFile) (outcome : Outcome) (lines : List (Vec ℕ Global)) (text : List ℕ) (why : Fault) → file.version ≡ One
-    → text ≡ text_of file → lines ≡ outcome.lines.items
-    → (why ≡ fault.Memory) ⊎ ((why ≡ fault.TooLong) × ((other : VectorFile) → other.version ≡ One → text ≡ text_of other
-    → 4194304 < length (converted_text other (bytes_of lines))))
-    → (why ≡ fault.Memory) ⊎ ((why ≡ fault.TooLong) × (4194304 < length (converted_text file (bytes_of outcome.lines.items))))
-convert-fault file outcome lines text why one spelled same (inl memory) = inl memory
-convert-fault file outcome lines text why one spelled same (inr (is, long)) =
-    inr (is, subst (λ (ls : List (Vec ℕ Global)). 4194304 < length (converted_text file (bytes_of ls))) same (long file one spelled))
-
--- why there is no converted text
-pub no-converted : (known : Option (List ℕ)) (file : VectorFile) (outcome : Outcome) (why : Fault) → Ran known file outcome → file.version ≡ One
-    → (why ≡ fault.Memory) ⊎ ((why ≡ fault.TooLong) × (4194304 < length (converted_text file (bytes_of outcome.lines.items))))
-    → (status_of why ≡ 3) ⊎ IfSome known (λ bytes. IsRunFault VersionOne bytes why ⊎ IsTooLongConverted bytes why)
-no-converted known file outcome why r one (inl memory) = inl (ap status_of memory)
-no-converted known file outcome why r one (inr (is, long)) = inr (too-long known file outcome why r one is long)
+-- why there is none
+pub no-converted : (text : List ℕ) (file : VectorFile) (outcome : Outcome) (lines : List (Vec ℕ Global)) (result : Result (Vec ℕ Global) Fault)
+    → IsVectorFile file → file.version ≡ One → text ≡ text_of file → lines ≡ outcome.lines.items → IsRunOf file (bytes_of outcome.lines.items)
+    → IfErr result (λ why. (why ≡ fault.Memory) ⊎ ((why ≡ fault.TooLong) × ((other : VectorFile) → other.version ≡ One → text ≡ text_of other
+    → 4194304 < length (converted_text other (bytes_of lines)))))
+    → IfErr result (λ why. (status_of why ≡ 3) ⊎ IsRunFault VersionOne text why ⊎ IsTooLongConverted text why)
+no-converted text file outcome lines (Ok converted) right one spelled same run h = tt
+no-converted text file outcome lines (Err why) right one spelled same run (inl memory) = inl (ap status_of memory)
+no-converted text file outcome lines (Err why) right one spelled same run (inr (is, long)) =
+    let more = subst (λ (ls : List (Vec ℕ Global)). 4194304 < length (converted_text file (bytes_of ls))) same (long file one spelled) in
+    inr (inr (is, file, right, one, spelled, bytes_of outcome.lines.items, run, more))
 
 -- ---- what is reported after a run
 
-unmet-after : (bytes : List ℕ) (before middle after : Option (List ℕ)) (why : Fault) → (IsOfLines why → after ≡ middle)
-    → IsUnmet bytes before middle why → IsUnmet bytes before after why
-unmet-after bytes before middle after (fault.Unmet n) same h = rw (same tt) h
-unmet-after bytes before middle after (fault.Rule f) same h = absurd h
-unmet-after bytes before middle after (fault.Place f) same h = absurd h
-unmet-after bytes before middle after (fault.Setup role f) same h = absurd h
-unmet-after bytes before middle after (fault.Name f) same h = absurd h
-unmet-after bytes before middle after fault.UnknownPattern same h = absurd h
-unmet-after bytes before middle after (fault.Text f) same h = absurd h
-unmet-after bytes before middle after (fault.Line n kind) same h = absurd h
-unmet-after bytes before middle after fault.TooLong same h = absurd h
-unmet-after bytes before middle after fault.Unreadable same h = absurd h
-unmet-after bytes before middle after fault.Unwritable same h = absurd h
-unmet-after bytes before middle after fault.Memory same h = absurd h
-
-either-after : (P : Type 0) (bytes : List ℕ) (before middle after : Option (List ℕ)) (why : Fault) → (IsOfLines why → after ≡ middle)
-    → P ⊎ IsUnmet bytes before middle why → P ⊎ IsUnmet bytes before after why
-either-after P bytes before middle after why same (inl p) = inl p
-either-after P bytes before middle after why same (inr h) = inr (unmet-after bytes before middle after why same h)
+unmet-after : (Prints : Printing) (P : Type 0) (bytes : List ℕ) (before middle after : Option (List ℕ)) (why : Fault) → (IsOfLines why → after ≡ middle)
+    → P ⊎ IsUnmet Prints bytes before middle why → P ⊎ IsUnmet Prints bytes before after why
+unmet-after Prints P bytes before middle after why same (inl p) = inl p
+unmet-after Prints P bytes before middle after (fault.Unmet n) same (inr h) = inr (rw (same tt) h)
+unmet-after Prints P bytes before middle after _ same (inr h) = absurd h
 
 -- a fault stays what it is where the output is as it was
 fault-after : (chosen : Chosen) (known before middle after : Option (List ℕ)) (why : Fault) → (IsOfLines why → after ≡ middle)
     → IsFault chosen known before middle why → IsFault chosen known before after why
-fault-after order.List known before middle after why same h = h
-fault-after (order.Show name) known before middle after why same h = h
-fault-after (order.Check path) known before middle after why same h = h
-fault-after (order.Template word) known before middle after why same h = h
 fault-after (order.Talk path) None before middle after why same h = h
-fault-after (order.Talk path) (Some bytes) before middle after why same h = either-after _ bytes before middle after why same h
+fault-after (order.Talk path) (Some bytes) before middle after why same h = unmet-after IsPlain _ bytes before middle after why same h
 fault-after (order.Replay path) None before middle after why same h = h
-fault-after (order.Replay path) (Some bytes) before middle after why same h = either-after _ bytes before middle after why same h
+fault-after (order.Replay path) (Some bytes) before middle after why same h = unmet-after IsPlain _ bytes before middle after why same h
 fault-after (order.Trace given) None before middle after why same h = h
-fault-after (order.Trace given) (Some bytes) before middle after why same h = trace-after (selection_of given) _ bytes before middle after why same h
-fault-after (order.Convert path) known before middle after why same h = h
+fault-after (order.Trace given) (Some bytes) before middle after why same h = unmet-after (IsTraceOf (selection_of given)) _ bytes before middle after why same h
+fault-after _ known before middle after why same h = h
 
 -- after lines the output is left as it is
 lines-left : {O E : Type 0} (why : Fault) (out after : O) (err err_after : E) → IsOfLines why → LeavesOther why out after err err_after → after ≡ out
 lines-left (fault.Unmet n) out after err err_after lines h = h
-lines-left (fault.Rule f) out after err err_after lines h = absurd lines
-lines-left (fault.Place f) out after err err_after lines h = absurd lines
-lines-left (fault.Setup role f) out after err err_after lines h = absurd lines
-lines-left (fault.Name f) out after err err_after lines h = absurd lines
-lines-left fault.UnknownPattern out after err err_after lines h = absurd lines
-lines-left (fault.Text f) out after err err_after lines h = absurd lines
-lines-left (fault.Line n kind) out after err err_after lines h = absurd lines
-lines-left fault.TooLong out after err err_after lines h = absurd lines
-lines-left fault.Unreadable out after err err_after lines h = absurd lines
-lines-left fault.Unwritable out after err err_after lines h = absurd lines
-lines-left fault.Memory out after err err_after lines h = absurd lines
+lines-left _ out after err err_after lines h = absurd lines
 
 -- after lines no rule is reported
 lines-report_fault : (why : Fault) (before after : Option (List ℕ)) → IsOfLines why → ReportsRule why before after
 lines-report_fault (fault.Unmet n) before after lines = tt
 lines-report_fault (fault.Rule f) before after lines = absurd lines
-lines-report_fault (fault.Place f) before after lines = tt
-lines-report_fault (fault.Setup role f) before after lines = tt
-lines-report_fault (fault.Name f) before after lines = tt
-lines-report_fault fault.UnknownPattern before after lines = tt
-lines-report_fault (fault.Text f) before after lines = tt
-lines-report_fault (fault.Line n kind) before after lines = tt
-lines-report_fault fault.TooLong before after lines = tt
-lines-report_fault fault.Unreadable before after lines = tt
-lines-report_fault fault.Unwritable before after lines = tt
-lines-report_fault fault.Memory before after lines = tt
+lines-report_fault _ before after lines = tt
 
 -- a fault that is reported: what holds of the run and of the telling holds of both
 pub reported-fault : {O E : Type 0} (contents : O → Option (List ℕ)) (Reported : Fault → Type 0) (chosen : Chosen) (known : Option (List ℕ)) (old middle new : O) (err err_new : E)
@@ -308,30 +243,11 @@ reported-fault {O = O} contents Reported chosen known old middle new err err_new
 left-at-two : {O E : Type 0} (why : Fault) (out after : O) (err err_after : E) → status_of why ≡ 2 → LeavesOther why out after err err_after → after ≡ out
 left-at-two (fault.Unmet n) out after err err_after two h = h
 left-at-two (fault.Rule f) out after err err_after two h = absurd (cc two)
-left-at-two (fault.Place f) out after err err_after two h = h
-left-at-two (fault.Setup role f) out after err err_after two h = h
-left-at-two (fault.Name f) out after err err_after two h = h
-left-at-two fault.UnknownPattern out after err err_after two h = h
-left-at-two (fault.Text f) out after err err_after two h = h
-left-at-two (fault.Line n kind) out after err err_after two h = h
-left-at-two fault.TooLong out after err err_after two h = h
-left-at-two fault.Unreadable out after err err_after two h = h
-left-at-two fault.Unwritable out after err err_after two h = h
-left-at-two fault.Memory out after err err_after two h = h
+left-at-two _ out after err err_after two h = h
 
 no-lines-at-two : (why : Fault) → status_of why ≡ 2 → IsOfLines why → ⊥
 no-lines-at-two (fault.Unmet n) two lines = cc two
-no-lines-at-two (fault.Rule f) two lines = lines
-no-lines-at-two (fault.Place f) two lines = lines
-no-lines-at-two (fault.Setup role f) two lines = lines
-no-lines-at-two (fault.Name f) two lines = lines
-no-lines-at-two fault.UnknownPattern two lines = lines
-no-lines-at-two (fault.Text f) two lines = lines
-no-lines-at-two (fault.Line n kind) two lines = lines
-no-lines-at-two fault.TooLong two lines = lines
-no-lines-at-two fault.Unreadable two lines = lines
-no-lines-at-two fault.Unwritable two lines = lines
-no-lines-at-two fault.Memory two lines = lines
+no-lines-at-two _ two lines = lines
 
 pub reported-at-two : {O E : Type 0} (old middle new : O) (err err_new : E) (why : Fault) (result : ℕ)
     → (status_of why ≡ 3) ⊎ IsOfLines why ⊎ (middle ≡ old)

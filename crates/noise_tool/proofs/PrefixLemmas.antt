@@ -1,18 +1,14 @@
 -- A prefix of what a command prints.
-use Rattle.std.proofs.Common.{◌≡◌, ◌∙◌, refl, sym, ap, subst, ◌⊎◌, inl, inr, ◌≤◌, ℕ, List, [], ◌∷◌, ◌++◌, Option, Some, None, Ok, String, length}
+use Rattle.std.proofs.Common.{◌≡◌, ◌∙◌, refl, sym, ap, subst, ◌⊎◌, inl, inr, ℕ, List, [], ◌∷◌, ◌++◌, Option, Some, None, String}
 use Rattle.std.specs.Global.{Global}
 use Rattle.noise_names.specs.declared.faults.RuleFault.{RuleFault}
-use Rattle.noise_lines.specs.Converted.{converted_text}
 use Rattle.noise_lines.specs.Faults.{status_of}
-use Rattle.noise_lines.specs.Lines.{lines_text}
 use Rattle.noise_lines.specs.Prefixes.{AppendsPrefix}
 use Rattle.noise_lines.specs.Reported.{IsReportedOf, LeavesOutput, error_text, fault_line}
 use Rattle.noise_lines.specs.declared.faults.Fault.{Fault}
 use Rattle.noise_lines.specs.declared.faults.Fault.TheVariants as fault
-use Rattle.noise_tool.specs.Conversion.{MeetsItself}
-use Rattle.noise_tool.specs.Performing.{IsFault, IsOfLines}
-use Rattle.noise_tool.specs.Prefixes.{PrintsConvertedPrefix, PrintsPrefix, PrintsRun, PrintsRunPrefix}
-use Rattle.noise_tool.specs.Running.{expected_in}
+use Rattle.noise_tool.specs.Performing.{HasUnmet, IsDone, IsFault, IsNotMet, IsOfLines, Printing, RunsFile}
+use Rattle.noise_tool.specs.Prefixes.{PrintsPrefix, PrintsRunPrefix}
 use Rattle.noise_tool.specs.Templating.{HasTemplate, HasTemplated}
 use Rattle.std.specs.Prelude.{Bool, false, IfSome, MatchBool, string_bytes}
 use Rattle.noise_lines.specs.Output.{NamesPattern}
@@ -20,54 +16,29 @@ use Rattle.noise_names.specs.Plan.{Plan}
 use Rattle.noise_names.specs.Text.{Spells}
 use Rattle.noise_names.specs.Validity.{IsValid}
 use Rattle.noise_template.specs.Template.{IsTemplateText, names_protocol}
-use Rattle.noise_tool.specs.declared.running.Outcome.{Outcome}
-use Rattle.noise_tool.proofs.MetLemmas.{met-or-unmet}
-use Rattle.noise_tool.proofs.PerformingLemmas.{Ran, has-converted, has-run}
-use Rattle.noise_vectors.specs.Expectations.{IsFirstUnmet, bytes_of}
-use Rattle.noise_vectors.specs.declared.vector.VectorFile.{VectorFile}
-use Rattle.noise_vectors.specs.declared.vector.Version.TheVariants.{One}
+use Rattle.noise_vectors.specs.declared.vector.AllowedEvents.{AllowedEvents}
 use Rattle.noise_words.specs.declared.orders.Chosen.{Chosen}
 use Rattle.noise_words.specs.declared.orders.Chosen.TheVariants as order
 
 -- ---- a run
 
--- the run of a right file, whether its lines are those expected or not
-run-text : (bytes : List ℕ) (file : VectorFile) (outcome : Outcome) → Ran (Some bytes) file outcome → (expected : List (List ℕ))
-    → expected_in file.version ≡ expected → PrintsRun bytes (lines_text (bytes_of outcome.lines.items))
-run-text bytes file outcome r [] is =
-    inl (has-run (Some bytes) file outcome (Some []) (Some (lines_text (bytes_of outcome.lines.items))) (Ok tt) r refl (inl (r.expected ∙ is)))
-run-text bytes file outcome r (e ∷ es) is = of-two (met-or-unmet (bytes_of outcome.lines.items) (expected_in file.version))
-  where
-    of-two : (bytes_of outcome.lines.items ≡ expected_in file.version) ⊎ ((n : ℕ) × IsFirstUnmet (bytes_of outcome.lines.items) (expected_in file.version) n)
-        → PrintsRun bytes (lines_text (bytes_of outcome.lines.items))
-    of-two (inl same) =
-        inl (has-run (Some bytes) file outcome (Some []) (Some (lines_text (bytes_of outcome.lines.items))) (Ok tt) r refl (inr (same ∙ sym r.expected)))
-    of-two (inr (n, unmet)) = inr (
-      n,
-      record {
-        file = file;
-        right = r.right;
-        text_is = sym r.bytes ∙ r.spelled;
-        lines = bytes_of outcome.lines.items;
-        run = r.run;
-        printed = refl;
-        some = λ none. let bad = sym is ∙ none in cc bad;
-        unmet = unmet;
-      },
-    )
+-- what a command on a vector file prints of its run
+pub ran-prefix : {O : Type 0} (Prints : Printing) (chosen : Chosen) (known a b : Option (List ℕ)) (old new : O)
+    → ((text : List ℕ) → RunsFile Prints known (Some []) (Some text) → IsDone chosen known (Some []) (Some text))
+    → ((text : List ℕ) (n : ℕ) → IfSome known (λ bytes. HasUnmet Prints bytes (Some []) (Some text) n)
+    → IsFault chosen known (Some []) (Some text) (fault.Unmet n))
+    → (new ≡ old) ⊎ PrintsRunPrefix Prints known a b → (new ≡ old) ⊎ PrintsPrefix chosen known a b
+ran-prefix Prints chosen known a b old new done wrong (inl same) = inl same
+ran-prefix Prints chosen None a b old new done wrong (inr (text, h, grown)) = inr (text, inl (done text tt), grown)
+ran-prefix Prints chosen (Some bytes) a b old new done wrong (inr (text, inl met, grown)) = inr (text, inl (done text met), grown)
+ran-prefix Prints chosen (Some bytes) a b old new done wrong (inr (text, inr (n, unmet), grown)) =
+    inr (text, inr (fault.Unmet n, wrong text n unmet), grown)
 
-pub run-prefix : (known : Option (List ℕ)) (file : VectorFile) (outcome : Outcome) (a b : Option (List ℕ)) → Ran known file outcome
-    → AppendsPrefix a b (lines_text (bytes_of outcome.lines.items)) → PrintsRunPrefix known a b
-run-prefix None file outcome a b r grown = (lines_text (bytes_of outcome.lines.items), tt, grown)
-run-prefix (Some bytes) file outcome a b r grown =
-    (lines_text (bytes_of outcome.lines.items), run-text bytes file outcome r (expected_in file.version) refl, grown)
-
-pub talk-prefix : {O : Type 0} (path : String Global) (known a b : Option (List ℕ)) (old new : O) → (new ≡ old) ⊎ PrintsRunPrefix known a b
-    → (new ≡ old) ⊎ PrintsPrefix (order.Talk path) known a b
-talk-prefix path known a b old new (inl same) = inl same
-talk-prefix path None a b old new (inr (text, h, grown)) = inr (text, inl tt, grown)
-talk-prefix path (Some bytes) a b old new (inr (text, inl met, grown)) = inr (text, inl met, grown)
-talk-prefix path (Some bytes) a b old new (inr (text, inr (n, unmet), grown)) = inr (text, inr (fault.Unmet n, inr unmet), grown)
+-- the lines aren't those that are expected
+pub unmet-known : (Prints : Printing) (allowed : AllowedEvents) (known before after : Option (List ℕ)) (n : ℕ)
+    → IfSome known (λ bytes. HasUnmet Prints bytes before after n) → IsNotMet Prints allowed known before after (fault.Unmet n)
+unmet-known Prints allowed None before after n h = tt
+unmet-known Prints allowed (Some bytes) before after n h = inr h
 
 pub template-prefix : {O : Type 0} (word : String Global) (bytes : List ℕ) (known a b : Option (List ℕ)) (old new : O) → bytes ≡ string_bytes word
     → (new ≡ old) ⊎ ((text : List ℕ) × HasTemplated bytes known (Some []) (Some text) × AppendsPrefix a b text)
@@ -89,55 +60,27 @@ spelled-template word known t items reported e same h (p, spells, valid, is) =
     by (Some bytes) h =
         (p, subst (λ (z : List ℕ). Spells z p) (same ∙ h) spells, record { valid = valid; text = reported; is = is; printed = refl })
 
-pub replay-prefix : {O : Type 0} (path : String Global) (known a b : Option (List ℕ)) (old new : O) → (new ≡ old) ⊎ PrintsRunPrefix known a b
-    → (new ≡ old) ⊎ PrintsPrefix (order.Replay path) known a b
-replay-prefix path known a b old new (inl same) = inl same
-replay-prefix path None a b old new (inr (text, h, grown)) = inr (text, inl tt, grown)
-replay-prefix path (Some bytes) a b old new (inr (text, inl met, grown)) = inr (text, inl met, grown)
-replay-prefix path (Some bytes) a b old new (inr (text, inr (n, unmet), grown)) = inr (text, inr (fault.Unmet n, inr unmet), grown)
-
-pub converted-prefix : (known : Option (List ℕ)) (file : VectorFile) (outcome : Outcome) (a b : Option (List ℕ)) (converted : List ℕ)
-    → Ran known file outcome → file.version ≡ One → MeetsItself file (bytes_of outcome.lines.items)
-    → converted ≡ converted_text file (bytes_of outcome.lines.items) → length converted ≤ 4194304 → AppendsPrefix a b converted
-    → PrintsConvertedPrefix known a b
-converted-prefix known file outcome a b converted r one meets is short grown =
-    (converted, has-converted known file outcome (Some []) (Some converted) converted (Ok tt) r one meets is short refl, grown)
-
 -- ---- what is reported
 
 -- nothing comes to the output, or a prefix of the line of a broken rule
 left-or-rule : {O : Type 0} (contents : O → Option (List ℕ)) (why : Fault) (middle new : O) → LeavesOutput contents why middle new
     → (new ≡ middle) ⊎ ((f : RuleFault) × (why ≡ fault.Rule f) × AppendsPrefix (contents middle) (contents new) (fault_line (fault.Rule f) ++ 10 ∷ []))
 left-or-rule contents (fault.Rule f) middle new h = inr (f, refl, h)
-left-or-rule contents (fault.Place f) middle new h = inl h
-left-or-rule contents (fault.Setup role f) middle new h = inl h
-left-or-rule contents (fault.Name f) middle new h = inl h
-left-or-rule contents fault.UnknownPattern middle new h = inl h
-left-or-rule contents (fault.Text f) middle new h = inl h
-left-or-rule contents (fault.Line n kind) middle new h = inl h
-left-or-rule contents (fault.Unmet n) middle new h = inl h
-left-or-rule contents fault.TooLong middle new h = inl h
-left-or-rule contents fault.Unreadable middle new h = inl h
-left-or-rule contents fault.Unwritable middle new h = inl h
-left-or-rule contents fault.Memory middle new h = inl h
+left-or-rule contents _ middle new h = inl h
 
 -- a broken rule is a fault whatever the output holds
 rule-anywhere : (chosen : Chosen) (known a b c e : Option (List ℕ)) (f : RuleFault) → IsFault chosen known a b (fault.Rule f)
     → IsFault chosen known c e (fault.Rule f)
-rule-anywhere order.List known a b c e f h = h
-rule-anywhere (order.Show name) known a b c e f h = h
-rule-anywhere (order.Check path) known a b c e f h = h
-rule-anywhere (order.Template word) known a b c e f h = h
 rule-anywhere (order.Talk path) None a b c e f h = tt
 rule-anywhere (order.Talk path) (Some bytes) a b c e f (inl h) = inl h
 rule-anywhere (order.Talk path) (Some bytes) a b c e f (inr h) = absurd h
 rule-anywhere (order.Replay path) None a b c e f h = tt
 rule-anywhere (order.Replay path) (Some bytes) a b c e f (inl h) = inl h
 rule-anywhere (order.Replay path) (Some bytes) a b c e f (inr h) = absurd h
-rule-anywhere (order.Convert path) known a b c e f h = h
 rule-anywhere (order.Trace given) None a b c e f h = tt
 rule-anywhere (order.Trace given) (Some bytes) a b c e f (inl h) = inl h
 rule-anywhere (order.Trace given) (Some bytes) a b c e f (inr h) = absurd h
+rule-anywhere _ known a b c e f h = h
 
 rule-is : (f : RuleFault) (P : Type 0) → (status_of (fault.Rule f) ≡ 3) ⊎ P → P
 rule-is f P (inl three) = absurd (cc three)

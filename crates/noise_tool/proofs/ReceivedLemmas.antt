@@ -16,7 +16,7 @@ use Rattle.noise_duel.specs.Runs.SideReceives.{is_idle, waits, reads_frame}
 use Rattle.noise_duel.specs.Sides.{Side}
 use Rattle.noise_vectors.specs.Expectations.{bytes_of}
 use Rattle.noise_lines.specs.TracedLines.{traces_of}
-use Rattle.noise_tool.specs.TracedEnds.{IsOfNoFrame, Shows}
+use Rattle.noise_tool.specs.TracedEnds.{IsOfNoFrame, ShowsEnd}
 use Rattle.noise_tool.specs.Tracing.{blanks, came_traces, read_trace}
 use Rattle.noise_tool.specs.declared.key_use_lines.Selection.{Selection}
 use Rattle.noise_tool.specs.declared.traced_end.TracedEnd.{TracedEnd}
@@ -31,14 +31,14 @@ pub record Reading (selection : Selection) (own role : Role) (reader : Side) (t 
   pub bytes : List ℕ
   pub heard : List Note
   pub receives : SideReceives s bytes heard reader
-  pub shows : Shows t s.state
+  pub shows : ShowsEnd t s.state
   pub rest_is : rest ≡ s.state.partial ++ bytes
   pub left_is : left ≡ noted_by role (heard ++ held_note (length reader.state.partial))
   pub whole_is : so_far ++ came_traces selection own s reader bytes heard receives ≡ whole
 
 -- all has come
 pub record Finished (reader : Side) (t : TracedEnd) (rest : List ℕ) (left : List (Role × Note)) (so_far whole : Traces) : Type 0 where
-  pub shows : Shows t reader.state
+  pub shows : ShowsEnd t reader.state
   pub rest_is : rest ≡ reader.state.partial
   pub left_is : left ≡ []
   pub whole_is : so_far ≡ whole
@@ -49,7 +49,7 @@ Remains selection own role reader t rest left so_far whole =
 
 -- what is shown doesn't depend on what is held
 abbrev pub HoldsAny : TracedEnd → Type 0
-HoldsAny t = (v : EndState) (bytes : List ℕ) → Shows t v → Shows t (record v { partial = bytes })
+HoldsAny t = (v : EndState) (bytes : List ℕ) → ShowsEnd t v → ShowsEnd t (record v { partial = bytes })
 
 -- ---- after a message nothing is held
 
@@ -88,9 +88,9 @@ module _ (selection : Selection) (own role : Role) (t u : TracedEnd) (rest messa
     (drops : (step : StepValue) (n : ℕ) → note ≡ Left step n → after ≡ take (length rest - n) rest)
     (keeps : (n : ℕ) → note ≡ Held n → after ≡ rest)
     -- the lines
-    (reads : (s next : Side) (text : List ℕ) (step : StepValue) (r : SideReads s text step next) → Shows t s.state → message ≡ text → note ≡ Judged step
-    → (lines ≡ read_trace selection own s next text step r) × Shows u next.state)
-    (none : (v : EndState) → Shows t v → IsOfNoFrame note → (lines ≡ []) × Shows u v)
+    (reads : (s next : Side) (text : List ℕ) (step : StepValue) (r : SideReads s text step next) → ShowsEnd t s.state → message ≡ text → note ≡ Judged step
+    → (lines ≡ read_trace selection own s next text step r) × ShowsEnd u next.state)
+    (none : (v : EndState) → ShowsEnd t v → IsOfNoFrame note → (lines ≡ []) × ShowsEnd u v)
     (pushed : now ≡ so_far ++ lines ∷ [])
   where
     -- the lines of the first of those that are left
@@ -100,7 +100,7 @@ module _ (selection : Selection) (own role : Role) (t u : TracedEnd) (rest messa
         ∙ ap (λ (x : List (List ℕ)). so_far ++ (x ∷ others)) is ∙ inv
 
     -- so many bytes are held, at the end
-    partial-last : (reader s : Side) → (bytes : List ℕ) → Shows t s.state → (partial : List ℕ) → rest ≡ partial → reader.state ≡ record (s.state) { partial = partial }
+    partial-last : (reader s : Side) → (bytes : List ℕ) → ShowsEnd t s.state → (partial : List ℕ) → rest ≡ partial → reader.state ≡ record (s.state) { partial = partial }
         → (by, note) ∷ more ≡ noted_by role (held_note (length partial)) → so_far ++ blanks (held_note (length partial)) ≡ whole
         → Finished reader u after more now whole
     partial-last reader s bytes shows [] is state left inv = absurd (cc left)
@@ -109,13 +109,13 @@ module _ (selection : Selection) (own role : Role) (t u : TracedEnd) (rest messa
         let no_frame : IsOfNoFrame note = subst IsOfNoFrame (sym two.0) tt in
         let made = none s.state shows no_frame in
         record {
-          shows = subst (λ (v : EndState). Shows u v) (sym state) (holds s.state (b ∷ bs) made.1);
+          shows = subst (λ (v : EndState). ShowsEnd u v) (sym state) (holds s.state (b ∷ bs) made.1);
           rest_is = keeps (suc (length bs)) two.0 ∙ is ∙ ap (λ (v : EndState). v.partial) (sym state);
           left_is = two.1;
           whole_is = sym (append-nil now) ∙ grown [] [] made.0 inv;
         }
 
-    idle-step : (reader s : Side) (bytes : List ℕ) (step : StepValue) (idle : idle_step (progress_of s.state) ≡ Some step) → reader ≡ s → Shows t s.state
+    idle-step : (reader s : Side) (bytes : List ℕ) (step : StepValue) (idle : idle_step (progress_of s.state) ≡ Some step) → reader ≡ s → ShowsEnd t s.state
         → rest ≡ s.state.partial ++ bytes → (by, note) ∷ more ≡ noted_by role (left_note step (length bytes) ++ held_note (length s.state.partial))
         → so_far ++ (blanks (left_note step (length bytes)) ++ blanks (held_note (length s.state.partial))) ≡ whole
         → Remains selection own role reader u after more now whole
@@ -141,7 +141,7 @@ module _ (selection : Selection) (own role : Role) (t u : TracedEnd) (rest messa
         }))
 
     -- one entry more
-    pub one-entry : (reader s : Side) (bytes : List ℕ) (heard : List Note) (x : SideReceives s bytes heard reader) → Shows t s.state
+    pub one-entry : (reader s : Side) (bytes : List ℕ) (heard : List Note) (x : SideReceives s bytes heard reader) → ShowsEnd t s.state
         → rest ≡ s.state.partial ++ bytes → (by, note) ∷ more ≡ noted_by role (heard ++ held_note (length reader.state.partial))
         → so_far ++ came_traces selection own s reader bytes heard x ≡ whole → Remains selection own role reader u after more now whole
     one-entry reader s bytes heard (is_idle _ _ step idle) shows rest_is left inv = idle-step reader s bytes step idle refl shows rest_is left inv
@@ -170,24 +170,24 @@ module _ (selection : Selection) (own role : Role) (t u : TracedEnd) (rest messa
 -- ---- the end
 
 module _ (selection : Selection) (own role : Role) (t : TracedEnd) (rest : List ℕ) (so_far whole : Traces) (holds : HoldsAny t) where
-  waits-last : (reader s : Side) (partial : List ℕ) → Shows t s.state → rest ≡ partial → reader.state ≡ record (s.state) { partial = partial }
+  waits-last : (reader s : Side) (partial : List ℕ) → ShowsEnd t s.state → rest ≡ partial → reader.state ≡ record (s.state) { partial = partial }
       → [] ≡ noted_by role (held_note (length partial)) → so_far ++ blanks (held_note (length partial)) ≡ whole → Finished reader t rest [] so_far whole
   waits-last reader s [] shows is state left inv = record {
-    shows = subst (λ (v : EndState). Shows t v) (sym state) (holds s.state [] shows);
+    shows = subst (λ (v : EndState). ShowsEnd t v) (sym state) (holds s.state [] shows);
     rest_is = is ∙ ap (λ (v : EndState). v.partial) (sym state);
     left_is = refl;
     whole_is = sym (append-nil so_far) ∙ inv;
   }
   waits-last reader s (b ∷ bs) shows is state left inv = absurd (cc left)
 
-  idle-last : (reader s : Side) (bytes : List ℕ) (step : StepValue) → reader ≡ s → Shows t s.state → rest ≡ s.state.partial ++ bytes
+  idle-last : (reader s : Side) (bytes : List ℕ) (step : StepValue) → reader ≡ s → ShowsEnd t s.state → rest ≡ s.state.partial ++ bytes
       → [] ≡ noted_by role (left_note step (length bytes) ++ held_note (length s.state.partial))
       → so_far ++ (blanks (left_note step (length bytes)) ++ blanks (held_note (length s.state.partial))) ≡ whole → Finished reader t rest [] so_far whole
   idle-last reader s [] step same shows rest_is left inv =
       waits-last reader s s.state.partial shows (rest_is ∙ append-nil s.state.partial) (ap (λ (r : Side). r.state) same) left inv
   idle-last reader s (b ∷ bs) step same shows rest_is left inv = absurd (cc left)
 
-  read-last : (reader s : Side) (bytes : List ℕ) (heard : List Note) (x : SideReceives s bytes heard reader) → Shows t s.state
+  read-last : (reader s : Side) (bytes : List ℕ) (heard : List Note) (x : SideReceives s bytes heard reader) → ShowsEnd t s.state
       → rest ≡ s.state.partial ++ bytes → [] ≡ noted_by role (heard ++ held_note (length reader.state.partial))
       → so_far ++ came_traces selection own s reader bytes heard x ≡ whole → Finished reader t rest [] so_far whole
   read-last reader s bytes heard (is_idle _ _ step idle) shows rest_is left inv = idle-last reader s bytes step refl shows rest_is left inv

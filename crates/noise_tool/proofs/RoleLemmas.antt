@@ -1,11 +1,11 @@
 -- What comes of one role's part of an event, of both ends.
-use Rattle.std.proofs.Common.{◌≡◌, ◌∙◌, sym, ap, subst, ℕ, List, ◌++◌, Result, Vec}
+use Rattle.std.proofs.Common.{◌≡◌, ◌∙◌, ap, ℕ, List, ◌++◌, Result, Vec}
 use Rattle.std.specs.Global.{Global}
 use Rattle.std.proofs.lemmas.Result.{IfOk-weaker}
 use Rattle.noise_names.specs.declared.token.Role.{Role}
 use Rattle.noise_names.specs.declared.token.Role.TheVariants.{Initiator, Responder}
 use Rattle.noise_duel.specs.Notes.{Note}
-use Rattle.noise_duel.specs.Sides.{Side, Sides, with_side}
+use Rattle.noise_duel.specs.Sides.{Side, Sides, side, with_side}
 use Rattle.noise_lines.specs.TracedLines.{traces_of}
 use Rattle.noise_tool.specs.TracedEnds.{EndsTraced, TracedMatches}
 use Rattle.noise_tool.specs.TracedEvents.{Entries, Traces, TracesBytes, TracesReceived, TracesWrite, TracesWriteOf}
@@ -15,72 +15,46 @@ use Rattle.noise_tool.specs.declared.traced_end.TracedEnd.{TracedEnd}
 use Rattle.noise_tool.specs.declared.traced_ends.TracedEnds.{TracedEnds}
 use Rattle.noise_tool.proofs.RunningLemmas.{on_ok}
 
--- the key schedule of one end has gone on
-abbrev pub first-on : TracedEnds → TracedEnd → TracedEnds
-first-on ends t = record ends { initiator = t }
+-- the end of a role, and both ends after its key schedule has gone on
+abbrev end-at : TracedEnds → Role → TracedEnd
+end-at ends Initiator = ends.initiator
+end-at ends Responder = ends.responder
 
-abbrev pub second-on : TracedEnds → TracedEnd → TracedEnds
-second-on ends t = record ends { responder = t }
+abbrev end-on : TracedEnds → Role → TracedEnd → TracedEnds
+end-on ends Initiator t = record ends { initiator = t }
+end-on ends Responder t = record ends { responder = t }
 
-first-matches : (ends : TracedEnds) (d : Sides) → EndsTraced ends d → (t : TracedEnd) (s : Side) → t.role ≡ ends.initiator.role
-    → TracedMatches t s.state → EndsTraced (first-on ends t) (with_side d Initiator s)
-first-matches ends d traced t s same matches = record {
-  initiator = matches;
-  responder = traced.responder;
-  first = same ∙ traced.first;
-  second = traced.second;
-}
+module _ (ends : TracedEnds) (d : Sides) where
+  role-at : (role : Role) → EndsTraced ends d → (end-at ends role).role ≡ role
+  role-at Initiator traced = traced.first
+  role-at Responder traced = traced.second
 
-second-matches : (ends : TracedEnds) (d : Sides) → EndsTraced ends d → (t : TracedEnd) (s : Side) → t.role ≡ ends.responder.role
-    → TracedMatches t s.state → EndsTraced (second-on ends t) (with_side d Responder s)
-second-matches ends d traced t s same matches = record {
-  initiator = traced.initiator;
-  responder = matches;
-  first = traced.first;
-  second = same ∙ traced.second;
-}
+  matches-at : (role : Role) → EndsTraced ends d → TracedMatches (end-at ends role) (side d role).state
+  matches-at Initiator traced = traced.initiator
+  matches-at Responder traced = traced.responder
 
-module _ {E : Type 0} (selection : Selection) (ends : TracedEnds) (t : TracedEnd) (role : Role) (bytes : List ℕ) where
-  -- ---- bytes
+  matches-on : (role : Role) → EndsTraced ends d → (t : TracedEnd) (s : Side) → t.role ≡ (end-at ends role).role → TracedMatches t s.state
+      → EndsTraced (end-on ends role t) (with_side d role s)
+  matches-on Initiator traced t s same matches =
+      record { initiator = matches; responder = traced.responder; first = same ∙ traced.first; second = traced.second }
+  matches-on Responder traced t s same matches =
+      record { initiator = traced.initiator; responder = matches; first = traced.first; second = same ∙ traced.second }
 
-  pub received-initiator : {A : Type 0} (entries : Entries) (old new : Traces) (r : Result A E) → t.role ≡ ends.initiator.role
-      → TracesReceived selection ends.initiator t bytes entries old new r → role ≡ Initiator
-      → TracesBytes selection role bytes entries ends (first-on ends t) old new r
-  received-initiator entries old new r same clause is =
-      subst (λ (z : Role). TracesBytes selection z bytes entries ends (first-on ends t) old new r) (sym is)
-      (λ d reader notes x traced reported. on_ok r _ _ (λ h. (
-        h.0 ∙ ap (λ (z : Role). traces_of old ++ came_traces selection z d.initiator reader bytes notes x) traced.first,
-        first-matches ends d traced t reader same h.1,
-      )) (clause d.initiator reader Initiator notes x traced.initiator reported))
+module _ {E : Type 0} (selection : Selection) (ends : TracedEnds) (t : TracedEnd) (role : Role) (bytes : List ℕ)
+    (same : t.role ≡ (end-at ends role).role) where
+  -- of bytes that came
+  pub received : {A : Type 0} (entries : Entries) (old new : Traces) (r : Result A E)
+      → TracesReceived selection (end-at ends role) t bytes entries old new r
+      → TracesBytes selection role bytes entries ends (end-on ends role t) old new r
+  received entries old new r clause = λ d reader notes x traced reported. on_ok r _ _ (λ h. (
+    h.0 ∙ ap (λ (z : Role). traces_of old ++ came_traces selection z (side d role) reader bytes notes x) (role-at ends d role traced),
+    matches-on ends d role traced t reader same h.1,
+  )) (clause (side d role) reader role notes x (matches-at ends d role traced) reported)
 
-  pub received-responder : {A : Type 0} (entries : Entries) (old new : Traces) (r : Result A E) → t.role ≡ ends.responder.role
-      → TracesReceived selection ends.responder t bytes entries old new r → role ≡ Responder
-      → TracesBytes selection role bytes entries ends (second-on ends t) old new r
-  received-responder entries old new r same clause is =
-      subst (λ (z : Role). TracesBytes selection z bytes entries ends (second-on ends t) old new r) (sym is)
-      (λ d reader notes x traced reported. on_ok r _ _ (λ h. (
-        h.0 ∙ ap (λ (z : Role). traces_of old ++ came_traces selection z d.responder reader bytes notes x) traced.second,
-        second-matches ends d traced t reader same h.1,
-      )) (clause d.responder reader Responder notes x traced.responder reported))
-
-  -- ---- a write
-
-  pub wrote-initiator : (noted : Note) (r : Result (Vec (Vec ℕ Global) Global) E) → t.role ≡ ends.initiator.role
-      → TracesWrite selection ends.initiator t bytes noted r → role ≡ Initiator
-      → TracesWriteOf selection role bytes noted ends (first-on ends t) r
-  wrote-initiator noted r same clause is =
-      subst (λ (z : Role). TracesWriteOf selection z bytes noted ends (first-on ends t) r) (sym is)
-      (λ d next payload note w traced reported framed. IfOk-weaker r _ _ (λ lines h. (
-        h.0 ∙ ap (λ (z : Role). written_trace selection z d.initiator next payload note w) traced.first,
-        first-matches ends d traced t next same h.1,
-      )) (clause d.initiator next payload note w traced.initiator reported framed))
-
-  pub wrote-responder : (noted : Note) (r : Result (Vec (Vec ℕ Global) Global) E) → t.role ≡ ends.responder.role
-      → TracesWrite selection ends.responder t bytes noted r → role ≡ Responder
-      → TracesWriteOf selection role bytes noted ends (second-on ends t) r
-  wrote-responder noted r same clause is =
-      subst (λ (z : Role). TracesWriteOf selection z bytes noted ends (second-on ends t) r) (sym is)
-      (λ d next payload note w traced reported framed. IfOk-weaker r _ _ (λ lines h. (
-        h.0 ∙ ap (λ (z : Role). written_trace selection z d.responder next payload note w) traced.second,
-        second-matches ends d traced t next same h.1,
-      )) (clause d.responder next payload note w traced.responder reported framed))
+  -- of a write
+  pub wrote : (noted : Note) (r : Result (Vec (Vec ℕ Global) Global) E) → TracesWrite selection (end-at ends role) t bytes noted r
+      → TracesWriteOf selection role bytes noted ends (end-on ends role t) r
+  wrote noted r clause = λ d next payload note w traced reported framed. IfOk-weaker r _ _ (λ lines h. (
+    h.0 ∙ ap (λ (z : Role). written_trace selection z (side d role) next payload note w) (role-at ends d role traced),
+    matches-on ends d role traced t next same h.1,
+  )) (clause (side d role) next payload note w (matches-at ends d role traced) reported framed)

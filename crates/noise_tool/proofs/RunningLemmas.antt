@@ -1,5 +1,6 @@
 -- The lines after those of the events.
 use Rattle.std.proofs.Common.{◌≡◌, ◌∙◌, ap, ap₂, sym, refl, subst, ◌&&◌, ◌==◌, Bool, true, false, ℕ, List, [], ◌∷◌, ◌++◌, Option, Some, None, Result, Ok, Err, OnOk, length, map, codes, append_assoc}
+use Rattle.noise_names.specs.Plan.{Plan}
 use Rattle.noise_names.specs.declared.token.Role.{Role}
 use Rattle.noise_session.specs.Datagrams.{DatagramState}
 use Rattle.noise_session.specs.EndDatagrams.{is_datagram_ready, is_untouched}
@@ -10,13 +11,18 @@ use Rattle.noise_events.specs.DatagramEvents.{datagram_events_of}
 use Rattle.noise_duel.specs.DatagramRuns.{DatagramRun}
 use Rattle.noise_duel.specs.DatagramSides.{DatagramSides, datagram_sides}
 use Rattle.noise_duel.specs.DuelValue.{DuelValue}
+use Rattle.noise_duel.specs.Runs.{Run}
 use Rattle.noise_duel.specs.Sides.{Sides}
+use Rattle.noise_events.specs.Events.{Event, events_of}
 use Rattle.noise_vectors.specs.VectorText.{window_words}
 use Rattle.noise_vectors.specs.declared.file_keys.FileKeys.{FileKeys}
 use Rattle.noise_vectors.specs.declared.vector.FileDatagrams.{FileDatagrams}
+use Rattle.noise_vectors.specs.declared.vector.VectorFile.{VectorFile}
+use Rattle.noise_vectors.specs.declared.vector.Version.{Version}
+use Rattle.noise_tool.specs.Ends.{IsPlanOf, sides_of_file}
 use Rattle.noise_tool.specs.Printed.{state_lines}
 use Rattle.noise_tool.specs.PrintedDatagrams.{datagram_line, datagram_state_lines}
-use Rattle.noise_tool.specs.Running.{AreLast, are_ready, gone_over, is_ready, ready, unready, without}
+use Rattle.noise_tool.specs.Running.{AreLast, IsRunOf, LeavesLines, datagrams_of_version, are_ready, gone_over, is_ready, ready, unready, without}
 
 pub on_ok : {A E : Type 0} (r : Result A E) (P Q : Type 0) → (P → Q) → OnOk r P → OnOk r Q
 on_ok (Ok a) P Q f p = f p
@@ -92,3 +98,21 @@ pub after-word : {E : Type 0} (d : Sides) (r : Result Unit E) (old one new : Lis
     → OnOk r (new ≡ one ++ state_lines d) → OnOk r (new ≡ old ++ codes "no-datagrams" ∷ state_lines d)
 after-word d r old one new first h =
     on_ok r _ _ (λ e. e ∙ ap (λ (t : List (List ℕ)). t ++ state_lines d) first ∙ append_assoc old (codes "no-datagrams" ∷ []) (state_lines d)) h
+
+-- ---- the lines of a run
+
+-- the events of the file leave the ends and lines, and these follow
+pub is-run : (file : VectorFile) (plan : Plan) (events : List Event) (version : Version) (duel : DuelValue FileKeys FileKeys)
+    (lines printed after : List (List ℕ)) → IsPlanOf file plan → events ≡ events_of file.events.items → version ≡ file.version
+    → (ran : LeavesLines (sides_of_file file plan) events duel lines) → AreLast (datagrams_of_version version) ran.last after → printed ≡ lines ++ after
+    → IsRunOf file printed
+is-run file plan events version duel lines printed after of_file same which ran last is = record {
+  plan = plan;
+  of_file = of_file;
+  notes = ran.notes;
+  last = ran.last;
+  run = subst (λ (es : List Event). Run (sides_of_file file plan) es ran.notes ran.last) same ran.run;
+  after = after;
+  are_last = subst (λ (o : Option FileDatagrams). AreLast o ran.last after) (ap datagrams_of_version which) last;
+  lines_are = is ∙ ap (λ (t : List (List ℕ)). t ++ after) ran.lines_are;
+}

@@ -2,8 +2,8 @@
 use Rattle.std.proofs.Common.{◌≡◌, ◌≢◌, ◌∙◌, ◌+◌, sym, ap, ap₂, ℕ, Bool, true, List, [], ◌∷◌, ◌++◌, Option, Some, None, codes, append_assoc}
 use Rattle.noise_session.specs.Transport.{last_nonce}
 use Rattle.noise_trace.specs.KeyUses.KeyUseValue.{Transport}
-use Rattle.noise_tool.specs.Selection.{selects_transport, only_if}
-use Rattle.noise_tool.specs.KeyUseLines.{IsCounted, renewed_lines, transport_lines}
+use Rattle.noise_tool.specs.Selection.{selects_transport, if_selected}
+use Rattle.noise_tool.specs.KeyUseLines.{HasLaterNonce, renewed_lines, transport_lines}
 use Rattle.noise_tool.specs.PrintedTrace.{act_word, transport_call_word, transport_line}
 use Rattle.noise_tool.specs.declared.key_use_lines.Selection.{Selection}
 use Rattle.noise_tool.specs.declared.trace_lines.About.{About}
@@ -12,7 +12,7 @@ abbrev Lines : Type 0
 Lines = List (List ℕ)
 
 -- a key that is renewed has a nonce to come
-pub counted-some : (nonce : ℕ) (key next : List ℕ) (renewed : Option (List ℕ)) → renewed ≡ Some next → IsCounted (Transport nonce key renewed)
+pub counted-some : (nonce : ℕ) (key next : List ℕ) (renewed : Option (List ℕ)) → renewed ≡ Some next → HasLaterNonce (Transport nonce key renewed)
     → nonce ≢ last_nonce
 counted-some nonce key next None is counted = absurd (cc is)
 counted-some nonce key next (Some other) is counted = counted
@@ -37,4 +37,4 @@ transport-renewed selection about nonce later key next name call renewed keeps o
     ∷ transport_line about.role (codes "renewed") (codes "Rekey") next k ∷ [])) counted
     ∙ ap (λ (r : Option (List ℕ)). old ++ (transport_line about.role (act_word about.act) (transport_call_word about.act) key nonce
     ∷ renewed_lines about.role nonce r)) (sym is)
-    ∙ ap (λ (b : Bool). old ++ only_if b all) (sym yes)
+    ∙ ap (λ (b : Bool). old ++ if_selected b all) (sym yes)

@@ -1,20 +1,26 @@
 -- A file of more than 4194304 bytes is refused.
-use Rattle.std.proofs.Common.{◌≡◌, ◌≤◌, ◌<◌, ◌⊎◌, inl, inr, ℕ, List, length, Option, Some, None, Result, Ok, Err, arith, subst, ap}
-use Rattle.std.specs.Prelude.{IfSome, MatchResult}
+use Rattle.std.proofs.Common.{◌≡◌, ◌≤◌, ◌<◌, ◌⊎◌, inl, inr, ℕ, List, length, Option, Result, Ok, Err, arith, ap}
+use Rattle.std.specs.Prelude.{IfSome}
 use Rattle.noise_lines.specs.Faults.{status_of}
 use Rattle.noise_lines.specs.declared.faults.Fault.{Fault}
 use Rattle.noise_lines.specs.declared.faults.Fault.TheVariants.{TooLong}
-use Rattle.noise_tool.specs.Performing.{IsShort}
+use Rattle.noise_vectors.specs.declared.vector.AllowedEvents.{AllowedEvents}
+use Rattle.noise_vectors.specs.declared.vector.VectorFile.{VectorFile}
+use Rattle.noise_tool.specs.Performing.{IsReadVector, IsShortFile, UnlessTwo}
+use Rattle.noise_tool.proofs.PerformingLemmas.{at-known}
 
 -- what was read is short
-pub short-of : (known : Option (List ℕ)) (text : List ℕ) → IfSome known (λ bytes. text ≡ bytes) → length text ≤ 4194304 → IsShort known
-short-of None text e h = tt
-short-of (Some bytes) text e h = subst (λ (z : List ℕ). length z ≤ 4194304) e h
+pub short-of : (known : Option (List ℕ)) (text : List ℕ) → IfSome known (λ bytes. text ≡ bytes) → length text ≤ 4194304 → IsShortFile known
+short-of known text e h = at-known (λ (bytes : List ℕ). length bytes ≤ 4194304) known text e h
 
 -- whatever comes of it
-pub stays-short : (S : Type 0) (result : Result Unit Fault) → S → MatchResult result (λ _. S) (λ fault. (2 ≤ status_of fault) ⊎ S)
-stays-short S (Ok u) s = s
-stays-short S (Err fault) s = inr s
+stays : {A : Type 0} (S : Type 0) (result : Result A Fault) → S → UnlessTwo S result
+stays S (Ok u) s = s
+stays S (Err fault) s = inr s
+
+pub stays-short : {A : Type 0} {allowed : AllowedEvents} {known : Option (List ℕ)} {text : List ℕ} {file : VectorFile} (result : Result A Fault)
+    → IsReadVector allowed known text file → UnlessTwo (IsShortFile known) result
+stays-short {known = known} {text = text} result read = stays (IsShortFile known) result (short-of known text read.bytes read.short)
 
 -- a file that wasn't read
 pub unread-at : (known : Option (List ℕ)) (fault : Fault) → (status_of fault ≡ 3) ⊎ ((fault ≡ TooLong) × IfSome known (λ bytes. 4194304 < length bytes))

@@ -24,11 +24,11 @@ use Rattle.noise_vectors.specs.declared.file_keys.FileKeys.TheVariants.{Table}
 use Rattle.noise_vectors.specs.declared.vector.VectorFile.{VectorFile}
 use Rattle.noise_template.specs.Template.{IsTemplate, key_byte, key_in, name_of, own_token, placeholder, psk_key, unless_known}
 use Rattle.noise_template.specs.Template as template
-use Rattle.noise_tool.specs.Ends.{IsPatternOf, keys_in, known_before, setup_of}
+use Rattle.noise_tool.specs.Ends.{IsFilePattern, keys_of_role, known_before, setup_of}
 
 -- ---- the pattern
 
-pattern-by : (p : Plan) → IsPattern p → (o : Option Plan) → fundamental_of p.base ≡ o → IsPatternOf (unless_known o p) (name_of p) p
+pattern-by : (p : Plan) → IsPattern p → (o : Option Plan) → fundamental_of p.base ≡ o → IsFilePattern (unless_known o p) (name_of p) p
 pattern-by p h None e = refl
 pattern-by p h (Some f) e = record {
   plain = f;
@@ -39,10 +39,10 @@ pattern-by p h (Some f) e = record {
     known-is : (p : Plan) → IsPattern p → (f : Plan) → fundamental_of p.base ≡ Some f → plain_of p ≡ f
     known-is p h f e = let k = h.known in rw e at k
 
-pub pattern-of : (p : Plan) (file : VectorFile) → IsPattern p → IsTemplate p file → IsPatternOf file.block file.protocol p
+pub pattern-of : (p : Plan) (file : VectorFile) → IsPattern p → IsTemplate p file → IsFilePattern file.block file.protocol p
 pattern-of p file h t =
-    subst (λ (b : Option Plan). IsPatternOf b file.protocol p) (sym t.block)
-    (subst (λ (s : Section). IsPatternOf (unless_known (fundamental_of p.base) p) s p) (sym t.protocol) (pattern-by p h (fundamental_of p.base) refl))
+    subst (λ (b : Option Plan). IsFilePattern b file.protocol p) (sym t.block)
+    (subst (λ (s : Section). IsFilePattern (unless_known (fundamental_of p.base) p) s p) (sym t.protocol) (pattern-by p h (fundamental_of p.base) refl))
 
 -- ---- a psk for each place
 
@@ -215,7 +215,7 @@ none-unexpected true true key = refl
 none-unexpected true false key = refl
 none-unexpected false b key = refl
 
-keys-are : (p : Plan) (file : VectorFile) → IsTemplate p file → (role : Role) → keys_in file role ≡ Table (template.keys_in p role)
+keys-are : (p : Plan) (file : VectorFile) → IsTemplate p file → (role : Role) → keys_of_role file role ≡ Table (template.keys_in p role)
 keys-are p file t Initiator = t.initiator
 keys-are p file t Responder = t.responder
 

@@ -1,12 +1,12 @@
 -- What comes of vector files that are tested.
-use Rattle.std.proofs.Common.{Vec, ◌≡◌, ◌∙◌, refl, sym, ap, ap₂, subst, ◌⊎◌, inl, inr, ◌≤◌, ◌+◌, ◌==◌, if◌then◌else◌, ℕ, Bool, true, false, not, ◌&&◌, ◌||◌, List, [], ◌∷◌, ◌++◌, Option, Some, None, String, drop, length, string_bytes, take, append_assoc, append-nil, arith}
+use Rattle.std.proofs.Common.{Vec, ◌≡◌, ◌∙◌, refl, sym, ap, ap₂, subst, ◌⊎◌, inl, inr, ◌<◌, ◌≤◌, ◌+◌, ◌==◌, if◌then◌else◌, ℕ, Bool, true, false, not, ◌&&◌, ◌||◌, List, [], ◌∷◌, ◌++◌, Option, Some, None, String, drop, get_or, length, string_bytes, take, append_assoc, append-nil, arith}
 use Rattle.std.specs.Prelude.{OnOk, IfErr, IfNone, IfOk, IfSome, IsTrue, Result, Ok, Err, cond, count_by, map}
 use Rattle.std.specs.Global.{Global}
 use Rattle.std.specs.List.{sum_by}
 use Rattle.std.specs.Io.KnownBytes.{Appends, Keeps}
 use Rattle.std.proofs.KnownBytes.{Appends-nil, Appends-trans}
 use Rattle.std.proofs.lemmas.Grind.{flat_map-append}
-use Rattle.std.proofs.lemmas.List.{flat_map_more, map-append, map_push, take-append-drop}
+use Rattle.std.proofs.lemmas.List.{flat_map_more, map-append, map_more, map_push, take-append-drop}
 use Rattle.std.proofs.lemmas.List.Elements.{All-nil, All-push}
 use Rattle.std.proofs.lemmas.List.Sums.{sum_by-append}
 use Rattle.noise_names.specs.Names.{Section}
@@ -29,12 +29,12 @@ use Rattle.noise_vectors.specs.declared.vector.VectorFile.{VectorFile}
 use Rattle.noise_explain.specs.FramePieces.{HaveNoFrame, SaysPiece}
 use Rattle.noise_lines.specs.Verdicts.{IsJudged, bytes_in, is_met, verdict_text}
 use Rattle.noise_lines.specs.TracedLines.{traces_of}
-use Rattle.noise_tool.specs.Ends.{IsPatternFault, IsStartFault}
+use Rattle.noise_tool.specs.Ends.{IsFilePatternFault, IsStartFault}
 use Rattle.noise_tool.specs.Performing.{IsRunFault}
 use Rattle.noise_tool.specs.Running.{IsRunOf, expected_in}
 use Rattle.noise_tool.specs.Selection.{all_lines}
-use Rattle.noise_tool.specs.Testing.{Asked, EndsTest, HasBegun, HasTested, HaveTested, IsBelow, IsFront, IsOfFile, IsPatternIn, IsPieceOf, IsTested, IsVerdictOn, Judged, RunsTo, SayPiece, TestsPrefix}
-use Rattle.noise_tool.specs.Testing.{asked, asked_after, asked_in, below_of, failed_in, listed, is_input, passed_in, tally_line, tested_text, verdicts_text}
+use Rattle.noise_tool.specs.Testing.{TestedName, EndsTest, HasBegunTest, HasTested, HaveTested, IsBelowVerdict, IsTraceFront, IsOfFile, IsPatternOfText, IsPieceOf, IsTested, IsVerdictOn, Judged, RunsTo, SayPiece, TestsPrefix}
+use Rattle.noise_tool.specs.Testing.{tested_names, tested_names_after, asked_in, below_of, failed_in, listed, is_input, passed_in, tally_line, tested_text, verdicts_text}
 use Rattle.noise_tool.specs.TracedText.{front_if}
 use Rattle.noise_tool.specs.Tracing.{HasTraces}
 use Rattle.noise_tool.specs.declared.testing.TestedRun.{TestedRun}
@@ -98,7 +98,7 @@ fails-known (Some known) text items (Err why) same bytes fails =
 -- the front of the trace of a run that differs
 front-is : (traces : Bool) (file : VectorFile) (t : Traced) (number : ℕ)
     → (traces ≡ true → HasTraces all_lines file (bytes_of t.outcome.lines.items) (bytes_of t.start.items) (traces_of t.traces.items))
-    → IsFront traces file (bytes_of t.outcome.lines.items) number (front_if traces t number)
+    → IsTraceFront traces file (bytes_of t.outcome.lines.items) number (front_if traces t number)
 front-is true file t number shown = record {
   start = bytes_of t.start.items;
   traces = traces_of t.traces.items;
@@ -110,8 +110,8 @@ front-is false file t number shown = refl
 -- the lines that follow the two that differ
 below-is : (traces : Bool) (text : List ℕ) (file : VectorFile) (t : Traced) (plan : Plan) (verdict : Verdict) (piece : List (List ℕ))
     → (traces ≡ true → HasTraces all_lines file (bytes_of t.outcome.lines.items) (bytes_of t.start.items) (traces_of t.traces.items))
-    → IsPatternIn text plan → IsPieceOf plan verdict piece
-    → IsBelow traces text file (bytes_of t.outcome.lines.items) verdict (below_of traces verdict piece t)
+    → IsPatternOfText text plan → IsPieceOf plan verdict piece
+    → IsBelowVerdict traces text file (bytes_of t.outcome.lines.items) verdict (below_of traces verdict piece t)
 below-is traces text file t plan (Differs d) piece shown pattern is = record {
   plan = plan;
   pattern = pattern;
@@ -121,21 +121,16 @@ below-is traces text file t plan (Differs d) piece shown pattern is = record {
   front_is = front-is traces file t d.number shown;
   below_is = refl;
 }
-below-is traces text file t plan Met piece shown pattern is = tt
-below-is traces text file t plan (CannotRun why) piece shown pattern is = tt
-below-is traces text file t plan ExpectsNothing piece shown pattern is = tt
-below-is traces text file t plan NamedTwice piece shown pattern is = tt
+below-is traces text file t plan _ piece shown pattern is = tt
 
 -- a verdict on lines is of the file
 judged-file : (lines expected : List (List ℕ)) (verdict : Verdict) → IsJudged lines expected verdict → IsOfFile verdict
-judged-file lines expected Met h = tt
-judged-file lines expected (Differs d) h = tt
-judged-file lines expected ExpectsNothing h = tt
 judged-file lines expected (CannotRun why) h = absurd h
 judged-file lines expected NamedTwice h = absurd h
+judged-file lines expected _ h = tt
 
 pub judged-known : (traces : Bool) (known : Option (List ℕ)) (unreadable : Bool) (run : TestedRun) (verdict : Verdict) (piece : List (List ℕ))
-    → IfSome known (λ bytes. RunsTo traces bytes run.traced) → IfSome known (λ bytes. IsPatternIn bytes run.pattern)
+    → IfSome known (λ bytes. RunsTo traces bytes run.traced) → IfSome known (λ bytes. IsPatternOfText bytes run.pattern)
     → IsJudged (bytes_of run.traced.outcome.lines.items) (bytes_of run.traced.outcome.expected.items) verdict
     → IsPieceOf run.pattern verdict piece → IsVerdictOn false traces known unreadable verdict (below_of traces verdict piece run.traced)
 judged-known traces None unreadable run verdict piece runs pattern judged is = inr (judged-file _ _ verdict judged, tt)
@@ -157,18 +152,10 @@ judged-known traces (Some bytes) unreadable run verdict piece runs pattern judge
 
 -- a fault ends the command, or is a verdict
 sort-of : (why : Fault) → EndsTest why ⊎ (why ≡ fault.Unreadable) ⊎ (status_of why ≤ 2)
-sort-of (fault.Unmet n) = inr (inr (omega arith))
-sort-of (fault.Rule f) = inr (inr (omega arith))
-sort-of (fault.Place f) = inr (inr (omega arith))
-sort-of (fault.Setup role f) = inr (inr (omega arith))
-sort-of (fault.Name f) = inr (inr (omega arith))
-sort-of fault.UnknownPattern = inr (inr (omega arith))
-sort-of (fault.Text f) = inr (inr (omega arith))
-sort-of (fault.Line n kind) = inr (inr (omega arith))
-sort-of fault.TooLong = inr (inr (omega arith))
 sort-of fault.Unreadable = inr (inl refl)
 sort-of fault.Unwritable = inl (inr refl)
 sort-of fault.Memory = inl (inl refl)
+sort-of _ = inr (inr (omega arith))
 
 -- the verdict on a file that isn't run
 pub fault-known : (traces : Bool) (known : Option (List ℕ)) (unreadable : Bool) (why : Fault) → ¬ EndsTest why
@@ -184,28 +171,34 @@ fault-known traces known unreadable why other failed h = of-sort (sort-of why) k
     of-sort (inr (inr few)) None (inr h) = inr (few, tt)
     of-sort (inr (inr few)) (Some bytes) (inr h) = inr (few, inl h)
 
-pub unrun-tested : (traces : Bool) (known : Option (List ℕ)) (unreadable : Bool) (name : List ℕ) (a e : Option (List ℕ)) (why : Fault) (verdict : Verdict)
-    (text : List ℕ) → verdict ≡ CannotRun why → ¬ EndsTest why → (why ≡ fault.Unreadable → IsTrue unreadable)
-    → (status_of why ≡ 3) ⊎ IfSome known (λ bytes. IsRunFault Any bytes why) → text ≡ verdict_text name verdict → Appends a e text
-    → HasTested false traces known unreadable name a e false
-unrun-tested traces known unreadable name a e why verdict text is other failed fails text_is printed = record {
-  verdict = CannotRun why;
-  below = [];
-  right = fault-known traces known unreadable why other failed fails;
-  printed = subst (λ (t : List ℕ). Appends a e t) (text_is ∙ ap (verdict_text name) is) printed;
-  met_is = refl;
-}
+-- a verdict on a file that isn't run is written, and after it nothing
+unrun-text : (name : List ℕ) (verdict : Verdict) → verdict_text name verdict ≡ tested_text name verdict []
+unrun-text name (Differs d) = sym (append-nil (verdict_text name (Differs d)))
+unrun-text name _ = refl
 
-pub unrun-begun : (traces : Bool) (known : Option (List ℕ)) (unreadable : Bool) (name : List ℕ) (a e : Option (List ℕ)) (why : Fault) (verdict : Verdict)
-    (text : List ℕ) → verdict ≡ CannotRun why → ¬ EndsTest why → (why ≡ fault.Unreadable → IsTrue unreadable)
-    → (status_of why ≡ 3) ⊎ IfSome known (λ bytes. IsRunFault Any bytes why) → text ≡ verdict_text name verdict → AppendsPrefix a e text
-    → HasBegun false traces known unreadable name a e
-unrun-begun traces known unreadable name a e why verdict text is other failed fails text_is grown = record {
-  verdict = CannotRun why;
+pub unrun-tested : (again traces : Bool) (known : Option (List ℕ)) (unreadable : Bool) (name : List ℕ) (a e : Option (List ℕ)) (verdict : Verdict)
+    (result : Result Bool Fault) → is_met verdict ≡ false → IsVerdictOn again traces known unreadable verdict []
+    → IfOk result (λ met. (met ≡ false) × Appends a e (verdict_text name verdict)) → IfOk result (HasTested again traces known unreadable name a e)
+unrun-tested again traces known unreadable name a e verdict (Ok met) unmet right h = record {
+  verdict = verdict;
   below = [];
-  right = fault-known traces known unreadable why other failed fails;
-  grown = subst (λ (t : List ℕ). AppendsPrefix a e t) (text_is ∙ ap (verdict_text name) is) grown;
+  right = right;
+  printed = subst (λ (t : List ℕ). Appends a e t) (unrun-text name verdict) h.1;
+  met_is = h.0 ∙ sym unmet;
 }
+unrun-tested again traces known unreadable name a e verdict (Err why) unmet right h = tt
+
+pub unrun-begun : {O : Type 0} (contents : O → Option (List ℕ)) (again traces : Bool) (known : Option (List ℕ)) (unreadable : Bool) (name : List ℕ) (old new : O)
+    (verdict : Verdict) (result : Result Bool Fault) → IsVerdictOn again traces known unreadable verdict []
+    → IfErr result (λ _. AppendsPrefix (contents old) (contents new) (verdict_text name verdict))
+    → IfErr result (λ _. (new ≡ old) ⊎ HasBegunTest again traces known unreadable name (contents old) (contents new))
+unrun-begun contents again traces known unreadable name old new verdict (Ok met) right h = tt
+unrun-begun contents again traces known unreadable name old new verdict (Err why) right h = inr (record {
+  verdict = verdict;
+  below = [];
+  right = right;
+  grown = subst (λ (t : List ℕ). AppendsPrefix (contents old) (contents new) t) (unrun-text name verdict) h;
+})
 
 -- a text isn't run for what it says, or for want of memory
 of_vector-read : (why : VectorFault) → ¬ (of_vector why ≡ fault.Unreadable)
@@ -215,29 +208,20 @@ of_vector-read vector.Memory e = absurd (cc e)
 pub vector-read : (why : VectorFault) (f : Fault) → f ≡ of_vector why → ¬ (f ≡ fault.Unreadable)
 vector-read why f is e = of_vector-read why (sym is ∙ e)
 
-no-pattern-read : (block : Option Plan) (name : Section) → ¬ IsPatternFault block name fault.Unreadable
+no-pattern-read : (block : Option Plan) (name : Section) → ¬ IsFilePatternFault block name fault.Unreadable
 no-pattern-read None name h = h
 no-pattern-read (Some pattern) name h = h
 
 -- why a file has no pattern is why it has no ends
-pattern-start : (file : VectorFile) (why : Fault) (block : Option Plan) → block ≡ file.block → IsPatternFault block file.protocol why
+pattern-start : (file : VectorFile) (why : Fault) (block : Option Plan) → block ≡ file.block → IsFilePatternFault block file.protocol why
     → IsStartFault file why
 pattern-start file (fault.Setup role f) None is h = absurd h
 pattern-start file (fault.Setup role f) (Some plan) is h = absurd h
 pattern-start file fault.Memory block is h = tt
-pattern-start file (fault.Unmet n) block is h = subst (λ (b : Option Plan). IsPatternFault b file.protocol (fault.Unmet n)) is h
-pattern-start file (fault.Rule f) block is h = subst (λ (b : Option Plan). IsPatternFault b file.protocol (fault.Rule f)) is h
-pattern-start file (fault.Place f) block is h = subst (λ (b : Option Plan). IsPatternFault b file.protocol (fault.Place f)) is h
-pattern-start file (fault.Name f) block is h = subst (λ (b : Option Plan). IsPatternFault b file.protocol (fault.Name f)) is h
-pattern-start file fault.UnknownPattern block is h = subst (λ (b : Option Plan). IsPatternFault b file.protocol fault.UnknownPattern) is h
-pattern-start file (fault.Text f) block is h = subst (λ (b : Option Plan). IsPatternFault b file.protocol (fault.Text f)) is h
-pattern-start file (fault.Line n kind) block is h = subst (λ (b : Option Plan). IsPatternFault b file.protocol (fault.Line n kind)) is h
-pattern-start file fault.TooLong block is h = subst (λ (b : Option Plan). IsPatternFault b file.protocol fault.TooLong) is h
-pattern-start file fault.Unreadable block is h = subst (λ (b : Option Plan). IsPatternFault b file.protocol fault.Unreadable) is h
-pattern-start file fault.Unwritable block is h = subst (λ (b : Option Plan). IsPatternFault b file.protocol fault.Unwritable) is h
+pattern-start file why block is h = subst (λ (b : Option Plan). IsFilePatternFault b file.protocol why) is h
 
 pub pattern-starts : {T : Type 0} (file : VectorFile) (block : Option Plan) (result : Result T Fault) → block ≡ file.block
-    → IfErr result (λ why. IsPatternFault block file.protocol why) → IfErr result (λ why. IsStartFault file why)
+    → IfErr result (λ why. IsFilePatternFault block file.protocol why) → IfErr result (λ why. IsStartFault file why)
 pattern-starts file block (Ok t) is h = tt
 pattern-starts file block (Err why) is h = pattern-start file why block is h
 
@@ -272,26 +256,6 @@ pub start-read : {T : Type 0} (file : VectorFile) (result : Result T Fault) → 
 start-read file (Ok t) h = tt
 start-read file (Err why) h = λ e. no-pattern-read file.block file.protocol (subst (IsStartFault file) e h)
 
--- standard input is named twice
-pub again-tested : (traces : Bool) (known : Option (List ℕ)) (unreadable : Bool) (name : List ℕ) (a e : Option (List ℕ)) (text : List ℕ)
-    → text ≡ verdict_text name NamedTwice → Appends a e text → HasTested true traces known unreadable name a e false
-again-tested traces known unreadable name a e text text_is printed = record {
-  verdict = NamedTwice;
-  below = [];
-  right = refl;
-  printed = subst (λ (t : List ℕ). Appends a e t) text_is printed;
-  met_is = refl;
-}
-
-pub again-begun : (traces : Bool) (known : Option (List ℕ)) (unreadable : Bool) (name : List ℕ) (a e : Option (List ℕ)) (text : List ℕ)
-    → text ≡ verdict_text name NamedTwice → AppendsPrefix a e text → HasBegun true traces known unreadable name a e
-again-begun traces known unreadable name a e text text_is grown = record {
-  verdict = NamedTwice;
-  below = [];
-  right = refl;
-  grown = subst (λ (t : List ℕ). AppendsPrefix a e t) text_is grown;
-}
-
 -- ---- several files
 
 pub none-tested : (traces : Bool) (bytes_at : List ℕ → Option (List ℕ)) (unreadable : List ℕ → Bool) (out : Option (List ℕ)) → HaveTested traces bytes_at unreadable [] out out 0 0
@@ -309,14 +273,14 @@ counted {X = X} p xs x =
     let last : 0 + cond (p x) 1 0 ≡ cond (p x) 1 0 = omega arith in
     sum_by-append (λ (y : X). cond (p y) 1 0) xs (x ∷ []) ∙ ap (λ (n : ℕ). sum_by (λ (y : X). cond (p y) 1 0) xs + n) last
 
-tested-more : (traces : Bool) (bytes_at : List ℕ → Option (List ℕ)) (unreadable : List ℕ → Bool) (names : List Asked) (name : List ℕ) (again : Bool) (a m e : Option (List ℕ)) (passed failed : ℕ)
+tested-more : (traces : Bool) (bytes_at : List ℕ → Option (List ℕ)) (unreadable : List ℕ → Bool) (names : List TestedName) (name : List ℕ) (again : Bool) (a m e : Option (List ℕ)) (passed failed : ℕ)
     (met : Bool) (p f : ℕ) → HaveTested traces bytes_at unreadable names a m passed failed → HasTested again traces (bytes_at name) (unreadable name) name m e met → p ≡ passed + cond met 1 0
     → f ≡ failed + cond (not met) 1 0 → HaveTested traces bytes_at unreadable (names ++ (name, again) ∷ []) a e p f
 tested-more traces bytes_at unreadable names name again a m e passed failed met p f before one p_is f_is =
     let this : Judged = record { name = name; again = again; verdict = one.verdict; below = one.below } in
     record {
       verdicts = before.verdicts ++ this ∷ [];
-      named = map_push asked_in before.verdicts this ∙ ap (λ (ns : List Asked). ns ++ (name, again) ∷ []) before.named;
+      named = map_push asked_in before.verdicts this ∙ ap (λ (ns : List TestedName). ns ++ (name, again) ∷ []) before.named;
       right = All-push (λ (v : Judged). IsVerdictOn v.again traces (bytes_at v.name) (unreadable v.name) v.verdict v.below) before.verdicts this before.right one.right;
       printed = subst (λ (t : List ℕ). Appends a e t) (flat_map_more (λ (v : Judged). tested_text v.name v.verdict v.below) [] before.verdicts this)
           (Appends-trans a m e (verdicts_text before.verdicts) (tested_text name one.verdict one.below) before.printed one.printed);
@@ -327,7 +291,7 @@ tested-more traces bytes_at unreadable names name again a m e passed failed met 
     }
 
 -- one file more, which passed
-pub passed-more : (traces : Bool) (bytes_at : List ℕ → Option (List ℕ)) (unreadable : List ℕ → Bool) (names all : List Asked) (name : List ℕ) (again : Bool) (a m e : Option (List ℕ))
+pub passed-more : (traces : Bool) (bytes_at : List ℕ → Option (List ℕ)) (unreadable : List ℕ → Bool) (names all : List TestedName) (name : List ℕ) (again : Bool) (a m e : Option (List ℕ))
     (passed failed : ℕ) (met : Bool) → all ≡ names ++ (name, again) ∷ [] → met ≡ true → HaveTested traces bytes_at unreadable names a m passed failed
     → HasTested again traces (bytes_at name) (unreadable name) name m e met → HaveTested traces bytes_at unreadable all a e (passed + 1) failed
 passed-more traces bytes_at unreadable names all name again a m e passed failed met all_is is before one =
@@ -336,7 +300,7 @@ passed-more traces bytes_at unreadable names all name again a m e passed failed 
     rw all_is (tested-more traces bytes_at unreadable names name again a m e passed failed met (passed + 1) failed before one more same)
 
 -- one file more, which failed
-pub failed-more : (traces : Bool) (bytes_at : List ℕ → Option (List ℕ)) (unreadable : List ℕ → Bool) (names all : List Asked) (name : List ℕ) (again : Bool) (a m e : Option (List ℕ))
+pub failed-more : (traces : Bool) (bytes_at : List ℕ → Option (List ℕ)) (unreadable : List ℕ → Bool) (names all : List TestedName) (name : List ℕ) (again : Bool) (a m e : Option (List ℕ))
     (passed failed : ℕ) (met : Bool) → all ≡ names ++ (name, again) ∷ [] → met ≡ false → HaveTested traces bytes_at unreadable names a m passed failed
     → HasTested again traces (bytes_at name) (unreadable name) name m e met → HaveTested traces bytes_at unreadable all a e passed (failed + 1)
 failed-more traces bytes_at unreadable names all name again a m e passed failed met all_is is before one =
@@ -352,7 +316,7 @@ kept-appends (Some x) (Some y) (Some z) bs p q = q ∙ p
 
 -- the line of how many passed and failed is written after them
 pub whole-tested : (traces : Bool) (bytes_at : List ℕ → Option (List ℕ)) (unreadable : List ℕ → Bool) (names : List (List ℕ)) (a m n e : Option (List ℕ)) (passed failed status : ℕ)
-    (tally : List ℕ) → HaveTested traces bytes_at unreadable (asked names) a m passed failed → tally ≡ tally_line passed failed → Appends m n tally → Keeps n e
+    (tally : List ℕ) → HaveTested traces bytes_at unreadable (tested_names names) a m passed failed → tally ≡ tally_line passed failed → Appends m n tally → Keeps n e
     → status ≡ (if failed == 0 then 0 else 1) → IsTested traces bytes_at unreadable names a e status
 whole-tested traces bytes_at unreadable names a m n e passed failed status tally before tally_is written kept status_is =
     record {
@@ -405,10 +369,7 @@ if-err-map (Err e) P Q f h = f h
 verdict-first : (name : List ℕ) (verdict : Verdict) (below : List (List ℕ))
     → (more : List ℕ) × (verdict_text name verdict ++ more ≡ tested_text name verdict below)
 verdict-first name (Differs d) below = (lines_text below, refl)
-verdict-first name Met below = ([], append-nil _)
-verdict-first name (CannotRun why) below = ([], append-nil _)
-verdict-first name ExpectsNothing below = ([], append-nil _)
-verdict-first name NamedTwice below = ([], append-nil _)
+verdict-first name _ below = ([], append-nil _)
 
 pub verdict-prefix : (name : List ℕ) (verdict : Verdict) (below : List (List ℕ)) (a e : Option (List ℕ)) (text : List ℕ)
     → text ≡ verdict_text name verdict → AppendsPrefix a e text → AppendsPrefix a e (tested_text name verdict below)
@@ -447,9 +408,9 @@ front-written name d piece front a m n e text is written next last =
 
 pub judged-begun : (traces : Bool) (known : Option (List ℕ)) (unreadable : Bool) (name : List ℕ) (run : TestedRun) (verdict : Verdict)
     (piece : List (List ℕ)) (a e : Option (List ℕ)) → IfSome known (λ bytes. RunsTo traces bytes run.traced)
-    → IfSome known (λ bytes. IsPatternIn bytes run.pattern) → IsJudged (bytes_of run.traced.outcome.lines.items) (bytes_of run.traced.outcome.expected.items) verdict
+    → IfSome known (λ bytes. IsPatternOfText bytes run.pattern) → IsJudged (bytes_of run.traced.outcome.lines.items) (bytes_of run.traced.outcome.expected.items) verdict
     → IsPieceOf run.pattern verdict piece → AppendsPrefix a e (tested_text name verdict (below_of traces verdict piece run.traced))
-    → HasBegun false traces known unreadable name a e
+    → HasBegunTest false traces known unreadable name a e
 judged-begun traces known unreadable name run verdict piece a e runs pattern judged is grown = record {
   verdict = verdict;
   below = below_of traces verdict piece run.traced;
@@ -458,13 +419,13 @@ judged-begun traces known unreadable name run verdict piece a e runs pattern jud
 }
 
 -- no file more than these
-pub none-begun : (traces : Bool) (bytes_at : List ℕ → Option (List ℕ)) (unreadable : List ℕ → Bool) (names others : List Asked) (all : List (List ℕ))
-    (a e : Option (List ℕ)) (passed failed : ℕ) → names ++ others ≡ asked all → HaveTested traces bytes_at unreadable names a e passed failed
+pub none-begun : (traces : Bool) (bytes_at : List ℕ → Option (List ℕ)) (unreadable : List ℕ → Bool) (names others : List TestedName) (all : List (List ℕ))
+    (a e : Option (List ℕ)) (passed failed : ℕ) → names ++ others ≡ tested_names all → HaveTested traces bytes_at unreadable names a e passed failed
     → TestsPrefix traces bytes_at unreadable all a e
 none-begun traces bytes_at unreadable names others all a e passed failed is before = record {
   verdicts = before.verdicts;
   others = others;
-  named = ap (λ (ns : List Asked). ns ++ others) before.named ∙ is;
+  named = ap (λ (ns : List TestedName). ns ++ others) before.named ∙ is;
   right = before.right;
   last = [];
   last_is = inl refl;
@@ -474,9 +435,9 @@ none-begun traces bytes_at unreadable names others all a e passed failed is befo
 
 -- the next file has begun
 pub one-begun : {O : Type 0} (contents : O → Option (List ℕ)) (traces : Bool) (bytes_at : List ℕ → Option (List ℕ)) (unreadable : List ℕ → Bool)
-    (names others : List Asked) (all : List (List ℕ)) (name : List ℕ) (again : Bool) (a : Option (List ℕ)) (old new : O) (passed failed : ℕ) → names ++ (name, again) ∷ others ≡ asked all
+    (names others : List TestedName) (all : List (List ℕ)) (name : List ℕ) (again : Bool) (a : Option (List ℕ)) (old new : O) (passed failed : ℕ) → names ++ (name, again) ∷ others ≡ tested_names all
     → HaveTested traces bytes_at unreadable names a (contents old) passed failed
-    → (new ≡ old) ⊎ HasBegun again traces (bytes_at name) (unreadable name) name (contents old) (contents new)
+    → (new ≡ old) ⊎ HasBegunTest again traces (bytes_at name) (unreadable name) name (contents old) (contents new)
     → TestsPrefix traces bytes_at unreadable all a (contents new)
 one-begun {O = O} contents traces bytes_at unreadable names others all name again a old new passed failed is before (inl same) =
     subst (λ (o : O). TestsPrefix traces bytes_at unreadable all a (contents o)) (sym same)
@@ -485,14 +446,14 @@ one-begun contents traces bytes_at unreadable names others all name again a old 
     let this : Judged = record { name = name; again = again; verdict = one.verdict; below = one.below } in
     let text = tested_text name one.verdict one.below in
     let named : map asked_in (before.verdicts ++ this ∷ []) ≡ names ++ (name, again) ∷ [] =
-    map_push asked_in before.verdicts this ∙ ap (λ (ns : List Asked). ns ++ (name, again) ∷ []) before.named in
+    map_push asked_in before.verdicts this ∙ ap (λ (ns : List TestedName). ns ++ (name, again) ∷ []) before.named in
     let whole : verdicts_text before.verdicts ++ text ≡ verdicts_text (before.verdicts ++ this ∷ []) ++ [] =
     flat_map_more (λ (v : Judged). tested_text v.name v.verdict v.below) [] before.verdicts this
     ∙ sym (append-nil (verdicts_text (before.verdicts ++ this ∷ []))) in
     record {
       verdicts = before.verdicts ++ this ∷ [];
       others = others;
-      named = ap (λ (ns : List Asked). ns ++ others) named ∙ append_assoc names ((name, again) ∷ []) others ∙ is;
+      named = ap (λ (ns : List TestedName). ns ++ others) named ∙ append_assoc names ((name, again) ∷ []) others ∙ is;
       right = All-push (λ (v : Judged). IsVerdictOn v.again traces (bytes_at v.name) (unreadable v.name) v.verdict v.below) before.verdicts this before.right one.right;
       last = [];
       last_is = inl refl;
@@ -502,7 +463,7 @@ one-begun contents traces bytes_at unreadable names others all name again a old 
 
 -- all files are tested, and the last line has begun
 pub last-begun : (traces : Bool) (bytes_at : List ℕ → Option (List ℕ)) (unreadable : List ℕ → Bool) (names : List (List ℕ)) (a m e : Option (List ℕ))
-    (passed failed : ℕ) (tally : List ℕ) → HaveTested traces bytes_at unreadable (asked names) a m passed failed → tally ≡ tally_line passed failed
+    (passed failed : ℕ) (tally : List ℕ) → HaveTested traces bytes_at unreadable (tested_names names) a m passed failed → tally ≡ tally_line passed failed
     → AppendsPrefix m e tally → TestsPrefix traces bytes_at unreadable names a e
 last-begun traces bytes_at unreadable names a m e passed failed tally before tally_is grown = record {
   verdicts = before.verdicts;
@@ -516,7 +477,7 @@ last-begun traces bytes_at unreadable names a m e passed failed tally before tal
 
 -- and written, and kept
 pub kept-begun : (traces : Bool) (bytes_at : List ℕ → Option (List ℕ)) (unreadable : List ℕ → Bool) (names : List (List ℕ)) (a m n e : Option (List ℕ))
-    (passed failed : ℕ) (tally : List ℕ) → HaveTested traces bytes_at unreadable (asked names) a m passed failed → tally ≡ tally_line passed failed
+    (passed failed : ℕ) (tally : List ℕ) → HaveTested traces bytes_at unreadable (tested_names names) a m passed failed → tally ≡ tally_line passed failed
     → Appends m n tally → Keeps n e → TestsPrefix traces bytes_at unreadable names a e
 kept-begun traces bytes_at unreadable names a m n e passed failed tally before tally_is written kept =
     last-begun traces bytes_at unreadable names a m e passed failed tally before tally_is
@@ -534,6 +495,13 @@ tested-begun traces bytes_at unreadable names a e status t = record {
   last_is = inr (refl, refl);
   grown = whole-prefix a e _ t.printed;
 }
+
+-- one more of the names
+pub name-more : (names : List (String Global)) (i : ℕ) (item : String Global) (name : List ℕ) → i < length names → item ≡ get_or names i item
+    → name ≡ string_bytes item → map string_bytes (take (i + 1) names) ≡ map string_bytes (take i names) ++ name ∷ []
+name-more names i item name less is name_is =
+    map_more string_bytes names i item less
+    ∙ ap (λ (t : List ℕ). map string_bytes (take i names) ++ t ∷ []) (ap string_bytes (sym is) ∙ sym name_is)
 
 -- the place of a file among the names
 pub names-at : (names : List (String Global)) (i : ℕ) (name : List ℕ) → map string_bytes (take (i + 1) names) ≡ map string_bytes (take i names) ++ name ∷ []
@@ -555,13 +523,13 @@ named-more named [] name = refl
 named-more named (n ∷ names) name = named-more (named || is_input n) names name
 
 asked-append : (named : Bool) (names more : List (List ℕ))
-    → asked_after named (names ++ more) ≡ asked_after named names ++ asked_after (named-after named names) more
+    → tested_names_after named (names ++ more) ≡ tested_names_after named names ++ tested_names_after (named-after named names) more
 asked-append named [] more = refl
 asked-append named (n ∷ names) more =
-    ap (λ (fs : List Asked). (n, is_input n && named) ∷ fs) (asked-append (named || is_input n) names more)
+    ap (λ (fs : List TestedName). (n, is_input n && named) ∷ fs) (asked-append (named || is_input n) names more)
 
 -- a name is that of standard input again, and it was named from there on
-pub is-again : (again is named i n : Bool) → is ≡ i → named ≡ n → ((is ≡ true) × (again ≡ named)) ⊎ ((is ≡ false) × (again ≡ false)) → again ≡ (i && n)
+is-again : (again is named i n : Bool) → is ≡ i → named ≡ n → ((is ≡ true) × (again ≡ named)) ⊎ ((is ≡ false) × (again ≡ false)) → again ≡ (i && n)
 is-again again is named i n e f (inl (on, same)) = same ∙ f ∙ rw (sym e ∙ on) refl
 is-again again is named i n e f (inr (off, none)) = none ∙ rw (sym e ∙ off) refl
 
@@ -570,29 +538,38 @@ is-named next named is n i f e (inl (on, stays)) = stays ∙ rw (sym f ∙ on) r
 is-named next named is n i f e (inr (off, same)) = same ∙ e ∙ rw (sym f ∙ off) refl
 
 -- one name more
-pub asked-more : (names all : List (List ℕ)) (name : List ℕ) (again : Bool) → all ≡ names ++ name ∷ [] → again ≡ (is_input name && named-after false names)
-    → asked all ≡ asked names ++ (name, again) ∷ []
+asked-more : (names all : List (List ℕ)) (name : List ℕ) (again : Bool) → all ≡ names ++ name ∷ [] → again ≡ (is_input name && named-after false names)
+    → tested_names all ≡ tested_names names ++ (name, again) ∷ []
 asked-more names all name again all_is again_is =
-    ap asked all_is ∙ asked-append false names (name ∷ []) ∙ ap (λ (b : Bool). asked names ++ (name, b) ∷ []) (sym again_is)
+    ap tested_names all_is ∙ asked-append false names (name ∷ []) ∙ ap (λ (b : Bool). tested_names names ++ (name, b) ∷ []) (sym again_is)
+
+-- what is tested_names for up to a name, by whether it is that of standard input and whether that was named before
+pub asked-here : (names : List (String Global)) (i : ℕ) (item : String Global) (name : List ℕ) (again is named : Bool) → i < length names
+    → item ≡ get_or names i item → name ≡ string_bytes item → is ≡ is_input name → named ≡ named-after false (map string_bytes (take i names))
+    → ((is ≡ true) × (again ≡ named)) ⊎ ((is ≡ false) × (again ≡ false))
+    → tested_names (map string_bytes (take (i + 1) names)) ≡ tested_names (map string_bytes (take i names)) ++ (name, again) ∷ []
+asked-here names i item name again is named less item_is name_is is_is named_is again_in =
+    asked-more (map string_bytes (take i names)) _ name again (name-more names i item name less item_is name_is)
+    (is-again again is named _ _ is_is named_is again_in)
 
 -- the names, cut before one of them
 asked-cut : (names : List (String Global)) (i : ℕ)
-    → asked (map string_bytes (take i names)) ++ asked_after (named-after false (map string_bytes (take i names))) (map string_bytes (drop i names))
-    ≡ asked (map string_bytes names)
+    → tested_names (map string_bytes (take i names)) ++ tested_names_after (named-after false (map string_bytes (take i names))) (map string_bytes (drop i names))
+    ≡ tested_names (map string_bytes names)
 asked-cut names i = sym (asked-append false (map string_bytes (take i names)) (map string_bytes (drop i names)))
-    ∙ ap asked (sym (map-append string_bytes (take i names) (drop i names)) ∙ ap (map string_bytes) (take-append-drop i names))
+    ∙ ap tested_names (sym (map-append string_bytes (take i names) (drop i names)) ∙ ap (map string_bytes) (take-append-drop i names))
 
 -- the files after the first
-abbrev pub others-at : List (String Global) → ℕ → List Asked
-others-at names i = asked_after (named-after false (map string_bytes (take i names))) (map string_bytes (drop i names))
+abbrev pub others-at : List (String Global) → ℕ → List TestedName
+others-at names i = tested_names_after (named-after false (map string_bytes (take i names))) (map string_bytes (drop i names))
 
 -- the place of a file among them
 pub asked-at : (names : List (String Global)) (i : ℕ) (name : List ℕ) (again : Bool)
-    → asked (map string_bytes (take (i + 1) names)) ≡ asked (map string_bytes (take i names)) ++ (name, again) ∷ []
-    → asked (map string_bytes (take i names)) ++ (name, again) ∷ others-at names (i + 1) ≡ asked (map string_bytes names)
+    → tested_names (map string_bytes (take (i + 1) names)) ≡ tested_names (map string_bytes (take i names)) ++ (name, again) ∷ []
+    → tested_names (map string_bytes (take i names)) ++ (name, again) ∷ others-at names (i + 1) ≡ tested_names (map string_bytes names)
 asked-at names i name again here =
-    sym (append_assoc (asked (map string_bytes (take i names))) ((name, again) ∷ []) (others-at names (i + 1)))
-    ∙ ap (λ (fs : List Asked). fs ++ others-at names (i + 1)) (sym here) ∙ asked-cut names (i + 1)
+    sym (append_assoc (tested_names (map string_bytes (take i names))) ((name, again) ∷ []) (others-at names (i + 1)))
+    ∙ ap (λ (fs : List TestedName). fs ++ others-at names (i + 1)) (sym here) ∙ asked-cut names (i + 1)
 
 -- ---- what is reported where the command ends
 

@@ -12,7 +12,7 @@ use Rattle.noise_vectors.specs.declared.vector.FileDatagrams.{FileDatagrams}
 use Rattle.noise_vectors.specs.declared.vector.VectorFile.{VectorFile}
 use Rattle.noise_tool.specs.Ends.{sides_of_file}
 use Rattle.noise_tool.specs.Printed.{note_line}
-use Rattle.noise_tool.specs.Running.{AreLast, datagrams_in}
+use Rattle.noise_tool.specs.Running.{AreLast, datagrams_of_version}
 use Rattle.noise_tool.specs.TracedEnds.{AreTracedEnds, HasRunTraced}
 use Rattle.noise_tool.specs.Tracing.{HasTraces, last_traces, start_traces}
 use Rattle.noise_tool.specs.declared.key_use_lines.Selection.{Selection}
@@ -48,22 +48,22 @@ pub traced-whole : (selection : Selection) (file : VectorFile) (made : TracedSta
     → (r : HasRunTraced selection (sides_of_file file a.plan) events duel report ends traces)
     → start ≡ start_traces selection file a.plan
     → lines ≡ map (note_line r.last) (notes_of report.entries.items)
-    → ((after : Lines) (are_last : AreLast (datagrams_in made.version) r.last after)
-    → pushed ≡ traces ++ last_traces selection (datagrams_in made.version) r.last after are_last)
-    → (after : Lines) × AreLast (datagrams_in made.version) r.last after × (whole ≡ lines ++ after)
+    → ((after : Lines) (are_last : AreLast (datagrams_of_version made.version) r.last after)
+    → pushed ≡ traces ++ last_traces selection (datagrams_of_version made.version) r.last after are_last)
+    → (after : Lines) × AreLast (datagrams_of_version made.version) r.last after × (whole ≡ lines ++ after)
     → HasTraces selection file whole start pushed
 traced-whole selection file made a events duel report ends traces pushed start lines whole same r start_is lines_is keys closes =
-    let ended_session : HasEnded selection (datagrams_in file.version) r.last lines whole traces pushed =
-    subst (λ (o : Option FileDatagrams). HasEnded selection o r.last lines whole traces pushed) (ap datagrams_in a.version)
-    (ended_session-of selection (datagrams_in made.version) r.last lines whole traces pushed keys closes) in
+    let ended_session : HasEnded selection (datagrams_of_version file.version) r.last lines whole traces pushed =
+    subst (λ (o : Option FileDatagrams). HasEnded selection o r.last lines whole traces pushed) (ap datagrams_of_version a.version)
+    (ended_session-of selection (datagrams_of_version made.version) r.last lines whole traces pushed keys closes) in
     of-parts ended_session (subst (λ (z : List Act). (q : HasRunTraced selection (sides_of_file file a.plan) z duel report ends traces) × (q.last ≡ r.last)) same (r, refl))
   where
-    of-parts : HasEnded selection (datagrams_in file.version) r.last lines whole traces pushed
+    of-parts : HasEnded selection (datagrams_of_version file.version) r.last lines whole traces pushed
         → (q : HasRunTraced selection (sides_of_file file a.plan) (events_of file.events.items) duel report ends traces) × (q.last ≡ r.last)
         → HasTraces selection file whole start pushed
     of-parts ended_session (q, last_is) =
-        let here : HasEnded selection (datagrams_in file.version) q.last lines whole traces pushed =
-        subst (λ (z : Sides). HasEnded selection (datagrams_in file.version) z lines whole traces pushed) (sym last_is) ended_session in
+        let here : HasEnded selection (datagrams_of_version file.version) q.last lines whole traces pushed =
+        subst (λ (z : Sides). HasEnded selection (datagrams_of_version file.version) z lines whole traces pushed) (sym last_is) ended_session in
         record {
           run = record {
             plan = a.plan;
@@ -77,5 +77,5 @@ traced-whole selection file made a events duel report ends traces pushed start l
                 (lines_is ∙ ap₂ (λ (d : Sides) (ns : List (Role × Note)). map (note_line d) ns) (sym last_is) q.notes_are);
           };
           start_is = start_is;
-          traces_are = here.pushed_is ∙ ap (λ (z : Traces). z ++ last_traces selection (datagrams_in file.version) q.last here.after here.are_last) q.traces_are;
+          traces_are = here.pushed_is ∙ ap (λ (z : Traces). z ++ last_traces selection (datagrams_of_version file.version) q.last here.after here.are_last) q.traces_are;
         }

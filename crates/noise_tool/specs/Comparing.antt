@@ -72,6 +72,13 @@ pub record IsCompared (log file : Option (List ℕ)) (before after : Option (Lis
   pub printed : Appends before after report.text.items
   pub status_is : status ≡ finding_status report.finding
 
+-- the same of the files of these names, and the error output is as it was
+abbrev pub ComparesFiles : {E : Type 0} → Compared → (List ℕ → Option (List ℕ)) → Option (List ℕ) → Option (List ℕ)
+    → E → E → ℕ → Type 0
+ComparesFiles names bytes_at before after err err_after status =
+    IsCompared (bytes_at (string_bytes names.log)) (bytes_at (string_bytes names.file)) before after status
+    × (err_after ≡ err)
+
 -- the output grew by a prefix of the report on them
 pub record ComparesPrefix (log file : Option (List ℕ)) (before after : Option (List ℕ)) : Type 0 where
   pub report : LogReport

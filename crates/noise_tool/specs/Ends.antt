@@ -27,15 +27,15 @@ use Rattle.noise_vectors.specs.declared.file_keys.FileKeys.{FileKeys}
 use Rattle.noise_vectors.specs.declared.vector.VectorFile.{VectorFile}
 
 -- the pattern is the one that a file spells, or else that of its protocol's name
-abbrev pub IsPatternOf : Option Plan → Section → Plan → Type 0
-IsPatternOf (Some block) name plan = plan ≡ block
-IsPatternOf None name plan = IsNamed name plan
+abbrev pub IsFilePattern : Option Plan → Section → Plan → Type 0
+IsFilePattern (Some block) name plan = plan ≡ block
+IsFilePattern None name plan = IsNamed name plan
 
 -- why there is no valid one: there is none, or it breaks a rule
-abbrev pub IsPatternFault : Option Plan → Section → Fault → Type 0
-IsPatternFault block name (Rule fault) = (plan : Plan) × IsPatternOf block name plan × IsFirstFault plan fault
-IsPatternFault None name fault = IsUnnamed name fault
-IsPatternFault (Some block) name fault = ⊥
+abbrev pub IsFilePatternFault : Option Plan → Section → Fault → Type 0
+IsFilePatternFault block name (Rule fault) = (plan : Plan) × IsFilePattern block name plan × IsFirstFault plan fault
+IsFilePatternFault None name fault = IsUnnamed name fault
+IsFilePatternFault (Some block) name fault = ⊥
 
 -- the public keys of a party's pre-message, which the other party knows before the first message (Noise 7.1)
 abbrev pub known_before : Plan → Role → (Own → Option (List ℕ)) → Remote
@@ -44,19 +44,19 @@ known_before plan party own = record {
   s = if has_before plan party S then own Static else None;
 }
 
-abbrev pub keys_in : VectorFile → Role → FileKeys
-keys_in file Initiator = file.initiator
-keys_in file Responder = file.responder
+abbrev pub keys_of_role : VectorFile → Role → FileKeys
+keys_of_role file Initiator = file.initiator
+keys_of_role file Responder = file.responder
 
 abbrev pub known_to : VectorFile → Plan → Role → Remote
-known_to file plan role = known_before plan (other role) (public_of (keys_in file (other role)))
+known_to file plan role = known_before plan (other role) (public_of (keys_of_role file (other role)))
 
 -- what a party starts from
-abbrev pub start_of : VectorFile → Plan → Role → Start
-start_of file plan role = record {
+abbrev pub file_start : VectorFile → Plan → Role → Start
+file_start file plan role = record {
   prologue = file.prologue.items;
-  own = public_of (keys_in file role);
-  agree = agreement_of (keys_in file role);
+  own = public_of (keys_of_role file role);
+  agree = agreement_of (keys_of_role file role);
   remote = known_to file plan role;
   psks = file.psks.items;
 }
@@ -71,16 +71,16 @@ FileDuelMatches duel d = DuelMatches public_of agreement_of public_of agreement_
 -- both ends before the first message, by this pattern
 abbrev pub sides_of_file : VectorFile → Plan → Sides
 sides_of_file file plan =
-    sides_at_start plan (start_of file plan Initiator) (start_of file plan Responder) file.interval file.interval
+    sides_at_start plan (file_start file plan Initiator) (file_start file plan Responder) file.interval file.interval
 
 -- what is wrong with it, if anything is
 abbrev pub setup_of : VectorFile → Plan → Role → Option SetupFault
 setup_of file plan role =
-    setup_fault plan role (public_of (keys_in file role)) (known_to file plan role) (length file.psks.items)
+    setup_fault plan role (public_of (keys_of_role file role)) (known_to file plan role) (length file.psks.items)
 
 -- the plan is the file's valid pattern, and nothing is wrong with either setup
 pub record IsPlanOf (file : VectorFile) (plan : Plan) : Type 0 where
-  pub pattern : IsPatternOf file.block file.protocol plan
+  pub pattern : IsFilePattern file.block file.protocol plan
   pub valid : IsValid plan
   pub set_up : (role : Role) → setup_of file plan role ≡ None
 
@@ -94,8 +94,8 @@ pub record AreEnds (file : VectorFile) (duel : DuelValue FileKeys FileKeys) : Ty
 pub record AreHandshakes (file : VectorFile) (first second : HandshakeValue FileKeys) : Type 0 where
   pub plan : Plan
   pub of_file : IsPlanOf file plan
-  pub initiator : FileMatches first (begun_as plan Initiator (start_of file plan Initiator))
-  pub responder : FileMatches second (begun_as plan Responder (start_of file plan Responder))
+  pub initiator : FileMatches first (begun_as plan Initiator (file_start file plan Initiator))
+  pub responder : FileMatches second (begun_as plan Responder (file_start file plan Responder))
 
 -- by a valid pattern of the file, this is wrong with the setups
 abbrev pub HasSetupFault : VectorFile → Role → SetupFault → Plan → Type 0
@@ -106,6 +106,6 @@ HasSetupFault file Responder fault plan =
 -- why a file has no ends: its pattern, then the initiator's setup, then the responder's, the first of these
 abbrev pub IsStartFault : VectorFile → Fault → Type 0
 IsStartFault file (Setup role fault) =
-    (plan : Plan) × IsPatternOf file.block file.protocol plan × IsValid plan × HasSetupFault file role fault plan
+    (plan : Plan) × IsFilePattern file.block file.protocol plan × IsValid plan × HasSetupFault file role fault plan
 IsStartFault file Memory = ⊤
-IsStartFault file fault = IsPatternFault file.block file.protocol fault
+IsStartFault file fault = IsFilePatternFault file.block file.protocol fault

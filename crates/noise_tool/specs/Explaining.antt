@@ -90,6 +90,12 @@ pub record HasExplained (bytes_at : List ℕ
   pub printed : Appends before after (said_text said)
   pub status_is : status ≡ worst_of said
 
+-- and the error output is as it was
+abbrev pub ExplainsFiles : {E : Type 0} → (List ℕ → Option (List ℕ)) → List (List ℕ) → Option (List ℕ)
+    → Option (List ℕ) → E → E → ℕ → Type 0
+ExplainsFiles bytes_at names before after err err_after status =
+    HasExplained bytes_at names before after status × (err_after ≡ err)
+
 -- the output grew by a prefix of what is said of the first of these files
 pub record ExplainsPrefix (bytes_at : List ℕ
     → Option (List ℕ)) (names : List (List ℕ)) (before after : Option (List ℕ)) : Type 0 where

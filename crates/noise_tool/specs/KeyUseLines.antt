@@ -5,7 +5,7 @@ use Rattle.noise_session.specs.Transport.{last_nonce}
 use Rattle.noise_trace.specs.KeyUses.{KeyUseValue}
 use Rattle.noise_trace.specs.KeyUses.KeyUseValue.{Nothing, Message, Transport}
 use Rattle.noise_trace.specs.declared.opening.Opening.{Opening}
-use Rattle.noise_tool.specs.Selection.{selects_handshake, selects_transport, only_if}
+use Rattle.noise_tool.specs.Selection.{selects_handshake, selects_transport, if_selected}
 use Rattle.noise_tool.specs.PrintedTrace.{act_word, opening_lines, step_lines_from, transport_call_word, transport_line}
 use Rattle.noise_tool.specs.declared.key_use_lines.Selection.{Selection}
 use Rattle.noise_tool.specs.declared.trace_lines.About.{About}
@@ -14,7 +14,7 @@ use Rattle.noise_tool.specs.declared.trace_lines.About.{About}
 abbrev pub selected_opening : Selection → Role → Option Opening → List (List ℕ)
 selected_opening selection role None = []
 selected_opening selection role (Some o) =
-    only_if (selects_transport selection role) (opening_lines role o.state o.initiator o.responder)
+    if_selected (selects_transport selection role) (opening_lines role o.state o.initiator o.responder)
 
 -- the new key with the next nonce, where a key is renewed after a message
 abbrev pub renewed_lines : Role → ℕ → Option (List ℕ) → List (List ℕ)
@@ -23,18 +23,18 @@ renewed_lines role nonce (Some key) = transport_line role (codes "renewed") (cod
 
 -- a transport message: the nonce and the key that it passes with, and then the new key
 abbrev pub transport_lines : Selection → About → ℕ → List ℕ → Option (List ℕ) → List (List ℕ)
-transport_lines selection about nonce key renewed = only_if (selects_transport selection about.role)
+transport_lines selection about nonce key renewed = if_selected (selects_transport selection about.role)
     (transport_line about.role (act_word about.act) (transport_call_word about.act) key nonce
     ∷ renewed_lines about.role nonce renewed)
 
 abbrev pub key_use_lines : Selection → About → List ℕ → KeyUseValue → List (List ℕ)
 key_use_lines selection about message Nothing = []
 key_use_lines selection about message (Message steps opening) =
-    only_if (selects_handshake selection about.role) (step_lines_from about message 0 steps)
+    if_selected (selects_handshake selection about.role) (step_lines_from about message 0 steps)
     ++ selected_opening selection about.role opening
 key_use_lines selection about message (Transport nonce key renewed) = transport_lines selection about nonce key renewed
 
 -- A key that is renewed after a message is that of a nonce that there is.
-abbrev pub IsCounted : KeyUseValue → Type 0
-IsCounted (Transport nonce key (Some next)) = nonce ≢ last_nonce
-IsCounted _ = ⊤
+abbrev pub HasLaterNonce : KeyUseValue → Type 0
+HasLaterNonce (Transport nonce key (Some next)) = nonce ≢ last_nonce
+HasLaterNonce _ = ⊤

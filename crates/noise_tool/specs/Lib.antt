@@ -15,8 +15,6 @@ pub mod Running
 pub mod TemplateStarts
 pub mod Templating
 pub mod Testing
-pub mod TraceDone
-pub mod TraceFile
 pub mod TracedEnds
 pub mod TracedEvents
 pub mod TracedText

@@ -1,5 +1,5 @@
 -- What a command has done that ends with status 0, and why it ends with another.
-use Rattle.std.specs.Prelude.{⊤, ◌≡◌, ◌≢◌, ◌⊎◌, ◌<◌, ◌≤◌, ℕ, List, [], length, Option, IfSome, map, string_bytes}
+use Rattle.std.specs.Prelude.{⊤, ◌≡◌, ◌≢◌, ◌⊎◌, ◌<◌, ◌≤◌, ℕ, List, [], length, Option, IfSome, MatchResult, Result, map, string_bytes}
 use Rattle.std.specs.Io.KnownBytes.{Appends}
 use Rattle.noise_names.specs.Plan.{Plan}
 use Rattle.noise_names.specs.Text.{Spells}
@@ -7,15 +7,18 @@ use Rattle.noise_names.specs.Validity.{IsValid}
 use Rattle.noise_lines.specs.Verdicts.{IsMet, ReportsUnmet}
 use Rattle.noise_tool.specs.Conversion.{MeetsItself}
 use Rattle.noise_tool.specs.Ends.{IsStartFault}
-use Rattle.noise_lines.specs.Faults.{of_vector}
+use Rattle.noise_lines.specs.Faults.{of_vector, status_of}
 use Rattle.noise_lines.specs.Output.{IsCheckFault, IsShowFault, NamesPattern, check_text, list_text, show_text}
 use Rattle.noise_lines.specs.Lines.{lines_text}
+use Rattle.noise_lines.specs.Prefixes.{AppendsPrefix}
+use Rattle.noise_lines.specs.Reported.{LeavesOther, ReportsRule, error_text}
 use Rattle.noise_tool.specs.Running.{IsRunOf, expected_in}
 use Rattle.noise_tool.specs.Templating.{HasTemplated, IsTemplateFault, LeavesPattern, ReadsShortPattern}
-use Rattle.noise_tool.specs.TraceDone.{HasTraced, IsTraceUnmet, selection_of}
+use Rattle.noise_tool.specs.Selection.{selection_of}
+use Rattle.noise_tool.specs.Tracing.{IsTraceOf}
 use Rattle.noise_lines.specs.Converted.{converted_text}
 use Rattle.noise_vectors.specs.Expectations.{IsFirstUnmet, bytes_of}
-use Rattle.noise_vectors.specs.VectorFile.{IsReadFault, IsVectorFile}
+use Rattle.noise_vectors.specs.VectorFile.{IsAllowedFile, IsReadFault, IsVectorFile}
 use Rattle.noise_vectors.specs.WrongLine.{IsReported}
 use Rattle.noise_vectors.specs.VectorText.{text_of}
 use Rattle.noise_lines.specs.declared.faults.Fault.{Fault}
@@ -33,21 +36,44 @@ use Rattle.noise_vectors.specs.declared.vector.AllowedEvents.TheVariants.{SayOnl
 use Rattle.noise_vectors.specs.declared.vector.Version.TheVariants.{One}
 use Rattle.noise_vectors.specs.declared.vector.VectorFile.{VectorFile}
 
--- The output grew by the lines of the file's run, and they are those that the file expects, if it expects any.
-pub record HasPrinted (file : VectorFile) (before after : Option (List ℕ)) : Type 0 where
+-- what is printed of a file and of the lines of its run
+abbrev pub Printing : Type 1
+Printing = VectorFile → List (List ℕ) → List (List ℕ) → Type 0
+
+-- `talk` and `replay` print the lines of the run
+abbrev pub IsPlain : VectorFile → List (List ℕ) → List (List ℕ) → Type 0
+IsPlain file lines printed = IsRunOf file lines × (printed ≡ lines)
+
+-- A right vector file has this text, and the output grew by what is printed of its run, whose lines come to this.
+pub record HasPrinted (Prints : Printing) (ComeTo : VectorFile → List (List ℕ) → Type 0) (text : List ℕ)
+    (before after : Option (List ℕ)) : Type 0 where
+  pub file : VectorFile
+  pub right : IsVectorFile file
+  pub text_is : text ≡ text_of file
   pub lines : List (List ℕ)
-  pub run : IsRunOf file lines
-  pub printed : Appends before after (lines_text lines)
-  pub met : IsMet (expected_in file.version) lines
+  pub printed : List (List ℕ)
+  pub run : Prints file lines printed
+  pub grown : Appends before after (lines_text printed)
+  pub come_to : ComeTo file lines
 
--- a right vector file has this text, and its run was printed
-abbrev pub HasRun : List ℕ → Option (List ℕ) → Option (List ℕ) → Type 0
-HasRun text before after =
-    (file : VectorFile) × IsVectorFile file × (text ≡ text_of file) × HasPrinted file before after
+-- the lines are those that the file expects, if it expects any
+abbrev pub AreMet : VectorFile → List (List ℕ) → Type 0
+AreMet file lines = IsMet (expected_in file.version) lines
 
--- A right vector file of version 1 has this text, and the output grew by it, as one of version 2 that expects the lines
--- of its run, and meets them.
-pub record HasConverted (text : List ℕ) (before after : Option (List ℕ)) : Type 0 where
+-- this is the first of the lines that differs from what the file expects
+abbrev pub DifferAt : ℕ → VectorFile → List (List ℕ) → Type 0
+DifferAt number file lines =
+    (expected_in file.version ≢ []) × IsFirstUnmet lines (expected_in file.version) number
+
+abbrev pub HasRun : Printing → List ℕ → Option (List ℕ) → Option (List ℕ) → Type 0
+HasRun Prints text before after = HasPrinted Prints AreMet text before after
+
+abbrev pub HasUnmet : Printing → List ℕ → Option (List ℕ) → Option (List ℕ) → ℕ → Type 0
+HasUnmet Prints text before after number = HasPrinted Prints (DifferAt number) text before after
+
+-- A right vector file of version 1 has this text, and this is the one of version 2 that expects the lines of its run,
+-- and meets them.
+pub record Converts (text converted : List ℕ) : Type 0 where
   pub file : VectorFile
   pub right : IsVectorFile file
   pub first : file.version ≡ One
@@ -55,8 +81,16 @@ pub record HasConverted (text : List ℕ) (before after : Option (List ℕ)) : T
   pub lines : List (List ℕ)
   pub run : IsRunOf file lines
   pub meets : MeetsItself file lines
-  pub short : length (converted_text file lines) ≤ 4194304
-  pub printed : Appends before after (converted_text file lines)
+  pub short : length converted ≤ 4194304
+  pub converted_is : converted ≡ converted_text file lines
+
+-- the output grew by that
+abbrev pub HasConverted : List ℕ → Option (List ℕ) → Option (List ℕ) → Type 0
+HasConverted text before after = (converted : List ℕ) × Converts text converted × Appends before after converted
+
+-- what is printed of a file's run, of its bytes and of the output's before and after, each where they are known
+abbrev pub RunsFile : Printing → Option (List ℕ) → Option (List ℕ) → Option (List ℕ) → Type 0
+RunsFile Prints file before after = IfSome file (λ text. HasRun Prints text before after)
 
 -- of the file's bytes, and of the output's before and after, each where they are known: the text of the command stands
 -- after what was there before
@@ -67,21 +101,34 @@ IsDone (Show name) file before after =
 IsDone (Check path) file before after =
     IfSome file (λ text. (p : Plan) × Spells text p × IsValid p × Appends before after (check_text p))
 IsDone (Template word) file before after = HasTemplated (string_bytes word) file before after
-IsDone (Talk path) file before after = IfSome file (λ text. HasRun text before after)
-IsDone (Replay path) file before after = IfSome file (λ text. HasRun text before after)
+IsDone (Talk path) file before after = RunsFile IsPlain file before after
+IsDone (Replay path) file before after = RunsFile IsPlain file before after
 IsDone (Convert path) file before after = IfSome file (λ text. HasConverted text before after)
-IsDone (Trace traced) file before after = IfSome file (λ text. HasTraced (selection_of traced) text before after)
+IsDone (Trace traced) file before after = RunsFile (IsTraceOf (selection_of traced)) file before after
 
 -- the bytes of a file, where they are known, are at most 4194304
-abbrev pub IsShort : Option (List ℕ) → Type 0
-IsShort file = IfSome file (λ text. length text ≤ 4194304)
+abbrev pub IsShortFile : Option (List ℕ) → Type 0
+IsShortFile file = IfSome file (λ text. length text ≤ 4194304)
+
+-- the bytes of a file, where they are known, are this text, of a right vector file of what is allowed
+pub record IsReadVector (allowed : AllowedEvents) (known : Option (List ℕ)) (text : List ℕ)
+    (file : VectorFile) : Type 0 where
+  pub bytes : IfSome known (λ bytes. text ≡ bytes)
+  pub short : length text ≤ 4194304
+  pub right : IsVectorFile file
+  pub is_allowed : IsAllowedFile allowed file
+  pub text_is : text ≡ text_of file
+
+-- so it is, but where the fault has status 2 or 3
+abbrev pub UnlessTwo : {A : Type 0} → Type 0 → Result A Fault → Type 0
+UnlessTwo S result = MatchResult result (λ _. S) (λ fault. (2 ≤ status_of fault) ⊎ S)
 
 -- such is the file that is read, if one is
 abbrev pub ReadsShort : Chosen → Option (List ℕ) → Type 0
 ReadsShort Listing file = ⊤
 ReadsShort (Show name) file = ⊤
 ReadsShort (Template word) file = ReadsShortPattern (string_bytes word) file
-ReadsShort _ file = IsShort file
+ReadsShort _ file = IsShortFile file
 
 abbrev pub IsTooLong : List ℕ → Fault → Type 0
 IsTooLong text fault = (fault ≡ TooLong) × (4194304 < length text)
@@ -99,27 +146,20 @@ IsUnread allowed text fault =
 abbrev pub IsRunFault : AllowedEvents → List ℕ → Fault → Type 0
 IsRunFault allowed text fault = IsTooLong text fault ⊎ IsUnread allowed text fault ⊎ HasNoEnds text fault
 
--- a right vector file has this text, the output grew by all lines of its run, and this is the first that differs from
--- what it expects
-pub record HasUnmet (text : List ℕ) (before after : Option (List ℕ)) (number : ℕ) : Type 0 where
-  pub file : VectorFile
-  pub right : IsVectorFile file
-  pub text_is : text ≡ text_of file
-  pub lines : List (List ℕ)
-  pub run : IsRunOf file lines
-  pub printed : Appends before after (lines_text lines)
-  pub some : expected_in file.version ≢ []
-  pub unmet : IsFirstUnmet lines (expected_in file.version) number
-
--- an outcome's lines were printed, and this is the first that differs from what is expected
-abbrev pub IsUnlike : Outcome → Option (List ℕ) → Option (List ℕ) → Fault → Type 0
-IsUnlike outcome before after fault = Appends before after (lines_text (bytes_of outcome.lines.items))
+-- these lines were printed of an outcome, and this is its first line that differs from what is expected
+abbrev pub IsUnlike : List (List ℕ) → Outcome → Option (List ℕ) → Option (List ℕ) → Fault → Type 0
+IsUnlike printed outcome before after fault = Appends before after (lines_text printed)
     × ReportsUnmet (bytes_of outcome.expected.items) (bytes_of outcome.lines.items) fault
 
 -- the lines of the run aren't those that are expected
-abbrev pub IsUnmet : List ℕ → Option (List ℕ) → Option (List ℕ) → Fault → Type 0
-IsUnmet text before after (Unmet number) = HasUnmet text before after number
-IsUnmet text before after fault = ⊥
+abbrev pub IsUnmet : Printing → List ℕ → Option (List ℕ) → Option (List ℕ) → Fault → Type 0
+IsUnmet Prints text before after (Unmet number) = HasUnmet Prints text before after number
+IsUnmet Prints text before after fault = ⊥
+
+-- why a file of what is allowed isn't run, or its lines aren't those that it expects
+abbrev pub IsNotMet : Printing → AllowedEvents → Option (List ℕ) → Option (List ℕ) → Option (List ℕ) → Fault → Type 0
+IsNotMet Prints allowed file before after fault =
+    IfSome file (λ text. IsRunFault allowed text fault ⊎ IsUnmet Prints text before after fault)
 
 -- the converted text of a right vector file of version 1 has too many bytes
 abbrev pub IsTooLongConverted : List ℕ → Fault → Type 0
@@ -134,14 +174,12 @@ IsFault Listing file before after fault = ⊥
 IsFault (Show name) file before after fault = IsShowFault (string_bytes name) fault
 IsFault (Check path) file before after fault = IfSome file (λ text. IsTooLong text fault ⊎ IsCheckFault text fault)
 IsFault (Template word) file before after fault = IsTemplateFault (string_bytes word) file fault
-IsFault (Talk path) file before after fault =
-    IfSome file (λ text. IsRunFault SayOnly text fault ⊎ IsUnmet text before after fault)
-IsFault (Replay path) file before after fault =
-    IfSome file (λ text. IsRunFault Any text fault ⊎ IsUnmet text before after fault)
+IsFault (Talk path) file before after fault = IsNotMet IsPlain SayOnly file before after fault
+IsFault (Replay path) file before after fault = IsNotMet IsPlain Any file before after fault
 IsFault (Convert path) file before after fault =
     IfSome file (λ text. IsRunFault VersionOne text fault ⊎ IsTooLongConverted text fault)
 IsFault (Trace traced) file before after fault =
-    IfSome file (λ text. IsRunFault Any text fault ⊎ IsTraceUnmet (selection_of traced) text before after fault)
+    IsNotMet (IsTraceOf (selection_of traced)) Any file before after fault
 
 -- `list` and `show` leave the file as it was, and `template` of a protocol name
 abbrev pub LeavesFile : {R : Type 0} → Chosen → R → R → Type 0
@@ -154,6 +192,15 @@ LeavesFile _ before after = ⊤
 abbrev pub IsOfLines : Fault → Type 0
 IsOfLines (Unmet number) = ⊤
 IsOfLines fault = ⊥
+
+-- why a command ends with this status, and what it has written of that
+abbrev pub IsStopped : {O E : Type 0} → (O → Option (List ℕ)) → (E → Option (List ℕ)) → Chosen → Option (List ℕ)
+    → O → O → E → E → ℕ → Type 0
+IsStopped printed reported chosen file out out_after err err_after status =
+    (fault : Fault) × (status_of fault ≡ status) × IsFault chosen file (printed out) (printed out_after) fault
+    × (IsOfLines fault ⊎ LeavesOther fault out out_after err err_after)
+    × ReportsRule fault (printed out) (printed out_after)
+    × AppendsPrefix (reported err) (reported err_after) (error_text fault)
 
 -- ---- what the words of a command line ask for
 

@@ -4,7 +4,7 @@ use Rattle.noise_lines.specs.Prefixes.{AppendsPrefix}
 use Rattle.noise_lines.specs.Reported.{ReportsRule}
 use Rattle.noise_lines.specs.declared.faults.Fault.{Fault}
 use Rattle.noise_lines.specs.declared.faults.Fault.TheVariants.{Rule, Unmet}
-use Rattle.noise_tool.specs.Performing.{HasConverted, HasRun, HasUnmet, IsDone, IsFault}
+use Rattle.noise_tool.specs.Performing.{HasConverted, HasRun, HasUnmet, IsDone, IsFault, Printing}
 use Rattle.noise_words.specs.declared.orders.Chosen.{Chosen}
 
 -- what is printed with a fault: the line of a broken rule, or the lines of a run that aren't those expected
@@ -23,13 +23,14 @@ PrintsWhole chosen file text =
 abbrev pub PrintsPrefix : Chosen → Option (List ℕ) → Option (List ℕ) → Option (List ℕ) → Type 0
 PrintsPrefix chosen file before after = (text : List ℕ) × PrintsWhole chosen file text × AppendsPrefix before after text
 
--- this is the text of the run of a right vector file with these bytes, whether its lines are expected or not
-abbrev pub PrintsRun : List ℕ → List ℕ → Type 0
-PrintsRun bytes text = HasRun bytes (Some []) (Some text) ⊎ ((number : ℕ) × HasUnmet bytes (Some []) (Some text) number)
+-- this text is printed of the run of a right vector file with these bytes, whether its lines are expected or not
+abbrev pub PrintsRun : Printing → List ℕ → List ℕ → Type 0
+PrintsRun Prints bytes text =
+    HasRun Prints bytes (Some []) (Some text) ⊎ ((number : ℕ) × HasUnmet Prints bytes (Some []) (Some text) number)
 
-abbrev pub PrintsRunPrefix : Option (List ℕ) → Option (List ℕ) → Option (List ℕ) → Type 0
-PrintsRunPrefix file before after =
-    (text : List ℕ) × IfSome file (λ bytes. PrintsRun bytes text) × AppendsPrefix before after text
+abbrev pub PrintsRunPrefix : Printing → Option (List ℕ) → Option (List ℕ) → Option (List ℕ) → Type 0
+PrintsRunPrefix Prints file before after =
+    (text : List ℕ) × IfSome file (λ bytes. PrintsRun Prints bytes text) × AppendsPrefix before after text
 
 abbrev pub PrintsConvertedPrefix : Option (List ℕ) → Option (List ℕ) → Option (List ℕ) → Type 0
 PrintsConvertedPrefix file before after = (text : List ℕ)

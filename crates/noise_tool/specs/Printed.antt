@@ -32,14 +32,14 @@ cause_word cause.Tag = codes "tag"
 cause_word cause.Agreement = codes "agreement"
 
 -- why nothing was written; the last is of writers outside, and no run has it
-abbrev pub fault_words : SendFault → List (List ℕ)
-fault_words fault.NotYourTurn = codes "not-your-turn" ∷ []
-fault_words fault.TooLong = codes "too-long" ∷ []
-fault_words (fault.Agreement token) = codes "agreement" ∷ decimal token ∷ []
-fault_words fault.Ended = codes "ended" ∷ []
-fault_words fault.OneWay = codes "one-way" ∷ []
-fault_words fault.Exhausted = codes "exhausted" ∷ []
-fault_words (fault.Output written) = codes "output" ∷ decimal written ∷ []
+abbrev pub send_fault_words : SendFault → List (List ℕ)
+send_fault_words fault.NotYourTurn = codes "not-your-turn" ∷ []
+send_fault_words fault.TooLong = codes "too-long" ∷ []
+send_fault_words (fault.Agreement token) = codes "agreement" ∷ decimal token ∷ []
+send_fault_words fault.Ended = codes "ended" ∷ []
+send_fault_words fault.OneWay = codes "one-way" ∷ []
+send_fault_words fault.Exhausted = codes "exhausted" ∷ []
+send_fault_words (fault.Output written) = codes "output" ∷ decimal written ∷ []
 
 -- why an end takes no bytes; no other step says so
 abbrev pub idle_word : StepValue → List ℕ
@@ -57,13 +57,13 @@ frame_words role Exhausted = codes "exhausted" ∷ role_word role ∷ []
 frame_words role _ = []
 
 -- the frame of this number that a side wrote
-abbrev pub frame_at : Side → ℕ → List ℕ
-frame_at s n = unwrap_or (slice_get s.frames n) []
+abbrev pub frame_numbered : Side → ℕ → List ℕ
+frame_numbered s n = unwrap_or (slice_get s.frames n) []
 
 -- the words of a note of this side, which has this role
 abbrev pub note_words : Side → Role → Note → List (List ℕ)
-note_words s role (Wrote n) = codes "wrote" ∷ role_word role ∷ decimal n ∷ hex_of (frame_at s n) ∷ []
-note_words s role (WriteFault why) = codes "unwritten" ∷ role_word role ∷ fault_words why
+note_words s role (Wrote n) = codes "wrote" ∷ role_word role ∷ decimal n ∷ hex_of (frame_numbered s n) ∷ []
+note_words s role (WriteFault why) = codes "unwritten" ∷ role_word role ∷ send_fault_words why
 note_words s role (Judged step) = frame_words role step
 note_words s role (Left step n) = codes "left" ∷ role_word role ∷ idle_word step ∷ decimal n ∷ []
 note_words s role (Missing n) = codes "missing" ∷ role_word role ∷ decimal n ∷ []

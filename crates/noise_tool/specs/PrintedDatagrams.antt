@@ -10,7 +10,7 @@ use Rattle.noise_duel.specs.DatagramSides.{DatagramSides}
 use Rattle.noise_vectors.specs.HexWord.{hex_of}
 use Rattle.noise_vectors.specs.VectorText.{role_word}
 use Rattle.noise_lines.specs.Lines.{line_of}
-use Rattle.noise_tool.specs.Printed.{fault_words}
+use Rattle.noise_tool.specs.Printed.{send_fault_words}
 
 -- why a datagram isn't opened
 abbrev pub rejection_word : DatagramFault → List ℕ
@@ -25,7 +25,7 @@ rejection_word fault.Tag = codes "tag"
 -- the words of a note of this role
 abbrev pub datagram_words : Role → DatagramNote → List (List ℕ)
 datagram_words role (Sealed n datagram) = codes "sealed" ∷ role_word role ∷ decimal n ∷ hex_of datagram ∷ []
-datagram_words role (SealFault why) = codes "unsealed" ∷ role_word role ∷ fault_words why
+datagram_words role (SealFault why) = codes "unsealed" ∷ role_word role ∷ send_fault_words why
 datagram_words role (Payload bytes) = codes "payload" ∷ role_word role ∷ hex_of bytes ∷ []
 datagram_words role (Rejected why) = codes "rejected" ∷ role_word role ∷ rejection_word why ∷ []
 datagram_words role (Missing n) = codes "missing" ∷ role_word role ∷ decimal n ∷ []

@@ -28,13 +28,13 @@ trace_line role where_it_is words = line_of (codes "trace" ∷ role_word role �
 
 -- ---- the state (Noise 5.2)
 
-abbrev pub key_word : Option (List ℕ) → List ℕ
-key_word None = none_word
-key_word (Some key) = hex_of key
+abbrev pub state_key_word : Option (List ℕ) → List ℕ
+state_key_word None = none_word
+state_key_word (Some key) = hex_of key
 
 -- the hash, the chaining key, the key and the nonce
 abbrev pub state_words : StateValues → List (List ℕ)
-state_words v = hex_of v.hash ∷ hex_of v.chaining_key ∷ key_word v.key ∷ decimal v.nonce ∷ []
+state_words v = hex_of v.hash ∷ hex_of v.chaining_key ∷ state_key_word v.key ∷ decimal v.nonce ∷ []
 
 -- ---- the start (Noise 5.3)
 

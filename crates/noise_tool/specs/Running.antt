@@ -1,5 +1,6 @@
 -- The run of a vector file: its lines, and whether they are those that the file expects.
-use Rattle.std.specs.Prelude.{◌≡◌, ◌&&◌, ◌==◌, ℕ, List, [], ◌∷◌, ◌++◌, codes, length, map, Bool, true, false, Option, None, Some}
+use Rattle.std.specs.Prelude.{◌≡◌, ◌&&◌, ◌==◌, ℕ, List, [], ◌∷◌, ◌++◌, codes, length, map, Bool, true, false, Option, None, Some, Vec}
+use Rattle.std.specs.Global.{Global}
 use Rattle.noise_names.specs.declared.token.Role.{Role}
 use Rattle.noise_names.specs.Plan.{Plan}
 use Rattle.noise_events.specs.declared.window.Window.{Window}
@@ -23,13 +24,13 @@ use Rattle.noise_vectors.specs.declared.vector.VectorFile.{VectorFile}
 use Rattle.noise_vectors.specs.declared.vector.Version.{Version}
 use Rattle.noise_vectors.specs.declared.vector.Version.TheVariants.{One, Two}
 use Rattle.noise_tool.specs.Ends.{FileDuelMatches, IsPlanOf, sides_of_file}
-use Rattle.noise_tool.specs.Printed.{note_line, state_lines}
+use Rattle.noise_tool.specs.Printed.{Appended, note_line, state_lines}
 use Rattle.noise_tool.specs.PrintedDatagrams.{datagram_line, datagram_state_lines}
 
 -- the datagrams that both ends go over to, if the file has them
-abbrev pub datagrams_in : Version → Option FileDatagrams
-datagrams_in One = None
-datagrams_in (Two additions) = additions.datagrams
+abbrev pub datagrams_of_version : Version → Option FileDatagrams
+datagrams_of_version One = None
+datagrams_of_version (Two additions) = additions.datagrams
 
 -- the lines that are expected
 abbrev pub expected_in : Version → List (List ℕ)
@@ -49,8 +50,15 @@ gone_over d window =
     datagram_sides (datagrams_of d.initiator.state.party window) (datagrams_of d.responder.state.party window)
 
 -- that both have gone over with this window, what came of each event there, and where both stand then
-abbrev pub datagram_lines : Window → List (Role × DatagramNote) → DatagramSides → List (List ℕ)
-datagram_lines window notes last = window_words window ∷ (map datagram_line notes ++ datagram_state_lines last)
+abbrev pub datagram_run_lines : Window → List (Role × DatagramNote) → DatagramSides → List (List ℕ)
+datagram_run_lines window notes last = window_words window ∷ (map datagram_line notes ++ datagram_state_lines last)
+
+-- the lines grew by those of these datagrams, from these sides on
+abbrev pub AppendsDatagrams : DatagramSides → FileDatagrams → Vec (Vec ℕ Global) Global → Vec (Vec ℕ Global) Global
+    → Type 0
+AppendsDatagrams start over before after = (notes : List (Role × DatagramNote)) × (last : DatagramSides)
+    × DatagramRun start (datagram_events_of over.events.items) notes last
+    × Appended before after (datagram_run_lines over.window notes last)
 
 -- The lines after those of the events. Without datagrams: the states of both ends. With them: those of the
 -- datagrams; or that they can't go over, and their states.
@@ -60,7 +68,7 @@ pub data AreLast : Option FileDatagrams → Sides → List (List ℕ) → Type 0
       → AreLast (Some over) d (codes "no-datagrams" ∷ state_lines d)
   ready : (over : FileDatagrams) (d : Sides) (notes : List (Role × DatagramNote)) (last : DatagramSides)
       → are_ready d ≡ true → DatagramRun (gone_over d over.window) (datagram_events_of over.events.items) notes last
-      → AreLast (Some over) d (datagram_lines over.window notes last)
+      → AreLast (Some over) d (datagram_run_lines over.window notes last)
 
 -- these events, of which the sides make these lines' notes, leave the duel
 pub record LeavesLines (start : Sides) (events : List Event) (duel : DuelValue FileKeys FileKeys)
@@ -81,5 +89,5 @@ pub record IsRunOf (file : VectorFile) (lines : List (List ℕ)) : Type 0 where
   pub last : Sides
   pub run : Run (sides_of_file file plan) (events_of file.events.items) notes last
   pub after : List (List ℕ)
-  pub are_last : AreLast (datagrams_in file.version) last after
+  pub are_last : AreLast (datagrams_of_version file.version) last after
   pub lines_are : lines ≡ map (note_line last) notes ++ after

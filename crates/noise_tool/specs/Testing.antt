@@ -1,6 +1,6 @@
 -- What `test` prints of vector files, and its exit status.
 use Rattle.std.specs.Prelude.{⊤, ◌≡◌, ◌⊎◌, ◌≤◌, ◌==◌, ◌&&◌, ◌||◌, if◌then◌else◌, ℕ, Bool, true, false, not, List, [], ◌∷◌, ◌++◌, Option, None, Some, IfSome, IsTrue}
-use Rattle.std.specs.Prelude.{codes, count_by, decimal, flat_map, length, map}
+use Rattle.std.specs.Prelude.{codes, count_by, decimal, flat_map, length, map, string_bytes}
 use Rattle.std.specs.List.{All}
 use Rattle.std.specs.Str.{bytes_eq}
 use Rattle.std.specs.Io.KnownBytes.{Appends}
@@ -18,13 +18,15 @@ use Rattle.noise_vectors.specs.VectorText.{text_of}
 use Rattle.noise_vectors.specs.declared.vector.AllowedEvents.TheVariants.{Any}
 use Rattle.noise_vectors.specs.declared.vector.VectorFile.{VectorFile}
 use Rattle.noise_lines.specs.TracedLines.{traces_of}
-use Rattle.noise_tool.specs.Ends.{IsPatternOf}
+use Rattle.noise_tool.specs.Ends.{IsFilePattern}
 use Rattle.noise_tool.specs.Selection.{all_lines}
 use Rattle.noise_tool.specs.Performing.{IsRunFault}
 use Rattle.noise_tool.specs.Running.{IsRunOf, expected_in}
 use Rattle.noise_tool.specs.TracedText.{front_if}
 use Rattle.noise_tool.specs.Tracing.{HasTraces, IsTraceTo}
+use Rattle.noise_tool.specs.declared.testing.TestedRun.{TestedRun}
 use Rattle.noise_tool.specs.declared.tracing.Traced.{Traced}
+use Rattle.noise_words.specs.declared.orders.Tested.{Tested}
 use Rattle.noise_lines.specs.declared.verdict.Difference.{Difference}
 use Rattle.noise_lines.specs.declared.verdict.Verdict.{Verdict}
 use Rattle.noise_lines.specs.declared.verdict.Verdict.TheVariants.{Differs, CannotRun, NamedTwice}
@@ -37,23 +39,24 @@ abbrev pub is_input : List ℕ → Bool
 is_input name = bytes_eq name (codes "-")
 
 -- the name of a file, and whether it is standard input again
-abbrev pub Asked : Type 0
-Asked = List ℕ × Bool
+abbrev pub TestedName : Type 0
+TestedName = List ℕ × Bool
 
 -- those of these names, after standard input was named or not
-abbrev pub asked_after : Bool → List (List ℕ) → List Asked
-asked_after named [] = []
-asked_after named (name ∷ more) = (name, is_input name && named) ∷ asked_after (named || is_input name) more
+abbrev pub tested_names_after : Bool → List (List ℕ) → List TestedName
+tested_names_after named [] = []
+tested_names_after named (name ∷ more) =
+    (name, is_input name && named) ∷ tested_names_after (named || is_input name) more
 
-abbrev pub asked : List (List ℕ) → List Asked
-asked names = asked_after false names
+abbrev pub tested_names : List (List ℕ) → List TestedName
+tested_names names = tested_names_after false names
 
 -- ---- the verdict on a file
 
 -- a right vector file has this text, and this is its pattern
-abbrev pub IsPatternIn : List ℕ → Plan → Type 0
-IsPatternIn text plan =
-    (file : VectorFile) × IsVectorFile file × (text ≡ text_of file) × IsPatternOf file.block file.protocol plan
+abbrev pub IsPatternOfText : List ℕ → Plan → Type 0
+IsPatternOfText text plan =
+    (file : VectorFile) × IsVectorFile file × (text ≡ text_of file) × IsFilePattern file.block file.protocol plan
 
 -- of two lines that differ: where both are of the frame of one handshake message, a line of the first byte at which the
 -- frames differ, and of the piece of the message that stands there
@@ -74,25 +77,25 @@ IsPieceOf plan verdict lines = ⊤
 
 -- Where traces are wanted, this is the front of a trace of this run, of all parts and both roles: up to the line of
 -- this number, and what is shown there.
-abbrev pub IsFront : Bool → VectorFile → List (List ℕ) → ℕ → List (List ℕ) → Type 0
-IsFront true file lines number front = IsTraceTo all_lines file lines number front
-IsFront false file lines number front = front ≡ []
+abbrev pub IsTraceFront : Bool → VectorFile → List (List ℕ) → ℕ → List (List ℕ) → Type 0
+IsTraceFront true file lines number front = IsTraceTo all_lines file lines number front
+IsTraceFront false file lines number front = front ≡ []
 
 -- these lines follow the two that differ: that of the piece, by the file's pattern, and the front of a trace
-pub record IsFollowed (traces : Bool) (text : List ℕ) (file : VectorFile) (lines : List (List ℕ)) (d : Difference)
+pub record FollowDifference (traces : Bool) (text : List ℕ) (file : VectorFile) (lines : List (List ℕ)) (d : Difference)
     (below : List (List ℕ)) : Type 0 where
   pub plan : Plan
-  pub pattern : IsPatternIn text plan
+  pub pattern : IsPatternOfText text plan
   pub piece : List (List ℕ)
   pub piece_is : IsPieceOf plan (Differs d) piece
   pub front : List (List ℕ)
-  pub front_is : IsFront traces file lines d.number front
+  pub front_is : IsTraceFront traces file lines d.number front
   pub below_is : below ≡ piece ++ front
 
 -- where the run differs
-abbrev pub IsBelow : Bool → List ℕ → VectorFile → List (List ℕ) → Verdict → List (List ℕ) → Type 0
-IsBelow traces text file lines (Differs d) below = IsFollowed traces text file lines d below
-IsBelow traces text file lines verdict below = ⊤
+abbrev pub IsBelowVerdict : Bool → List ℕ → VectorFile → List (List ℕ) → Verdict → List (List ℕ) → Type 0
+IsBelowVerdict traces text file lines (Differs d) below = FollowDifference traces text file lines d below
+IsBelowVerdict traces text file lines verdict below = ⊤
 
 -- a right vector file has this text, the verdict is on the lines of its run, and these lines follow it
 pub record IsOfRun (traces : Bool) (text : List ℕ) (verdict : Verdict) (below : List (List ℕ)) : Type 0 where
@@ -103,7 +106,7 @@ pub record IsOfRun (traces : Bool) (text : List ℕ) (verdict : Verdict) (below 
   pub lines : List (List ℕ)
   pub run : IsRunOf file lines
   pub judged : IsJudged lines (expected_in file.version) verdict
-  pub below_is : IsBelow traces text file lines verdict below
+  pub below_is : IsBelowVerdict traces text file lines verdict below
 
 -- a right vector file has this text, and this came of its run, with a trace where one is wanted
 pub record RunsTo (traces : Bool) (text : List ℕ) (traced : Traced) : Type 0 where
@@ -116,6 +119,11 @@ pub record RunsTo (traces : Bool) (text : List ℕ) (traced : Traced) : Type 0 w
   pub shown : traces ≡ true
       → HasTraces all_lines file (bytes_of traced.outcome.lines.items) (bytes_of traced.start.items)
       (traces_of traced.traces.items)
+
+-- this came of the run of a right vector file of this text, where that is known, with a trace where one is wanted
+abbrev pub ComesOf : Bool → Option (List ℕ) → TestedRun → Type 0
+ComesOf traces known run =
+    IfSome known (λ text. RunsTo traces text run.traced) × IfSome known (λ text. IsPatternOfText text run.pattern)
 
 -- the verdict is why the file isn't run
 abbrev pub IsOfFault : List ℕ → Verdict → Type 0
@@ -147,7 +155,7 @@ pub record Judged : Type 0 where
 abbrev pub Verdicts : Type 0
 Verdicts = List Judged
 
-abbrev pub asked_in : Judged → Asked
+abbrev pub asked_in : Judged → TestedName
 asked_in v = (v.name, v.again)
 
 abbrev pub passed_in : Verdicts → ℕ
@@ -189,7 +197,7 @@ pub record HasTested (again traces : Bool) (known : Option (List ℕ)) (unreadab
 
 -- these files are tested, in order: the output grew by the texts of their verdicts
 pub record HaveTested (traces : Bool) (bytes_at : List ℕ → Option (List ℕ)) (unreadable : List ℕ → Bool)
-    (files : List Asked) (before after : Option (List ℕ)) (passed failed : ℕ) : Type 0 where
+    (files : List TestedName) (before after : Option (List ℕ)) (passed failed : ℕ) : Type 0 where
   pub verdicts : Verdicts
   pub named : map asked_in verdicts ≡ files
   pub right : All (λ v. IsVerdictOn v.again traces (bytes_at v.name) (unreadable v.name) v.verdict v.below) verdicts
@@ -202,10 +210,17 @@ pub record HaveTested (traces : Bool) (bytes_at : List ℕ → Option (List ℕ)
 pub record IsTested (traces : Bool) (bytes_at : List ℕ → Option (List ℕ)) (unreadable : List ℕ → Bool)
     (names : List (List ℕ)) (before after : Option (List ℕ)) (status : ℕ) : Type 0 where
   pub verdicts : Verdicts
-  pub named : map asked_in verdicts ≡ asked names
+  pub named : map asked_in verdicts ≡ tested_names names
   pub right : All (λ v. IsVerdictOn v.again traces (bytes_at v.name) (unreadable v.name) v.verdict v.below) verdicts
   pub printed : Appends before after (verdicts_text verdicts ++ tally_line (passed_in verdicts) (failed_in verdicts))
   pub status_is : status ≡ (if failed_in verdicts == 0 then 0 else 1)
+
+-- the same of the files that are tested_names for, and the error output is as it was
+abbrev pub TestsFiles : {E : Type 0} → Tested → (List ℕ → Option (List ℕ)) → (List ℕ → Bool) → Option (List ℕ)
+    → Option (List ℕ) → E → E → ℕ → Type 0
+TestsFiles given bytes_at unreadable before after err err_after status =
+    IsTested given.traces bytes_at unreadable (map string_bytes given.files.items) before after status
+    × (err_after ≡ err)
 
 -- ---- where the command ends before its work is done
 
@@ -214,7 +229,7 @@ abbrev pub EndsTest : Fault → Type 0
 EndsTest fault = (fault ≡ Memory) ⊎ (fault ≡ Unwritable)
 
 -- one file is tested, and the output grew by a prefix of the text of its verdict, and of the lines that follow
-pub record HasBegun (again traces : Bool) (known : Option (List ℕ)) (unreadable : Bool) (name : List ℕ)
+pub record HasBegunTest (again traces : Bool) (known : Option (List ℕ)) (unreadable : Bool) (name : List ℕ)
     (before after : Option (List ℕ)) : Type 0 where
   pub verdict : Verdict
   pub below : List (List ℕ)
@@ -226,8 +241,8 @@ pub record HasBegun (again traces : Bool) (known : Option (List ℕ)) (unreadabl
 pub record TestsPrefix (traces : Bool) (bytes_at : List ℕ → Option (List ℕ)) (unreadable : List ℕ → Bool)
     (names : List (List ℕ)) (before after : Option (List ℕ)) : Type 0 where
   pub verdicts : Verdicts
-  pub others : List Asked
-  pub named : map asked_in verdicts ++ others ≡ asked names
+  pub others : List TestedName
+  pub named : map asked_in verdicts ++ others ≡ tested_names names
   pub right : All (λ v. IsVerdictOn v.again traces (bytes_at v.name) (unreadable v.name) v.verdict v.below) verdicts
   pub last : List ℕ
   pub last_is : (last ≡ []) ⊎ ((others ≡ []) × (last ≡ tally_line (passed_in verdicts) (failed_in verdicts)))

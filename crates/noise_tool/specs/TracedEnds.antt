@@ -20,8 +20,8 @@ use Rattle.noise_vectors.specs.FileKeys.{agreement_of, public_of}
 use Rattle.noise_vectors.specs.declared.file_keys.FileKeys.{FileKeys}
 use Rattle.noise_vectors.specs.declared.vector.VectorFile.{VectorFile}
 use Rattle.noise_tool.specs.Ends.{FileDuelMatches, IsPlanOf, sides_of_file}
-use Rattle.noise_tool.specs.KeyUseLines.{IsCounted}
-use Rattle.noise_tool.specs.Printed.{frame_at}
+use Rattle.noise_tool.specs.KeyUseLines.{HasLaterNonce}
+use Rattle.noise_tool.specs.Printed.{frame_numbered}
 use Rattle.noise_tool.specs.Tracing.{run_traces, start_traces}
 use Rattle.noise_tool.specs.declared.key_use_lines.Selection.{Selection}
 use Rattle.noise_tool.specs.declared.traced_end.TracedEnd.{TracedEnd}
@@ -34,16 +34,16 @@ Follow t v = EndFollows public_of agreement_of t v
 
 -- a call used these keys as it was to, and leaves the key schedule of this state
 abbrev pub Used : KeyUseValue → KeyUseValue → EndTrace FileKeys → EndState → Type 0
-Used got due t v = (got ≡ due) × IsCounted got × Follow t v
+Used got due t v = (got ≡ due) × HasLaterNonce got × Follow t v
 
 -- It shows the end of this state.
-pub record Shows (t : TracedEnd) (v : EndState) : Type 0 where
+pub record ShowsEnd (t : TracedEnd) (v : EndState) : Type 0 where
   pub psks : t.psks ≡ has_psk v.party.pattern
   pub follows : Follow t.end v
 
 -- and has the bytes of its next frame
 pub record TracedMatches (t : TracedEnd) (v : EndState) : Type 0 where
-  pub shows : Shows t v
+  pub shows : ShowsEnd t v
   pub partial : t.partial.items ≡ v.partial
 
 -- so do both
@@ -66,7 +66,7 @@ IsOfNoFrame note = ⊥
 
 -- the frame that a side wrote, where a note says that it wrote one
 abbrev pub entry_frame : Side → Note → List ℕ
-entry_frame s (Wrote n) = frame_at s n
+entry_frame s (Wrote n) = frame_numbered s n
 entry_frame s note = []
 
 -- no side has written

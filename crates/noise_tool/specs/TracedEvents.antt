@@ -15,7 +15,7 @@ use Rattle.noise_session.specs.Steps.{StepValue}
 use Rattle.noise_tool.specs.declared.key_use_lines.Selection.{Selection}
 use Rattle.noise_tool.specs.declared.traced_end.TracedEnd.{TracedEnd}
 use Rattle.noise_tool.specs.declared.traced_ends.TracedEnds.{TracedEnds}
-use Rattle.noise_tool.specs.TracedEnds.{EndsTraced, Shows, TracedMatches}
+use Rattle.noise_tool.specs.TracedEnds.{EndsTraced, ShowsEnd, TracedMatches}
 use Rattle.noise_tool.specs.Tracing.{came_traces, happened_traces, read_trace, written_frame, written_trace}
 use Rattle.noise_vectors.specs.Expectations.{bytes_of}
 
@@ -47,19 +47,19 @@ abbrev pub TracesRead : {E : Type 0} → Selection → TracedEnd → TracedEnd �
     → Result (Vec (Vec ℕ Global) Global) E → Type 0
 TracesRead selection old new message noted result =
     (s next : Side) (text : List ℕ) (step : StepValue) (r : SideReads s text step next)
-    → Shows old s.state → message ≡ text → noted ≡ Judged step
+    → ShowsEnd old s.state → message ≡ text → noted ≡ Judged step
     → IfOk result (λ lines. (bytes_of lines.items ≡ read_trace selection old.role s next text step r)
-    × Shows new next.state)
+    × ShowsEnd new next.state)
 
 -- for each of these entries of bytes that came, the lines that follow it, and the bytes of the next frame
 abbrev pub TracesReads : {E : Type 0} → Selection → TracedEnd → TracedEnd → List ℕ → Entries → Traces → Traces
     → Result (Vec ℕ Global) E → Type 0
 TracesReads selection old new came entries before after result =
     (s reader : Side) (role : Role) (bytes : List ℕ) (notes : List Note) (x : SideReceives s bytes notes reader)
-    → Shows old s.state → came ≡ s.state.partial ++ bytes → AreOfBytes role reader notes entries
+    → ShowsEnd old s.state → came ≡ s.state.partial ++ bytes → AreOfBytes role reader notes entries
     → IfOk result (λ left. (left.items ≡ reader.state.partial)
     × (traces_of after ≡ traces_of before ++ came_traces selection old.role s reader bytes notes x)
-    × Shows new reader.state)
+    × ShowsEnd new reader.state)
 
 -- the same, with these bytes in the end after it
 abbrev pub TracesReceived : {A E : Type 0} → Selection → TracedEnd → TracedEnd → List ℕ → Entries → Traces → Traces

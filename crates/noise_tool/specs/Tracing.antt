@@ -33,11 +33,11 @@ use Rattle.noise_vectors.specs.FileKeys.{public_of}
 use Rattle.noise_vectors.specs.declared.file_keys.FileKeys.{FileKeys}
 use Rattle.noise_vectors.specs.declared.vector.FileDatagrams.{FileDatagrams}
 use Rattle.noise_vectors.specs.declared.vector.VectorFile.{VectorFile}
-use Rattle.noise_tool.specs.Ends.{sides_of_file, keys_in as file_keys, known_to}
-use Rattle.noise_tool.specs.Selection.{heading_lines, selects_handshake, selects_transport, only_if}
+use Rattle.noise_tool.specs.Ends.{sides_of_file, keys_of_role as file_keys, known_to}
+use Rattle.noise_tool.specs.Selection.{heading_lines, selects_handshake, selects_transport, if_selected}
 use Rattle.noise_tool.specs.KeyUseLines.{key_use_lines}
 use Rattle.noise_tool.specs.PrintedTrace.{datagram_key_lines, start_lines_from}
-use Rattle.noise_tool.specs.Running.{AreLast, IsRunOf, datagrams_in}
+use Rattle.noise_tool.specs.Running.{AreLast, IsRunOf, datagrams_of_version}
 use Rattle.noise_tool.specs.Running.AreLast.{without, unready, ready}
 use Rattle.noise_tool.specs.declared.key_use_lines.Selection.{Selection}
 use Rattle.noise_tool.specs.declared.trace_lines.About.{About}
@@ -148,7 +148,7 @@ module _ (selection : Selection) where
 
   -- the start of an end of this role, with these keys, and these of the other party that it knows
   abbrev pub start_lines_of : Role → Plan → List ℕ → FileKeys → Remote → List (List ℕ)
-  start_lines_of role plan prologue keys remote = only_if (selects_handshake selection role)
+  start_lines_of role plan prologue keys remote = if_selected (selects_handshake selection role)
       (start_lines_from role (has_psk plan) 0 (start_steps plan role prologue (public_keys (public_of keys)) remote))
 
   abbrev pub start_of_role : VectorFile → Plan → Role → List (List ℕ)
@@ -162,7 +162,7 @@ module _ (selection : Selection) where
 
   -- the keys of datagrams of each end
   abbrev pub datagram_keys_of : Role → EndState → List (List ℕ)
-  datagram_keys_of role v = only_if (selects_transport selection role)
+  datagram_keys_of role v = if_selected (selects_transport selection role)
       (datagram_key_lines role (initiator_key v.party.history) (responder_key v.party.history))
 
   -- after the first of the last lines, where both ends have gone over to datagrams
@@ -182,7 +182,7 @@ pub record HasTraces (selection : Selection) (file : VectorFile) (lines start : 
   pub run : IsRunOf file lines
   pub start_is : start ≡ start_traces selection file run.plan
   pub traces_are : traces ≡ run_traces selection (sides_of_file file run.plan) run.last (events_of file.events.items)
-      run.notes run.run ++ last_traces selection (datagrams_in file.version) run.last run.after run.are_last
+      run.notes run.run ++ last_traces selection (datagrams_of_version file.version) run.last run.after run.are_last
 
 -- These are the lines of the file's run, and those that `trace` prints: the start of each end, and then each line of
 -- the run with those that follow it.

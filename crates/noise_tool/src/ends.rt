@@ -10,7 +10,7 @@ ghost use Rattle.noise_handshake.specs.Setup.{party_at_start, setup_fault};
 ghost use Rattle.noise_handshake.specs.Party.{Party};
 ghost use Rattle.noise_session.specs.Ends.{end_of};
 ghost use Rattle.noise_vectors.specs.FileKeys.{agreement_of, public_of};
-ghost use Rattle.noise_tool.specs.Ends.{AreEnds, AreHandshakes, FileDuelMatches, FileMatches, IsPatternFault, IsPatternOf, IsStartFault, known_before};
+ghost use Rattle.noise_tool.specs.Ends.{AreEnds, AreHandshakes, FileDuelMatches, FileMatches, IsFilePatternFault, IsFilePattern, IsStartFault, known_before};
 
 use noise_duel::{Duel, Event};
 use noise_handshake::{Handshake, Keys, Own, Remote};
@@ -130,9 +130,9 @@ pub(crate) fn valid_pattern(
     block: Option<Pattern>,
     name: &ProtocolName,
 ) -> Result<ValidPattern, Fault>
-    ensures pattern { IfOk result (λ pattern. IsPatternOf block name.now pattern) }
+    ensures pattern { IfOk result (λ pattern. IsFilePattern block name.now pattern) }
     ensures valid { IfOk result (λ pattern. IsValid pattern) }
-    ensures fault { IfErr result (λ fault. IsPatternFault block name.now fault) }
+    ensures fault { IfErr result (λ fault. IsFilePatternFault block name.now fault) }
 {
     let pattern = match block {
         Some(pattern) => pattern,

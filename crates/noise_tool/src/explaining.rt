@@ -5,7 +5,7 @@ ghost use Rattle.std.specs.Prelude.{◌≡◌, ◌⊎◌, ◌≤◌, IfErr, IfNo
 ghost use Rattle.noise_explain.specs.Shown.{unread_head};
 ghost use Rattle.noise_lines.specs.Prefixes.{AppendsPrefix};
 ghost use Rattle.noise_lines.specs.declared.faults.Fault.TheVariants.{Unreadable};
-ghost use Rattle.noise_tool.specs.Explaining.{ExplainsPrefix, HasExplained, IsExplainedFile, IsExplainedRun, IsExplainedText, IsExplainedVector, StopsExplaining, worse};
+ghost use Rattle.noise_tool.specs.Explaining.{ExplainsFiles, ExplainsPrefix, IsExplainedFile, IsExplainedRun, IsExplainedText, IsExplainedVector, StopsExplaining, worse};
 ghost use Rattle.noise_tool.specs.Testing.{EndsTest};
 
 use crate::running::replay;
@@ -30,10 +30,8 @@ pub fn explain_files<F: FilesByName, O: Write, E: Write>(
     err: &mut E,
 ) -> u8
     ensures status { result ≤ 3 }
-    ensures explained { (result ≡ 3)
-        ⊎ (HasExplained (F.bytes_at files.now) (map string_bytes names.now) (O.contents out.old)
-        (O.contents out.new) result
-        × (err.new ≡ err.old)) }
+    ensures explained { (result ≡ 3) ⊎ ExplainsFiles (F.bytes_at files.now) (map string_bytes names.now)
+        (O.contents out.old) (O.contents out.new) err.old err.new result }
     ensures outside { (result ≤ 2) ⊎ StopsExplaining (F.unreadable files.now) (map string_bytes names.now)
         (E.contents err.old) (E.contents err.new) }
     ensures prefix { ExplainsPrefix (F.bytes_at files.now) (map string_bytes names.now) (O.contents out.old)
@@ -53,10 +51,8 @@ fn explain_each<F: FilesByName, O: Write, E: Write>(
     err: &mut E,
 ) -> Result<u8, Fault>
     ensures status { IfOk result (λ status. status ≤ 3) }
-    ensures explained { IfOk result (λ status. (status ≡ 3)
-        ⊎ (HasExplained (F.bytes_at files.now) (map string_bytes names.now) (O.contents out.old)
-        (O.contents out.new) status
-        × (err.new ≡ err.old))) }
+    ensures explained { IfOk result (λ status. (status ≡ 3) ⊎ ExplainsFiles (F.bytes_at files.now)
+        (map string_bytes names.now) (O.contents out.old) (O.contents out.new) err.old err.new status) }
     ensures outside { IfOk result (λ status. (status ≤ 2) ⊎ StopsExplaining (F.unreadable files.now)
         (map string_bytes names.now) (E.contents err.old) (E.contents err.new)) }
     ensures prefix { ExplainsPrefix (F.bytes_at files.now) (map string_bytes names.now) (O.contents out.old)

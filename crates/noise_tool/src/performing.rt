@@ -1,20 +1,23 @@
 //! Doing what the command line asks for.
 
-ghost use Rattle.std.specs.Prelude.{◌≡◌, ◌⊎◌, ◌≤◌, [], ℕ, List, Some, IfErr, IfSome, MatchResult, OnOk, map, string_bytes};
+ghost use Rattle.std.specs.Prelude.{◌≡◌, ◌⊎◌, ◌≤◌, [], ℕ, List, Some, IfErr, IfOk, IfSome, OnOk, map, string_bytes};
 ghost use Rattle.noise_lines.specs.Faults.{status_of};
 ghost use Rattle.std.specs.Io.KnownBytes.{Appends};
 ghost use Rattle.noise_vectors.specs.Expectations.{bytes_of};
+ghost use Rattle.noise_vectors.specs.VectorFile.{IsVectorFile};
+ghost use Rattle.noise_vectors.specs.VectorText.{text_of};
 ghost use Rattle.noise_vectors.specs.declared.vector.AllowedEvents.TheVariants.{VersionOne};
-ghost use Rattle.noise_tool.specs.Performing.{HasConverted, HasRun, IsDone, IsFault, IsOfLines, IsRunFault, IsTooLongConverted, IsUnlike, IsUnmet};
-ghost use Rattle.noise_tool.specs.Performing.{IfCommand, IfCompare, IfExplain, IfTest, IsShort, LeavesAtTwo, LeavesFile, LeavesInput, ReadsShort};
-ghost use Rattle.noise_tool.specs.Comparing.{ComparesPrefix, IsCompared, IsNotCompared};
-ghost use Rattle.noise_tool.specs.Explaining.{ExplainsPrefix, HasExplained, StopsExplaining};
+ghost use Rattle.noise_vectors.specs.declared.vector.Version.TheVariants.{One};
+ghost use Rattle.noise_tool.specs.Performing.{Converts, HasConverted, IsDone, IsFault, IsNotMet, IsOfLines, IsPlain, IsReadVector, IsRunFault, IsStopped, IsTooLongConverted, IsUnlike};
+ghost use Rattle.noise_tool.specs.Performing.{IfCommand, IfCompare, IfExplain, IfTest, IsShortFile, LeavesAtTwo, LeavesFile, LeavesInput, ReadsShort, RunsFile, UnlessTwo};
+ghost use Rattle.noise_tool.specs.Comparing.{ComparesFiles, ComparesPrefix, IsNotCompared};
+ghost use Rattle.noise_tool.specs.Explaining.{ExplainsFiles, ExplainsPrefix, StopsExplaining};
 ghost use Rattle.noise_tool.specs.Templating.{HasTemplated, IsTemplateFault, LeavesPattern, ReadsShortPattern};
-ghost use Rattle.noise_tool.specs.Testing.{EndsTest, IsTested, TestsPrefix};
+ghost use Rattle.noise_tool.specs.Testing.{EndsTest, TestsFiles, TestsPrefix};
 ghost use Rattle.noise_tool.specs.Prefixes.{PrintsConvertedPrefix, PrintsPrefix, PrintsRunPrefix};
 ghost use Rattle.noise_lines.specs.Lines.{lines_text};
 ghost use Rattle.noise_lines.specs.Prefixes.{AppendsPrefix};
-ghost use Rattle.noise_lines.specs.Reported.{LeavesOther, ReportsRule, error_text};
+ghost use Rattle.noise_lines.specs.Reported.{error_text};
 ghost use Rattle.noise_lines.specs.Verdicts.{IsMet};
 ghost use Rattle.noise_lines.specs.declared.faults.Fault.{Fault};
 
@@ -28,7 +31,7 @@ use noise_lines::{
     Fault, check, compare, convert, flush, list, read_file, report_fault, show, write, write_lines,
 };
 use noise_template::{named_template, names_protocol, spelled_template};
-use noise_vectors::{AllowedEvents, read_vector};
+use noise_vectors::{AllowedEvents, VectorFile, read_vector};
 use noise_words::{Chosen, Order};
 use std::alloc::Global;
 use std::io::{Read, Write};
@@ -49,12 +52,8 @@ pub fn perform<R: Read, F: FilesByName, O: Write, E: Write>(
     ensures done { result ≡ 0
         → IfCommand order.now (λ chosen. IsDone chosen (R.remaining file.old) (O.contents out.old)
         (O.contents out.new)) }
-    ensures fault { 1 ≤ result → IfCommand order.now (λ chosen. (result ≡ 3) ⊎ ((fault : Fault)
-        × (status_of fault ≡ result)
-        × IsFault chosen (R.remaining file.old) (O.contents out.old) (O.contents out.new) fault
-        × (IsOfLines fault ⊎ LeavesOther fault out.old out.new err.old err.new)
-        × ReportsRule fault (O.contents out.old) (O.contents out.new)
-        × AppendsPrefix (E.contents err.old) (E.contents err.new) (error_text fault))) }
+    ensures fault { 1 ≤ result → IfCommand order.now (λ chosen. (result ≡ 3)
+        ⊎ IsStopped O.contents E.contents chosen (R.remaining file.old) out.old out.new err.old err.new result) }
     ensures outside { result ≡ 3 → IfCommand order.now (λ chosen. (fault : Fault) × (status_of fault ≡ 3)
         × AppendsPrefix (E.contents err.old) (E.contents err.new) (error_text fault)) }
     ensures prefix { IfCommand order.now (λ chosen. (out.new ≡ out.old)
@@ -63,26 +62,21 @@ pub fn perform<R: Read, F: FilesByName, O: Write, E: Write>(
     ensures unwritten { result ≡ 2 → LeavesAtTwo order.now out.old out.new }
     ensures quiet { result ≡ 0 → err.new ≡ err.old }
     ensures unread { LeavesInput order.now file.old file.new }
-    ensures tested { IfTest order.now (λ asked. (result ≡ 3)
-        ⊎ (IsTested asked.traces (F.bytes_at files.now) (F.unreadable files.now)
-        (map string_bytes asked.files.items) (O.contents out.old)
-        (O.contents out.new) result × (err.new ≡ err.old))) }
+    ensures tested { IfTest order.now (λ asked. (result ≡ 3) ⊎ TestsFiles asked (F.bytes_at files.now)
+        (F.unreadable files.now) (O.contents out.old) (O.contents out.new) err.old err.new result) }
     ensures test_outside { result ≡ 3 → IfTest order.now (λ asked. (fault : Fault) × EndsTest fault
         × AppendsPrefix (E.contents err.old) (E.contents err.new) (error_text fault)) }
     ensures test_prefix { IfTest order.now (λ asked. TestsPrefix asked.traces (F.bytes_at files.now)
         (F.unreadable files.now)
         (map string_bytes asked.files.items) (O.contents out.old) (O.contents out.new)) }
-    ensures explained { IfExplain order.now (λ names. (result ≡ 3)
-        ⊎ (HasExplained (F.bytes_at files.now) names (O.contents out.old) (O.contents out.new) result
-        × (err.new ≡ err.old))) }
+    ensures explained { IfExplain order.now (λ names. (result ≡ 3) ⊎ ExplainsFiles (F.bytes_at files.now) names
+        (O.contents out.old) (O.contents out.new) err.old err.new result) }
     ensures explain_outside { IfExplain order.now (λ names. (result ≤ 2)
         ⊎ StopsExplaining (F.unreadable files.now) names (E.contents err.old) (E.contents err.new)) }
     ensures explain_prefix { IfExplain order.now (λ names. ExplainsPrefix (F.bytes_at files.now) names
         (O.contents out.old) (O.contents out.new)) }
-    ensures compared { IfCompare order.now (λ names. (2 ≤ result)
-        ⊎ (IsCompared (F.bytes_at files.now (string_bytes names.log)) (F.bytes_at files.now
-        (string_bytes names.file)) (O.contents out.old)
-        (O.contents out.new) result × (err.new ≡ err.old))) }
+    ensures compared { IfCompare order.now (λ names. (2 ≤ result) ⊎ ComparesFiles names (F.bytes_at files.now)
+        (O.contents out.old) (O.contents out.new) err.old err.new result) }
     ensures compare_fault { result ≡ 2
         → IfCompare order.now (λ names. IsNotCompared names (F.bytes_at files.now (string_bytes names.log))
         (F.bytes_at files.now (string_bytes names.file)) (E.contents err.old) (E.contents err.new)) }
@@ -116,11 +110,8 @@ pub fn perform_command<R: Read, O: Write, E: Write>(
 ) -> u8
     ensures status { result ≤ 3 }
     ensures done { result ≡ 0 → IsDone chosen.now (R.remaining file.old) (O.contents out.old) (O.contents out.new) }
-    ensures fault { 1 ≤ result → (result ≡ 3) ⊎ ((fault : Fault) × (status_of fault ≡ result)
-        × IsFault chosen.now (R.remaining file.old) (O.contents out.old) (O.contents out.new) fault
-        × (IsOfLines fault ⊎ LeavesOther fault out.old out.new err.old err.new)
-        × ReportsRule fault (O.contents out.old) (O.contents out.new)
-        × AppendsPrefix (E.contents err.old) (E.contents err.new) (error_text fault)) }
+    ensures fault { 1 ≤ result → (result ≡ 3) ⊎ IsStopped O.contents E.contents chosen.now
+        (R.remaining file.old) out.old out.new err.old err.new result }
     ensures outside { result ≡ 3 → (fault : Fault) × (status_of fault ≡ 3)
         × AppendsPrefix (E.contents err.old) (E.contents err.new) (error_text fault) }
     ensures prefix { (out.new ≡ out.old)
@@ -145,8 +136,7 @@ fn run<R: Read, O: Write>(
     ensures done { OnOk result (IsDone chosen.now (R.remaining file.old) (O.contents out.old) (O.contents out.new)) }
     ensures fault { IfErr result (λ fault. (status_of fault ≡ 3)
         ⊎ IsFault chosen.now (R.remaining file.old) (O.contents out.old) (O.contents out.new) fault) }
-    ensures long { MatchResult result (λ _. ReadsShort chosen.now (R.remaining file.old))
-        (λ fault. (2 ≤ status_of fault) ⊎ ReadsShort chosen.now (R.remaining file.old)) }
+    ensures long { UnlessTwo (ReadsShort chosen.now (R.remaining file.old)) result }
     ensures unwritten { IfErr result (λ fault. (status_of fault ≡ 3) ⊎ IsOfLines fault ⊎ (out.new ≡ out.old)) }
     ensures prefix { (out.new ≡ out.old)
         ⊎ PrintsPrefix chosen.now (R.remaining file.old) (O.contents out.old) (O.contents out.new) }
@@ -178,8 +168,7 @@ fn print_template<R: Read, O: Write>(
         (O.contents out.new)) }
     ensures fault { IfErr result (λ fault. (status_of fault ≡ 3)
         ⊎ IsTemplateFault word.now (R.remaining file.old) fault) }
-    ensures long { MatchResult result (λ _. ReadsShortPattern word.now (R.remaining file.old))
-        (λ fault. (2 ≤ status_of fault) ⊎ ReadsShortPattern word.now (R.remaining file.old)) }
+    ensures long { UnlessTwo (ReadsShortPattern word.now (R.remaining file.old)) result }
     ensures unwritten { IfErr result (λ fault. (status_of fault ≡ 3) ⊎ (out.new ≡ out.old)) }
     ensures prefix { (out.new ≡ out.old) ⊎ ((text : List ℕ)
         × HasTemplated word.now (R.remaining file.old) (Some []) (Some text)
@@ -193,6 +182,29 @@ fn print_template<R: Read, O: Write>(
     print(&spelled_template(alloc, &text)?, out)
 }
 
+// The bytes of a vector file, and what they say.
+#[derive(Drop)]
+pub(crate) struct ReadVector {
+    pub text: Vec<u8>,
+    pub file: VectorFile,
+}
+
+// Reads a vector file of what is allowed.
+pub(crate) fn read_vector_file<R: Read>(
+    alloc: Global,
+    allowed: AllowedEvents,
+    file: &mut R,
+) -> Result<ReadVector, Fault>
+    ensures read { IfOk result (λ read. IsReadVector allowed (R.remaining file.old) read.text.items read.file) }
+    ensures fault { IfErr result (λ fault. (status_of fault ≡ 3)
+        ⊎ IfSome (R.remaining file.old) (λ text. IsRunFault allowed text fault)) }
+    ensures long { UnlessTwo (IsShortFile (R.remaining file.old)) result }
+{
+    let text = read_file(alloc, file)?;
+    let file = read_vector(alloc, &text, allowed)?;
+    Ok(ReadVector { text, file })
+}
+
 // Runs two ends on a vector file, prints what they do, and compares it with what the file expects.
 fn run_file<R: Read, O: Write>(
     alloc: Global,
@@ -200,19 +212,15 @@ fn run_file<R: Read, O: Write>(
     file: &mut R,
     out: &mut O,
 ) -> Result<(), Fault>
-    ensures done { OnOk result (IfSome (R.remaining file.old) (λ text. HasRun text (O.contents out.old)
-        (O.contents out.new))) }
+    ensures done { OnOk result (RunsFile IsPlain (R.remaining file.old) (O.contents out.old) (O.contents out.new)) }
     ensures fault { IfErr result (λ fault. (status_of fault ≡ 3)
-        ⊎ IfSome (R.remaining file.old) (λ text. IsRunFault allowed text fault
-        ⊎ IsUnmet text (O.contents out.old) (O.contents out.new) fault)) }
-    ensures long { MatchResult result (λ _. IsShort (R.remaining file.old)) (λ fault. (2 ≤ status_of fault)
-        ⊎ IsShort (R.remaining file.old)) }
+        ⊎ IsNotMet IsPlain allowed (R.remaining file.old) (O.contents out.old) (O.contents out.new) fault) }
+    ensures long { UnlessTwo (IsShortFile (R.remaining file.old)) result }
     ensures unwritten { IfErr result (λ fault. (status_of fault ≡ 3) ⊎ IsOfLines fault ⊎ (out.new ≡ out.old)) }
     ensures prefix { (out.new ≡ out.old)
-        ⊎ PrintsRunPrefix (R.remaining file.old) (O.contents out.old) (O.contents out.new) }
+        ⊎ PrintsRunPrefix IsPlain (R.remaining file.old) (O.contents out.old) (O.contents out.new) }
 {
-    let text = read_file(alloc, file)?;
-    let vector = read_vector(alloc, &text, allowed)?;
+    let ReadVector { file: vector, .. } = read_vector_file(alloc, allowed, file)?;
     let outcome = run_vector(alloc, vector, allowed)?;
     print_outcome(&outcome, out)
 }
@@ -222,8 +230,8 @@ fn print_outcome<O: Write>(outcome: &Outcome, out: &mut O) -> Result<(), Fault>
     ensures printed { OnOk result (Appends (O.contents out.old) (O.contents out.new) (lines_text
         (bytes_of outcome.now.lines.items))) }
     ensures met { OnOk result (IsMet (bytes_of outcome.now.expected.items) (bytes_of outcome.now.lines.items)) }
-    ensures fault { IfErr result (λ fault. (status_of fault ≡ 3)
-        ⊎ IsUnlike outcome.now (O.contents out.old) (O.contents out.new) fault) }
+    ensures fault { IfErr result (λ fault. (status_of fault ≡ 3) ⊎ IsUnlike (bytes_of outcome.now.lines.items)
+        outcome.now (O.contents out.old) (O.contents out.new) fault) }
     ensures prefix { AppendsPrefix (O.contents out.old) (O.contents out.new) (lines_text
         (bytes_of outcome.now.lines.items)) }
 {
@@ -238,18 +246,31 @@ fn convert_file<R: Read, O: Write>(alloc: Global, file: &mut R, out: &mut O) -> 
         (O.contents out.new))) }
     ensures fault { IfErr result (λ fault. (status_of fault ≡ 3)
         ⊎ IfSome (R.remaining file.old) (λ text. IsRunFault VersionOne text fault ⊎ IsTooLongConverted text fault)) }
-    ensures long { MatchResult result (λ _. IsShort (R.remaining file.old)) (λ fault. (2 ≤ status_of fault)
-        ⊎ IsShort (R.remaining file.old)) }
+    ensures long { UnlessTwo (IsShortFile (R.remaining file.old)) result }
     ensures unwritten { IfErr result (λ fault. (status_of fault ≡ 3) ⊎ (out.new ≡ out.old)) }
     ensures prefix { (out.new ≡ out.old)
         ⊎ PrintsConvertedPrefix (R.remaining file.old) (O.contents out.old) (O.contents out.new) }
 {
-    let text = read_file(alloc, file)?;
-    let vector = read_vector(alloc, &text, AllowedEvents::VersionOne)?;
-    let outcome = replay(alloc, vector)?;
-    let converted = convert(alloc, &text, &outcome.lines)?;
+    let ReadVector { text, file: vector } = read_vector_file(
+        alloc,
+        AllowedEvents::VersionOne,
+        file,
+    )?;
+    print(&convert_vector(alloc, &text, vector)?, out)
+}
+
+// The text of version 2 of this file, which has this text.
+fn convert_vector(alloc: Global, text: &[u8], file: VectorFile) -> Result<Vec<u8>, Fault>
+    requires right { IsVectorFile file }
+    requires first { file.version ≡ One }
+    requires text { text.now ≡ text_of file }
+    ensures converted { IfOk result (λ converted. Converts text.now converted.items) }
+    ensures fault { IfErr result
+        (λ fault. (status_of fault ≡ 3) ⊎ IsRunFault VersionOne text.now fault ⊎ IsTooLongConverted text.now fault) }
+{
+    let outcome = replay(alloc, file)?;
     conversions_meet_themselves();
-    print(&converted, out)
+    convert(alloc, text, &outcome.lines)
 }
 
 fn print<O: Write>(text: &[u8], out: &mut O) -> Result<(), Fault>

@@ -68,7 +68,7 @@ pub fn entry_line(
     match entry {
         Entry::Wrote(number) => begun_line(alloc, "wrote", role)?
             .number(*number as u64)?
-            .hex(frame_at(report, role, *number)),
+            .hex(frame_numbered(report, role, *number)),
         Entry::WriteFault(fault) => fault_line(alloc, "unwritten", role, *fault),
         Entry::Payload(payload) => begun_line(alloc, "payload", role)?.hex(payload),
         Entry::Dropped(cause) => begun_line(alloc, "dropped", role)?.word(cause_word(*cause)),
@@ -85,8 +85,8 @@ pub fn entry_line(
 }
 
 // The frame of this number that this role wrote; it is in the report wherever an entry reports it.
-pub(crate) fn frame_at(report: &Report, role: Role, number: usize) -> &[u8]
-    ensures { (d : Sides) → HasFrames report.now d → result.now ≡ print.frame_at (side d role) number }
+pub(crate) fn frame_numbered(report: &Report, role: Role, number: usize) -> &[u8]
+    ensures { (d : Sides) → HasFrames report.now d → result.now ≡ print.frame_numbered (side d role) number }
 {
     let frames = match role {
         Role::Initiator => report.initiator.as_slice(),
@@ -107,7 +107,7 @@ pub fn fault_line(
 ) -> Result<Line, AllocError>
     requires { IsTrue (is_printed word.now) }
     ensures { IfOk result (λ line. text_in line
-        ≡ join_with_byte 32 (word.now ∷ text.role_word role ∷ print.fault_words fault)) }
+        ≡ join_with_byte 32 (word.now ∷ text.role_word role ∷ print.send_fault_words fault)) }
 {
     let line = begun_line(alloc, word, role)?;
     match fault {

@@ -2,15 +2,11 @@
 
 ghost use Rattle.std.specs.Prelude.{◌≡◌, ◌++◌, ◌∷◌, [], ℕ, List, Option, IfErr, IfOk, OnOk, codes, map};
 ghost use Rattle.std.specs.List.{All};
-ghost use Rattle.noise_duel.specs.DatagramNotes.{DatagramNote};
 ghost use Rattle.noise_duel.specs.DatagramReports.{DatagramDuelMatches};
-ghost use Rattle.noise_duel.specs.DatagramRuns.{DatagramRun};
-ghost use Rattle.noise_duel.specs.DatagramSides.{DatagramSides, datagram_sides};
+ghost use Rattle.noise_duel.specs.DatagramSides.{datagram_sides};
 ghost use Rattle.noise_duel.specs.DuelValue.{both_sides};
 ghost use Rattle.noise_duel.specs.Sides.{Sides};
-ghost use Rattle.noise_events.specs.DatagramEvents.{datagram_events_of};
 ghost use Rattle.noise_events.specs.Events.{events_of};
-ghost use Rattle.noise_names.specs.declared.token.Role.{Role};
 ghost use Rattle.noise_session.specs.Datagrams.{DatagramState};
 ghost use Rattle.noise_session.specs.Ends.{EndState};
 ghost use Rattle.noise_vectors.specs.Expectations.{bytes_of};
@@ -20,7 +16,7 @@ ghost use Rattle.noise_vectors.specs.declared.vector.AllowedEvents.TheVariants.{
 ghost use Rattle.noise_tool.specs.Ends.{FileDuelMatches, IsStartFault};
 ghost use Rattle.noise_lines.specs.PrintedWords.{AreExpected};
 ghost use Rattle.noise_tool.specs.Printed.{Appended, state_lines};
-ghost use Rattle.noise_tool.specs.Running.{AreLast, IsRunOf, LeavesLines, datagram_lines, datagrams_in, expected_in};
+ghost use Rattle.noise_tool.specs.Running.{AppendsDatagrams, AreLast, IsRunOf, LeavesLines, datagrams_of_version, expected_in};
 
 use crate::datagram_report::{push_datagram_lines, push_datagram_states};
 use crate::ends::make_ends;
@@ -121,7 +117,7 @@ pub(crate) fn close(
     version: Version,
 ) -> Result<Outcome, AllocError>
     ensures after { (d : Sides) → FileDuelMatches duel d
-        → IfOk result (λ outcome. (after : List (List ℕ)) × AreLast (datagrams_in version) d after
+        → IfOk result (λ outcome. (after : List (List ℕ)) × AreLast (datagrams_of_version version) d after
         × (bytes_of outcome.lines.items ≡ bytes_of lines.items ++ after)) }
     ensures printed { AreExpected lines.items → IfOk result (λ outcome. AreExpected outcome.lines.items) }
     ensures expected { IfOk result (λ outcome. bytes_of outcome.expected.items ≡ expected_in version) }
@@ -133,7 +129,7 @@ pub(crate) fn close(
 
 // The datagrams of a version, and the lines that it expects.
 fn split_version(alloc: Global, version: Version) -> (Option<FileDatagrams>, Vec<Vec<u8>>)
-    ensures datagrams { result.0 ≡ datagrams_in version }
+    ensures datagrams { result.0 ≡ datagrams_of_version version }
     ensures expected { bytes_of result.1.items ≡ expected_in version }
 {
     match version {
@@ -171,9 +167,7 @@ fn push_datagrams(
     lines: &mut Vec<Vec<u8>>,
 ) -> Result<(), AllocError>
     ensures after { (v w : DatagramState) → DatagramDuelMatches duel (datagram_sides v w)
-        → OnOk result ((notes : List (Role × DatagramNote)) × (last : DatagramSides)
-        × DatagramRun (datagram_sides v w) (datagram_events_of over.now.events.items) notes last
-        × Appended lines.old lines.new (datagram_lines over.now.window notes last)) }
+        → OnOk result (AppendsDatagrams (datagram_sides v w) over.now lines.old lines.new) }
     ensures printed { AreExpected lines.old.items → OnOk result (AreExpected lines.new.items) }
 {
     push_window(alloc, over.window, lines)?;

@@ -9,14 +9,14 @@ ghost use Rattle.noise_lines.specs.declared.faults.Fault.{Fault};
 ghost use Rattle.noise_lines.specs.declared.faults.Fault.TheVariants.{TooLong, Unreadable};
 ghost use Rattle.noise_vectors.specs.Expectations.{bytes_of};
 ghost use Rattle.noise_vectors.specs.declared.vector.AllowedEvents.TheVariants.{Any};
-ghost use Rattle.noise_tool.specs.Ends.{IsPatternOf, IsStartFault};
+ghost use Rattle.noise_tool.specs.Ends.{IsFilePattern, IsStartFault};
 ghost use Rattle.noise_tool.specs.Performing.{IsRunFault};
 ghost use Rattle.noise_tool.specs.Running.{IsRunOf, expected_in};
-ghost use Rattle.noise_tool.specs.Testing.{EndsTest, HasBegun, HasTested, HaveTested, IsPatternIn, IsPieceOf, IsTested, RunsTo, SayPiece, TestsPrefix};
-ghost use Rattle.noise_tool.specs.Testing.{asked, below_of, is_input, listed, tally_line, tested_text};
+ghost use Rattle.noise_tool.specs.Testing.{ComesOf, EndsTest, HasBegunTest, HasTested, HaveTested, IsPatternOfText, IsPieceOf, IsTested, RunsTo, SayPiece, TestsPrefix};
+ghost use Rattle.noise_tool.specs.Testing.{tested_names, below_of, is_input, listed, tally_line, tested_text};
 ghost use Rattle.noise_tool.specs.TracedText.{front_if};
 ghost use Rattle.noise_lines.specs.Lines.{lines_text};
-ghost use Rattle.noise_lines.specs.Verdicts.{bytes_in};
+ghost use Rattle.noise_lines.specs.Verdicts.{bytes_in, verdict_text};
 ghost use Rattle.noise_lines.specs.declared.verdict.Verdict.TheVariants.{CannotRun};
 ghost use Rattle.noise_vectors.specs.VectorFile.{IsVectorFile};
 ghost use Rattle.noise_vectors.specs.VectorText.{text_of};
@@ -25,13 +25,13 @@ use crate::ends::valid_pattern;
 use crate::key_use_lines::ALL_LINES;
 use crate::running::replay;
 use crate::trace_file::write_front;
-use crate::tracing::{Traced, trace};
+use crate::tracing::{Traced, trace_text};
 use noise_explain::difference_line;
 use noise_lines::{
     Difference, Fault, Verdict, flush, judge, report_fault, verdict_lines, write, write_lines,
 };
 use noise_names::{Pattern, ValidPattern};
-use noise_vectors::{AllowedEvents, VectorFile, read_vector, vector_texts_are_unique};
+use noise_vectors::{AllowedEvents, VectorFile, read_vector};
 use std::alloc::{AllocError, Global};
 use std::io::Write;
 
@@ -122,7 +122,7 @@ fn test_each<F: FilesByName, O: Write>(
     out: &mut O,
 ) -> Result<(usize, usize), Fault>
     ensures tested { IfOk result (λ counts. HaveTested traces (F.bytes_at files.now) (F.unreadable files.now)
-        (asked (map string_bytes names.now)) (O.contents out.old) (O.contents out.new) counts.0 counts.1) }
+        (tested_names (map string_bytes names.now)) (O.contents out.old) (O.contents out.new) counts.0 counts.1) }
     ensures prefix { IfErr result (λ fault. TestsPrefix traces (F.bytes_at files.now) (F.unreadable files.now)
         (map string_bytes names.now) (O.contents out.old) (O.contents out.new)) }
     ensures fault { IfErr result EndsTest }
@@ -162,31 +162,18 @@ fn test_file<F: FilesByName, O: Write>(
 ) -> Result<bool, Fault>
     ensures tested { IfOk result (HasTested again traces (F.bytes_at files.now name.now)
         (F.unreadable files.now name.now) name.now (O.contents out.old) (O.contents out.new)) }
-    ensures prefix { IfErr result (λ fault. (out.new ≡ out.old) ⊎ HasBegun again traces (F.bytes_at files.now name.now)
-        (F.unreadable files.now name.now) name.now (O.contents out.old) (O.contents out.new)) }
+    ensures prefix { IfErr result (λ _. (out.new ≡ out.old) ⊎ HasBegunTest again traces
+        (F.bytes_at files.now name.now) (F.unreadable files.now name.now) name.now (O.contents out.old)
+        (O.contents out.new)) }
     ensures fault { IfErr result EndsTest }
 {
     if again {
-        return write_again(alloc, name, out);
+        return write_unrun(alloc, name, &Verdict::NamedTwice, out);
     }
     match run_named(alloc, name, traces, files) {
         Ok(run) => write_run(alloc, name, traces, &run, out),
-        Err(fault) => write_unrun(alloc, name, fault, out),
+        Err(fault) => write_unrun(alloc, name, &fault_verdict(fault)?, out),
     }
-}
-
-// Writes that standard input is named twice. Whether the file passed.
-fn write_again<O: Write>(alloc: Global, name: &str, out: &mut O) -> Result<bool, Fault>
-    ensures tested { (traces : Bool) (known : Option (List ℕ)) (unreadable : Bool)
-        → IfOk result (HasTested true traces known unreadable name.now (O.contents out.old) (O.contents out.new)) }
-    ensures prefix { (traces : Bool) (known : Option (List ℕ)) (unreadable : Bool)
-        → IfErr result (λ _. (out.new ≡ out.old)
-        ⊎ HasBegun true traces known unreadable name.now (O.contents out.old) (O.contents out.new)) }
-    ensures fault { IfErr result EndsTest }
-{
-    let text = verdict_lines(alloc, name, &Verdict::NamedTwice)?;
-    write(&text, out)?;
-    Ok(false)
 }
 
 // Writes what a run comes to. Whether the file passed.
@@ -197,14 +184,10 @@ fn write_run<O: Write>(
     run: &TestedRun,
     out: &mut O,
 ) -> Result<bool, Fault>
-    ensures tested { (known : Option (List ℕ)) (unreadable : Bool)
-        → IfSome known (λ text. RunsTo traces text run.now.traced)
-        → IfSome known (λ text. IsPatternIn text run.now.pattern)
+    ensures tested { (known : Option (List ℕ)) (unreadable : Bool) → ComesOf traces known run.now
         → IfOk result (HasTested false traces known unreadable name.now (O.contents out.old) (O.contents out.new)) }
-    ensures prefix { (known : Option (List ℕ)) (unreadable : Bool)
-        → IfSome known (λ text. RunsTo traces text run.now.traced)
-        → IfSome known (λ text. IsPatternIn text run.now.pattern)
-        → IfErr result (λ _. (out.new ≡ out.old) ⊎ HasBegun false traces known unreadable name.now
+    ensures prefix { (known : Option (List ℕ)) (unreadable : Bool) → ComesOf traces known run.now
+        → IfErr result (λ _. (out.new ≡ out.old) ⊎ HasBegunTest false traces known unreadable name.now
         (O.contents out.old) (O.contents out.new)) }
     ensures fault { IfErr result EndsTest }
 {
@@ -310,26 +293,20 @@ fn write_trace<O: Write>(
     }
 }
 
-// Writes that a file isn't run, and why; a fault that ends the command is handed on. Whether the file passed.
+// Writes the verdict on a file that isn't run. Whether the file passed.
 fn write_unrun<O: Write>(
     alloc: Global,
     name: &str,
-    fault: Fault,
+    verdict: &Verdict,
     out: &mut O,
 ) -> Result<bool, Fault>
-    ensures tested { (traces : Bool) (known : Option (List ℕ)) (unreadable : Bool)
-        → (fault ≡ Unreadable → IsTrue unreadable)
-        → (status_of fault ≡ 3) ⊎ IfSome known (λ text. IsRunFault Any text fault)
-        → IfOk result (HasTested false traces known unreadable name.now (O.contents out.old) (O.contents out.new)) }
-    ensures prefix { (traces : Bool) (known : Option (List ℕ)) (unreadable : Bool)
-        → (fault ≡ Unreadable → IsTrue unreadable)
-        → (status_of fault ≡ 3) ⊎ IfSome known (λ text. IsRunFault Any text fault)
-        → IfErr result (λ _. (out.new ≡ out.old) ⊎ HasBegun false traces known unreadable name.now
-        (O.contents out.old) (O.contents out.new)) }
+    ensures tested { IfOk result (λ met. (met ≡ false)
+        × Appends (O.contents out.old) (O.contents out.new) (verdict_text name.now verdict.now)) }
+    ensures prefix { IfErr result (λ _. AppendsPrefix (O.contents out.old) (O.contents out.new)
+        (verdict_text name.now verdict.now)) }
     ensures fault { IfErr result EndsTest }
 {
-    let verdict = fault_verdict(fault)?;
-    let text = verdict_lines(alloc, name, &verdict)?;
+    let text = verdict_lines(alloc, name, verdict)?;
     write(&text, out)?;
     Ok(false)
 }
@@ -370,7 +347,7 @@ fn run_named<F: FilesByName>(
 ) -> Result<TestedRun, Fault>
     ensures runs { IfOk result (λ run. IfSome (F.bytes_at files.now name.now) (λ text. RunsTo traces text run.traced)) }
     ensures pattern { IfOk result (λ run. IfSome (F.bytes_at files.now name.now)
-        (λ text. IsPatternIn text run.pattern)) }
+        (λ text. IsPatternOfText text run.pattern)) }
     ensures failed { IfErr result (λ fault. fault ≡ Unreadable → IsTrue (F.unreadable files.now name.now)) }
     ensures fault { IfErr result (λ fault. (status_of fault ≡ 3)
         ⊎ IfSome (F.bytes_at files.now name.now) (λ text. IsRunFault Any text fault)) }
@@ -382,7 +359,7 @@ fn run_named<F: FilesByName>(
 // The same of the file of this text.
 fn run_text(alloc: Global, text: &[u8], traces: bool) -> Result<TestedRun, Fault>
     ensures runs { length text.now ≤ 4194304 → IfOk result (λ run. RunsTo traces text.now run.traced) }
-    ensures pattern { IfOk result (λ run. IsPatternIn text.now run.pattern) }
+    ensures pattern { IfOk result (λ run. IsPatternOfText text.now run.pattern) }
     ensures read { IfErr result (λ fault. ¬ (fault ≡ Unreadable)) }
     ensures fault { IfErr result (λ fault. (status_of fault ≡ 3) ⊎ IsRunFault Any text.now fault) }
 {
@@ -397,7 +374,7 @@ fn run_text(alloc: Global, text: &[u8], traces: bool) -> Result<TestedRun, Fault
 
 // The pattern of a file.
 fn file_pattern(file: &VectorFile) -> Result<ValidPattern, Fault>
-    ensures pattern { IfOk result (λ pattern. IsPatternOf file.now.block file.now.protocol pattern) }
+    ensures pattern { IfOk result (λ pattern. IsFilePattern file.now.block file.now.protocol pattern) }
     ensures fault { IfErr result (λ fault. IsStartFault file.now fault) }
 {
     let block = same_block(&file.block)?;
@@ -425,12 +402,11 @@ fn run_read(alloc: Global, text: &[u8], vector: VectorFile, traces: bool) -> Res
     ensures read { IfErr result (λ fault. ¬ (fault ≡ Unreadable)) }
     ensures fault { IfErr result (λ fault. (status_of fault ≡ 3) ⊎ IsRunFault Any text.now fault) }
 {
-    if !traces {
-        return untraced(alloc, vector);
+    if traces {
+        trace_text(alloc, ALL_LINES, text, vector)
+    } else {
+        untraced(alloc, vector)
     }
-    let again = read_vector(alloc, text, AllowedEvents::Any)?;
-    vector_texts_are_unique();
-    trace(alloc, ALL_LINES, vector, again)
 }
 
 // What comes of the run of a file, without a trace.

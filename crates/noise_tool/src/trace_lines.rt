@@ -155,7 +155,7 @@ fn add_nothing(line: Line) -> Result<Line, AllocError>
 
 // With the key more, or a hyphen.
 fn add_key(line: Line, key: Option<[u8; 32]>) -> Result<Line, AllocError>
-    ensures { IfOk result (λ made. text_in made ≡ text_in line ++ 32 ∷ print.key_word key) }
+    ensures { IfOk result (λ made. text_in made ≡ text_in line ++ 32 ∷ print.state_key_word key) }
 {
     match key {
         Some(key) => line.hex(&key),

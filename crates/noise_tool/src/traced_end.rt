@@ -13,8 +13,8 @@ ghost use Rattle.noise_session.specs.Steps.{StepValue};
 ghost use Rattle.noise_trace.specs.KeyUses.{use_value, stopped_use};
 ghost use Rattle.noise_trace.specs.KeyUses.KeyUseValue.{Nothing};
 ghost use Rattle.noise_vectors.specs.Expectations.{bytes_of};
-ghost use Rattle.noise_tool.specs.KeyUseLines.{IsCounted, key_use_lines};
-ghost use Rattle.noise_tool.specs.TracedEnds.{Follow, IsOfNoFrame, Shows, Used, note_ends};
+ghost use Rattle.noise_tool.specs.KeyUseLines.{HasLaterNonce, key_use_lines};
+ghost use Rattle.noise_tool.specs.TracedEnds.{Follow, IsOfNoFrame, ShowsEnd, Used, note_ends};
 ghost use Rattle.noise_tool.specs.TracedEvents.{TracesRead, TracesReads, TracesReceived, TracesWrite};
 ghost use Rattle.noise_tool.specs.Tracing.{about, act_of, read_use, written_message, written_use};
 
@@ -41,7 +41,7 @@ pub struct TracedEnd {
 impl TracedEnd {
     // A message of this end.
     fn about(&self, act: Act) -> About
-        ensures { (v : EndState) → Shows self.now v → result ≡ about self.now.role v act }
+        ensures { (v : EndState) → ShowsEnd self.now v → result ≡ about self.now.role v act }
     {
         About {
             role: self.role,
@@ -136,8 +136,8 @@ impl TracedEnd {
     ) -> Result<Vec<Vec<u8>>, AllocError>
         ensures role { self.new.role ≡ self.old.role }
         ensures lines { TracesRead selection self.old self.new message.now (note_of entry.now) result }
-        ensures none { (v : EndState) → Shows self.old v → IsOfNoFrame (note_of entry.now)
-            → IfOk result (λ lines. (bytes_of lines.items ≡ []) × Shows self.new v) }
+        ensures none { (v : EndState) → ShowsEnd self.old v → IsOfNoFrame (note_of entry.now)
+            → IfOk result (λ lines. (bytes_of lines.items ≡ []) × ShowsEnd self.new v) }
     {
         let about = self.about(act_of(entry));
         let key_use = read_use(&mut self.end, message, entry);
@@ -163,7 +163,7 @@ fn lines_of_use(
     message: &[u8],
     key_use: &KeyUse,
 ) -> Result<Vec<Vec<u8>>, AllocError>
-    ensures { IsCounted (use_value key_use.now) → IfOk result
+    ensures { HasLaterNonce (use_value key_use.now) → IfOk result
         (λ lines. bytes_of lines.items ≡ key_use_lines selection about message.now (use_value key_use.now)) }
 {
     let mut lines = Vec::new(alloc);

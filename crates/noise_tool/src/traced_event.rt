@@ -9,7 +9,7 @@ ghost use Rattle.noise_tool.specs.TracedEnds.{entry_frame};
 ghost use Rattle.noise_tool.specs.TracedEvents.{TracesBytes, TracesEntry, TracesEvent, TracesWriteOf};
 
 use crate::key_use_lines::Selection;
-use crate::report::frame_at;
+use crate::report::frame_numbered;
 use crate::traced_ends::TracedEnds;
 use noise_duel::{Entry, Event, Report};
 use noise_names::Role;
@@ -68,7 +68,7 @@ fn trace_say(
     trace_write(alloc, selection, role, report, &first.1, ends, traces)?;
     match &first.1 {
         Entry::Wrote(number) => {
-            let frame = frame_at(report, role, *number);
+            let frame = frame_numbered(report, role, *number);
             trace_bytes(alloc, selection, role.other(), frame, later, ends, traces)
         }
         _ => Ok(()),
@@ -101,7 +101,7 @@ fn frame_of<'a>(report: &'a Report, role: Role, entry: &Entry) -> &'a [u8]
     ensures { (d : Sides) → HasFrames report.now d → result.now ≡ entry_frame (side d role) (note_of entry.now) }
 {
     match entry {
-        Entry::Wrote(number) => frame_at(report, role, *number),
+        Entry::Wrote(number) => frame_numbered(report, role, *number),
         _ => &[],
     }
 }

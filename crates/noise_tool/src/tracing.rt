@@ -1,17 +1,23 @@
 //! The run of a vector file with the key schedules of both ends beside it.
 
-ghost use Rattle.std.specs.Prelude.{◌≡◌, ◌&&◌, ◌++◌, [], ℕ, List, IfErr, IfOk, OnOk, drop, is_some, length};
+ghost use Rattle.std.specs.Prelude.{◌≡◌, ◌⊎◌, ◌&&◌, ◌++◌, [], ℕ, List, IfErr, IfOk, OnOk, drop, is_some, length};
 ghost use Rattle.noise_duel.specs.Sides.{Sides};
 ghost use Rattle.noise_events.specs.Events.{events_of};
 ghost use Rattle.noise_names.specs.declared.token.Role.TheVariants.{Initiator, Responder};
 ghost use Rattle.noise_session.specs.Ends.{EndState};
 ghost use Rattle.noise_vectors.specs.Expectations.{bytes_of};
 ghost use Rattle.noise_vectors.specs.SameFile.{SaySame};
+ghost use Rattle.noise_lines.specs.Faults.{status_of};
 ghost use Rattle.noise_lines.specs.TracedLines.{traces_of};
+ghost use Rattle.noise_lines.specs.declared.faults.Fault.TheVariants.{Unreadable};
+ghost use Rattle.noise_vectors.specs.VectorFile.{IsVectorFile};
+ghost use Rattle.noise_vectors.specs.VectorText.{text_of};
+ghost use Rattle.noise_vectors.specs.declared.vector.AllowedEvents.TheVariants.{Any};
+ghost use Rattle.noise_tool.specs.Performing.{IsRunFault};
 ghost use Rattle.noise_tool.specs.Ends.{FileDuelMatches, IsStartFault};
 ghost use Rattle.noise_tool.specs.Printed.{Appended};
-ghost use Rattle.noise_tool.specs.Running.{AreLast, are_ready, datagrams_in, expected_in};
-ghost use Rattle.noise_tool.specs.TracedEnds.{AreOver, EndsTraced, HasRunTraced, IsNewSides, Shows};
+ghost use Rattle.noise_tool.specs.Running.{AreLast, are_ready, datagrams_of_version, expected_in};
+ghost use Rattle.noise_tool.specs.TracedEnds.{AreOver, EndsTraced, HasRunTraced, IsNewSides, ShowsEnd};
 ghost use Rattle.noise_tool.specs.Tracing.{HasTraces, datagram_keys_of, last_traces};
 
 use crate::key_use_lines::Selection;
@@ -25,7 +31,9 @@ use noise_duel::{Duel, Entry, Event, Report};
 use noise_lines::Fault;
 use noise_names::Role;
 use noise_session::end_is_reported;
-use noise_vectors::{FileKeys, VectorFile, Version};
+use noise_vectors::{
+    AllowedEvents, FileKeys, VectorFile, Version, read_vector, vector_texts_are_unique,
+};
 use std::alloc::{AllocError, Global};
 
 /// What comes of a run that is traced.
@@ -72,6 +80,26 @@ pub fn trace(
     })
 }
 
+/// The same of a file that was read of this text, of which its keys are read again.
+pub(crate) fn trace_text(
+    alloc: Global,
+    selection: Selection,
+    text: &[u8],
+    file: VectorFile,
+) -> Result<Traced, Fault>
+    requires right { IsVectorFile file }
+    requires text { text.now ≡ text_of file }
+    ensures lines { IfOk result (λ traced. HasTraces selection file (bytes_of traced.outcome.lines.items)
+        (bytes_of traced.start.items) (traces_of traced.traces.items)) }
+    ensures expected { IfOk result (λ traced. bytes_of traced.outcome.expected.items ≡ expected_in file.version) }
+    ensures read { IfErr result (λ fault. ¬ (fault ≡ Unreadable)) }
+    ensures fault { IfErr result (λ fault. (status_of fault ≡ 3) ⊎ IsRunFault Any text.now fault) }
+{
+    let again = read_vector(alloc, text, AllowedEvents::Any)?;
+    vector_texts_are_unique();
+    trace(alloc, selection, file, again)
+}
+
 // Appends the lines of the keys of datagrams, if both ends go over to them.
 fn push_datagram_trace(
     alloc: Global,
@@ -82,8 +110,8 @@ fn push_datagram_trace(
     traces: &mut Vec<Vec<Vec<u8>>>,
 ) -> Result<(), AllocError>
     ensures { (d : Sides) → FileDuelMatches duel.now d → EndsTraced ends.now d → (after : List (List ℕ))
-        (last : AreLast (datagrams_in version.now) d after) → OnOk result (traces_of traces.new.items
-        ≡ traces_of traces.old.items ++ last_traces selection (datagrams_in version.now) d after last) }
+        (last : AreLast (datagrams_of_version version.now) d after) → OnOk result (traces_of traces.new.items
+        ≡ traces_of traces.old.items ++ last_traces selection (datagrams_of_version version.now) d after last) }
 {
     if goes_over(duel, version) {
         traces.push(datagram_keys(alloc, selection, ends)?)?;
@@ -94,7 +122,7 @@ fn push_datagram_trace(
 // Whether both ends go over to datagrams.
 fn goes_over(duel: &Duel<FileKeys, FileKeys>, version: &Version) -> bool
     ensures { (d : Sides) → FileDuelMatches duel.now d
-        → result ≡ (is_some (datagrams_in version.now) && are_ready d) }
+        → result ≡ (is_some (datagrams_of_version version.now) && are_ready d) }
 {
     end_is_reported::<FileKeys>();
     match version {
@@ -129,7 +157,7 @@ fn push_datagram_keys(
     traced: &TracedEnd,
     lines: &mut Vec<Vec<u8>>,
 ) -> Result<(), AllocError>
-    ensures { (v : EndState) → Shows traced.now v → v.party.passed ≡ length v.party.pattern.messages
+    ensures { (v : EndState) → ShowsEnd traced.now v → v.party.passed ≡ length v.party.pattern.messages
         → OnOk result (Appended lines.old lines.new (datagram_keys_of selection traced.now.role v)) }
 {
     if !selection.selects_transport(traced.role) {

@@ -25,17 +25,17 @@ use Rattle.noise_vectors.specs.declared.vector.AllowedEvents.TheVariants.{SayOnl
 use Rattle.noise_vectors.specs.declared.vector.VectorFile.{VectorFile}
 use Rattle.noise_vectors.specs.declared.vector.Version.{Version}
 use Rattle.noise_vectors.specs.declared.vector.Version.TheVariants.{One, Two}
-use Rattle.noise_tool.specs.Ends.{IsPatternOf, known_before, setup_of}
-use Rattle.noise_tool.specs.Running.{datagrams_in}
+use Rattle.noise_tool.specs.Ends.{IsFilePattern, known_before, setup_of}
+use Rattle.noise_tool.specs.Running.{datagrams_of_version}
 use Rattle.noise_transcript.specs.Fitting.{HasFittingLines, IsXor}
 
 said-lines : (lines : List (Role × Vec ℕ Global × List ℕ)) → events_of (map say_of lines) ≡ say_events (roles_and_payloads lines)
 said-lines [] = refl
 said-lines (l ∷ lines) = ap (λ (es : List Event). Say l.0 l.1.items ∷ es) (said-lines lines)
 
-none-ended_party : (version : Version) → IsAllowedVersion SayOnly version → datagrams_in version ≡ None
-none-ended_party One h = refl
-none-ended_party (Two additions) h = h
+none-also : (version : Version) → IsAllowedVersion SayOnly version → datagrams_of_version version ≡ None
+none-also One h = refl
+none-also (Two additions) h = h
 
 neither : (o u : Option SetupFault) → or_next o u ≡ None → (o ≡ None) × (u ≡ None)
 neither None u e = (refl, e)
@@ -54,7 +54,7 @@ by-role P i r Initiator = i
 by-role P i r Responder = r
 
 pub fit-file : (file : VectorFile) (p : Plan) (a b : XorKeys) (lines : List (Role × Vec ℕ Global × List ℕ)) → IsVectorFile file
-    → IsAllowedFile SayOnly file → file.initiator ≡ Xor a → file.responder ≡ Xor b → IsPatternOf file.block file.protocol p → IsPattern p → IsValid p
+    → IsAllowedFile SayOnly file → file.initiator ≡ Xor a → file.responder ≡ Xor b → IsFilePattern file.block file.protocol p → IsPattern p → IsValid p
     → file.events.items ≡ map say_of lines → lines_fit_from p 0 (roles_and_payloads lines) ≡ true
     → fault_of p (xor_starts p file.prologue.items file.psks.items a b) ≡ None → HasFittingLines file p (roles_and_payloads lines)
 fit-file file p a b lines right allowed first second named pattern valid said fit none =
@@ -71,6 +71,6 @@ fit-file file p a b lines right allowed first second named pattern valid said fi
       valid = valid;
       set_up = by-role (λ role. setup_of file p role ≡ None) initiator responder;
       said = ap events_of said ∙ said-lines lines;
-      alone = none-ended_party file.version allowed.1;
+      alone = none-also file.version allowed.1;
       fit = fit;
     }

@@ -18,13 +18,13 @@ use Rattle.noise_lines.specs.declared.faults.Fault.{Fault}
 use Rattle.noise_lines.specs.declared.faults.Fault.TheVariants as fault
 use Rattle.noise_lines.specs.Verdicts.{IsMet}
 use Rattle.noise_tool.specs.OneRun.{OneRun}
-use Rattle.noise_tool.specs.Performing.{HasRun, HasUnmet, IsRunFault, IsUnmet}
+use Rattle.noise_tool.specs.Performing.{HasRun, HasUnmet, IsPlain, IsRunFault, IsUnmet}
 use Rattle.noise_tool.specs.Prefixes.{PrintsFault, PrintsPrefix, PrintsWhole}
 use Rattle.noise_tool.specs.Running.{IsRunOf, expected_in}
 use Rattle.noise_words.specs.declared.orders.Chosen.TheVariants.{Talk}
 use Rattle.noise_transcript.specs.Fitting.{HasFittingLines}
 use Rattle.noise_transcript.specs.Talked.{FittingLinesRun, talked_lines}
-use Rattle.noise_transcript.proofs.Refusals.{IsLeft, left-ended_party}
+use Rattle.noise_transcript.proofs.Refusals.{IsLeft, left-why}
 use Rattle.noise_transcript.proofs.Same.{expected-are, run-alike}
 
 -- a file has one text, and files of one text have one list of lines
@@ -49,12 +49,12 @@ module _ (laws : Once) (f : VectorFile) (p : Plan) (lines : List (Role × List �
   expected-of g right same =
       sym (expected-are g.version) ∙ sym ((laws.unique f g fits.right right same).expected) ∙ expected-are f.version
 
-  run-printed : (before after : Option (List ℕ)) → HasRun (text_of f) before after → Printed f p lines before after × Met f p lines
+  run-printed : (before after : Option (List ℕ)) → HasRun IsPlain (text_of f) before after → Printed f p lines before after × Met f p lines
   run-printed before after h =
-      let same = lines-of h.0 h.3.lines h.1 h.2 h.3.run in
-      let expected = expected-of h.0 h.1 h.2 in (
-        subst (λ (ls : List (List ℕ)). Appends before after (lines_text ls)) same h.3.printed,
-        subst (λ (ls : List (List ℕ)). IsMet (expected_in f.version) ls) same (subst (λ (es : List (List ℕ)). IsMet es h.3.lines) expected h.3.met),
+      let lines_are = lines-of h.file h.lines h.right h.text_is h.run.0 in
+      let expected = expected-of h.file h.right h.text_is in (
+        subst (λ (ls : List (List ℕ)). Appends before after (lines_text ls)) (h.run.1 ∙ lines_are) h.grown,
+        subst (λ (ls : List (List ℕ)). IsMet (expected_in f.version) ls) lines_are (subst (λ (es : List (List ℕ)). IsMet es h.lines) expected h.come_to),
       )
 
   never-met : (expected : List (List ℕ)) (printed : List (List ℕ)) (n : ℕ) → ¬ (expected ≡ []) → IsFirstUnmet printed expected n → IsMet expected printed
@@ -62,12 +62,12 @@ module _ (laws : Once) (f : VectorFile) (p : Plan) (lines : List (Role × List �
   never-met expected printed n some unmet (inl none) = some none
   never-met expected printed n some unmet (inr same) = unmet.differ (ap (λ (ls : List (List ℕ)). slice_get ls unmet.before) same)
 
-  unmet-printed : (before after : Option (List ℕ)) (n : ℕ) → HasUnmet (text_of f) before after n → Printed f p lines before after × ¬ (Met f p lines)
+  unmet-printed : (before after : Option (List ℕ)) (n : ℕ) → HasUnmet IsPlain (text_of f) before after n → Printed f p lines before after × ¬ (Met f p lines)
   unmet-printed before after n h =
-      let same = lines-of h.file h.lines h.right h.text_is h.run in
+      let same = lines-of h.file h.lines h.right h.text_is h.run.0 in
       let expected = expected-of h.file h.right h.text_is in (
-        subst (λ (ls : List (List ℕ)). Appends before after (lines_text ls)) same h.printed,
-        λ met. never-met (expected_in h.file.version) h.lines n h.some h.unmet
+        subst (λ (ls : List (List ℕ)). Appends before after (lines_text ls)) (h.run.1 ∙ same) h.grown,
+        λ met. never-met (expected_in h.file.version) h.lines n h.come_to.0 h.come_to.1
             (subst (λ (ls : List (List ℕ)). IsMet (expected_in h.file.version) ls) (sym same)
             (subst (λ (es : List (List ℕ)). IsMet es (talked_lines f p lines)) (sym expected) met)),
       )
@@ -88,21 +88,21 @@ module _ (laws : Once) (f : VectorFile) (p : Plan) (lines : List (Role × List �
       inr (inl (sym is ∙ ap status_of e, both.0, both.1))
 
   pub outcome : (known before after : Option (List ℕ)) (status : ℕ) → known ≡ Some (text_of f)
-      → (status ≡ 0 → IfSome known (λ text. HasRun text before after))
+      → (status ≡ 0 → IfSome known (λ text. HasRun IsPlain text before after))
       → (1 ≤ status → (status ≡ 3) ⊎ ((why : Fault) × (status_of why ≡ status)
-      × IfSome known (λ text. IsRunFault SayOnly text why ⊎ IsUnmet text before after why)))
+      × IfSome known (λ text. IsRunFault SayOnly text why ⊎ IsUnmet IsPlain text before after why)))
       → Outcome before after status
   outcome known before after zero is done fault =
-      let both = run-printed before after (subst (λ (o : Option (List ℕ)). IfSome o (λ text. HasRun text before after)) is (done refl)) in
+      let both = run-printed before after (subst (λ (o : Option (List ℕ)). IfSome o (λ text. HasRun IsPlain text before after)) is (done refl)) in
       inl (refl, both.0, both.1)
   outcome known before after (suc n) is done fault = go (fault (omega arith))
     where
-      go : (suc n ≡ 3) ⊎ ((why : Fault) × (status_of why ≡ suc n) × IfSome known (λ text. IsRunFault SayOnly text why ⊎ IsUnmet text before after why))
+      go : (suc n ≡ 3) ⊎ ((why : Fault) × (status_of why ≡ suc n) × IfSome known (λ text. IsRunFault SayOnly text why ⊎ IsUnmet IsPlain text before after why))
           → Outcome before after (suc n)
       go (inl three) = inr (inr (inr three))
       go (inr (why, same, h)) =
-          of-fault before after why (suc n) same (left-ended_party laws.unique f p lines before after why fits
-          (subst (λ (o : Option (List ℕ)). IfSome o (λ text. IsRunFault SayOnly text why ⊎ IsUnmet text before after why)) is h))
+          of-fault before after why (suc n) same (left-why laws.unique f p lines before after why fits
+          (subst (λ (o : Option (List ℕ)). IfSome o (λ text. IsRunFault SayOnly text why ⊎ IsUnmet IsPlain text before after why)) is h))
 
   -- each of its parts
   pub printed-at : (before after : Option (List ℕ)) (status : ℕ) → Outcome before after status → status ≤ 1 → Printed f p lines before after
@@ -133,14 +133,14 @@ module _ (laws : Once) (f : VectorFile) (p : Plan) (lines : List (Role × List �
   whole-fault name text why h (inr (inr (n, e, unmet))) = (unmet-printed (Some []) (Some text) n unmet).0
 
   is-fault : (name : String Global) (text : List ℕ) (why : Fault) → PrintsFault (Talk name) (Some (text_of f)) (Some []) (Some text) why
-      → IsRunFault SayOnly (text_of f) why ⊎ IsUnmet (text_of f) (Some []) (Some text) why
+      → IsRunFault SayOnly (text_of f) why ⊎ IsUnmet IsPlain (text_of f) (Some []) (Some text) why
   is-fault name text (fault.Rule r) h = h.0
   is-fault name text (fault.Unmet n) h = h
   is-fault name text _ h = absurd h
 
   whole : (name : String Global) (text : List ℕ) → PrintsWhole (Talk name) (Some (text_of f)) text → text ≡ lines_text (talked_lines f p lines)
   whole name text (inl done) = (run-printed (Some []) (Some text) done).0
-  whole name text (inr (why, h)) = whole-fault name text why h (left-ended_party laws.unique f p lines (Some []) (Some text) why fits (is-fault name text why h))
+  whole name text (inr (why, h)) = whole-fault name text why h (left-why laws.unique f p lines (Some []) (Some text) why fits (is-fault name text why h))
 
   pub prefix-at : (name : String Global) (known before after : Option (List ℕ)) → known ≡ Some (text_of f) → PrintsPrefix (Talk name) known before after
       → AppendsPrefix before after (lines_text (talked_lines f p lines))

@@ -29,9 +29,9 @@ use Rattle.noise_vectors.specs.declared.vector.Version.{Version}
 use Rattle.noise_vectors.specs.declared.vector.Version.TheVariants.{One, Two}
 use Rattle.noise_lines.specs.declared.faults.Fault.{Fault}
 use Rattle.noise_lines.specs.declared.faults.Fault.TheVariants as fault
-use Rattle.noise_tool.specs.Ends.{HasSetupFault, IsPatternFault, IsPatternOf, IsStartFault, known_before, setup_of}
-use Rattle.noise_tool.specs.Performing.{HasUnmet, IsRunFault, IsUnmet}
-use Rattle.noise_tool.specs.Running.{datagrams_in}
+use Rattle.noise_tool.specs.Ends.{HasSetupFault, IsFilePatternFault, IsFilePattern, IsStartFault, known_before, setup_of}
+use Rattle.noise_tool.specs.Performing.{HasUnmet, IsPlain, IsRunFault, IsUnmet}
+use Rattle.noise_tool.specs.Running.{datagrams_of_version}
 use Rattle.noise_transcript.specs.Fitting.{HasFittingLines, IsXor}
 use Rattle.noise_transcript.proofs.Names.{no-name-without, no-place-beyond, no-rule-broken}
 use Rattle.noise_transcript.proofs.Same.{datagrams-are}
@@ -42,9 +42,7 @@ use Rattle.noise_tool.specs.OnePattern.{pattern-once}
 
 is-said : (event : Given) (role : Role) (payload : List ℕ) → event_of event ≡ Say role payload → IsAllowed SayOnly event
 is-said (given.Say role payload cuts) r bytes e = tt
-is-said (given.Write role payload) r bytes e = absurd (cc)
-is-said (given.Deliver role number cuts) r bytes e = absurd (cc)
-is-said (given.Raw role payload) r bytes e = absurd (cc)
+is-said _ r bytes e = absurd (cc)
 
 only-said : (events : List Given) (lines : List (Role × List ℕ)) → events_of events ≡ say_events lines → All (IsAllowed SayOnly) events
 only-said [] lines e = All-nil (IsAllowed SayOnly)
@@ -53,7 +51,7 @@ only-said (x ∷ events) (l ∷ lines) e =
     All-cons (IsAllowed SayOnly) x events (is-said x l.0 l.1 (heads (event_of x) (Say l.0 l.1) (events_of events) (say_events lines) e))
     (only-said events lines (tails (event_of x) (Say l.0 l.1) (events_of events) (say_events lines) e))
 
-version-said : (version : Version) → datagrams_in version ≡ None → IsAllowedVersion SayOnly version
+version-said : (version : Version) → datagrams_of_version version ≡ None → IsAllowedVersion SayOnly version
 version-said One e = tt
 version-said (Two additions) e = e
 
@@ -70,7 +68,7 @@ no-setup-fault : (f : VectorFile) (p : Plan) (lines : List (Role × List ℕ)) (
 no-setup-fault f p lines Initiator why fits h = none-some why (sym (fits.set_up Initiator) ∙ h)
 no-setup-fault f p lines Responder why fits h = none-some why (sym (fits.set_up Responder) ∙ h.1)
 
-no-pattern-fault : (block : Option Plan) (name : Section) (p : Plan) (why : Fault) → IsPatternOf block name p → IsValid p → IsPatternFault block name why → ⊥
+no-pattern-fault : (block : Option Plan) (name : Section) (p : Plan) (why : Fault) → IsFilePattern block name p → IsValid p → IsFilePatternFault block name why → ⊥
 no-pattern-fault block name p (fault.Rule x) named valid h =
     no-rule-broken p x valid (subst (λ (q : Plan). IsFirstFault q x) (pattern-once block name h.0 p h.1 named) h.2)
 no-pattern-fault None name p (fault.Place x) named valid h = no-place-beyond name p h.0 x.place named h.1 h.2
@@ -99,9 +97,9 @@ setup-same f g p same Responder =
     ap₂ (λ (own theirs : FileKeys). setup_from p Responder own theirs (length f.psks.items)) same.responder same.initiator
     ∙ ap (λ (psks : List (List ℕ)). setup_from p Responder g.responder g.initiator (length psks)) same.psks
 
-none-ended_party : (o u : Option FileDatagrams) → held_datagrams o ≡ held_datagrams u → o ≡ None → u ≡ None
-none-ended_party o None e none = refl
-none-ended_party o (Some x) e none =
+none-also : (o u : Option FileDatagrams) → held_datagrams o ≡ held_datagrams u → o ≡ None → u ≡ None
+none-also o None e none = refl
+none-also o (Some x) e none =
     let bad : ◌≡◌ {A = Option (Window × List DatagramEvent)} None (Some (x.window, datagram_events_of x.events.items)) =
     sym (ap held_datagrams none) ∙ e in
     absurd (cc bad)
@@ -113,34 +111,34 @@ fits-too f g p lines same right fits = record {
   initiator = subst IsXor same.initiator fits.initiator;
   responder = subst IsXor same.responder fits.responder;
   named =
-      subst (λ (z : Option Plan). IsPatternOf z g.protocol p) same.block
-      (subst (λ (z : Section). IsPatternOf f.block z p) same.protocol fits.named);
+      subst (λ (z : Option Plan). IsFilePattern z g.protocol p) same.block
+      (subst (λ (z : Section). IsFilePattern f.block z p) same.protocol fits.named);
   pattern = fits.pattern;
   valid = fits.valid;
   set_up = λ role. sym (setup-same f g p same role) ∙ fits.set_up role;
   said = sym same.events ∙ fits.said;
-  alone = none-ended_party (datagrams_in f.version) (datagrams_in g.version)
+  alone = none-also (datagrams_of_version f.version) (datagrams_of_version g.version)
       (sym (datagrams-are f.version) ∙ same.datagrams ∙ datagrams-are g.version) fits.alone;
   fit = fits.fit;
 }
 
 -- ---- why there is no run
 
-unmet-of : (text : List ℕ) (before after : Option (List ℕ)) (why : Fault) → IsUnmet text before after why
-    → (n : ℕ) × (why ≡ fault.Unmet n) × HasUnmet text before after n
+unmet-of : (text : List ℕ) (before after : Option (List ℕ)) (why : Fault) → IsUnmet IsPlain text before after why
+    → (n : ℕ) × (why ≡ fault.Unmet n) × HasUnmet IsPlain text before after n
 unmet-of text before after (fault.Unmet n) h = (n, refl, h)
 unmet-of text before after _ h = absurd h
 
 -- memory, a text that is too long, or lines that aren't those that the file expects
 abbrev pub IsLeft : VectorFile → Option (List ℕ) → Option (List ℕ) → Fault → Type 0
 IsLeft f before after why = (why ≡ fault.Memory) ⊎ ((why ≡ fault.TooLong) × (4194304 < length (text_of f)))
-    ⊎ ((n : ℕ) × (why ≡ fault.Unmet n) × HasUnmet (text_of f) before after n)
+    ⊎ ((n : ℕ) × (why ≡ fault.Unmet n) × HasUnmet IsPlain (text_of f) before after n)
 
-pub left-ended_party : VectorTextsAreUnique → (f : VectorFile) (p : Plan) (lines : List (Role × List ℕ)) (before after : Option (List ℕ)) (why : Fault)
-    → HasFittingLines f p lines → IsRunFault SayOnly (text_of f) why ⊎ IsUnmet (text_of f) before after why → IsLeft f before after why
-left-ended_party unique f p lines before after why fits (inl (inl long)) = inr (inl long)
-left-ended_party unique f p lines before after why fits (inl (inr (inl (vector.Memory, e, h, reported)))) = inl e
-left-ended_party unique f p lines before after why fits (inl (inr (inl (vector.Line n k, e, h, reported)))) = absurd (h f fits.right (allowed f p lines fits) refl)
-left-ended_party unique f p lines before after why fits (inl (inr (inr (g, right, same, start)))) =
+pub left-why : VectorTextsAreUnique → (f : VectorFile) (p : Plan) (lines : List (Role × List ℕ)) (before after : Option (List ℕ)) (why : Fault)
+    → HasFittingLines f p lines → IsRunFault SayOnly (text_of f) why ⊎ IsUnmet IsPlain (text_of f) before after why → IsLeft f before after why
+left-why unique f p lines before after why fits (inl (inl long)) = inr (inl long)
+left-why unique f p lines before after why fits (inl (inr (inl (vector.Memory, e, h, reported)))) = inl e
+left-why unique f p lines before after why fits (inl (inr (inl (vector.Line n k, e, h, reported)))) = absurd (h f fits.right (allowed f p lines fits) refl)
+left-why unique f p lines before after why fits (inl (inr (inr (g, right, same, start)))) =
     inl (no-start-fault g p lines why (fits-too f g p lines (unique f g fits.right right same) right fits) start)
-left-ended_party unique f p lines before after why fits (inr h) = inr (inr (unmet-of (text_of f) before after why h))
+left-why unique f p lines before after why fits (inr h) = inr (inr (unmet-of (text_of f) before after why h))

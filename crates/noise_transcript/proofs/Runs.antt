@@ -21,7 +21,7 @@ use Rattle.noise_duel.specs.Sides.{Sides}
 use Rattle.noise_conversation.specs.Turns.{LinesTakeTurns}
 use Rattle.noise_vectors.specs.declared.vector.FileDatagrams.{FileDatagrams}
 use Rattle.noise_vectors.specs.declared.vector.VectorFile.{VectorFile}
-use Rattle.noise_tool.specs.Ends.{sides_of_file, start_of}
+use Rattle.noise_tool.specs.Ends.{sides_of_file, file_start}
 use Rattle.noise_tool.specs.Printed.{note_line, state_lines}
 use Rattle.noise_tool.specs.Running.{AreLast}
 use Rattle.noise_tool.specs.Running.AreLast.{without}
@@ -45,10 +45,10 @@ pub record Laws : Type 0 where
 
 module _ (laws : Laws) (file : VectorFile) (p : Plan) (lines : List (Role × List ℕ)) (fits : HasFittingLines file p lines) where
   abbrev a : Start
-  a = start_of file p Initiator
+  a = file_start file p Initiator
 
   abbrev b : Start
-  b = start_of file p Responder
+  b = file_start file p Responder
 
   dh_results : HasDhResults p a b
   dh_results t d o =
@@ -82,8 +82,8 @@ module _ (laws : Laws) (file : VectorFile) (p : Plan) (lines : List (Role × Lis
 
 pub fitting-lines-run : Laws → FittingLinesRun
 fitting-lines-run laws file p lines fits =
-    let a : Start = start_of file p Initiator in
-    let b : Start = start_of file p Responder in
+    let a : Start = file_start file p Initiator in
+    let b : Start = file_start file p Responder in
     let w : KeyMaterial = material_of a b in
     let text : List ℕ = file.prologue.items in
     let i : ℕ = file.interval in

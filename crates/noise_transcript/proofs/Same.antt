@@ -5,9 +5,9 @@ use Rattle.noise_vectors.specs.declared.vector.VectorFile.{VectorFile}
 use Rattle.noise_vectors.specs.declared.vector.Version.{Version}
 use Rattle.noise_vectors.specs.declared.vector.Version.TheVariants.{One, Two}
 use Rattle.noise_tool.specs.OneRun.{RunAlike}
-use Rattle.noise_tool.specs.Running.{datagrams_in, expected_in}
+use Rattle.noise_tool.specs.Running.{datagrams_of_version, expected_in}
 
-pub datagrams-are : (v : Version) → datagrams_of v ≡ held_datagrams (datagrams_in v)
+pub datagrams-are : (v : Version) → datagrams_of v ≡ held_datagrams (datagrams_of_version v)
 datagrams-are One = refl
 datagrams-are (Two additions) = refl
 

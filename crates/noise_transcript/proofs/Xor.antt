@@ -60,16 +60,6 @@ xor-dh-results (Table keys) i x l h k = absurd i
 -- the other party's key at a DH token
 pub remote-own : (role : Role) (theirs : Own → Option (List ℕ)) (t : Token) → remote_at role (public_keys theirs) t ≡ theirs (own_at (other role) t)
 remote-own Initiator theirs E = refl
-remote-own Initiator theirs S = refl
-remote-own Initiator theirs Ee = refl
-remote-own Initiator theirs Es = refl
-remote-own Initiator theirs Se = refl
-remote-own Initiator theirs Ss = refl
-remote-own Initiator theirs Psk = refl
+remote-own Initiator theirs _ = refl
 remote-own Responder theirs E = refl
-remote-own Responder theirs S = refl
-remote-own Responder theirs Ee = refl
-remote-own Responder theirs Es = refl
-remote-own Responder theirs Se = refl
-remote-own Responder theirs Ss = refl
-remote-own Responder theirs Psk = refl
+remote-own Responder theirs _ = refl

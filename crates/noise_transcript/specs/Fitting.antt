@@ -11,8 +11,8 @@ use Rattle.noise_vectors.specs.VectorFile.{IsVectorFile}
 use Rattle.noise_vectors.specs.declared.file_keys.FileKeys.{FileKeys}
 use Rattle.noise_vectors.specs.declared.file_keys.FileKeys.TheVariants.{Xor, Table}
 use Rattle.noise_vectors.specs.declared.vector.VectorFile.{VectorFile}
-use Rattle.noise_tool.specs.Ends.{IsPatternOf, setup_of}
-use Rattle.noise_tool.specs.Running.{datagrams_in}
+use Rattle.noise_tool.specs.Ends.{IsFilePattern, setup_of}
+use Rattle.noise_tool.specs.Running.{datagrams_of_version}
 
 -- keys whose DH is the xor of bytes
 abbrev pub IsXor : FileKeys → Type 0
@@ -25,10 +25,10 @@ pub record HasFittingLines (file : VectorFile) (p : Plan) (lines : List (Role ×
   pub right : IsVectorFile file
   pub initiator : IsXor file.initiator
   pub responder : IsXor file.responder
-  pub named : IsPatternOf file.block file.protocol p
+  pub named : IsFilePattern file.block file.protocol p
   pub pattern : IsPattern p
   pub valid : IsValid p
   pub set_up : (role : Role) → setup_of file p role ≡ None
   pub said : events_of file.events.items ≡ say_events lines
-  pub alone : datagrams_in file.version ≡ None
+  pub alone : datagrams_of_version file.version ≡ None
   pub fit : lines_fit_from p 0 lines ≡ true

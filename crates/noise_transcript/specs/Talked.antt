@@ -13,7 +13,7 @@ use Rattle.noise_vectors.specs.HexWord.{hex_of}
 use Rattle.noise_vectors.specs.VectorText.{role_word}
 use Rattle.noise_vectors.specs.declared.vector.VectorFile.{VectorFile}
 use Rattle.noise_lines.specs.Lines.{line_of}
-use Rattle.noise_tool.specs.Ends.{start_of}
+use Rattle.noise_tool.specs.Ends.{file_start}
 use Rattle.noise_tool.specs.Running.{IsRunOf}
 use Rattle.noise_transcript.specs.Fitting.{HasFittingLines}
 
@@ -48,10 +48,10 @@ reached_line p lines h role = line_of (codes "state" ∷ role_word role ∷ reac
 
 -- what both parties of a file start from, and their key material
 abbrev pub starts_in : VectorFile → Plan → BothStarts
-starts_in file p = record { initiator = start_of file p Initiator; responder = start_of file p Responder }
+starts_in file p = record { initiator = file_start file p Initiator; responder = file_start file p Responder }
 
 abbrev pub material_in : VectorFile → Plan → KeyMaterial
-material_in file p = material_of (start_of file p Initiator) (start_of file p Responder)
+material_in file p = material_of (file_start file p Initiator) (file_start file p Responder)
 
 -- the hash of the handshake messages that have passed
 abbrev pub hash_after : KeyMaterial → Plan → List ℕ → List (Role × List ℕ) → List ℕ

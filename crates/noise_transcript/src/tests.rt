@@ -12,7 +12,7 @@ ghost use Rattle.noise_vectors.specs.VectorText.{text_of};
 ghost use Rattle.noise_vectors.specs.declared.file_keys.FileKeys.TheVariants.{Xor};
 ghost use Rattle.noise_vectors.specs.declared.vector.VectorFile.{VectorFile};
 ghost use Rattle.noise_lines.specs.Lines.{lines_text};
-ghost use Rattle.noise_tool.specs.Ends.{IsPatternOf};
+ghost use Rattle.noise_tool.specs.Ends.{IsFilePattern};
 ghost use Rattle.noise_transcript.specs.Fitting.{HasFittingLines};
 ghost use Rattle.noise_transcript.specs.Talked.{talked_lines};
 
@@ -55,7 +55,7 @@ fn xor_keys(rt: &impl Abort, keys: FileKeys) -> XorKeys
 
 // The pattern of a file, which has to be valid.
 fn pattern_of(rt: &impl Abort, block: Option<Pattern>, name: &ProtocolName) -> ValidPattern
-    ensures named { IsPatternOf block name.now result }
+    ensures named { IsFilePattern block name.now result }
     ensures pattern { IsPattern result }
     ensures valid { IsValid result }
 {

@@ -78,8 +78,7 @@ datagram_operand_of (Raw role bytes) = hex_of bytes.items
 pub datagram_event_words-parts : (e : DatagramEvent)
     → datagram_event_words e ≡ datagram_kind_word (datagram_kind_of e) ++ 32 ∷ (role_word (datagram_role_of e) ++ 32 ∷ datagram_operand_of e)
 datagram_event_words-parts (Seal role payload) = refl
-datagram_event_words-parts (Open role number) = refl
-datagram_event_words-parts (Raw role bytes) = refl
+datagram_event_words-parts _ = refl
 
 -- ---- no line feed (10)
 
@@ -99,8 +98,7 @@ datagram_event_words-line (Raw role bytes) h =
 
 pub width-small : (window : Window) → width_of window < 2 ^ 64
 width-small W64 = omega arith
-width-small W256 = omega arith
-width-small W1024 = omega arith
+width-small _ = omega arith
 
 pub window_words-line : (window : Window) → lacks 10 (window_words window) ≡ true
 window_words-line window = lacks-append 10 (codes "datagrams ") (decimal (width_of window)) refl

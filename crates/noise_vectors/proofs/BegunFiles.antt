@@ -12,7 +12,7 @@ use Rattle.noise_names.specs.declared.token.Role.TheVariants.{Initiator, Respond
 use Rattle.noise_vectors.specs.HexWord.{hex_of}
 use Rattle.noise_vectors.specs.ReaderFaults.{answer_lines, event_lines, psk_lines}
 use Rattle.noise_vectors.specs.SameFile.{expected_of}
-use Rattle.noise_vectors.specs.VectorFile.{AreKeys, IsAllowed, IsAllowedFile, IsEntry, IsEvent, IsVectorFile}
+use Rattle.noise_vectors.specs.VectorFile.{AreKeys, IsAllowed, IsAllowedFile, IsEntry, IsEvent, IsVectorFile, IsVersion}
 use Rattle.noise_vectors.specs.VectorText.{AfterEvents, answer_words, event_words, header_words, is_second, line, lines_of, party_text, psk_words, text_of, version_text}
 use Rattle.noise_vectors.specs.Words.{IsKey, lacks}
 use Rattle.noise_vectors.specs.WrongLine.{is_answer_line, is_psk_line, up_to_events, up_to_initiator, up_to_responder}
@@ -20,6 +20,7 @@ use Rattle.noise_vectors.specs.declared.file_keys.FileKeys.{FileKeys}
 use Rattle.noise_vectors.specs.declared.file_keys.FileKeys.TheVariants.{Xor, Table}
 use Rattle.noise_vectors.specs.declared.vector.AllowedEvents.{AllowedEvents}
 use Rattle.noise_vectors.specs.declared.vector.VectorFile.{VectorFile}
+use Rattle.noise_vectors.specs.declared.vector.Version.{Version}
 use Rattle.noise_vectors.proofs.AdditionLemmas.{after_events-no_answer, event-stands, version-after}
 use Rattle.noise_vectors.proofs.EventLemmas.{IsRight, all-right, right-plain}
 use Rattle.noise_vectors.proofs.FrontLemmas.{up_to_version}
@@ -166,44 +167,30 @@ with_responder file keys = record file { responder = keys }
 abbrev pub with_events : VectorFile → Vec Event Global → VectorFile
 with_events file events = record file { events = events }
 
-pub initiator-right : (file : VectorFile) (keys : FileKeys) → IsVectorFile file → AreKeys keys → IsVectorFile (with_initiator file keys)
-initiator-right file keys h k = record {
+-- a right file with other keys, events and additions
+pub changed-right : (file : VectorFile) (initiator responder : FileKeys) (events : Vec Event Global) (version : Version) → IsVectorFile file
+    → AreKeys initiator → AreKeys responder → All IsEvent events.items → IsVersion version
+    → IsVectorFile (record file { initiator = initiator; responder = responder; events = events; version = version })
+changed-right file initiator responder events version h i r e v = record {
   protocol = h.protocol;
   own = h.own;
   prologue = h.prologue;
   interval = h.interval;
   psks = h.psks;
-  initiator = k;
-  responder = h.responder;
-  events = h.events;
-  version = h.version;
+  initiator = i;
+  responder = r;
+  events = e;
+  version = v;
 }
+
+pub initiator-right : (file : VectorFile) (keys : FileKeys) → IsVectorFile file → AreKeys keys → IsVectorFile (with_initiator file keys)
+initiator-right file keys h k = changed-right file keys file.responder file.events file.version h k h.responder h.events h.version
 
 pub responder-right : (file : VectorFile) (keys : FileKeys) → IsVectorFile file → AreKeys keys → IsVectorFile (with_responder file keys)
-responder-right file keys h k = record {
-  protocol = h.protocol;
-  own = h.own;
-  prologue = h.prologue;
-  interval = h.interval;
-  psks = h.psks;
-  initiator = h.initiator;
-  responder = k;
-  events = h.events;
-  version = h.version;
-}
+responder-right file keys h k = changed-right file file.initiator keys file.events file.version h h.initiator k h.events h.version
 
 pub events-right : (file : VectorFile) (events : Vec Event Global) → IsVectorFile file → All IsEvent events.items → IsVectorFile (with_events file events)
-events-right file events h k = record {
-  protocol = h.protocol;
-  own = h.own;
-  prologue = h.prologue;
-  interval = h.interval;
-  psks = h.psks;
-  initiator = h.initiator;
-  responder = h.responder;
-  events = k;
-  version = h.version;
-}
+events-right file events h k = changed-right file file.initiator file.responder events file.version h h.initiator h.responder k h.version
 
 -- the initiator's lines are read
 abbrev pub past-initiator : (allowed : AllowedEvents) (second : Bool) (text from left : List ℕ) (keys : FileKeys)

@@ -68,12 +68,7 @@ lined-append front after f b = record {
 
 lacks-word_of : (t : Token) → lacks 10 (word_of t) ≡ true
 lacks-word_of E = refl
-lacks-word_of S = refl
-lacks-word_of Ee = refl
-lacks-word_of Es = refl
-lacks-word_of Se = refl
-lacks-word_of Ss = refl
-lacks-word_of Psk = refl
+lacks-word_of _ = refl
 
 lacks-words : (ts : List Token) → lacks 10 (words ts) ≡ true
 lacks-words [] = refl

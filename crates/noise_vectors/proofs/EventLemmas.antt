@@ -39,9 +39,7 @@ operands_of (Raw role bytes) = hex_of bytes.items
 
 pub event_words-parts : (event : Event) → event_words event ≡ kind_word (kind_of event) ++ 32 ∷ (role_word (role_of event) ++ 32 ∷ operands_of event)
 event_words-parts (Say role payload cuts) = refl
-event_words-parts (Write role payload) = refl
-event_words-parts (Deliver role number cuts) = refl
-event_words-parts (Raw role bytes) = refl
+event_words-parts _ = refl
 
 -- ---- its line
 

@@ -222,9 +222,7 @@ lines-no_answer : (keys : FileKeys) (events : List Event) (reported left rest : 
 lines-no_answer (Xor keys) events reported left rest h first = refl
 lines-no_answer (Table keys) [] reported left rest h first = answer-other (Table keys) reported left rest first h
 lines-no_answer (Table keys) (Say role payload cuts ∷ xs) reported left rest h first = refl
-lines-no_answer (Table keys) (Write role payload ∷ xs) reported left rest h first = refl
-lines-no_answer (Table keys) (Deliver role number cuts ∷ xs) reported left rest h first = refl
-lines-no_answer (Table keys) (Raw role bytes ∷ xs) reported left rest h first = refl
+lines-no_answer (Table keys) (_ ∷ xs) reported left rest h first = refl
 
 pub not-after : (reported left rest : List ℕ) → IsFirstLine reported left → ¬ AfterEvents left → ¬ AfterEvents (line reported rest)
 not-after reported left rest first bad (inl none) = line-some reported rest (sym none)

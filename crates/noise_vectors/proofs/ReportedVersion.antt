@@ -28,7 +28,7 @@ use Rattle.noise_vectors.specs.declared.vector.VectorFile.{VectorFile}
 use Rattle.noise_vectors.specs.declared.vector.Version.{Version}
 use Rattle.noise_vectors.specs.declared.vector.Version.TheVariants.{One, Two}
 use Rattle.noise_vectors.proofs.AdditionLemmas.{datagram_event-stands, datagram_event_words-line, expect-begun, expected-after, no-datagrams, second-has, window_words-line}
-use Rattle.noise_vectors.proofs.BegunFiles.{BegunAt, after-no_answer, at-version, same-header}
+use Rattle.noise_vectors.proofs.BegunFiles.{BegunAt, after-no_answer, at-version, changed-right, same-header}
 use Rattle.noise_vectors.proofs.FrontLemmas.{IsFront, cut-within, front-both, front-datagrams, front-end, front-events, front-line, front-lines, front-version, reported-line, up_to_version}
 use Rattle.noise_vectors.proofs.HeldLemmas.{Good, good-plain, good-stands, partial-good, partial-lines}
 use Rattle.noise_vectors.proofs.PartLemmas.{goes-on, lines-over}
@@ -69,17 +69,8 @@ abbrev with_version : VectorFile → Version → VectorFile
 with_version file version = record file { version = version }
 
 version-right : (file : VectorFile) (version : Version) → IsVectorFile file → IsVersion version → IsVectorFile (with_version file version)
-version-right file version h k = record {
-  protocol = h.protocol;
-  own = h.own;
-  prologue = h.prologue;
-  interval = h.interval;
-  psks = h.psks;
-  initiator = h.initiator;
-  responder = h.responder;
-  events = h.events;
-  version = k;
-}
+version-right file version h k =
+    changed-right file file.initiator file.responder file.events version h h.initiator h.responder h.events k
 
 two-allowed : (allowed : AllowedEvents) (a : Additions) → (allowed ≡ SayOnly → a.datagrams ≡ None) → ¬ (allowed ≡ VersionOne) → IsAllowedVersion allowed (Two a)
 two-allowed SayOnly a h g = h refl

@@ -55,9 +55,7 @@ pub events-no_answer : (events : List Event) (rest : List ℕ) → starts_with n
     → starts_with nat_eq (lines_of event_words events rest) (codes "answer ") ≡ false
 events-no_answer [] rest h = h
 events-no_answer (Say role payload cuts ∷ events) rest h = refl
-events-no_answer (Write role payload ∷ events) rest h = refl
-events-no_answer (Deliver role number cuts ∷ events) rest h = refl
-events-no_answer (Raw role bytes ∷ events) rest h = refl
+events-no_answer (_ ∷ events) rest h = refl
 
 -- no psk line stands after the psk lines
 pub psks-end : (file : VectorFile) → starts_with nat_eq (after_psks file) (codes "psk ") ≡ false

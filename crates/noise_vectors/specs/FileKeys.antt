@@ -1,4 +1,4 @@
--- What the keys of a file answer: each kind as its own type does.
+-- The public keys and the DH results of the keys of a file: each kind has those of its own type.
 use Rattle.std.specs.Prelude.{ℕ, List, Option}
 use Rattle.noise_keys.specs.declared.keys.Own.{Own}
 use Rattle.noise_keys.specs.Keys.{key_of, xor_dh_result}
@@ -11,8 +11,8 @@ abbrev pub public_of : FileKeys → Own → Option (List ℕ)
 public_of (Xor keys) own = key_of own keys.e keys.s
 public_of (Table keys) own = key_of own keys.e keys.s
 
--- The answer of a key pair to a remote public key, if there is one: the xor of the two keys, or what the table has for
--- them.
+-- The DH result of a key pair and a remote public key, if there is one: the xor of the two keys, or what the table has
+-- for them.
 abbrev pub agreement_of : FileKeys → Own → List ℕ → Option (List ℕ)
 agreement_of (Xor keys) own remote = xor_dh_result (key_of own keys.e keys.s) remote
 agreement_of (Table keys) own remote = dh_result_in keys.entries own remote

@@ -1,4 +1,4 @@
--- What the words of a vector file match.
+-- What the words of a vector file may be.
 use Rattle.std.specs.Prelude.{◌≡◌, ℕ, ◌<◌, ◌==◌, Bool, not, List, length}
 use Rattle.std.specs.List.{All, list_all}
 

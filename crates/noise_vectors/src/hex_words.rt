@@ -26,7 +26,7 @@ pub fn hex_word(bytes: &[u8], out: &mut Vec<u8>) -> Result<(), AllocError>
     Ok(())
 }
 
-/// The bytes that a word matches, or None where it is no word of any bytes: `-` is no bytes, and upper-case digits
+/// The bytes that a word stands for, or None where it is no word of any bytes: `-` is no bytes, and upper-case digits
 /// are not taken.
 pub fn read_hex(alloc: Global, word: &[u8]) -> Result<Option<Vec<u8>>, AllocError>
     ensures value { IfOk result (λ found. IfSome found (λ bytes. word.now ≡ hex_of bytes.items)) }

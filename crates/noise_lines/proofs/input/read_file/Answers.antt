@@ -1,9 +1,20 @@
-use Rattle.std.proofs.Common.{rules, arith, ◌≡◌, ◌-◌, ◌<◌, ◌≤◌, inr, min, refl, sym, subst, ℕ, List, ◌++◌, length, take, vec_len}
+use Rattle.std.proofs.Common.{rules, arith, ◌≡◌, ◌+◌, ◌<◌, ◌≤◌, inr, refl, sym, subst, ℕ, List, ◌++◌, Option, length, take}
 use Rattle.std.specs.Io.KnownBytes.{Consumes}
 use Rattle.std.proofs.KnownBytes.{Consumes-kept, Consumes-nil, Consumes-trans}
 use Rattle.std.proofs.lemmas.List.{length-append, length-take}
 use Rattle.noise_lines.proofs.InputLemmas.{all-read, long-read}
 use Rattle.noise_lines.proofs.input.read_file.Goals as goal
+
+-- how many bytes a read asks for
+room-of : (piece whole : List ℕ) (most : ℕ) → length piece ≡ length (take most whole) → most ≤ length whole → length piece ≡ most
+room-of piece whole most same less = omega (arith, same, length-take most whole, less)
+
+-- what it gives is no more than one byte beyond the limit
+read-few : (a b c : Option (List ℕ)) (text piece : List ℕ) (count : ℕ) → Consumes a b text → Consumes b c (take count piece)
+    → (count ≤ length piece) × (count ≡ length (take count piece)) → length text + length piece ≤ 4194305
+    → (taken : List ℕ) × Consumes a c taken × (length taken ≤ 4194305)
+read-few a b c text piece count p q bound few =
+    (text ++ take count piece, Consumes-trans a b c text (take count piece) p q, omega (arith, length-append text (take count piece), bound.0, bound.1, few))
 
 pub loop-init : goal.loop-init
 loop-init g c =
@@ -21,40 +32,25 @@ returns-in_err-count-clause-taken g c =
 
 pub returns-then-count-eq0-clause-bytes : goal.returns-then-count-eq0-clause-bytes
 returns-then-count-eq0-clause-bytes g c =
-    let taken : length c.read_some.new.piece ≡ length (take c.min-most.result c.deref_mut.result.now) = c.read_some.auto.piece in
-    let cut = length-take c.min-most.result c.deref_mut.result.now in
-    let room : length c.read_some.new.piece ≡ c.min-most.result = omega (arith, taken, cut, c.deref_mut.ensures.len, c.loop.invariant.wide) in
-    let most : c.min-most.result ≡ min 65536 (4194305 - c.len.result) = c.min-most.ensures in
-    let len : c.len.result ≡ vec_len c.loop.text = c.len.ensures in
-    let some : 0 < length c.read_some.new.piece = omega (arith, c.loop.invariant.few, room, most, len) in
+    let room = room-of c.read_some.new.piece c.deref_mut.result.now c.min-most.result c.read_some.auto.piece
+    (omega (arith, c.deref_mut.ensures.len, c.loop.invariant.wide, c.min-most.ensures)) in
+    let some : 0 < length c.read_some.new.piece = omega (arith, c.loop.invariant.few, room, c.min-most.ensures, c.len.ensures) in
     all-read _ _ _ c.loop.text.items c.read_some.new.piece c.in_ok-count.count c.if-count-eq0.true c.loop.invariant.taken c.in_ok-count.ensures.bytes.0
     (c.in_ok-count.ensures.bytes.1 c.if-count-eq0.true some)
 
 pub returns-then-count-eq0-clause-taken : goal.returns-then-count-eq0-clause-taken
 returns-then-count-eq0-clause-taken g c =
-    let taken : length c.read_some.new.piece ≡ length (take c.min-most.result c.deref_mut.result.now) = c.read_some.auto.piece in
-    let cut = length-take c.min-most.result c.deref_mut.result.now in
-    let room : length c.read_some.new.piece ≡ c.min-most.result = omega (arith, taken, cut, c.deref_mut.ensures.len, c.loop.invariant.wide) in
-    let most : c.min-most.result ≡ min 65536 (4194305 - c.len.result) = c.min-most.ensures in
-    let len : c.len.result ≡ vec_len c.loop.text = c.len.ensures in
-    let read = take c.in_ok-count.count c.read_some.new.piece in
-    let bound = c.in_ok-count.ensures.bound in
-    let few : length (c.loop.text.items ++ read) ≤ 4194305 =
-    omega (arith, length-append c.loop.text.items read, bound.0, bound.1, c.loop.text.ok.0, c.loop.invariant.few, room, most, len) in
-    (c.loop.text.items ++ read, Consumes-trans _ _ _ _ _ c.loop.invariant.taken c.in_ok-count.ensures.bytes.0, few)
+    let room = room-of c.read_some.new.piece c.deref_mut.result.now c.min-most.result c.read_some.auto.piece
+    (omega (arith, c.deref_mut.ensures.len, c.loop.invariant.wide, c.min-most.ensures)) in
+    read-few _ _ _ c.loop.text.items c.read_some.new.piece c.in_ok-count.count c.loop.invariant.taken c.in_ok-count.ensures.bytes.0 c.in_ok-count.ensures.bound
+    (omega (arith, room, c.min-most.ensures, c.len.ensures, c.loop.text.ok.0, c.loop.invariant.few))
 
 pub returns-in_err-extend_from_slice-clause-taken : goal.returns-in_err-extend_from_slice-clause-taken
 returns-in_err-extend_from_slice-clause-taken g c =
-    let taken : length c.read_some.new.piece ≡ length (take c.min-most.result c.deref_mut.result.now) = c.read_some.auto.piece in
-    let cut = length-take c.min-most.result c.deref_mut.result.now in
-    let room : length c.read_some.new.piece ≡ c.min-most.result = omega (arith, taken, cut, c.deref_mut.ensures.len, c.loop.invariant.wide) in
-    let most : c.min-most.result ≡ min 65536 (4194305 - c.len.result) = c.min-most.ensures in
-    let len : c.len.result ≡ vec_len c.loop.text = c.len.ensures in
-    let read = take c.in_ok-count.count c.read_some.new.piece in
-    let bound = c.in_ok-count.ensures.bound in
-    let few : length (c.loop.text.items ++ read) ≤ 4194305 =
-    omega (arith, length-append c.loop.text.items read, bound.0, bound.1, c.loop.text.ok.0, c.loop.invariant.few, room, most, len) in
-    (c.loop.text.items ++ read, Consumes-trans _ _ _ _ _ c.loop.invariant.taken c.in_ok-count.ensures.bytes.0, few)
+    let room = room-of c.read_some.new.piece c.deref_mut.result.now c.min-most.result c.read_some.auto.piece
+    (omega (arith, c.deref_mut.ensures.len, c.loop.invariant.wide, c.min-most.ensures)) in
+    read-few _ _ _ c.loop.text.items c.read_some.new.piece c.in_ok-count.count c.loop.invariant.taken c.in_ok-count.ensures.bytes.0 c.in_ok-count.ensures.bound
+    (omega (arith, room, c.min-most.ensures, c.len.ensures, c.loop.text.ok.0, c.loop.invariant.few))
 
 pub returns-then-len-gt-LIMIT-clause-fault : goal.returns-then-len-gt-LIMIT-clause-fault
 returns-then-len-gt-LIMIT-clause-fault g c =
@@ -69,16 +65,10 @@ returns-then-len-gt-LIMIT-clause-fault g c =
 
 pub returns-then-len-gt-LIMIT-clause-taken : goal.returns-then-len-gt-LIMIT-clause-taken
 returns-then-len-gt-LIMIT-clause-taken g c =
-    let taken : length c.read_some.new.piece ≡ length (take c.min-most.result c.deref_mut.result.now) = c.read_some.auto.piece in
-    let cut = length-take c.min-most.result c.deref_mut.result.now in
-    let room : length c.read_some.new.piece ≡ c.min-most.result = omega (arith, taken, cut, c.deref_mut.ensures.len, c.loop.invariant.wide) in
-    let most : c.min-most.result ≡ min 65536 (4194305 - c.len.result) = c.min-most.ensures in
-    let len : c.len.result ≡ vec_len c.loop.text = c.len.ensures in
-    let read = take c.in_ok-count.count c.read_some.new.piece in
-    let bound = c.in_ok-count.ensures.bound in
-    let few : length (c.loop.text.items ++ read) ≤ 4194305 =
-    omega (arith, length-append c.loop.text.items read, bound.0, bound.1, c.loop.text.ok.0, c.loop.invariant.few, room, most, len) in
-    (c.loop.text.items ++ read, Consumes-trans _ _ _ _ _ c.loop.invariant.taken c.in_ok-count.ensures.bytes.0, few)
+    let room = room-of c.read_some.new.piece c.deref_mut.result.now c.min-most.result c.read_some.auto.piece
+    (omega (arith, c.deref_mut.ensures.len, c.loop.invariant.wide, c.min-most.ensures)) in
+    read-few _ _ _ c.loop.text.items c.read_some.new.piece c.in_ok-count.count c.loop.invariant.taken c.in_ok-count.ensures.bytes.0 c.in_ok-count.ensures.bound
+    (omega (arith, room, c.min-most.ensures, c.len.ensures, c.loop.text.ok.0, c.loop.invariant.few))
 
 pub loop-preserved : goal.loop-preserved
 loop-preserved g c =

@@ -4,7 +4,7 @@ use Rattle.noise_duel.specs.DuelValue.{DuelMatches, both_sides}
 use Rattle.noise_duel.specs.Messages.{begun_as}
 use Rattle.noise_session.specs.Ends.{end_of}
 use Rattle.noise_vectors.specs.FileKeys.{public_of, agreement_of}
-use Rattle.noise_tool.specs.Ends.{start_of}
+use Rattle.noise_tool.specs.Ends.{file_start}
 use Rattle.noise_tool.proofs.ends.make_ends.Goals as goal
 
 pub returns-clause-ends : goal.returns-clause-ends
@@ -15,7 +15,7 @@ returns-clause-ends c =
       plan = a.plan;
       of_file = a.of_file;
       matches = subst (λ (i : ℕ). DuelMatches public_of agreement_of public_of agreement_of c.in_ok-duel.duel
-          (both_sides (end_of (begun_as a.plan Initiator (start_of file a.plan Initiator)) i)
-          (end_of (begun_as a.plan Responder (start_of file a.plan Responder)) i)))
+          (both_sides (end_of (begun_as a.plan Initiator (file_start file a.plan Initiator)) i)
+          (end_of (begun_as a.plan Responder (file_start file a.plan Responder)) i)))
           c.in_ok-initiator.ensures.value.0 (c.in_ok-duel.ensures _ _ a.initiator a.responder);
     }

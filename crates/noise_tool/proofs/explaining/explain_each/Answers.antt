@@ -1,7 +1,6 @@
-use Rattle.std.proofs.Common.{rules, arith, inl, inr, ◌≡◌, ◌≤◌, ◌∙◌, ◌+◌, ◌++◌, ◌∷◌, [], ap, drop, sym, ℕ, List, length, map, string_bytes, take}
-use Rattle.std.proofs.lemmas.List.{map_more}
+use Rattle.std.proofs.Common.{rules, arith, inl, inr, ◌≡◌, ◌≤◌, ◌∙◌, ◌+◌, drop, sym, ℕ, List, length, map, string_bytes, take}
 use Rattle.noise_tool.proofs.ExplainLemmas.{all-begun, all-kept, names-cut, next-begun, said-begun, said-more, stops-in, three-explained, three-stops, worse-few}
-use Rattle.noise_tool.proofs.TestingLemmas.{err-any, if-err-map, names-at}
+use Rattle.noise_tool.proofs.TestingLemmas.{err-any, if-err-map, name-more, names-at}
 use Rattle.noise_tool.proofs.explaining.explain_each.Goals as goal
 
 pub loop-name-preserved : goal.loop-name-preserved
@@ -12,9 +11,7 @@ loop-name-preserved g c =
     let all : List (List ℕ) = map string_bytes (take (i + 1) names) in
     let few = rw c.in-Some.is at c.in_ok-explained.ensures.bound in
     let right = rw c.in-Some.is at c.in_ok-explained.ensures.explained in
-    let all_is : all ≡ before ++ c.as_str.result.now ∷ [] =
-    map_more string_bytes names i c.name-item.result c.loop-name-test.true
-    ∙ ap (λ (t : List ℕ). before ++ t ∷ []) (ap string_bytes (sym c.name-item.is) ∙ sym c.as_str.ensures.value) in (
+    let all_is = name-more names i c.name-item.result c.as_str.result.now c.loop-name-test.true c.name-item.is c.as_str.ensures.value in (
       worse-few _ _ _ c.loop-name.invariant.0 few c.worse-status.ensures,
       said-more (g.F.FilesByName.bytes_at c.args.files.now) before all c.as_str.result.now _ _ _ c.loop-name.status _ c.in-Some.explained
           _ all_is c.loop-name.invariant.1 right c.deref.ensures.value c.in_ok-write.ensures.written c.worse-status.ensures,
@@ -38,9 +35,7 @@ pub returns-in_default-clause-outside : goal.returns-in_default-clause-outside
 returns-in_default-clause-outside g c =
     let i = c.loop-name.name-index in
     let names = c.args.names.now in
-    let here : map string_bytes (take (i + 1) names) ≡ map string_bytes (take i names) ++ c.as_str.result.now ∷ [] =
-    map_more string_bytes names i c.name-item.result c.loop-name-test.true
-    ∙ ap (λ (t : List ℕ). map string_bytes (take i names) ++ t ∷ []) (ap string_bytes (sym c.name-item.is) ∙ sym c.as_str.ensures.value) in
+    let here = name-more names i c.name-item.result c.as_str.result.now c.loop-name-test.true c.name-item.is c.as_str.ensures.value in
     let same : c.as_str-in_default.result.now ≡ c.as_str.result.now = c.as_str-in_default.ensures.value ∙ sym c.as_str.ensures.value in
     let bad = rw c.in_default.is at c.in_ok-explained.ensures.unread in
     three-stops c.write_unread.result _ _ (λ grown. stops-in (g.E.Write.contents) (g.F.FilesByName.unreadable c.args.files.now)
@@ -62,9 +57,7 @@ returns-in_err-write-clause-prefix g c =
     let i = c.loop-name.name-index in
     let names = c.args.names.now in
     let right = rw c.in-Some.is at c.in_ok-explained.ensures.explained in
-    let here : map string_bytes (take (i + 1) names) ≡ map string_bytes (take i names) ++ c.as_str.result.now ∷ [] =
-    map_more string_bytes names i c.name-item.result c.loop-name-test.true
-    ∙ ap (λ (t : List ℕ). map string_bytes (take i names) ++ t ∷ []) (ap string_bytes (sym c.name-item.is) ∙ sym c.as_str.ensures.value) in
+    let here = name-more names i c.name-item.result c.as_str.result.now c.loop-name-test.true c.name-item.is c.as_str.ensures.value in
     next-begun (g.F.FilesByName.bytes_at c.args.files.now) (map string_bytes (take i names)) (map string_bytes (drop (i + 1) names))
     (map string_bytes names) c.as_str.result.now _ _ _ c.loop-name.status c.in-Some.explained _ (names-at names i c.as_str.result.now here)
     c.loop-name.invariant.1 right c.deref.ensures.value c.write.ensures.prefix

@@ -1,5 +1,9 @@
-use Rattle.noise_tool.proofs.PrefixLemmas.{replay-prefix, talk-prefix, template-prefix}
-use Rattle.noise_tool.proofs.TracePerforming.{traced-prefix}
+use Rattle.noise_vectors.specs.declared.vector.AllowedEvents.TheVariants.{SayOnly, Any}
+use Rattle.noise_words.specs.declared.orders.Chosen.TheVariants.{Talk, Replay, Trace}
+use Rattle.noise_tool.specs.Performing.{IsPlain}
+use Rattle.noise_tool.specs.Selection.{selection_of}
+use Rattle.noise_tool.specs.Tracing.{IsTraceOf}
+use Rattle.noise_tool.proofs.PrefixLemmas.{ran-prefix, template-prefix, unmet-known}
 use Rattle.noise_tool.proofs.performing.run.Goals as goal
 
 pub returns-in-Template-clause-prefix : goal.returns-in-Template-clause-prefix
@@ -7,10 +11,15 @@ returns-in-Template-clause-prefix g c =
     rw c.in-Template.is (template-prefix c.in-Template.word c.as_str.result.now _ _ _ _ _ c.as_str.ensures.value c.print_template.ensures.prefix)
 
 pub returns-in-Talk-clause-prefix : goal.returns-in-Talk-clause-prefix
-returns-in-Talk-clause-prefix g c = rw c.in-Talk.is (talk-prefix c.in-Talk.field-0 _ _ _ _ _ c.run_file.ensures.prefix)
+returns-in-Talk-clause-prefix g c = rw c.in-Talk.is (ran-prefix IsPlain (Talk c.in-Talk.field-0) _ _ _ _ _
+    (λ text h. h) (λ text n h. unmet-known IsPlain SayOnly _ _ _ n h) c.run_file.ensures.prefix)
 
 pub returns-in-Replay-clause-prefix : goal.returns-in-Replay-clause-prefix
-returns-in-Replay-clause-prefix g c = rw c.in-Replay.is (replay-prefix c.in-Replay.field-0 _ _ _ _ _ c.run_file-in-Replay.ensures.prefix)
+returns-in-Replay-clause-prefix g c = rw c.in-Replay.is (ran-prefix IsPlain (Replay c.in-Replay.field-0) _ _ _ _ _
+    (λ text h. h) (λ text n h. unmet-known IsPlain Any _ _ _ n h) c.run_file-in-Replay.ensures.prefix)
 
 pub returns-in-Trace-clause-prefix : goal.returns-in-Trace-clause-prefix
-returns-in-Trace-clause-prefix g c = rw c.in-Trace.is (traced-prefix c.in-Trace.traced _ _ _ _ _ c.trace_chosen.ensures.prefix)
+returns-in-Trace-clause-prefix g c =
+    let traces = IsTraceOf (selection_of c.in-Trace.traced) in
+    rw c.in-Trace.is (ran-prefix traces (Trace c.in-Trace.traced) _ _ _ _ _
+    (λ text h. h) (λ text n h. unmet-known traces Any _ _ _ n h) c.trace_chosen.ensures.prefix)

@@ -1,5 +1,5 @@
 use Rattle.std.proofs.Common.{arith, ◌≤◌, sym, subst, ℕ, List, length}
-use Rattle.noise_tool.specs.Testing.{IsPatternIn, RunsTo}
+use Rattle.noise_tool.specs.Testing.{IsPatternOfText, RunsTo}
 use Rattle.noise_tool.specs.declared.testing.TestedRun.{TestedRun}
 use Rattle.noise_tool.proofs.TestingLemmas.{fails-known, ok-known}
 use Rattle.noise_tool.proofs.testing.run_named.Goals as goal
@@ -13,7 +13,7 @@ returns-clause-runs g c =
 
 pub returns-clause-pattern : goal.returns-clause-pattern
 returns-clause-pattern g c =
-    ok-known (λ (text : List ℕ) (run : TestedRun). IsPatternIn text run.pattern) (g.F.FilesByName.bytes_at c.args.files.now c.args.name.now)
+    ok-known (λ (text : List ℕ) (run : TestedRun). IsPatternOfText text run.pattern) (g.F.FilesByName.bytes_at c.args.files.now c.args.name.now)
     c.deref.result.now c.in_ok-text.text.items c.run_text.result c.deref.ensures.value c.in_ok-text.ensures.bytes c.run_text.ensures.pattern
 
 pub returns-clause-fault : goal.returns-clause-fault

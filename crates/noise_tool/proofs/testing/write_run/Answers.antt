@@ -15,19 +15,19 @@ returns-clause-tested g c =
     let expected : c.deref-2.result.now ≡ outcome.expected.items = search rules in
     let judged : IsJudged (bytes_of outcome.lines.items) (bytes_of outcome.expected.items) verdict = rw (← lines, ← expected) c.in_ok-verdict.ensures in
     let piece_is : c.deref-3.result.now ≡ c.in_ok-piece.piece.items = search rules in
-    λ known unreadable runs pattern. record {
+    λ known unreadable comes. record {
       verdict = verdict;
       below = below_of c.args.traces verdict piece run.traced;
-      right = judged-known c.args.traces known unreadable run verdict piece runs pattern judged c.in_ok-piece.ensures;
+      right = judged-known c.args.traces known unreadable run verdict piece comes.0 comes.1 judged c.in_ok-piece.ensures;
       printed = rw (← piece_is) c.in_ok-write_verdict.ensures.written;
       met_is = c.is_met.ensures;
     }
 
 pub returns-in_err-verdict-clause-prefix : goal.returns-in_err-verdict-clause-prefix
-returns-in_err-verdict-clause-prefix g c = λ known unreadable runs pattern. err-any _ _ (inl refl)
+returns-in_err-verdict-clause-prefix g c = λ known unreadable comes. err-any _ _ (inl refl)
 
 pub returns-in_err-piece-clause-prefix : goal.returns-in_err-piece-clause-prefix
-returns-in_err-piece-clause-prefix g c = λ known unreadable runs pattern. err-any _ _ (inl refl)
+returns-in_err-piece-clause-prefix g c = λ known unreadable comes. err-any _ _ (inl refl)
 
 pub returns-in_err-write_verdict-clause-prefix : goal.returns-in_err-write_verdict-clause-prefix
 returns-in_err-write_verdict-clause-prefix g c =
@@ -39,5 +39,5 @@ returns-in_err-write_verdict-clause-prefix g c =
     let expected : c.deref-2.result.now ≡ outcome.expected.items = search rules in
     let judged : IsJudged (bytes_of outcome.lines.items) (bytes_of outcome.expected.items) verdict = rw (← lines, ← expected) c.in_ok-verdict.ensures in
     let piece_is : c.deref-3.result.now ≡ c.in_ok-piece.piece.items = search rules in
-    λ known unreadable runs pattern. err-any _ _ (inr (judged-begun c.args.traces known unreadable c.args.name.now run verdict piece _ _ runs pattern judged
+    λ known unreadable comes. err-any _ _ (inr (judged-begun c.args.traces known unreadable c.args.name.now run verdict piece _ _ comes.0 comes.1 judged
     c.in_ok-piece.ensures (rw (← piece_is) c.in_err-write_verdict.ensures.prefix)))

@@ -2,7 +2,7 @@ use Rattle.std.proofs.Common.{◌∷◌, [], codes, decimal}
 use Rattle.std.proofs.lemmas.Result.{IfOk-weaker}
 use Rattle.noise_vectors.specs.HexWord.{hex_of}
 use Rattle.noise_vectors.specs.VectorText.{role_word}
-use Rattle.noise_tool.specs.PrintedTrace.{key_word, none_word, start_call_word, start_word}
+use Rattle.noise_tool.specs.PrintedTrace.{state_key_word, none_word, start_call_word, start_word}
 use Rattle.noise_tool.proofs.TraceLineLemmas.{said-added, words-added}
 use Rattle.noise_tool.proofs.trace_lines.start_line.Goals as goal
 
@@ -20,5 +20,5 @@ returns c =
     let three = said-added _ _ a (r ∷ o ∷ n ∷ w ∷ []) _ k c.start_call_word.ensures.text two c.in_ok-line.ensures in
     let four = words-added _ _ a (r ∷ o ∷ n ∷ w ∷ k ∷ []) none_word (none_word ∷ []) three c.in_ok-add_nothing.ensures in
     IfOk-weaker c.add_state.result _ _ (λ line h.
-    words-added _ _ a (r ∷ o ∷ n ∷ w ∷ k ∷ none_word ∷ none_word ∷ []) (hex_of v.hash) (hex_of v.chaining_key ∷ key_word v.key ∷ decimal v.nonce ∷ [])
+    words-added _ _ a (r ∷ o ∷ n ∷ w ∷ k ∷ none_word ∷ none_word ∷ []) (hex_of v.hash) (hex_of v.chaining_key ∷ state_key_word v.key ∷ decimal v.nonce ∷ [])
     four h) c.add_state.ensures

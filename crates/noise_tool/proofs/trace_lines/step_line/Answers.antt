@@ -2,7 +2,7 @@ use Rattle.std.proofs.Common.{◌∷◌, [], codes, decimal, slice_range, ap}
 use Rattle.std.proofs.lemmas.Result.{IfOk-weaker}
 use Rattle.noise_vectors.specs.HexWord.{hex_of}
 use Rattle.noise_vectors.specs.VectorText.{role_word}
-use Rattle.noise_tool.specs.PrintedTrace.{call_word, key_word, part_word}
+use Rattle.noise_tool.specs.PrintedTrace.{call_word, state_key_word, part_word}
 use Rattle.noise_tool.proofs.TraceLineLemmas.{said-added, words-added}
 use Rattle.noise_tool.proofs.trace_lines.step_line.Goals as goal
 
@@ -26,5 +26,5 @@ returns c =
     let five = words-added _ _ a (r ∷ m ∷ n ∷ w ∷ k ∷ []) f [] four c.in_ok-number-3.ensures in
     let six = said-added _ _ a (r ∷ m ∷ n ∷ w ∷ k ∷ f ∷ []) _ b (ap hex_of c.part_bytes.ensures) five c.in_ok-line.ensures in
     IfOk-weaker c.add_state.result _ _ (λ line h.
-    words-added _ _ a (r ∷ m ∷ n ∷ w ∷ k ∷ f ∷ b ∷ []) (hex_of v.hash) (hex_of v.chaining_key ∷ key_word v.key ∷ decimal v.nonce ∷ []) six h)
+    words-added _ _ a (r ∷ m ∷ n ∷ w ∷ k ∷ f ∷ b ∷ []) (hex_of v.hash) (hex_of v.chaining_key ∷ state_key_word v.key ∷ decimal v.nonce ∷ []) six h)
     c.add_state.ensures

@@ -6,7 +6,7 @@ use Rattle.noise_duel.specs.Messages.{begun_as}
 use Rattle.noise_session.specs.Ends.{end_of}
 use Rattle.noise_vectors.specs.Expectations.{bytes_of}
 use Rattle.noise_vectors.specs.FileKeys.{public_of, agreement_of}
-use Rattle.noise_tool.specs.Ends.{setup_of, start_of}
+use Rattle.noise_tool.specs.Ends.{setup_of, file_start}
 use Rattle.noise_tool.specs.TracedEnds.{TracedMatches}
 use Rattle.noise_tool.specs.Tracing.{start_traces}
 use Rattle.noise_tool.proofs.EndLemmas.{same-setup, same-start}
@@ -24,13 +24,13 @@ returns-clause-ends c =
       plan = a.plan;
       of_file = a.of_file;
       matches = subst (λ (i : ℕ). DuelMatches public_of agreement_of public_of agreement_of c.in_ok-duel.duel
-          (both_sides (end_of (begun_as a.plan Initiator (start_of file a.plan Initiator)) i)
-          (end_of (begun_as a.plan Responder (start_of file a.plan Responder)) i)))
+          (both_sides (end_of (begun_as a.plan Initiator (file_start file a.plan Initiator)) i)
+          (end_of (begun_as a.plan Responder (file_start file a.plan Responder)) i)))
           same.0 (c.in_ok-duel.ensures _ _ a.initiator a.responder);
       traced = record {
-        initiator = subst (λ (i : ℕ). TracedMatches c.follow.result (end_of (begun_as a.plan Initiator (start_of file a.plan Initiator)) i)) same.0 follows.1;
+        initiator = subst (λ (i : ℕ). TracedMatches c.follow.result (end_of (begun_as a.plan Initiator (file_start file a.plan Initiator)) i)) same.0 follows.1;
         responder =
-            subst (λ (i : ℕ). TracedMatches c.follow-2.result (end_of (begun_as a.plan Responder (start_of file a.plan Responder)) i)) same.0 follows-2.1;
+            subst (λ (i : ℕ). TracedMatches c.follow-2.result (end_of (begun_as a.plan Responder (file_start file a.plan Responder)) i)) same.0 follows-2.1;
         first = follows.0;
         second = follows-2.0;
       };

@@ -1,13 +1,13 @@
 use Rattle.std.proofs.Common.{◌++◌, ◌∷◌, ◌∙◌, [], sym, ap, ℕ, List, append-nil}
 use Rattle.noise_lines.specs.TracedLines.{traces_of}
-use Rattle.noise_tool.specs.Running.{datagrams_in}
+use Rattle.noise_tool.specs.Running.{datagrams_of_version}
 use Rattle.noise_tool.proofs.LastTraceLemmas.{last-goes, last-stays, ready-over}
 use Rattle.noise_tool.proofs.ReceivedLemmas.{traces-push}
 use Rattle.noise_tool.proofs.tracing.push_datagram_trace.Goals as goal
 
 pub returns-in_ok-push : goal.returns-in_ok-push
 returns-in_ok-push c = λ d st tr after are_last.
-    let over = datagrams_in c.args.version.now in
+    let over = datagrams_of_version c.args.version.now in
     let old = traces_of c.args.traces.now.items in
     let test = sym (c.goes_over.ensures d st) ∙ c.if-goes_over.true in
     let lines = c.in_ok-datagram_keys.ensures d tr (ready-over over d test) in
@@ -17,7 +17,7 @@ returns-in_ok-push c = λ d st tr after are_last.
 
 pub returns-else-goes_over : goal.returns-else-goes_over
 returns-else-goes_over c = λ d st tr after are_last.
-    let over = datagrams_in c.args.version.now in
+    let over = datagrams_of_version c.args.version.now in
     let old = traces_of c.args.traces.now.items in
     let test = sym (c.goes_over.ensures d st) ∙ c.if-goes_over.false in
     sym (append-nil old) ∙ ap (λ (xs : List (List (List ℕ))). old ++ xs) (sym (last-stays c.args.selection over d after are_last test))

@@ -1,11 +1,11 @@
-use Rattle.std.proofs.Common.{rules, ◌≡◌, ◌∙◌, ap, inl, inr, lit<, refl, subst, true, ℕ, List, [], ◌++◌, Option, codes}
+use Rattle.std.proofs.Common.{rules, ◌≡◌, ◌∙◌, ap, inl, inr, lit<, refl, subst, true, ℕ, List, [], ◌++◌, Option, Some, codes}
 use Rattle.std.proofs.lemmas.List.Elements.{All-nil}
 use Rattle.std.specs.Prelude.{IfSome}
 use Rattle.std.specs.Bool.{nat_eq}
 use Rattle.std.specs.List.{All, starts_with}
 use Rattle.std.proofs.lemmas.Result.{err_from_is_err_and}
 use Rattle.noise_vectors.specs.VectorFile.{IsDatagramEvent}
-use Rattle.noise_vectors.specs.VectorText.{datagram_event_words, datagrams_text, lines_of, window_words}
+use Rattle.noise_vectors.specs.VectorText.{AfterDatagrams, datagram_event_words, datagrams_text, lines_of, window_words}
 use Rattle.noise_vectors.specs.declared.vector.FileDatagrams.{FileDatagrams}
 use Rattle.noise_vectors.proofs.AdditionLemmas.{over-stands, window_words-line}
 use Rattle.noise_vectors.specs.Lines.{last_number}
@@ -14,61 +14,58 @@ use Rattle.noise_vectors.specs.declared.vector.AllowedEvents.TheVariants.{SayOnl
 use Rattle.noise_vectors.proofs.LineLemmas.{begun-by}
 use Rattle.noise_vectors.proofs.PartyReported.{window-reported}
 use Rattle.noise_vectors.proofs.ReportedLemmas.{counted-ended, ending-reported, wrong-line}
+use Rattle.noise_vectors.proofs.additions.read_datagrams.Goals.{After-read_window}
 use Rattle.noise_vectors.proofs.additions.read_datagrams.Goals as goal
 use Rattle.std.proofs.lemmas.Bool.{false≢true}
 
 abbrev AreRight : Option FileDatagrams → Type 0
 AreRight found = IfSome found (λ over. All IsDatagramEvent over.events.items)
 
+-- the text goes on with datagrams
+begun : (c : After-read_window) → starts_with nat_eq c.args.lines.now.rest.now (codes "datagrams ") ≡ true
+begun c = begun-by c.args.lines.now.rest.now c.as_slice.ensures c.if-not-starts_with.ensures.value
+
+-- the line of their window is read
+line-read : (c : After-read_window) (over : Option FileDatagrams) (rest : List ℕ) → AfterDatagrams rest
+    → c.args.lines.now.rest.now ≡ datagrams_text over rest
+    → (d : FileDatagrams) × (over ≡ Some d) × (c.in_ok-line.line.now ≡ window_words d.window)
+    × (c.next.new.self.rest.now ≡ lines_of datagram_event_words d.events.items rest) × (c.next.new.self.is_ended ≡ true)
+line-read c over rest after e =
+    let (d, is) = over-stands over c.args.lines.now.rest.now rest (begun c) after e in
+    let read = c.in_ok-line.ensures.every (window_words d.window) (lines_of datagram_event_words d.events.items rest) (window_words-line d.window)
+    (e ∙ ap (λ (o : Option FileDatagrams). datagrams_text o rest) is) in
+    (d, is, read.0, read.1, read.2)
+
 pub returns-in_default-clause-every : goal.returns-in_default-clause-every
 returns-in_default-clause-every c =
-    let begun : starts_with nat_eq c.args.lines.now.rest.now (codes "datagrams ") ≡ true =
-    begun-by c.args.lines.now.rest.now c.as_slice.ensures c.if-not-starts_with.ensures.value in
     λ over rest right allowed after e.
-    let (d, is) = over-stands over c.args.lines.now.rest.now rest begun after e in
-    let text = e ∙ ap (λ (o : Option FileDatagrams). datagrams_text o rest) is in
-    let read = c.in_ok-line.ensures.every (window_words d.window) (lines_of datagram_event_words d.events.items rest) (window_words-line d.window) text in
-    let found = c.in_default.ensures.every d.window read.0 in
+    let r = line-read (goal.at.returns-in_default-clause-every c).After-read_window over rest after e in
+    let found = c.in_default.ensures.every r.0.window r.2 in
     absurd (cc found)
 
 pub returns-in_err-end-clause-every : goal.returns-in_err-end-clause-every
 returns-in_err-end-clause-every c =
-    let begun : starts_with nat_eq c.args.lines.now.rest.now (codes "datagrams ") ≡ true =
-    begun-by c.args.lines.now.rest.now c.as_slice.ensures c.if-not-starts_with.ensures.value in
     λ over rest right allowed after e.
-    let (d, is) = over-stands over c.args.lines.now.rest.now rest begun after e in
-    let text = e ∙ ap (λ (o : Option FileDatagrams). datagrams_text o rest) is in
-    let read = c.in_ok-line.ensures.every (window_words d.window) (lines_of datagram_event_words d.events.items rest) (window_words-line d.window) text in
-    let bad = c.in_err-end.ensures.ended.1 read.2 in
-    absurd (false≢true bad)
+    let r = line-read (goal.at.returns-in_err-end-clause-every c).After-read_window over rest after e in
+    absurd (false≢true (c.in_err-end.ensures.ended.1 r.4))
 
 pub returns-in_err-events-clause-every : goal.returns-in_err-events-clause-every
 returns-in_err-events-clause-every c =
     let p = err_from_is_err_and c.from_residual-in_err-events.result c.from_residual-in_err-events.ensures.1 in
-    let begun : starts_with nat_eq c.args.lines.now.rest.now (codes "datagrams ") ≡ true =
-    begun-by c.args.lines.now.rest.now c.as_slice.ensures c.if-not-starts_with.ensures.value in
     λ over rest right allowed after e.
-    let (d, is) = over-stands over c.args.lines.now.rest.now rest begun after e in
-    let text = e ∙ ap (λ (o : Option FileDatagrams). datagrams_text o rest) is in
-    let read = c.in_ok-line.ensures.every (window_words d.window) (lines_of datagram_event_words d.events.items rest) (window_words-line d.window) text in
-    rw (p.1, p.2) (c.in_err-events.ensures.every d.events.items rest (subst AreRight is right) after read.1)
+    let r = line-read (goal.at.returns-in_err-events-clause-every c).After-read_window over rest after e in
+    rw (p.1, p.2) (c.in_err-events.ensures.every r.0.events.items rest (subst AreRight r.1 right) after r.3)
 
 pub returns-clause-every : goal.returns-clause-every
 returns-clause-every c =
-    let begun : starts_with nat_eq c.args.lines.now.rest.now (codes "datagrams ") ≡ true =
-    begun-by c.args.lines.now.rest.now c.as_slice.ensures c.if-not-starts_with.ensures.value in
     λ over rest right allowed after e.
-    let (d, is) = over-stands over c.args.lines.now.rest.now rest begun after e in
-    let text = e ∙ ap (λ (o : Option FileDatagrams). datagrams_text o rest) is in
-    let read = c.in_ok-line.ensures.every (window_words d.window) (lines_of datagram_event_words d.events.items rest) (window_words-line d.window) text in
-    c.in_ok-events.ensures.every d.events.items rest (subst AreRight is right) after read.1
+    let r = line-read (goal.at.returns-clause-every c).After-read_window over rest after e in
+    c.in_ok-events.ensures.every r.0.events.items rest (subst AreRight r.1 right) after r.3
 
 pub returns-in_default-clause-reported : goal.returns-in_default-clause-reported
 returns-in_default-clause-reported c =
-    let begun : starts_with nat_eq c.args.lines.now.rest.now (codes "datagrams ") ≡ true =
-    begun-by c.args.lines.now.rest.now c.as_slice.ensures c.if-not-starts_with.ensures.value in
     inr (inr (inl (record {
-      begun = begun;
+      begun = begun (goal.at.returns-in_default-clause-reported c).After-read_window;
       it = wrong-line c.in_ok-line.ensures.read refl c.fault.ensures;
       none = λ window e. let some = c.in_default.ensures.every window e in absurd (cc (some));
     })))

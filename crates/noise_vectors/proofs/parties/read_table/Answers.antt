@@ -1,4 +1,4 @@
-use Rattle.std.proofs.Common.{rules, ◌≡◌, ◌∙◌, ◌+◌, ◌≤◌, ap, subst, sym, refl, arith, [], ◌∷◌, ◌++◌, true, false, true≢false, length}
+use Rattle.std.proofs.Common.{rules, ℕ, List, ◌≡◌, ◌∙◌, ◌+◌, ◌≤◌, ap, subst, sym, refl, arith, [], ◌∷◌, ◌++◌, true, false, true≢false, length}
 use Rattle.std.proofs.lemmas.Bool.{false≢true}
 use Rattle.std.specs.Prelude.{IsTrue}
 use Rattle.std.specs.List.{All}
@@ -12,38 +12,41 @@ use Rattle.noise_vectors.proofs.LineLemmas.{begun-by, lines_of-more}
 use Rattle.noise_vectors.proofs.PartyLemmas.{answer-stands, begins, lacks-answer_words}
 use Rattle.std.proofs.lemmas.Result.{err_from_is_err_and}
 use Rattle.noise_vectors.specs.ReaderFaults.{answer_lines}
-use Rattle.noise_vectors.proofs.PartLemmas.{lines-over, next-of, reports-cut, reports-wrong}
+use Rattle.noise_vectors.proofs.PartLemmas.{Next, lines-over, next-of, reports-cut, reports-wrong}
 use Rattle.noise_vectors.proofs.ReportedLemmas.{counted-ended}
+use Rattle.noise_vectors.proofs.parties.read_table.Goals.{After-read_answer}
 use Rattle.noise_vectors.proofs.parties.read_table.Goals as goal
+
+-- an answer stands there
+stands : (c : After-read_answer) → ¬ (begins c.loop-lines.lines.rest.now ≡ false)
+stands c over = true≢false (sym (begun-by c.loop-lines.lines.rest.now c.as_slice.ensures c.loop-lines-test.ensures.value) ∙ over)
+
+-- so it is the next of these
+next-answer : (c : After-read_answer) (entries : List TableEntry) (rest : List ℕ) → All IsEntry entries → begins rest ≡ false
+    → c.args.lines.now.rest.now ≡ lines_of answer_words entries rest → Next answer_lines c.loop-lines.table.entries entries c.loop-lines.lines.rest.now
+next-answer c entries rest are other is =
+    next-of answer_lines lacks-answer_words answer-stands c.loop-lines.table.entries entries c.args.lines.now.rest.now c.loop-lines.lines.rest.now rest
+    c.loop-lines.invariant.text c.loop-lines.invariant.right is are other (stands c)
 
 pub returns-in_default-clause-every : goal.returns-in_default-clause-every
 returns-in_default-clause-every c =
-    let starts : begins c.loop-lines.lines.rest.now ≡ true =
-    begun-by c.loop-lines.lines.rest.now c.as_slice.ensures c.loop-lines-test.ensures.value in
     λ entries rest few are other is.
-    let f = next-of answer_lines lacks-answer_words answer-stands c.loop-lines.table.entries entries c.args.lines.now.rest.now c.loop-lines.lines.rest.now rest
-    c.loop-lines.invariant.text c.loop-lines.invariant.right is are other (λ over. true≢false (sym starts ∙ over)) in
+    let f = next-answer (goal.at.returns-in_default-clause-every c).After-read_answer entries rest are other is in
     let read = c.in_ok-line.ensures.every (answer_words f.next) f.after (lacks-answer_words f.next f.good) f.left_is in
     let none = c.in_default.ensures.every f.next f.good read.0 in
     absurd (false≢true none)
 
 pub returns-then-is_err-clause-every : goal.returns-then-is_err-clause-every
 returns-then-is_err-clause-every c =
-    let starts : begins c.loop-lines.lines.rest.now ≡ true =
-    begun-by c.loop-lines.lines.rest.now c.as_slice.ensures c.loop-lines-test.ensures.value in
     let full : length c.loop-lines.table.entries ≡ 8 = c.add.ensures.full.0 (sym c.if-is_err.ensures.value) in
     λ entries rest few are other is.
-    let f = next-of answer_lines lacks-answer_words answer-stands c.loop-lines.table.entries entries c.args.lines.now.rest.now c.loop-lines.lines.rest.now rest
-    c.loop-lines.invariant.text c.loop-lines.invariant.right is are other (λ over. true≢false (sym starts ∙ over)) in
+    let f = next-answer (goal.at.returns-then-is_err-clause-every c).After-read_answer entries rest are other is in
     absurd (omega (arith, f.more, full, few))
 
 pub returns-in_err-end-clause-every : goal.returns-in_err-end-clause-every
 returns-in_err-end-clause-every c =
-    let starts : begins c.loop-lines.lines.rest.now ≡ true =
-    begun-by c.loop-lines.lines.rest.now c.as_slice.ensures c.loop-lines-test.ensures.value in
     λ entries rest few are other is.
-    let f = next-of answer_lines lacks-answer_words answer-stands c.loop-lines.table.entries entries c.args.lines.now.rest.now c.loop-lines.lines.rest.now rest
-    c.loop-lines.invariant.text c.loop-lines.invariant.right is are other (λ over. true≢false (sym starts ∙ over)) in
+    let f = next-answer (goal.at.returns-in_err-end-clause-every c).After-read_answer entries rest are other is in
     let read = c.in_ok-line.ensures.every (answer_words f.next) f.after (lacks-answer_words f.next f.good) f.left_is in
     let bad = c.in_err-end.ensures.ended.1 read.2 in
     absurd (false≢true bad)
@@ -81,19 +84,15 @@ returns-clause-every c =
 
 pub returns-in_default-clause-reported : goal.returns-in_default-clause-reported
 returns-in_default-clause-reported c =
-    let starts : begins c.loop-lines.lines.rest.now ≡ true =
-    begun-by c.loop-lines.lines.rest.now c.as_slice.ensures c.loop-lines-test.ensures.value in
     reports-wrong answer_lines c.args.lines.now c.loop-lines.table.entries
-    c.loop-lines.invariant.text c.loop-lines.invariant.right c.loop-lines.invariant.few (λ over. true≢false (sym starts ∙ over)) c.loop-lines.invariant.counted c.in_ok-line.ensures.read c.fault.ensures
+    c.loop-lines.invariant.text c.loop-lines.invariant.right c.loop-lines.invariant.few (stands (goal.at.returns-in_default-clause-reported c).After-read_answer) c.loop-lines.invariant.counted c.in_ok-line.ensures.read c.fault.ensures
     (λ entry good same. let some = c.in_default.ensures.every entry good same in absurd (false≢true some))
 
 pub returns-then-is_err-clause-reported : goal.returns-then-is_err-clause-reported
 returns-then-is_err-clause-reported c =
-    let starts : begins c.loop-lines.lines.rest.now ≡ true =
-    begun-by c.loop-lines.lines.rest.now c.as_slice.ensures c.loop-lines-test.ensures.value in
     let full : length c.loop-lines.table.entries ≡ 8 = c.add.ensures.full.0 (sym c.if-is_err.ensures.value) in
     reports-wrong answer_lines c.args.lines.now c.loop-lines.table.entries
-    c.loop-lines.invariant.text c.loop-lines.invariant.right c.loop-lines.invariant.few (λ over. true≢false (sym starts ∙ over)) c.loop-lines.invariant.counted c.in_ok-line.ensures.read c.fault-then-is_err.ensures
+    c.loop-lines.invariant.text c.loop-lines.invariant.right c.loop-lines.invariant.few (stands (goal.at.returns-then-is_err-clause-reported c).After-read_answer) c.loop-lines.invariant.counted c.in_ok-line.ensures.read c.fault-then-is_err.ensures
     (λ entry good same. full)
 
 pub returns-in_err-end-clause-reported : goal.returns-in_err-end-clause-reported

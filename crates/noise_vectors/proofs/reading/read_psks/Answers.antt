@@ -11,10 +11,11 @@ use Rattle.noise_vectors.specs.VectorFile.{ArePsks}
 use Rattle.noise_vectors.specs.VectorText.{lines_of, psk_words}
 use Rattle.noise_vectors.specs.Words.{IsKey}
 use Rattle.noise_vectors.proofs.LineLemmas.{begun-by, lines_of-more}
-use Rattle.noise_vectors.proofs.PartLemmas.{lines-over, next-of, reports-cut, reports-wrong}
+use Rattle.noise_vectors.proofs.PartLemmas.{Next, lines-over, next-of, reports-cut, reports-wrong}
 use Rattle.noise_vectors.proofs.ReadingLemmas.{psk-plain, psk-stands}
 use Rattle.noise_vectors.proofs.Results.{at_ok, at_err}
 use Rattle.noise_vectors.proofs.ReportedLemmas.{counted-ended}
+use Rattle.noise_vectors.proofs.reading.read_psks.Goals.{After-read_psk}
 use Rattle.noise_vectors.proofs.reading.read_psks.Goals as goal
 
 pub loop-lines-init : goal.loop-lines-init
@@ -25,34 +26,36 @@ loop-lines-init c =
       refl,
     )
 
+-- a psk stands there
+stands : (c : After-read_psk) → ¬ (starts_with nat_eq c.loop-lines.lines.rest.now (codes "psk ") ≡ false)
+stands c over = true≢false (sym (begun-by c.loop-lines.lines.rest.now c.as_slice.ensures c.loop-lines-test.ensures.value) ∙ over)
+
+-- so it is the next of these
+next-psk : (c : After-read_psk) (psks : List (List ℕ)) (rest : List ℕ) → ArePsks psks → starts_with nat_eq rest (codes "psk ") ≡ false
+    → c.args.lines.now.rest.now ≡ lines_of psk_words psks rest → Next psk_lines c.loop-lines.psks.items psks c.loop-lines.lines.rest.now
+next-psk c psks rest h other e =
+    next-of psk_lines psk-plain psk-stands c.loop-lines.psks.items psks c.args.lines.now.rest.now c.loop-lines.lines.rest.now rest
+    c.loop-lines.invariant.0 c.loop-lines.invariant.1.1 e h.1 other (stands c)
+
 pub returns-in_default-clause-every : goal.returns-in_default-clause-every
 returns-in_default-clause-every c =
-    let begun : starts_with nat_eq c.loop-lines.lines.rest.now (codes "psk ") ≡ true =
-    begun-by c.loop-lines.lines.rest.now c.as_slice.ensures c.loop-lines-test.ensures.value in
     λ psks rest h other e.
-    let f = next-of psk_lines psk-plain psk-stands c.loop-lines.psks.items psks c.args.lines.now.rest.now c.loop-lines.lines.rest.now rest
-    c.loop-lines.invariant.0 c.loop-lines.invariant.1.1 e h.1 other (λ over. true≢false (sym begun ∙ over)) in
+    let f = next-psk (goal.at.returns-in_default-clause-every c).After-read_psk psks rest h other e in
     let read = c.in_ok-line.ensures.every (psk_words f.next) f.after (psk-plain f.next f.good) f.left_is in
     let some = c.in_default.ensures.every f.next f.good read.0 in
     absurd (false≢true some)
 
 pub returns-then-is_err-clause-every : goal.returns-then-is_err-clause-every
 returns-then-is_err-clause-every c =
-    let begun : starts_with nat_eq c.loop-lines.lines.rest.now (codes "psk ") ≡ true =
-    begun-by c.loop-lines.lines.rest.now c.as_slice.ensures c.loop-lines-test.ensures.value in
     let full : length c.loop-lines.psks.items ≡ 9 = at_err c.try_push.result c.try_push.ensures.full (sym c.if-is_err.ensures.value) in
     λ psks rest h other e.
-    let f = next-of psk_lines psk-plain psk-stands c.loop-lines.psks.items psks c.args.lines.now.rest.now c.loop-lines.lines.rest.now rest
-    c.loop-lines.invariant.0 c.loop-lines.invariant.1.1 e h.1 other (λ over. true≢false (sym begun ∙ over)) in
+    let f = next-psk (goal.at.returns-then-is_err-clause-every c).After-read_psk psks rest h other e in
     absurd (omega (arith, f.more, full, h.0))
 
 pub returns-in_err-end-clause-every : goal.returns-in_err-end-clause-every
 returns-in_err-end-clause-every c =
-    let begun : starts_with nat_eq c.loop-lines.lines.rest.now (codes "psk ") ≡ true =
-    begun-by c.loop-lines.lines.rest.now c.as_slice.ensures c.loop-lines-test.ensures.value in
     λ psks rest h other e.
-    let f = next-of psk_lines psk-plain psk-stands c.loop-lines.psks.items psks c.args.lines.now.rest.now c.loop-lines.lines.rest.now rest
-    c.loop-lines.invariant.0 c.loop-lines.invariant.1.1 e h.1 other (λ over. true≢false (sym begun ∙ over)) in
+    let f = next-psk (goal.at.returns-in_err-end-clause-every c).After-read_psk psks rest h other e in
     let read = c.in_ok-line.ensures.every (psk_words f.next) f.after (psk-plain f.next f.good) f.left_is in
     absurd (false≢true (c.in_err-end.ensures.ended.1 read.2))
 
@@ -86,19 +89,15 @@ returns-clause-every c =
 
 pub returns-in_default-clause-reported : goal.returns-in_default-clause-reported
 returns-in_default-clause-reported c =
-    let begun : starts_with nat_eq c.loop-lines.lines.rest.now (codes "psk ") ≡ true =
-    begun-by c.loop-lines.lines.rest.now c.as_slice.ensures c.loop-lines-test.ensures.value in
     reports-wrong psk_lines c.args.lines.now c.loop-lines.psks.items
-    c.loop-lines.invariant.0 c.loop-lines.invariant.1.1 c.loop-lines.invariant.1.0 (λ over. true≢false (sym begun ∙ over)) c.loop-lines.invariant.2 c.in_ok-line.ensures.read c.fault.ensures
+    c.loop-lines.invariant.0 c.loop-lines.invariant.1.1 c.loop-lines.invariant.1.0 (stands (goal.at.returns-in_default-clause-reported c).After-read_psk) c.loop-lines.invariant.2 c.in_ok-line.ensures.read c.fault.ensures
     (λ psk key same. let some = c.in_default.ensures.every psk key same in absurd (false≢true some))
 
 pub returns-then-is_err-clause-reported : goal.returns-then-is_err-clause-reported
 returns-then-is_err-clause-reported c =
-    let begun : starts_with nat_eq c.loop-lines.lines.rest.now (codes "psk ") ≡ true =
-    begun-by c.loop-lines.lines.rest.now c.as_slice.ensures c.loop-lines-test.ensures.value in
     let full : length c.loop-lines.psks.items ≡ 9 = at_err c.try_push.result c.try_push.ensures.full (sym c.if-is_err.ensures.value) in
     reports-wrong psk_lines c.args.lines.now c.loop-lines.psks.items
-    c.loop-lines.invariant.0 c.loop-lines.invariant.1.1 c.loop-lines.invariant.1.0 (λ over. true≢false (sym begun ∙ over)) c.loop-lines.invariant.2 c.in_ok-line.ensures.read c.fault-then-is_err.ensures
+    c.loop-lines.invariant.0 c.loop-lines.invariant.1.1 c.loop-lines.invariant.1.0 (stands (goal.at.returns-then-is_err-clause-reported c).After-read_psk) c.loop-lines.invariant.2 c.in_ok-line.ensures.read c.fault-then-is_err.ensures
     (λ psk key same. full)
 
 pub returns-in_err-end-clause-reported : goal.returns-in_err-end-clause-reported

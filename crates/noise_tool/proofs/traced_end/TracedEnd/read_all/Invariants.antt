@@ -5,7 +5,7 @@ use Rattle.noise_duel.specs.Notes.{Note, held_note, noted_by}
 use Rattle.noise_duel.specs.Runs.{SideReceives}
 use Rattle.noise_duel.specs.Sides.{Side}
 use Rattle.noise_lines.specs.TracedLines.{traces_of}
-use Rattle.noise_tool.specs.TracedEnds.{Shows}
+use Rattle.noise_tool.specs.TracedEnds.{ShowsEnd}
 use Rattle.noise_tool.specs.Tracing.{came_traces}
 use Rattle.noise_tool.proofs.ReceivedLemmas.{Remains}
 use Rattle.noise_tool.proofs.traced_end.TracedEnd.read_all.Given as goal
@@ -14,7 +14,7 @@ use Rattle.noise_tool.proofs.traced_end.TracedEnd.read_all.Given as goal
 abbrev pub invariant-loop-entry : goal.invariant-loop-entry
 invariant-loop-entry l = record {
   role : l.self.role ≡ l.fn.self.role;
-  goes : (s reader : Side) (role : Role) (bytes : List ℕ) (notes : List Note) (x : SideReceives s bytes notes reader) → Shows l.fn.self s.state
+  goes : (s reader : Side) (role : Role) (bytes : List ℕ) (notes : List Note) (x : SideReceives s bytes notes reader) → ShowsEnd l.fn.self s.state
       → l.came ≡ s.state.partial ++ bytes → notes_of l.entries ≡ noted_by role (notes ++ held_note (length reader.state.partial))
       → Remains l.selection l.fn.self.role role reader l.self l.rest (notes_of (drop l.entry-index l.entries)) (traces_of l.traces.items)
       (traces_of l.fn.traces.items ++ came_traces l.selection l.fn.self.role s reader bytes notes x);
