@@ -1,4 +1,4 @@
--- What a party with the first answers reads, refuses and writes it does with all of them too.
+-- What a party with the first DH results reads, refuses and writes it does with all of them too.
 use Rattle.std.proofs.Common.{◌≡◌, ℕ, zero, suc, ◌+◌, ◌<◌, List, [], ◌∷◌, ◌++◌, length, take, refl, ap, sym, subst, ◌∙◌, arith}
 use Rattle.std.proofs.Common.{append_assoc, take_all}
 use Rattle.std.specs.Prelude.{Bool, Option, Some, None, is_some, if◌then◌else◌}
@@ -24,7 +24,7 @@ use Rattle.noise_names.specs.Lists.{split-apart, cons-same}
 some-same : (o : Option (List ℕ)) (x y : List ℕ) → o ≡ Some x → o ≡ Some y → x ≡ y
 some-same o x y f g = cc
 
--- whether a text of this token doesn't depend on answers
+-- whether a text of this token doesn't depend on DH results
 abbrev pub IsKey : Token → Type 0
 IsKey E = Unit {0}
 IsKey S = Unit {0}
@@ -45,10 +45,7 @@ module _ (role : Role) (has_psks : Bool) (first all : DhResults) (among : AreAmo
   fits-all known psks E x f = f
   fits-all known psks S x f = f
   fits-all known psks Psk x f = f
-  fits-all known psks Ee x f = first-all _ _ x f
-  fits-all known psks Es x f = first-all _ _ x f
-  fits-all known psks Se x f = first-all _ _ x f
-  fits-all known psks Ss x f = first-all _ _ x f
+  fits-all known psks _ x f = first-all _ _ x f
 
   pub fit-all : (known : Remote) (psks : List (List ℕ)) (ts : List Token) (xs : List (List ℕ)) → Fit few known psks ts xs → Fit whole known psks ts xs
   fit-all known psks [] [] f = f
@@ -61,7 +58,7 @@ module _ (role : Role) (has_psks : Bool) (first all : DhResults) (among : AreAmo
       → BeginsAs few known psks r ts xs m rest → BeginsAs whole known psks r ts xs m rest
   leads-all known psks r ts xs m rest l = record { fit = fit-all known psks ts xs l.fit; spelled = l.spelled }
 
-  -- a token's text under the first answers is that under all of them, and so is what is after it
+  -- a token's text under the first DH results is that under all of them, and so is what is after it
   token-apart : (known : Remote) (psks : List (List ℕ)) (r : History) (t : Token) (x y p q : List ℕ)
       → Fits few known psks t x → Fits whole known psks t y → token_bytes r t x ++ p ≡ token_bytes r t y ++ q → (x ≡ y) × (p ≡ q)
   token-apart known psks r E x y p q f g e = split-apart x y p q (f ∙ sym g) e
@@ -71,12 +68,9 @@ module _ (role : Role) (has_psks : Bool) (first all : DhResults) (among : AreAmo
       let h = split-apart (ciphertext r x) (ciphertext r y) p q n e in
       (ciphertext-same r x y h.0, h.1)
   token-apart known psks r Psk x y p q f g e = (f ∙ sym g, e)
-  token-apart known psks r Ee x y p q f g e = (some-same _ x y (first-all _ _ x f) g, e)
-  token-apart known psks r Es x y p q f g e = (some-same _ x y (first-all _ _ x f) g, e)
-  token-apart known psks r Se x y p q f g e = (some-same _ x y (first-all _ _ x f) g, e)
-  token-apart known psks r Ss x y p q f g e = (some-same _ x y (first-all _ _ x f) g, e)
+  token-apart known psks r _ x y p q f g e = (some-same _ x y (first-all _ _ x f) g, e)
 
-  -- What leads one token further with all answers leads there with the first ones, where they lead to that token and it is a key.
+  -- What leads one token further with all DH results leads there with the first ones, where they lead to that token and it is a key.
   abbrev BeginsBack : Remote → List (List ℕ) → History → List Token → List ℕ → Type 0
   BeginsBack known psks r ts m = (ys : List (List ℕ)) × (rest : List ℕ) × BeginsAs few known psks r ts ys m rest
 
@@ -84,11 +78,7 @@ module _ (role : Role) (has_psks : Bool) (first all : DhResults) (among : AreAmo
     fits-back : (u : Token) → IsKey u → (known : Remote) (psks : List (List ℕ)) (x : List ℕ) → Fits whole known psks u x → Fits few known psks u x
     fits-back E k known psks x f = f
     fits-back S k known psks x f = f
-    fits-back Psk k known psks x f = absurd k
-    fits-back Ee k known psks x f = absurd k
-    fits-back Es k known psks x f = absurd k
-    fits-back Se k known psks x f = absurd k
-    fits-back Ss k known psks x f = absurd k
+    fits-back _ k known psks x f = absurd k
 
     back-one : (known : Remote) (psks : List (List ℕ)) (r : History) (ys : List (List ℕ)) (m rest : List ℕ)
         → BeginsAs whole known psks r (t ∷ []) ys m rest → BeginsAs few known psks r (t ∷ []) ys m rest
@@ -148,7 +138,7 @@ module _ (role : Role) (has_psks : Bool) (first all : DhResults) (among : AreAmo
       → Reads few known psks r ts m xs payload → Reads whole known psks r ts m xs payload
   reads-all known psks r ts m xs payload a = record { fit = fit-all known psks ts xs a.fit; spelled = a.spelled }
 
-  -- the payload that all answers read is one that the first ones read, where they lead to it
+  -- the payload that all DH results read is one that the first ones read, where they lead to it
   reads-back : (known : Remote) (psks : List (List ℕ)) (r : History) (ts : List Token) (m : List ℕ) (xs ys : List (List ℕ)) (rest payload : List ℕ)
       → BeginsAs few known psks r ts xs m rest → Reads whole known psks r ts m ys payload → Reads few known psks r ts m ys payload
   reads-back known psks r ts m xs ys rest payload a b =
@@ -161,11 +151,7 @@ module _ (role : Role) (has_psks : Bool) (first all : DhResults) (among : AreAmo
   key-there keyed [] k rest cause h mendable why = absurd (omega (arith, h))
   key-there keyed (E ∷ ts) zero rest cause h mendable why = (E, tt, refl)
   key-there keyed (S ∷ ts) zero rest cause h mendable why = (S, tt, refl)
-  key-there keyed (Psk ∷ ts) zero rest cause h mendable why = absurd (mendable why)
-  key-there keyed (Ee ∷ ts) zero rest cause h mendable why = absurd (mendable why)
-  key-there keyed (Es ∷ ts) zero rest cause h mendable why = absurd (mendable why)
-  key-there keyed (Se ∷ ts) zero rest cause h mendable why = absurd (mendable why)
-  key-there keyed (Ss ∷ ts) zero rest cause h mendable why = absurd (mendable why)
+  key-there keyed _ zero rest cause h mendable why = absurd (mendable why)
   key-there keyed (u ∷ ts) (suc k) rest cause h mendable why =
       let i = key-there keyed ts k rest cause (omega (arith, h)) mendable why in (i.0, i.1, ap (λ (us : List Token). u ∷ us) i.2)
 
@@ -201,10 +187,7 @@ module _ (role : Role) (has_psks : Bool) (first all : DhResults) (among : AreAmo
     gives-all known psks E x f = f
     gives-all known psks S x f = f
     gives-all known psks Psk x f = f
-    gives-all known psks Ee x f = first-all _ _ x f
-    gives-all known psks Es x f = first-all _ _ x f
-    gives-all known psks Se x f = first-all _ _ x f
-    gives-all known psks Ss x f = first-all _ _ x f
+    gives-all known psks _ x f = first-all _ _ x f
 
     pub given-all : (known : Remote) (psks : List (List ℕ)) (ts : List Token) (xs : List (List ℕ))
         → Given few-writer known psks ts xs → Given whole-writer known psks ts xs

@@ -1,4 +1,4 @@
--- Each answer that a message asks for is that of a later DH token than the one before.
+-- Each DH result that a message asks for is that of a later DH token than the one before.
 use Rattle.std.proofs.Common.{◌≡◌, inl, inr, ℕ, zero, suc, ◌+◌, ◌<◌, ◌≤◌, List, [], ◌∷◌, ◌++◌, length, take, drop, refl, ap, sym, subst, ◌∙◌, arith}
 use Rattle.std.proofs.Common.{append_assoc, take-take}
 use Rattle.std.proofs.Math.Seq.{take-append_seam}
@@ -67,21 +67,14 @@ psks_left psks (t ∷ ts) = psks_left (psks_after psks t) ts
 dh-nothing : (t : Token) → is_dh t ≡ true → (r : History) (x : List ℕ) → token_bytes r t x ≡ []
 dh-nothing E d r x = cc
 dh-nothing S d r x = cc
-dh-nothing Psk d r x = refl
-dh-nothing Ee d r x = refl
-dh-nothing Es d r x = refl
-dh-nothing Se d r x = refl
-dh-nothing Ss d r x = refl
+dh-nothing _ d r x = refl
 
 dh-fits : (w : Reader) (known : Remote) (psks : List (List ℕ)) (t : Token) (x : List ℕ) → is_dh t ≡ true
     → dh_result_of w.agree (own_at w.role t) (remote_at w.role known t) ≡ Some x → Fits w known psks t x
 dh-fits w known psks E x d e = cc
 dh-fits w known psks S x d e = cc
 dh-fits w known psks Psk x d e = cc
-dh-fits w known psks Ee x d e = e
-dh-fits w known psks Es x d e = e
-dh-fits w known psks Se x d e = e
-dh-fits w known psks Ss x d e = e
+dh-fits w known psks _ x d e = e
 
 -- a token that takes no bytes leads on from where those before it lead
 pub leads-on : (w : Reader) (known : Remote) (psks : List (List ℕ)) (r : History) (before : List Token) (t : Token) (xs : List (List ℕ)) (x m rest : List ℕ)
@@ -130,7 +123,7 @@ reaches-less w known psks r ts m i j h a =
 
 -- ---- the token that asks
 
--- It is a DH, what is read before it is no further than it, and with its answer reading goes past it.
+-- It is a DH, what is read before it is no further than it, and with its DH result reading goes past it.
 record Past (first next : Reader) (known : Remote) (psks : List (List ℕ)) (r : History) (ts : List Token) (m : List ℕ) : Type 0 where
   before : List Token
   token : Token
@@ -170,9 +163,7 @@ dh-there w known psks r before later t m s = by t refl where
       (subst (λ (us : List Token). CanBegin w known psks r us m)
       (ap (λ (u : Token). before ++ u ∷ []) (sym e) ∙ sym (take-through before later t)) (record { carried = _; rest = s.rest; leads = l })))
   by Ee e = ap is_dh e
-  by Es e = ap is_dh e
-  by Se e = ap is_dh e
-  by Ss e = ap is_dh e
+  by _ e = ap is_dh e
 
 past : (w : Reader) (next : DhResults) (known : Remote) (psks : List (List ℕ)) (r : History) (ts : List Token) (m : List ℕ) (own : Own) (key x : List ℕ)
     → StopsFor w known psks r ts m own key → IsHandedIn w.agree next own key x → Past w (record w { agree = next }) known psks r ts m
@@ -216,7 +207,7 @@ past w next known psks r ts m own key x s handed = record {
       (dh-fits w2 (remote_after known s.before s.stops.carried) (psks_left psks s.before) s.token x d answer)
       (λ (h : History). dh-nothing s.token d h x)
 
--- an answer that is asked for isn't there
+-- a DH result that is asked for isn't there
 wants-none : (w : Reader) (known : Remote) (psks : List (List ℕ)) (r : History) (ts : List Token) (m : List ℕ) (own : Own) (key : List ℕ)
     → StopsFor w known psks r ts m own key → w.agree own key ≡ None
 wants-none w known psks r ts m own key s = by (w.agree own key) refl where

@@ -1,4 +1,4 @@
--- The same of answers that the party's own message asks for.
+-- The same of DH results that the party's own message asks for.
 use Rattle.std.proofs.Common.{◌≡◌, ℕ, zero, suc, ◌<◌, ◌≤◌, List, [], ◌∷◌, ◌++◌, length, take, drop, refl, ap, sym, subst, ◌∙◌, arith}
 use Rattle.std.proofs.Common.{take-take}
 use Rattle.std.proofs.Math.Seq.{take-append_seam}
@@ -46,10 +46,7 @@ dh-gives : (w : Writer) (known : Remote) (psks : List (List ℕ)) (t : Token) (x
 dh-gives w known psks E x d e = cc
 dh-gives w known psks S x d e = cc
 dh-gives w known psks Psk x d e = cc
-dh-gives w known psks Ee x d e = e
-dh-gives w known psks Es x d e = e
-dh-gives w known psks Se x d e = e
-dh-gives w known psks Ss x d e = e
+dh-gives w known psks _ x d e = e
 
 dh-there : (w : Writer) (known : Remote) (psks : List (List ℕ)) (before later : List Token) (t : Token) → Shows w.own t
     → LacksDhResultAt w known psks (before ++ t ∷ later) (length before) → is_dh t ≡ true
@@ -71,11 +68,9 @@ dh-there w known psks before later t shows s = by t shows refl where
       absurd (none (first_psk (psks_left psks before))
       (subst (λ (z : Token). Gives w known (psks_left psks before) z (first_psk (psks_left psks before))) (sym e) refl))
   by Ee k e = ap is_dh e
-  by Es k e = ap is_dh e
-  by Se k e = ap is_dh e
-  by Ss k e = ap is_dh e
+  by _ k e = ap is_dh e
 
--- It is a DH, what is given before it is no further than it, and with its answer texts are given past it.
+-- It is a DH, what is given before it is no further than it, and with its DH result texts are given past it.
 record Past (first next : Writer) (known : Remote) (psks : List (List ℕ)) (ts : List Token) : Type 0 where
   before : List Token
   token : Token
@@ -117,7 +112,7 @@ past w next known psks ts own key x keys s handed = record {
       (given-all w.role w.has_psks w.agree next handed.stays w.own known psks s.before s.lacks.before here)
       (dh-gives w2 known (psks_left psks s.before) s.token x d answer)
 
--- an answer that is asked for isn't there
+-- a DH result that is asked for isn't there
 pub write-lacks : (v : Party) (own : Own) (key : List ℕ) → HasKeys v → WantsToWrite v own key → v.agree own key ≡ None
 write-lacks v own key keys wants = by (v.agree own key) refl where
   s : LacksDhResultFor (writer v) v.remote v.psks (tokens_now v) own key

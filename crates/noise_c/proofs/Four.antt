@@ -32,12 +32,7 @@ dhs-cons u ts = sum_by-cons (λ (z : Token). cond (is_dh z) 1 0) u ts
 
 four-kinds : (u : Token) → cond (is_dh u) 1 0 ≡ cond (same_token u Ee) 1 0 + cond (same_token u Es) 1 0 + cond (same_token u Se) 1 0 + cond (same_token u Ss) 1 0
 four-kinds E = refl
-four-kinds S = refl
-four-kinds Psk = refl
-four-kinds Ee = refl
-four-kinds Es = refl
-four-kinds Se = refl
-four-kinds Ss = refl
+four-kinds _ = refl
 
 -- the DH tokens are those of four kinds
 by-kind : (ts : List Token) → count_by is_dh ts ≡ times Ee ts + times Es ts + times Se ts + times Ss ts
@@ -94,13 +89,11 @@ token-has t party n i [] = refl
 token-has t party n i (u ∷ ts) = ap (λ (b : Bool). same_token u t || b) (token-has t party n (i + 1) ts)
 
 first-of : (t : Token) (earlier : List Place) → is_dh t ≡ true → dh_is_first earlier (does t) ≡ true → occurs t earlier ≡ false
-first-of E earlier d e = cc
-first-of S earlier d e = cc
-first-of Psk earlier d e = cc
 first-of Ee earlier d e = not-true (occurs Ee earlier) e
 first-of Es earlier d e = not-true (occurs Es earlier) e
 first-of Se earlier d e = not-true (occurs Se earlier) e
 first-of Ss earlier d e = not-true (occurs Ss earlier) e
+first-of _ earlier d e = cc
 
 message-apart : (ms : List (List Token)) (i : ℕ) → i < length ms → ms ≡ take i ms ++ tokens_at ms i ∷ drop (suc i) ms
 message-apart [] i h = absurd (omega arith)

@@ -1,4 +1,4 @@
--- A number that an export answers is none of those that another clause is about.
+-- A number that an export returns is none of those that another clause is about.
 use Rattle.std.proofs.Common.{◌≡◌, ◌≤◌, ◌<◌, ◌⊎◌, inl, inr, ℕ, true, false, eqb, ltb, sym, subst, refl, arith}
 use Rattle.std.proofs.lemmas.Bool.{eqb-false}
 use borrow.Author.Tests.{ltb-true}
@@ -60,10 +60,7 @@ wants-other {A} want results code wanted t answer psk =
 
 withheld-codes : (fault : WriteFault) → (10 ≤ write_code fault) × (write_code fault ≤ 14)
 withheld-codes write.Ended = (omega arith, omega arith)
-withheld-codes write.Done = (omega arith, omega arith)
-withheld-codes write.NotYourTurn = (omega arith, omega arith)
-withheld-codes write.TooLong = (omega arith, omega arith)
-withheld-codes (write.Agreement token) = (omega arith, omega arith)
+withheld-codes _ = (omega arith, omega arith)
 
 pub withheld-within : (fault : WriteFault) (code : ℕ) → code ≡ write_code fault → (10 ≤ code) × (code ≤ 14)
 withheld-within fault code is = subst (λ (n : ℕ). (10 ≤ n) × (n ≤ 14)) (sym is) (withheld-codes fault)
@@ -80,8 +77,7 @@ withheld-agreement (write.Agreement token) e = tt
 
 refused-codes : (cause : Cause) → (14 ≤ cause_code cause) × (cause_code cause ≤ 16)
 refused-codes Agreement = (omega arith, omega arith)
-refused-codes Short = (omega arith, omega arith)
-refused-codes Tag = (omega arith, omega arith)
+refused-codes _ = (omega arith, omega arith)
 
 -- those of a refusal
 pub refused-within : (fault : ReadFault) (code token : ℕ) (cause : Cause) → code ≡ read_code fault

@@ -1,4 +1,4 @@
--- What opening a datagram answers by number.
+-- What opening a datagram returns by number.
 use Rattle.std.proofs.Common.{◌≡◌, ◌≤◌, inl, inr, ℕ, ◌+◌, List, drop, take, ap, sym, subst, ◌∙◌, refl, arith}
 use Rattle.std.specs.Prelude.{slice_range}
 use Rattle.noise_session.specs.declared.datagram_fault.DatagramFault.{DatagramFault}
@@ -9,12 +9,7 @@ use Rattle.noise_c.proofs.Numbers.{other}
 
 datagram-codes : (fault : DatagramFault) → (11 ≤ datagram_code fault)
 datagram-codes declined.TooLong = omega arith
-datagram-codes declined.Short = omega arith
-datagram-codes declined.Tag = omega arith
-datagram-codes declined.OneWay = omega arith
-datagram-codes declined.Reserved = omega arith
-datagram-codes declined.Old = omega arith
-datagram-codes declined.Repeated = omega arith
+datagram-codes _ = omega arith
 
 pub declined-from : (fault : DatagramFault) (code : ℕ) → code ≡ datagram_code fault → 11 ≤ code
 declined-from fault code is = subst (λ (n : ℕ). 11 ≤ n) (sym is) (datagram-codes fault)

@@ -25,9 +25,9 @@ use Rattle.noise_c.specs.HandedIn.ReadsByDhResults.{ready as reads_now, handed_i
 use Rattle.noise_c.specs.HandedIn.WritesByDhResults.{ready as writes_now, handed_in as writes_later}
 use Rattle.std.proofs.lemmas.Bool.{and_parts, and_from}
 
--- ---- an answer more
+-- ---- a DH result more
 
--- the answer after those of the entries
+-- the DH result after those of the entries
 either : (es : List TableEntry) (e : TableEntry) (own : Own) (key : List ℕ)
     → dh_result_in (es ++ e ∷ []) own key ≡ option_or (dh_result_in es own key) (dh_result_in (e ∷ []) own key)
 either es e own key =

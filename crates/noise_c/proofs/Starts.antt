@@ -48,10 +48,7 @@ fault-not-zero code (inr a) e = omega (arith, a, e)
 
 setup-codes : (fault : SetupFault) → (4 ≤ setup_code fault) × (setup_code fault ≤ 8)
 setup-codes setup.EphemeralMissing = (omega arith, omega arith)
-setup-codes setup.StaticMissing = (omega arith, omega arith)
-setup-codes setup.RemoteMissing = (omega arith, omega arith)
-setup-codes setup.RemoteUnexpected = (omega arith, omega arith)
-setup-codes setup.PskCount = (omega arith, omega arith)
+setup-codes _ = (omega arith, omega arith)
 
 -- the numbers of the faults of a setup
 pub setup-within : (fault : SetupFault) (code : ℕ) → code ≡ setup_code fault → (4 ≤ code) × (code ≤ 8)

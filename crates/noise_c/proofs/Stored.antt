@@ -120,10 +120,8 @@ refused-leaves h h2 u fault token cause e f g = e ∙ ap (after_late_unread h) (
 
 -- another fault leaves it as it was
 pub plain-leaves : (h h2 : HandshakeValue Table) (u : LateUnread) (fault : ReadFault) → IsPlain fault → h2 ≡ after_late_unread h u → u ≡ unread.Declined fault → h2 ≡ h
-plain-leaves h h2 u read.NotYourTurn plain e f = e ∙ ap (after_late_unread h) f
-plain-leaves h h2 u read.Done plain e f = e ∙ ap (after_late_unread h) f
-plain-leaves h h2 u read.Ended plain e f = e ∙ ap (after_late_unread h) f
 plain-leaves h h2 u (read.Refused token cause) plain e f = absurd (plain token cause refl)
+plain-leaves h h2 u _ plain e f = e ∙ ap (after_late_unread h) f
 
 -- the psks that are left after a message stand at the same end
 psks-after : (old : NoiseHandshake) (h h2 : HandshakeValue Table) (taken : List (List ℕ)) → old.psk_count ≤ 9 → length h.psks ≡ old.psk_count

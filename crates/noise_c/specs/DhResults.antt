@@ -43,8 +43,9 @@ pub data AskedToRead (v : Party) (all : DhResults) (message : List ℕ) : DhResu
 -- The same where the party's own message lacks them.
 pub data AskedToWrite (v : Party) (all : DhResults) : DhResults → ℕ → DhResults → Type 0 where
   ready : (first : DhResults) → AskedToWrite v all first 0 first
-  asked : (first next last : DhResults) (own : Own) (key x : List ℕ) (n : ℕ) → WantsToWrite (with_dh_results v first) own key
-      → all own key ≡ Some x → IsHandedIn first next own key x → AskedToWrite v all next n last
+  asked : (first next last : DhResults) (own : Own) (key x : List ℕ) (n : ℕ)
+      → WantsToWrite (with_dh_results v first) own key → all own key ≡ Some x
+      → IsHandedIn first next own key x → AskedToWrite v all next n last
       → AskedToWrite v all first (suc n) last
 
 -- With the first DH results a message is accepted, refused or written only as with all of them; `Agreement` is the one
@@ -61,8 +62,9 @@ pub record ActsAsAll (v : Party) (first all : DhResults) : Type 0 where
 -- At a message of a valid pattern at most four DH results are asked for, one for each DH token, and with those it is
 -- accepted, refused or written as with all.
 abbrev pub FourSuffice : Type 0
-FourSuffice = (v : Party) (first last all : DhResults) (message : List ℕ) (n : ℕ) → IsValid v.pattern → AreAmong first all
-    → AskedToRead v all message first n last → (n ≤ count_by is_dh (tokens_now v)) × (n ≤ 4) × AreAmong last all
+FourSuffice = (v : Party) (first last all : DhResults) (message : List ℕ) (n : ℕ) → IsValid v.pattern
+    → AreAmong first all → AskedToRead v all message first n last
+    → (n ≤ count_by is_dh (tokens_now v)) × (n ≤ 4) × AreAmong last all
 
 -- the public key that a token shows
 abbrev pub Shows : (Own → Option (List ℕ)) → Token → Type 0
@@ -75,8 +77,9 @@ abbrev pub HasKeys : Party → Type 0
 HasKeys v = (before later : List Token) (t : Token) → tokens_now v ≡ before ++ t ∷ later → Shows v.own t
 
 abbrev pub FourSufficeToWrite : Type 0
-FourSufficeToWrite = (v : Party) (first last all : DhResults) (n : ℕ) → IsValid v.pattern → HasKeys v → AreAmong first all
-    → AskedToWrite v all first n last → (n ≤ count_by is_dh (tokens_now v)) × (n ≤ 4) × AreAmong last all
+FourSufficeToWrite = (v : Party) (first last all : DhResults) (n : ℕ) → IsValid v.pattern → HasKeys v
+    → AreAmong first all → AskedToWrite v all first n last
+    → (n ≤ count_by is_dh (tokens_now v)) × (n ≤ 4) × AreAmong last all
 
 -- what is asked for isn't there
 abbrev pub AskedIsLacking : Type 0

@@ -44,11 +44,11 @@ pub record IsAsLibrary (p : Plan) (v : Party) (all : DhResults) (n : ℕ) (last 
   pub same : ActsAsAll v (dh_results_in last) all
 
 abbrev pub ReadsAsLibrary : Type 0
-ReadsAsLibrary = (p : Plan) (v : Party) (all : DhResults) (message : List ℕ) (k last : NoiseHandshake) (n : ℕ) → IsValid p
-    → KeepsParty k p (with_dh_results v (dh_results_in k)) → AreAmong (dh_results_in k) all
+ReadsAsLibrary = (p : Plan) (v : Party) (all : DhResults) (message : List ℕ) (k last : NoiseHandshake) (n : ℕ)
+    → IsValid p → KeepsParty k p (with_dh_results v (dh_results_in k)) → AreAmong (dh_results_in k) all
     → ReadsByDhResults p all message k n last → IsAsLibrary p v all n last
 
 abbrev pub WritesAsLibrary : Type 0
 WritesAsLibrary = (p : Plan) (v : Party) (all : DhResults) (k last : NoiseHandshake) (n : ℕ) → IsValid p → HasKeys v
-    → KeepsParty k p (with_dh_results v (dh_results_in k)) → AreAmong (dh_results_in k) all → WritesByDhResults p all k n last
-    → IsAsLibrary p v all n last
+    → KeepsParty k p (with_dh_results v (dh_results_in k)) → AreAmong (dh_results_in k) all
+    → WritesByDhResults p all k n last → IsAsLibrary p v all n last

@@ -258,7 +258,7 @@ pub record SetsPsk (old new : NoiseHandshake) (psk : List ℕ) (code : ℕ) : Ty
   pub unchanged : OK < code → new ≡ old
   pub codes : (code ≡ OK) ⊎ (code ≡ STRUCT) ⊎ (code ≡ PSK_COUNT)
 
--- a state whose psks go on with this one is stood for as before
+-- a state that the struct matched, and whose psks go on with this one, it still matches
 abbrev pub GoesOn : NoiseHandshake → NoiseHandshake → List ℕ → Type 0
 GoesOn old new psk = (p : Plan) (v : Party) (later : List (List ℕ))
     → v.psks ≡ (handshake_from_c p old).psks ++ psk ∷ later → KeepsParty old p v → KeepsParty new p v
@@ -269,7 +269,8 @@ remote_reported results = if results.remote_known == 0 then None else Some resul
 
 -- What is wanted is reported, with this number.
 abbrev pub ReportsWant : Want → NoiseResult → ℕ → Type 0
-ReportsWant (DhResult own key) results code = (code ≡ WANTED) × (own_in results.of_static ≡ own) × (results.remote ≡ key)
+ReportsWant (DhResult own key) results code =
+    (code ≡ WANTED) × (own_in results.of_static ≡ own) × (results.remote ≡ key)
 ReportsWant (Psk remote) results code = (code ≡ WANTED_PSK) × (remote_reported results ≡ remote)
 
 -- Of a DH result that is wanted, 0 or 1 is reported for the key pair, and the other party's key; all else is unchanged.

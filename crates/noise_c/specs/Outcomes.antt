@@ -11,8 +11,8 @@ use Rattle.noise_c.specs.declared.structs.NoiseResult.{NoiseResult}
 use Rattle.noise_c.specs.HalfStructs.{IsAround}
 use Rattle.noise_c.specs.HandshakeStructs.{handshake_from_c, own_in, remote_reported, text_in, ForParty, HasMessageLen, IsPatternOf, IsUsable, KeepsParty, ReportsDhResult, ReportsRemote, WasDeclined, WasRead, WasWithheld, WasWritten}
 
--- Of this struct, the payload, a buffer and what is reported, `noise_write` leaves the struct, the buffer and what is
--- reported like this, and returns this number.
+-- What `noise_write` leaves of the struct, the buffer and the struct of results, by what they were before and by the
+-- payload, and the number that it returns.
 pub data WriteOutcome (old : NoiseHandshake) (payload out : List ℕ) (results : NoiseResult)
     (new : NoiseHandshake) (after : List ℕ) (next : NoiseResult) : ℕ → Type 0 where
   written : IsUsable new → HasMessageLen old (length payload) (Some next.len)

@@ -109,7 +109,7 @@ BeginsToWrite k v = WriterMatches (stream_sender_from_c k) v (Speaks 0)
 abbrev pub BeginsToRead : NoiseStreamReceiver → TransportState → Type 0
 BeginsToRead k v = ReaderMatches (stream_receiver_from_c k) v (Listens 0)
 
--- the half is asked this, and writes these bytes of so many bytes of a payload
+-- asked for this, the half writes these bytes, of so many first bytes of the payload
 abbrev pub WritesNext : NoiseStreamSender → Asked → ℕ → List ℕ → NoiseStreamSender → Type 0
 WritesNext old asked taken bytes new =
     (v : TransportState) (s : WriterState) → WriterMatches (stream_sender_from_c old) v s → (t : WriterState)

@@ -9,6 +9,7 @@ use crate::codes::numbers::*;
 use crate::codes::{cipher_code, ok_or};
 use crate::halves_from_c::*;
 use crate::structs::{NoiseCipher, NoiseResult};
+use noise_state::limits::{MAX_LEN, TAG_LEN};
 
 /// Encrypts the text in the first `text_len` bytes of `buffer` in place, with associated data (EncryptWithAd).
 #[unsafe(no_mangle)]
@@ -23,7 +24,7 @@ pub extern "C" fn noise_cipher_encrypt(
         cipher.old cipher.new buffer.old buffer.new results.old results.new result }
 {
     let mut state = ok_or!(cipher_from_c(cipher, cipher.mark == SENDING_CIPHER));
-    if ad.len() > MESSAGE_MAX {
+    if ad.len() > MAX_LEN {
         return LENGTH;
     }
     if buffer.len() < TAG_LEN || buffer.len() - TAG_LEN < text_len {
@@ -48,7 +49,7 @@ pub extern "C" fn noise_cipher_decrypt(
     ensures forged { result ≡ TAG → IsNoneOf cipher.old ad.now message.old }
 {
     let mut state = ok_or!(cipher_from_c(cipher, cipher.mark == RECEIVING_CIPHER));
-    if ad.len() > MESSAGE_MAX {
+    if ad.len() > MAX_LEN {
         return LENGTH;
     }
     let len = ok_or!(state.decrypt(ad, message), cipher_code);

@@ -11,8 +11,8 @@ use noise_names::TextFaultKind;
 use noise_session::{DatagramFault, OpenFault, SendFault};
 use noise_state::CipherFault;
 
-// What an export returns, with the numbers that `include/noise.h` has, the marks of the structs, and the lengths that
-// several exports test, in bytes.
+// What an export returns, with the numbers that `include/noise.h` has, the marks of the structs, and the lengths of a
+// frame.
 #[rattlefmt::skip]
 pub(crate) mod numbers {
     pub(crate) const OK: u32 = 0;
@@ -71,16 +71,9 @@ pub(crate) mod numbers {
     pub(crate) const STREAM_SENDER: u32 = 0x4e6f_0a01;
     pub(crate) const STREAM_RECEIVER: u32 = 0x4e6f_0b01;
 
-    // The longest message, prologue and associated data (Noise, 3), and the longest payload; a tag (Noise, 4.2).
-    pub(crate) const MESSAGE_MAX: usize = 65535;
-    pub(crate) const PAYLOAD_MAX: usize = 65519;
-    pub(crate) const TAG_LEN: usize = 16;
-
-    // The length before a message in a frame, the nonce before one in a datagram, and each of these with a tag.
+    // The length before a message in a frame, in bytes, and that with a tag.
     pub(crate) const HEAD_LEN: usize = 2;
-    pub(crate) const NONCE_LEN: usize = 8;
     pub(crate) const FRAME_OVERHEAD: usize = 18;
-    pub(crate) const DATAGRAM_OVERHEAD: usize = 24;
 }
 
 // The value, or else a return of this code from the function around.

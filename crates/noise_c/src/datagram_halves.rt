@@ -9,6 +9,7 @@ use crate::codes::{datagram_code, ok_or, seal_code, some_or};
 use crate::halves::report_nonce;
 use crate::halves_from_c::*;
 use crate::structs::{NoiseDatagramReceiver, NoiseDatagramSender, NoiseResult};
+use noise_session::limits::{DATAGRAM_OVERHEAD, NONCE_LEN};
 
 /// Seals a payload into the first bytes of `out`, 24 more than it has: the nonce in 8 bytes, the highest first, and the
 /// transport message of that nonce (Noise, 11.4).

@@ -4,11 +4,12 @@ ghost use Rattle.std.specs.Prelude.{length, take};
 ghost use Rattle.noise_c.specs.HalfStructs.{is_half, OpensInPlace, ReportsNonce, Seals};
 ghost use Rattle.noise_c.specs.declared.codes.numbers.TheConstants.{RECEIVER, SENDER};
 
-use crate::codes::numbers::{LENGTH, MESSAGE_MAX, OK, RECEIVER, ROOM, SENDER, STRUCT, TAG_LEN};
+use crate::codes::numbers::{LENGTH, OK, RECEIVER, ROOM, SENDER, STRUCT};
 use crate::codes::{ok_or, open_code, seal_code, some_or};
 use crate::halves_from_c::{half_from_c, half_to_c};
 use crate::structs::{NoiseHalf, NoiseResult};
 use noise_session::{Receiver, Sender};
+use noise_state::limits::{MAX_LEN, TAG_LEN};
 
 /// Seals a payload into the first bytes of `out`, 16 more than it has (Noise, 5.2). STRUCT at a receiving half too.
 #[unsafe(no_mangle)]
@@ -66,7 +67,7 @@ pub extern "C" fn noise_open(
     ensures { OpensInPlace half.old half.new message.old message.new results.old results.new result }
 {
     let parts = some_or!(half_from_c(half, RECEIVER), STRUCT);
-    if message.len() > MESSAGE_MAX {
+    if message.len() > MAX_LEN {
         return LENGTH;
     }
     let mut receiver = Receiver::from_parts(parts);

@@ -5,12 +5,13 @@ ghost use Rattle.noise_c.specs.HandshakeStructs.{IsUsable, ReportsDhResult, Repo
 ghost use Rattle.noise_c.specs.Outcomes.{AsksToRead, AsksToWrite, ReadOutcome, RefusesRoom, WriteOutcome};
 ghost use Rattle.noise_c.specs.declared.codes.numbers.TheConstants.{ENDED, LENGTH, OK, STRUCT, WANTED, WANTED_PSK};
 
-use crate::codes::numbers::{LENGTH, MESSAGE_MAX, OK, ROOM, STRUCT, WANTED, WANTED_PSK};
+use crate::codes::numbers::{LENGTH, OK, ROOM, STRUCT, WANTED, WANTED_PSK};
 use crate::codes::{read_code, some_or, write_code};
 use crate::from_c::{handshake_from_c, store_progress};
 use crate::structs::{NoiseHandshake, NoiseResult};
 use crate::supplied_keys::{key_to_c, own_to_c};
 use noise_handshake::{LateUnread, LateUnwritten, ReadFault, Want};
+use noise_state::limits::MAX_LEN;
 
 // Reports what is wanted, and returns the number of that.
 fn report_want(want: Want, results: &mut NoiseResult) -> u32
@@ -85,7 +86,7 @@ pub extern "C" fn noise_read(
     ensures asked { AsksToRead handshake.old message.old results.new result }
 {
     let mut state = some_or!(handshake_from_c(handshake), STRUCT);
-    if message.len() > MESSAGE_MAX {
+    if message.len() > MAX_LEN {
         return LENGTH;
     }
     match state.read_or_ask(message) {

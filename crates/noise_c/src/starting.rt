@@ -9,7 +9,7 @@ ghost use Rattle.noise_c.specs.HandshakeStructs.{role_in, public_in, agreement_i
 ghost use Rattle.noise_c.specs.HandshakeStructs.{IsNoName, IsNoText, IsNotValid, IsPatternOf, IsStartCode, IsStarted, StoresStart};
 ghost use Rattle.noise_c.specs.declared.codes.numbers.TheConstants.{NAME, OK, PATTERN};
 
-use crate::codes::numbers::{HANDSHAKE, LENGTH, MESSAGE_MAX, OK, PSK_COUNT};
+use crate::codes::numbers::{HANDSHAKE, LENGTH, OK, PSK_COUNT};
 use crate::codes::{ok_or, setup_code};
 use crate::from_c::{role_of, store_progress};
 use crate::patterns::pattern_of;
@@ -17,6 +17,7 @@ use crate::structs::{NoiseHandshake, NoiseSetup};
 use crate::supplied_keys::{SuppliedKeys, key_of};
 use noise_handshake::{LateHandshake, Remote, SetupFault};
 use noise_names::ValidPattern;
+use noise_state::limits::MAX_LEN;
 
 // The handshake that starts from this.
 fn begin<'a>(
@@ -83,7 +84,7 @@ pub extern "C" fn noise_start(
     ensures codes { IsStartCode result }
 {
     let valid = ok_or!(pattern_of(pattern));
-    if prologue.len() > MESSAGE_MAX {
+    if prologue.len() > MAX_LEN {
         return LENGTH;
     }
     if setup.psk_count > 9 {

@@ -10,6 +10,8 @@ use crate::halves_from_c::*;
 use crate::structs::{NoiseStreamReceiver, NoiseStreamResult, NoiseStreamSender};
 use noise_channel::{Framed, Next, next_frame};
 use noise_session::frame_message;
+use noise_session::limits::PAYLOAD_MAX;
+use noise_state::limits::MAX_LEN;
 
 /// Writes the first bytes of a payload, 65519 at most, as a frame into the first bytes of `out`, and reports how many
 /// bytes of each. Of an empty payload nothing is written. EXHAUSTED where only the nonce of the end is left.
@@ -118,7 +120,7 @@ pub extern "C" fn noise_frame_message(
 ) -> u32
     ensures { FramesMessage message_len buffer.old buffer.new results.old results.new result }
 {
-    if message_len > MESSAGE_MAX {
+    if message_len > MAX_LEN {
         return LENGTH;
     }
     if buffer.len() < HEAD_LEN || buffer.len() - HEAD_LEN < message_len {

@@ -34,10 +34,10 @@ returns-in-None c =
       asked = λ u _ _ _ _ _ _. absurd (none u);
     }
 
-pub returns-then-message-gt-MESSAGE_MAX : goal.returns-then-message-gt-MESSAGE_MAX
-returns-then-message-gt-MESSAGE_MAX c =
+pub returns-then-message-gt-MAX_LEN : goal.returns-then-message-gt-MAX_LEN
+returns-then-message-gt-MAX_LEN c =
     let usable = c.in-Some.ensures.usable.0 refl in
-    let long = c.if-message-gt-MESSAGE_MAX.true in
+    let long = c.if-message-gt-MAX_LEN.true in
     record {
       unusable = (other 24 23 refl, λ none. absurd (none usable));
       length = (λ _. (long, usable), λ _. refl);
@@ -77,7 +77,7 @@ returns-in-Ok c =
     c.progress.ensures.valid same c.progress.ensures.whole in
     record {
       unusable = (other 0 23 refl, λ none. absurd (none before));
-      length = (other 0 24 refl, λ w. too-long (length c.args.message.now) 65535 w.0 c.if-message-gt-MESSAGE_MAX.false);
+      length = (other 0 24 refl, λ w. too-long (length c.args.message.now) 65535 w.0 c.if-message-gt-MAX_LEN.false);
       outcome = accepted usable refl (omega (arith, c.in-Ok.ensures.range.0, c.in-Ok.ensures.range.1))
           (around c.args.message.now m start end c.in-Ok.ensures.range.0 c.in-Ok.ensures.beyond)
           (λ p v k.
@@ -118,7 +118,7 @@ returns-in-Refused c =
     let within : (14 ≤ code) × (code ≤ 16) = refused-within fault code _ _ is refused in
     record {
       unusable = (not-after code 16 23 within.1 refl, λ none. absurd (none (c.in-Some.ensures.usable.0 refl)));
-      length = (not-after code 16 24 within.1 refl, λ w. too-long (length c.args.message.now) 65535 w.0 c.if-message-gt-MESSAGE_MAX.false);
+      length = (not-after code 16 24 within.1 refl, λ w. too-long (length c.args.message.now) 65535 w.0 c.if-message-gt-MAX_LEN.false);
       left = λ outside _. refused-between code within outside;
       outcome = declined code (inr (refused-among code within)) refl (usable-ended old) c.in-Err-Declined.ensures.unchanged
           (λ p v k.
@@ -154,7 +154,7 @@ returns-in_default c =
     let within : (10 ≤ code) × (code ≤ 13) = plain-within code among in
     record {
       unusable = (not-after code 13 23 within.1 refl, λ none. absurd (none (c.in-Some.ensures.usable.0 refl)));
-      length = (not-after code 13 24 within.1 refl, λ w. too-long (length c.args.message.now) 65535 w.0 c.if-message-gt-MESSAGE_MAX.false);
+      length = (not-after code 13 24 within.1 refl, λ w. too-long (length c.args.message.now) 65535 w.0 c.if-message-gt-MAX_LEN.false);
       left = λ _ _. refl;
       outcome = declined code (plain-sort code among) refl (λ u. u) c.in-Err-Declined.ensures.unchanged
           (λ p v k.
@@ -194,7 +194,7 @@ pub returns-in-Err-Wants-clause-length : goal.returns-in-Err-Wants-clause-length
 returns-in-Err-Wants-clause-length c = (
   wants-other c.in-Err-Wants.want c.report_want.new.results c.report_want.result 24
       (wanted c.in-Err-Wants.want _ c.report_want.new.results c.report_want.result c.in-Err-Wants.want-is c.report_want.ensures.want) refl refl,
-  λ w. too-long (length c.args.message.now) 65535 w.0 c.if-message-gt-MESSAGE_MAX.false,
+  λ w. too-long (length c.args.message.now) 65535 w.0 c.if-message-gt-MAX_LEN.false,
 )
 
 pub returns-in-Err-Wants-clause-outcome : goal.returns-in-Err-Wants-clause-outcome

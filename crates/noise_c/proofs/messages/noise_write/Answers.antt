@@ -148,7 +148,7 @@ returns-in-Err-Wants c =
           (subst (λ (z : Want). ReportsWant z results code) same t).0;
     }
 
--- only for want of an answer something is written
+-- only for want of a DH result something is written
 unchanged-out : (o : Option WriteFault) (u : LateUnwritten) (fault : WriteFault) (Q : Type 0) → u ≡ unwritten.Withheld fault
     → MatchOption o (IsLateOfTurn u) (λ f. (◌≡◌ {A = Result ℕ LateUnwritten} (Err u) (Err (unwritten.Withheld f))) × Q) → (write_code fault ≡ 14 → ⊥) → Q
 unchanged-out None u write.Ended Q e x differs = absurd (subst IsLateOfTurn e x)

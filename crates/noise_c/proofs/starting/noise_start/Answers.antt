@@ -18,11 +18,11 @@ returns-in-Err-clause-codes c = fault-start c.in-Err.code (fault-code c.args.pat
 pub returns-in-Err-clause-valid : goal.returns-in-Err-clause-valid
 returns-in-Err-clause-valid c p h v = absurd (cc (c.in-Err.ensures.found p h v))
 
-pub returns-then-prologue-gt-MESSAGE_MAX-clause-name : goal.returns-then-prologue-gt-MESSAGE_MAX-clause-name
-returns-then-prologue-gt-MESSAGE_MAX-clause-name c = valid-name c.args.pattern.now c.in-Ok.value 24 c.in-Ok.ensures.named (other 24 1 refl)
+pub returns-then-prologue-gt-MAX_LEN-clause-name : goal.returns-then-prologue-gt-MAX_LEN-clause-name
+returns-then-prologue-gt-MAX_LEN-clause-name c = valid-name c.args.pattern.now c.in-Ok.value 24 c.in-Ok.ensures.named (other 24 1 refl)
 
-pub returns-then-prologue-gt-MESSAGE_MAX-clause-pattern : goal.returns-then-prologue-gt-MESSAGE_MAX-clause-pattern
-returns-then-prologue-gt-MESSAGE_MAX-clause-pattern c =
+pub returns-then-prologue-gt-MAX_LEN-clause-pattern : goal.returns-then-prologue-gt-MAX_LEN-clause-pattern
+returns-then-prologue-gt-MAX_LEN-clause-pattern c =
     valid-pattern c.args.pattern.now c.in-Ok.value 24 c.in-Ok.ensures.named c.in-Ok.ensures.valid c.in-Ok.ensures.one (other 24 2 refl)
 
 pub returns-then-setup-gt9-clause-name : goal.returns-then-setup-gt9-clause-name
@@ -49,7 +49,7 @@ returns-in-Err-begin-clause-codes c = inr (inr (inr (inl (setup-within c.in-Err-
 pub returns-in-Err-begin-clause-valid : goal.returns-in-Err-begin-clause-valid
 returns-in-Err-begin-clause-valid c p h v =
     c.setup_code.ensures ∙ start-err c.in-Ok.value c.args.prologue.now c.args.setup.now (Err c.in-Err-begin.fault) c.in-Err-begin.fault refl
-    (omega (arith, c.if-prologue-gt-MESSAGE_MAX.false)) (omega (arith, c.if-setup-gt9.false)) c.in-Err-begin.ensures.fault
+    (omega (arith, c.if-prologue-gt-MAX_LEN.false)) (omega (arith, c.if-setup-gt9.false)) c.in-Err-begin.ensures.fault
     ∙ ap (λ (z : Plan). start_code z c.args.prologue.now c.args.setup.now) (sym (c.in-Ok.ensures.one p h))
 
 pub returns-clause-name : goal.returns-clause-name
@@ -62,7 +62,7 @@ returns-clause-pattern c =
 pub returns-clause-valid : goal.returns-clause-valid
 returns-clause-valid c p h v =
     start-ok c.in-Ok.value c.args.prologue.now c.args.setup.now (Ok c.in-Ok-begin.value) c.in-Ok-begin.value refl
-    (omega (arith, c.if-prologue-gt-MESSAGE_MAX.false)) (omega (arith, c.if-setup-gt9.false)) c.in-Ok-begin.ensures.fault
+    (omega (arith, c.if-prologue-gt-MAX_LEN.false)) (omega (arith, c.if-setup-gt9.false)) c.in-Ok-begin.ensures.fault
     ∙ ap (λ (z : Plan). start_code z c.args.prologue.now c.args.setup.now) (sym (c.in-Ok.ensures.one p h))
 
 pub returns-clause-started : goal.returns-clause-started
