@@ -214,7 +214,7 @@ fn hello_comes_through(rt: HostRuntime) -> Result<(), Fail> {
     Ok(())
 }
 
-// The responder's DH result to the first message of an initiator.
+// The message with which the responder replies to the first one of an initiator.
 fn answer(alloc: Global) -> Result<Vec<u8>, Failure> {
     let mut first = new_end(alloc, Role::Initiator, FIRST)?;
     let mut second = new_end(alloc, Role::Responder, SECOND)?;
