@@ -10,7 +10,7 @@ pub record Begins (buffer message : List ℕ) : Type 0 where
   pub spelled : buffer ≡ frame message ++ rest
   pub short : length message ≤ 65535
 
--- What is reported of a buffer: how many bytes more its frame wants, or where the message of its frame lies.
+-- What `next_frame` returns of a buffer: how many bytes more its frame wants, or where the message of its frame lies.
 abbrev pub Frames : List ℕ → Framed → Type 0
 Frames buffer (framed.Wants count) = IsPartial buffer × (count ≡ frame_length buffer - length buffer) × (1 ≤ count)
     × (count ≤ 65535)

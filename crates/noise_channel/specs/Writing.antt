@@ -43,7 +43,7 @@ pub data Writes : Direction → WriterState → Asked → Put → WriterState �
       → Writes d (Speaks n) (ToWrite payload) (Failed fault.Exhausted) (Speaks n)
   over : (d : Direction) (asked : Asked) → Writes d HasEnded asked (Failed fault.Ended) HasEnded
 
--- what a call of `write` or `end` reports, with the bytes of its output
+-- what a call of `write` or `end` returns, with the bytes of its output
 abbrev pub put_by_write : List ℕ → Result (ℕ × ℕ) StreamFault → Put
 put_by_write out (Ok r) = Wrote r.0 (take r.1 out)
 put_by_write out (Err why) = Failed why

@@ -19,6 +19,7 @@ use Rattle.noise_session.specs.Windows.{is_among, is_old, window_fault}
 use Rattle.noise_session.specs.Datagrams.{DatagramState, Opens, accepting, datagram, datagram_fault, nonce_named, unsealed}
 use Rattle.noise_session.specs.Datagrams.Opens.{opened}
 use Rattle.noise_events.specs.DatagramEvents.{DatagramEvent, Seal, Open, Raw}
+use Rattle.noise_session.specs.DatagramFaults.{fault-free, no-fault}
 use Rattle.noise_duel.specs.DatagramAgreement.{AreAtNonces, AreCounted, ArriveOnce, DatagramRunsAgree}
 use Rattle.noise_duel.specs.DatagramNotes.{DatagramNote, Sealed, SealFault, Payload, Rejected, Missing}
 use Rattle.noise_duel.specs.DatagramRuns.{DatagramHappens, DatagramRun, PartyOpens, PartySeals}
@@ -26,7 +27,7 @@ use Rattle.noise_duel.specs.DatagramRuns.DatagramHappens.{is_sealed, is_delivere
 use Rattle.noise_duel.specs.DatagramRuns.DatagramRun.{begins, ends}
 use Rattle.noise_duel.specs.DatagramRuns.PartyOpens.{opens, rejects}
 use Rattle.noise_duel.specs.DatagramRuns.PartySeals.{seals, seals_nothing}
-use Rattle.noise_duel.specs.DatagramSides.{DatagramSide, DatagramSides, NonceMessage, at_nonce, sealed_datagrams, datagram_sides, new_party, of_nonce, opening, party, sealing, datagram_bytes}
+use Rattle.noise_duel.specs.DatagramSides.{DatagramSide, DatagramSides, NonceMessage, at_nonce, sealed_datagrams, datagram_sides, new_party, of_nonce, opening, party, with_party, sealing, datagram_bytes}
 use Rattle.noise_duel.specs.Forgery.{ForgedMessage}
 use Rattle.noise_duel.specs.Sides.{Sides, TransportMessage}
 use Rattle.noise_conversation.specs.Datagrams.{nonce_of_event, SealedAt, OpenedAt, IsReportedOfDatagrams, DatagramsAreReported, ForgedDatagram, EntriesArrive}
@@ -60,10 +61,6 @@ get-whole (m ∷ ms) (suc n) bytes e = get-whole ms n bytes e
 
 -- ---- nonces
 
-no-fault : {X : Type 0} (b : Bool) (x : X) (rest : Option X) → (if b then Some x else rest) ≡ None → (b ≡ false) × (rest ≡ None)
-no-fault true x rest e = cc
-no-fault false x rest e = (refl, e)
-
 low-nonce : (role : Role) (one_way : Bool) (nonce n : ℕ) → unsealed role one_way nonce n ≡ None → nonce < last_nonce
 low-nonce role one_way nonce n e =
     let last : Option SendFault = if nat_le last_nonce nonce then Some send.Exhausted else None in
@@ -73,23 +70,8 @@ low-nonce role one_way nonce n e =
     let c = no-fault (nat_le last_nonce nonce) send.Exhausted None b.1 in
     leb-false last_nonce nonce c.0
 
-not-accepted : (v : DatagramState) (bytes : List ℕ) → datagram_fault v bytes ≡ None → is_among v.accepted (nonce_named bytes) ≡ false
-not-accepted v bytes e =
-    let n = nonce_named bytes in
-    let window = window_fault v.width v.accepted n in
-    let reserved : Option DatagramFault = if n == last_nonce then Some fault.Reserved else window in
-    let long : Option DatagramFault = if nat_lt 65543 (length bytes) then Some fault.TooLong else reserved in
-    let short : Option DatagramFault = if nat_lt (length bytes) 24 then Some fault.Short else long in
-    let a = no-fault (v.one_way && same_role v.role Initiator) fault.OneWay short e in
-    let b = no-fault (nat_lt (length bytes) 24) fault.Short long a.1 in
-    let c = no-fault (nat_lt 65543 (length bytes)) fault.TooLong reserved b.1 in
-    let d = no-fault (n == last_nonce) fault.Reserved window c.1 in
-    let seen : Option DatagramFault = if is_among v.accepted n then Some fault.Repeated else None in
-    let f = no-fault (is_old v.width v.accepted n) fault.Old seen d.1 in
-    (no-fault (is_among v.accepted n) fault.Repeated None f.1).0
-
 fresh : (v : DatagramState) (bytes payload : List ℕ) (w : DatagramState) → Opens v bytes (Ok payload) w → is_among v.accepted (nonce_named bytes) ≡ false
-fresh v bytes payload w (opened _ _ _ none is) = not-accepted v bytes none
+fresh v bytes payload w (opened _ _ _ none is) = (fault-free v bytes none).fresh
 
 first-of : (m : NonceMessage) (ms : List NonceMessage) (n : ℕ) → m.nonce ≡ n → of_nonce (m ∷ ms) n ≡ Some m.message
 first-of m ms n e = rw (eq-eqb m.nonce n e) refl
@@ -177,36 +159,30 @@ open-step role theirs s event bytes note next (rejects _ _ why o) came =
 miss-step : (role : Role) (theirs s : DatagramSide) (n : ℕ) → OneStep role theirs s (Open role n) (role, Missing n) s
 miss-step role theirs s n = stays-reported role theirs s (Open role n) (Missing n) (missing-sealed n) (missing-payload n)
 
+-- what is a step of the role that it is about leaves the other role as it was
+by-role : (role r : Role) (d : DatagramSides) (event : DatagramEvent) (reported : DatagramNote) (s : DatagramSide)
+    → OneStep r (party d (other r)) (party d r) event (r, reported) s
+    → OneStep role (party d (other role)) (party d role) event (r, reported) (party (with_party d r s) role)
+by-role Initiator Initiator d event reported s step = step
+by-role Initiator Responder d event reported s step = stays-other Initiator d.responder d.initiator event reported
+by-role Responder Initiator d event reported s step = stays-other Responder d.initiator d.responder event reported
+by-role Responder Responder d event reported s step = step
+
+misses-by-role : (role r : Role) (d : DatagramSides) (n : ℕ) → OneStep role (party d (other role)) (party d role) (Open r n) (r, Missing n) (party d role)
+misses-by-role role Initiator d n =
+    by-role role Initiator d (Open Initiator n) (Missing n) d.initiator (miss-step Initiator d.responder d.initiator n)
+misses-by-role role Responder d n =
+    by-role role Responder d (Open Responder n) (Missing n) d.responder (miss-step Responder d.initiator d.responder n)
+
 step-of : (role : Role) (d next : DatagramSides) (event : DatagramEvent) (note : Role × DatagramNote) → DatagramHappens d event note next
     → OneStep role (party d (other role)) (party d role) event note (party next role)
-step-of Initiator d next event note (is_sealed _ Initiator payload reported s p) = seal-step Initiator d.responder d.initiator payload reported s p
-step-of Initiator d next event note (is_sealed _ Responder payload reported s p) =
-    stays-other Initiator d.responder d.initiator (Seal Responder payload) reported
-step-of Initiator d next event note (is_delivered _ Initiator n bytes reported s got p) =
-    open-step Initiator d.responder d.initiator (Open Initiator n) bytes reported s p (inr (n, refl, got))
-step-of Initiator d next event note (is_delivered _ Responder n bytes reported s got p) =
-    stays-other Initiator d.responder d.initiator (Open Responder n) reported
-step-of Initiator d next event note (is_missing _ Initiator n none) = miss-step Initiator d.responder d.initiator n
-step-of Initiator d next event note (is_missing _ Responder n none) =
-    stays-other Initiator d.responder d.initiator (Open Responder n) (Missing n)
-step-of Initiator d next event note (is_put_in _ Initiator bytes reported s p) =
-    open-step Initiator d.responder d.initiator (Raw Initiator bytes) bytes reported s p (inl refl)
-step-of Initiator d next event note (is_put_in _ Responder bytes reported s p) =
-    stays-other Initiator d.responder d.initiator (Raw Responder bytes) reported
-step-of Responder d next event note (is_sealed _ Responder payload reported s p) = seal-step Responder d.initiator d.responder payload reported s p
-step-of Responder d next event note (is_sealed _ Initiator payload reported s p) =
-    stays-other Responder d.initiator d.responder (Seal Initiator payload) reported
-step-of Responder d next event note (is_delivered _ Responder n bytes reported s got p) =
-    open-step Responder d.initiator d.responder (Open Responder n) bytes reported s p (inr (n, refl, got))
-step-of Responder d next event note (is_delivered _ Initiator n bytes reported s got p) =
-    stays-other Responder d.initiator d.responder (Open Initiator n) reported
-step-of Responder d next event note (is_missing _ Responder n none) = miss-step Responder d.initiator d.responder n
-step-of Responder d next event note (is_missing _ Initiator n none) =
-    stays-other Responder d.initiator d.responder (Open Initiator n) (Missing n)
-step-of Responder d next event note (is_put_in _ Responder bytes reported s p) =
-    open-step Responder d.initiator d.responder (Raw Responder bytes) bytes reported s p (inl refl)
-step-of Responder d next event note (is_put_in _ Initiator bytes reported s p) =
-    stays-other Responder d.initiator d.responder (Raw Initiator bytes) reported
+step-of role d next event note (is_sealed _ r payload reported s p) =
+    by-role role r d (Seal r payload) reported s (seal-step r (party d (other r)) (party d r) payload reported s p)
+step-of role d next event note (is_delivered _ r n bytes reported s got p) =
+    by-role role r d (Open r n) reported s (open-step r (party d (other r)) (party d r) (Open r n) bytes reported s p (inr (n, refl, got)))
+step-of role d next event note (is_missing _ r n none) = misses-by-role role r d n
+step-of role d next event note (is_put_in _ r bytes reported s p) =
+    by-role role r d (Raw r bytes) reported s (open-step r (party d (other r)) (party d r) (Raw r bytes) bytes reported s p (inl refl))
 
 -- ---- what a step keeps
 
@@ -623,7 +599,7 @@ module _ (agree : DatagramRunsAgree) where
       )
 
   pub datagram-keys-come : DatagramKeysCome
-  datagram-keys-come v w events notes last duel b run pictures =
+  datagram-keys-come v w events notes last duel b run matches =
       let a = agree v w events notes last b run in
       let there : split_key last.responder.state.history (other last.responder.state.role) ≡ split_key last.initiator.state.history last.initiator.state.role =
       ap (λ (r : History). split_key r (other last.responder.state.role)) (a.responder.history ∙ sym a.initiator.history)
@@ -632,8 +608,8 @@ module _ (agree : DatagramRunsAgree) where
       ap (λ (r : History). split_key r (other last.initiator.state.role)) (a.initiator.history ∙ sym a.responder.history)
       ∙ ap (split_key last.responder.state.history) (ap other a.initiator.role_is ∙ sym a.responder.role_is) in
       record {
-        there = pictures.responder.receiver.key ∙ ap Some there ∙ sym pictures.initiator.sender.key;
-        back = pictures.initiator.receiver.key ∙ ap Some back ∙ sym pictures.responder.sender.key;
+        there = matches.responder.receiver.key ∙ ap Some there ∙ sym matches.initiator.sender.key;
+        back = matches.initiator.receiver.key ∙ ap Some back ∙ sym matches.responder.sender.key;
       }
 
 -- ---- with equal hashes

@@ -7,6 +7,6 @@ pub mod Framed
 pub mod Faults
 pub mod Payloads
 pub mod Places
-pub mod StepValue
+pub mod HashReported
 pub mod Xor
 pub mod Mixed

@@ -18,15 +18,15 @@ use Rattle.noise_conversation.specs.Payloads.{ReportsPayloads}
 use Rattle.noise_conversation.specs.Setup.{BothStarts, IsReportedFault, fault_of}
 
 module _ {K : Type 0} (public_of : K → Own → Option (List ℕ)) (agreement : K → Own → List ℕ → Option (List ℕ)) where
-  -- The report reports what the run of the events makes of two new ends, and the ends left are those after it. Where
-  -- both report one hash, they have one history, and what each accepted is the first of what the other wrote, up to a
-  -- forged message; or two texts that they hashed collide.
+  -- The report is that of the run of the events from two new ends, and the ends left are those after it. Where both
+  -- report one hash, they have one history, and what each accepted is the first of what the other wrote, up to a forged
+  -- message; or two texts that they hashed collide.
   pub record AgreeOverNetwork (p : Plan) (s : BothStarts) (interval : ℕ) (events : List Event) (duel : DuelValue K K)
       (report : Report) : Type 0 where
     pub reports : Reports public_of agreement public_of agreement
         (sides_at_start p s.initiator s.responder interval interval) events duel report
-    -- what the report reports of each role as written and accepted is what it wrote and accepted in the run, whatever
-    -- the hashes are
+    -- by the report each role wrote and accepted the payloads that it wrote and accepted in the run, whatever the
+    -- hashes are
     pub initiator : ReportsPayloads Initiator events (notes_of report.entries.items) reports.last.initiator
     pub responder : ReportsPayloads Responder events (notes_of report.entries.items) reports.last.responder
     -- the psks are the same, and the keys' DH results are alike

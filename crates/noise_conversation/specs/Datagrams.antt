@@ -1,4 +1,4 @@
--- What the entries of a run of datagrams report of the two parties of one handshake: what each sealed and opened, and
+-- What the entries of a run of datagrams say of the two parties of one handshake: what each sealed and opened, and
 -- what they agree on.
 use Rattle.std.specs.Prelude.{◌≡◌, ◌≢◌, ◌⊎◌, ℕ, List, drop, Option, Some, None, Result, IfOk, slice_get}
 use Rattle.noise_names.specs.declared.token.Role.{Role}
@@ -35,14 +35,13 @@ nonce_of_event (Seal role payload) = None
 nonce_of_event (Open role n) = Some n
 nonce_of_event (Raw role bytes) = Some (nonce_named bytes)
 
--- Event i, counted from 0, has a role seal this payload, and its entry reports of the datagram: its number and its
--- bytes.
+-- Event i, counted from 0, has a role seal this payload, and its entry has the datagram's number and bytes.
 pub record SealedAt (events : List DatagramEvent) (notes : List (Role × DatagramNote)) (i : ℕ) (role : Role) (n : ℕ)
     (payload bytes : List ℕ) : Type 0 where
   pub event : slice_get events i ≡ Some (Seal role payload)
   pub entry : slice_get notes i ≡ Some (role, Sealed n bytes)
 
--- Event i has a datagram of this nonce come, and its entry reports that a role opened it, with this payload.
+-- Event i has a datagram of this nonce come, and its entry says that a role opened it, with this payload.
 pub record OpenedAt (events : List DatagramEvent) (notes : List (Role × DatagramNote)) (i : ℕ) (role : Role) (n : ℕ)
     (payload : List ℕ) : Type 0 where
   pub event : DatagramEvent
@@ -50,9 +49,9 @@ pub record OpenedAt (events : List DatagramEvent) (notes : List (Role × Datagra
   pub nonce : nonce_of_event event ≡ Some n
   pub entry : slice_get notes i ≡ Some (role, Payload payload)
 
--- ---- what is reported
+-- ---- what the entries say
 
--- What a role's entries report is what it sealed and opened in the run: all of it, and nothing else.
+-- A role's entries say what it sealed and opened in the run: all of it, and nothing else.
 pub record IsReportedOfDatagrams (role : Role) (events : List DatagramEvent) (notes : List (Role × DatagramNote))
     (s : DatagramSide) : Type 0 where
   pub sealed : (n : ℕ) (m : NonceMessage) → slice_get s.sealed n ≡ Some m → (i : ℕ)
@@ -76,7 +75,7 @@ DatagramsAreReported =
 -- ---- what they agree on
 
 -- Event i put in a forged datagram: bytes that name nonce n, and hold the message that the writer has there for this
--- payload, though no entry reports that the writer sealed that datagram (Noise 5.2, 12.3).
+-- payload, though no entry says that the writer sealed that datagram (Noise 5.2, 12.3).
 pub record ForgedDatagram (r : History) (writer : Role) (events : List DatagramEvent)
     (notes : List (Role × DatagramNote)) (i n : ℕ)
     (payload : List ℕ) : Type 0 where
@@ -86,8 +85,8 @@ pub record ForgedDatagram (r : History) (writer : Role) (events : List DatagramE
   pub message : drop 8 bytes ≡ transport_message r writer 0 n payload
   pub unsealed : (j : ℕ) → slice_get notes j ≢ Some (writer, Sealed n (datagram r writer n payload))
 
--- In one direction: a nonce is reported as opened at one place only, and the payload there is the one that the writer
--- sealed as its datagram of that number, as an entry reports, or the datagram is forged.
+-- In one direction: at most one entry says that a nonce was opened, and its payload is the one that the writer sealed
+-- as its datagram of that number, as an entry says, or the datagram is forged.
 pub record EntriesArrive (r : History) (writer : Role) (events : List DatagramEvent)
     (notes : List (Role × DatagramNote)) : Type 0 where
   pub once : (i j n : ℕ) (p q : List ℕ) → OpenedAt events notes i (other writer) n p
@@ -115,8 +114,8 @@ DatagramKeysCome =
     → HaveOneBeginning v w → DatagramRun (datagram_sides v w) events notes last → DatagramDuelMatches duel last
     → DatagramKeysMeet duel
 
--- The report reports what the run of the events makes of these two parties, and what its entries report is what each
--- sealed and opened; they agree in both directions, and so do the keys of the parties left.
+-- The report is that of the run of the events from these two parties, and its entries say what each sealed and opened;
+-- they agree in both directions, and so do the keys of the parties left.
 pub record DatagramsOverNetwork (v w : DatagramState) (events : List DatagramEvent) (duel : DatagramDuelValue)
     (report : DatagramReport) : Type 0 where
   pub reports : DatagramReports (datagram_sides v w) events duel report

@@ -1,4 +1,4 @@
--- What two ends with one hash agree on of a report: the payloads that it reports of, and the keys of the next messages.
+-- What two ends with one hash agree on by a report: its payloads, and the keys of the next messages.
 use Rattle.std.specs.Prelude.{◌≡◌, ◌≢◌, ◌⊎◌, ℕ, zero, suc, ◌+◌, List, ◌++◌, length, take, Option, Some, slice_get, if◌then◌else◌}
 use Rattle.noise_names.specs.declared.token.Role.{Role}
 use Rattle.noise_names.specs.declared.token.Role.TheVariants.{Initiator, Responder}
@@ -48,7 +48,7 @@ pub record ForgedFrame (r : History) (writer : Role) (interval opening : ℕ) (f
   pub entry : slice_get (reported_to (other writer) notes) i ≡ Some payload
   pub unwritten : slice_get frames i ≢ Some (frame (transport_message r writer interval nonce payload))
 
--- what the other role was reported are the first of the payloads that the writer wrote, in order, or the first that
+-- the payloads that the other role received are the first of those that the writer wrote, in order, or the first that
 -- isn't came in a forged frame
 abbrev pub PrefixOrForgedFrame : History → Role → ℕ → ℕ → List (List ℕ) → List TransportMessage → List (List ℕ)
     → List (Role × Note) → Type 0

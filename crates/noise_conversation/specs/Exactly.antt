@@ -1,5 +1,4 @@
--- What is reported of a whole message, and what a handshake by itself returns to one: each result in exactly one
--- case.
+-- The step of a whole message, and what a handshake by itself returns to one: each result in exactly one case.
 use Rattle.std.specs.Prelude.{◌≡◌, ◌≢◌, ◌↔◌, ℕ, List, length, IsTrue, nat_lt, if◌then◌else◌, Result, Ok, Err, MatchResult}
 use Rattle.noise_handshake.specs.declared.faults.Cause.{Cause}
 use Rattle.noise_handshake.specs.declared.faults.Cause.TheVariants.{Short, Tag}
@@ -15,7 +14,7 @@ use Rattle.noise_session.specs.Ends.{EndState, progress_of}
 use Rattle.noise_session.specs.Taking.{Judges}
 use Rattle.noise_session.specs.Exactly.{Encodes}
 
--- An open end that has a nonce left drops the message: it is one of no payload, and the cause is reported by its
+-- An open end that has a nonce left drops the message: it is one of no payload, and the cause is that of its
 -- length, since a tag has 16 bytes (Noise 12.3).
 pub record IsDropped (v : EndState) (message : List ℕ) (cause : Cause) : Type 0 where
   pub opens : IsTrue (is_open (progress_of v))
@@ -28,7 +27,7 @@ pub record HasNoNonce (v : EndState) : Type 0 where
   pub opens : IsTrue (is_open (progress_of v))
   pub nonce : v.received ≡ last_nonce
 
--- All that is reported of a whole message that comes to an end that listens.
+-- The step of a whole message that comes to an end that listens, each in exactly its case.
 pub record AllReportedExactly (v : EndState) (message : List ℕ) (reported : StepValue) : Type 0 where
   pub payload : (payload : List ℕ) → reported ≡ Payload payload ↔ Encodes v message payload
   pub refused : (token : ℕ) (cause : Cause) → reported ≡ Refused token cause ↔ Refuses v.party message token cause

@@ -1,4 +1,4 @@
--- When lines fit into the messages of a pattern, and what is reported of bytes that an end didn't take.
+-- When lines fit into the messages of a pattern, and how a report counts bytes that an end didn't take.
 use Rattle.std.specs.Prelude.{ℕ, ◌+◌, Bool, true, not, ◌&&◌, ◌||◌, nat_le, nat_lt, List, [], ◌∷◌, length, if◌then◌else◌}
 use Rattle.noise_names.specs.declared.token.Role.{Role}
 use Rattle.noise_names.specs.declared.token.Role.TheVariants.{Initiator}

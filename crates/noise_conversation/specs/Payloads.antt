@@ -1,4 +1,4 @@
--- Which payloads a report reports of, and what the lists of a run that agreement compares have to do with them.
+-- The payloads of a report, and those in the lists of a run that agreement compares.
 use Rattle.std.specs.Prelude.{◌≡◌, ℕ, ◌+◌, Bool, true, false, List, [], ◌∷◌, ◌++◌, if◌then◌else◌}
 use Rattle.std.specs.List.{flat_map}
 use Rattle.noise_names.specs.declared.token.Role.{Role}

@@ -90,7 +90,7 @@ fault_of p s =
     or_next (setup_fault p Initiator s.initiator.own s.initiator.remote (length s.initiator.psks))
     (setup_fault p Responder s.responder.own s.responder.remote (length s.responder.psks))
 
--- a fault of the setup is reported only where it is the one that was found; else memory ran out
+-- the error is the fault of the setup that was found, or memory ran out
 abbrev pub IsReportedFault : Option SetupFault → ConversationFault → Type 0
 IsReportedFault found (Setup why) = found ≡ Some why
 IsReportedFault found Memory = ⊤

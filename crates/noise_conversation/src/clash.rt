@@ -8,7 +8,7 @@ ghost use Rattle.noise_duel.specs.Collision.{hash_texts};
 ghost use Rattle.noise_duel.specs.Entries.{bytes_of};
 ghost use Rattle.noise_conversation.specs.Mixed.{HasMixed, IsHashClash};
 
-use noise_duel::clash_reported;
+use noise_duel::laws::clash_reported;
 use noise_state::SymmetricState;
 use sha2::{Digest, Sha256};
 use std::alloc::{AllocError, Global};

@@ -10,17 +10,19 @@ ghost use Rattle.noise_conversation.specs.inner.NewEnds.{SaysLines};
 
 use crate::ConversationFault;
 use crate::ends::make_ends;
-use noise_duel::{Cuts, Duel, Report, alike_are_parts};
+use noise_duel::laws::alike_are_parts;
+use noise_duel::{Cuts, Duel, Report};
 use noise_handshake::Agreeing;
 use noise_names::{Role, ValidPattern};
-use noise_session::end_is_reported;
+use noise_session::laws::end_is_reported;
 use std::alloc::{AllocError, Global};
 
 /// Two new ends of one pattern, with equal prologue, psks and interval and with keys that agree, say these lines to
 /// each other: the messages of the handshake, and then transport messages. Each frame comes to the other end at once,
 /// in the pieces of its line.
 ///
-/// All of it is said and heard (`HaveConversed`). A setup with a fault, or lack of memory, is reported instead.
+/// At `Ok` each line was written, and accepted by the other end (`HaveConversed`). The errors are a fault of the setup,
+/// and lack of memory.
 pub fn converse<K: Agreeing>(
     alloc: Global,
     pattern: ValidPattern,

@@ -7,12 +7,11 @@ ghost use Rattle.noise_session.specs.EndDatagrams.{is_datagram_ready};
 ghost use Rattle.noise_events.specs.DatagramEvents.{datagram_events_of};
 ghost use Rattle.noise_duel.specs.DatagramReports.{DatagramDuelMatches, datagram_sides_of};
 ghost use Rattle.noise_duel.specs.DuelValue.{DuelMatches, both_sides};
-ghost use Rattle.noise_conversation.specs.Datagrams.{DatagramEntriesAgree, DatagramKeysCome, DatagramsAreReported, OneHashAgrees, OneHistoryAgrees, ReportsDatagramRun};
+ghost use Rattle.noise_conversation.specs.Datagrams.{OneHashAgrees, OneHistoryAgrees, ReportsDatagramRun};
 
-use crate::network::hash_is_reported;
-use noise_duel::{
-    DatagramDuel, DatagramEvent, DatagramReport, Duel, clash_reported, datagrams_agree, ends_agree,
-};
+use crate::laws::{datagram_entries_agree, hash_is_reported};
+use noise_duel::laws::{clash_reported, datagrams_agree, ends_agree};
+use noise_duel::{DatagramDuel, DatagramEvent, DatagramReport, Duel};
 use noise_handshake::Keys;
 use noise_session::Window;
 use std::alloc::{AllocError, Global};
@@ -20,9 +19,9 @@ use std::alloc::{AllocError, Global};
 /// Both ends of a duel go over to datagrams, with this window, and any events run between them: datagrams get lost,
 /// come twice or in another order, or were sealed by nobody.
 ///
-/// Where a run over frames left the two ends with one history, each payload that the report reports of a role as
-/// opened, at a nonce, is the one that it reports of the other as sealed, as its datagram of that number, or the
-/// datagram is forged; and no nonce is opened at two places (Noise, 11.4). So it is where both ends report one hash and
+/// Where a run over frames left the two ends with one history, each payload that by the report a role opened at a nonce
+/// is the one that the other sealed as its datagram of that number, or the datagram is forged; and no nonce is opened
+/// at two places (Noise, 11.4). So it is where both ends report one hash and
 /// have the same psks, or the texts that they hashed clash at `clash_position`.
 ///
 /// At Err, for lack of memory, the ends are gone.
@@ -62,19 +61,4 @@ fn go_over<A: Keys, B: Keys>(duel: Duel<A, B>, window: Window) -> DatagramDuel
         Ok(parties) => parties,
         Err(_) => unreachable!(),
     }
-}
-
-/// What the entries of a run of datagrams say of the two parties of one handshake, which have sealed and opened nothing
-/// before it.
-///
-/// The entries of a role report of the datagrams that it sealed and of those that it opened: of all of them, and of
-/// nothing else. In each direction a nonce is reported as opened at one place only, and the payload there is the one
-/// that the other role sealed as its datagram of that number, or the datagram is forged. Each opens by the key that the
-/// other seals by.
-pub fn datagram_entries_agree()
-    ensures reported { DatagramsAreReported }
-    ensures agree { DatagramEntriesAgree }
-    ensures keys { DatagramKeysCome }
-{
-    datagrams_agree();
 }

@@ -4,7 +4,6 @@
 ghost use Rattle.std.specs.Prelude.{◌≡◌, ◌≤◌, ℕ, List, length, IfOk, MatchResult, Some, None};
 ghost use Rattle.noise_names.specs.Limits.{IsPattern};
 ghost use Rattle.noise_names.specs.Validity.{IsValid};
-ghost use Rattle.noise_handshake.specs.Counterparts.{shown_before};
 ghost use Rattle.noise_handshake.specs.Setup.{party_at_start, setup_fault};
 ghost use Rattle.noise_session.specs.Ends.{EndMatches, end_of, progress};
 ghost use Rattle.noise_session.specs.Progress.{role_of};
@@ -14,8 +13,9 @@ ghost use Rattle.noise_conversation.specs.inner.NewEnds.{MakesEnds};
 use crate::ConversationFault;
 use noise_duel::Duel;
 use noise_handshake::{Agreeing, Handshake, Keys, Own, Remote};
-use noise_names::{Role, Token, ValidPattern};
-use noise_session::{End, end_is_reported};
+use noise_names::{Role, ValidPattern};
+use noise_session::End;
+use noise_session::laws::end_is_reported;
 use std::alloc::{AllocError, Global};
 
 // Both ends of this pattern, with equal prologue, psks and interval, each of which knows the keys of the other's
@@ -33,8 +33,8 @@ pub(crate) fn make_ends<K: Agreeing>(
     ensures { MakesEnds K.public_of K.agreement pattern
         (starts K.public_of K.agreement pattern prologue.now psks.now initiator responder) interval result }
 {
-    let of_initiator = shown(&pattern, Role::Initiator, &initiator);
-    let of_responder = shown(&pattern, Role::Responder, &responder);
+    let of_initiator = Remote::shown_before(pattern.pattern(), Role::Initiator, &initiator);
+    let of_responder = Remote::shown_before(pattern.pattern(), Role::Responder, &responder);
     long_keys(&initiator);
     long_keys(&responder);
     let same = copy(&pattern)?;
@@ -106,23 +106,4 @@ fn long_keys<K: Keys>(keys: &K)
 {
     let _ = keys.public(Own::Ephemeral);
     let _ = keys.public(Own::Static);
-}
-
-// Of a party's public keys those of its pre-message.
-fn shown<K: Keys>(pattern: &ValidPattern, party: Role, keys: &K) -> Remote
-    ensures { result ≡ shown_before pattern.now party (K.public_of keys.now) }
-{
-    let pre = pattern.pattern().pre(party);
-    Remote {
-        e: if pre.contains(&Token::E) {
-            keys.public(Own::Ephemeral)
-        } else {
-            None
-        },
-        s: if pre.contains(&Token::S) {
-            keys.public(Own::Static)
-        } else {
-            None
-        },
-    }
 }

@@ -6,7 +6,6 @@ ghost use Rattle.noise_names.specs.declared.token.Role.TheVariants.{Initiator};
 ghost use Rattle.noise_names.specs.Tokens.{same_role, turn_from};
 ghost use Rattle.noise_duel.specs.Acts.{roles_and_payloads};
 ghost use Rattle.noise_conversation.specs.Lines.{line_fits, lines_fit_from};
-ghost use Rattle.noise_conversation.specs.Turns.{LinesTakeTurns};
 
 use noise_duel::Cuts;
 use noise_names::{Role, ValidPattern};
@@ -29,11 +28,6 @@ pub fn lines_fit(pattern: &ValidPattern, lines: &[(Role, Vec<u8>, Cuts)]) -> boo
     }
     true
 }
-
-/// Lines that fit are in turn, as `Duel::converse` asks of them.
-pub fn fitting_lines_take_turns()
-    ensures { LinesTakeTurns }
-{}
 
 // Whether a payload of this length fits as line `place`, counted from 0, where it is the turn of `turn`.
 fn line_fits(

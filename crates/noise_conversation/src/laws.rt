@@ -1,10 +1,37 @@
-//! Laws of what is reported of a message.
+//! Laws of what two ends of one set-up accept and report.
 #![tactic(auto)]
 
+ghost use Rattle.noise_conversation.specs.Agreement.{HashIsReported};
+ghost use Rattle.noise_conversation.specs.Datagrams.{DatagramEntriesAgree, DatagramKeysCome, DatagramsAreReported};
+ghost use Rattle.noise_conversation.specs.Entries.{EntriesCome, KeysCome};
 ghost use Rattle.noise_conversation.specs.Exactly.{ReadExactly, ReportedExactly};
+ghost use Rattle.noise_conversation.specs.Payloads.{PayloadsAreReported};
+ghost use Rattle.noise_conversation.specs.Setup.{XorKeysHaveDhResults};
+ghost use Rattle.noise_conversation.specs.Turns.{LinesTakeTurns};
 
+use noise_duel::laws::{datagrams_agree, ends_agree, ends_match};
+use noise_handshake::Keys;
 use noise_handshake::laws::{accepted_once, refused_once};
-use noise_session::accepted_exactly;
+use noise_session::laws::{accepted_exactly, end_is_reported};
+
+/// Two parties whose `XorKeys` have both key pairs have a DH result at each DH of every pattern.
+pub fn xor_keys_have_dh_results()
+    ensures { XorKeysHaveDhResults }
+{}
+
+/// Lines that fit are in turn, as `Duel::converse` asks of them.
+pub fn fitting_lines_take_turns()
+    ensures { LinesTakeTurns }
+{}
+
+/// A handshake that reads next returns a payload exactly if the party accepts the message as one of it, and refuses the
+/// message at a token for a cause exactly if the party does.
+pub fn read_exactly()
+    ensures { ReadExactly }
+{
+    accepted_once();
+    refused_once();
+}
 
 /// An end that listens reports each step of a whole message in exactly one case, and so a payload exactly if the
 /// message is one of that payload there.
@@ -14,11 +41,48 @@ pub fn reported_exactly()
     accepted_exactly();
 }
 
-/// A handshake that reads next returns a payload exactly if the party accepts the message as one of it, and refuses the
-/// message at a token for a cause exactly if the party does.
-pub fn read_exactly()
-    ensures { ReadExactly }
+/// Where both ends of a duel report one hash, they have the one hash that the laws on agreement speak of.
+pub fn hash_is_reported<A: Keys, B: Keys>()
+    ensures { HashIsReported A.public_of A.agreement B.public_of B.agreement }
 {
-    accepted_once();
-    refused_once();
+    end_is_reported::<A>();
+    end_is_reported::<B>();
+}
+
+/// In every run of two new ends the payloads that a role wrote by the report, and those that it accepted, are those of
+/// its handshake messages and then of its transport messages, in order.
+pub fn payloads_reported()
+    ensures { PayloadsAreReported }
+{}
+
+/// Where two new ends with the same psks and equal intervals have one hash, the payloads that a role received are
+/// the first of those that the other wrote, up to a forged frame; or two texts that they hashed collide.
+pub fn entries_agree()
+    ensures { EntriesCome }
+{
+    ends_match();
+    ends_agree();
+}
+
+/// Where two such ends are open, and a role received as many payloads as the other wrote, it opens the next message by
+/// the key that the other seals it by; or two texts that they hashed collide.
+pub fn keys_meet<A: Keys, B: Keys>()
+    ensures { KeysCome A.public_of A.agreement B.public_of B.agreement }
+{
+    ends_match();
+    ends_agree();
+}
+
+/// What the entries of a run of datagrams say of the two parties of one handshake, which have sealed and opened nothing
+/// before it.
+///
+/// The entries of a role name the datagrams that it sealed and those that it opened: all of them, and no others. In
+/// each direction at most one entry says that a nonce was opened, and its payload is the one that the other role sealed
+/// as its datagram of that number, or the datagram is forged. Each opens by the key that the other seals by.
+pub fn datagram_entries_agree()
+    ensures reported { DatagramsAreReported }
+    ensures agree { DatagramEntriesAgree }
+    ensures keys { DatagramKeysCome }
+{
+    datagrams_agree();
 }

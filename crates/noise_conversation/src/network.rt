@@ -3,30 +3,28 @@
 
 ghost use Rattle.std.specs.Prelude.{◌≤◌, length};
 ghost use Rattle.noise_events.specs.Events.{events_of};
-ghost use Rattle.noise_conversation.specs.Agreement.{HashIsReported, RunsOverNetwork};
+ghost use Rattle.noise_conversation.specs.Agreement.{RunsOverNetwork};
 ghost use Rattle.noise_conversation.specs.Setup.{starts};
 
 use crate::ConversationFault;
 use crate::ends::make_ends;
-use crate::entries::{entries_agree, keys_meet, payloads_reported};
+use crate::laws::{entries_agree, hash_is_reported, keys_meet, payloads_reported};
 use noise_duel::{Duel, Event, Report};
-use noise_handshake::{Agreeing, Keys};
+use noise_handshake::Agreeing;
 use noise_names::ValidPattern;
-use noise_session::end_is_reported;
 use std::alloc::Global;
 
 /// Two new ends of one pattern, with equal prologue, psks and interval and with keys that agree, and any events between
 /// them: frames get lost, come twice or in another order, or were written by nobody.
 ///
 /// Where both ends then report one hash, they had all of the conversation in common, and what each accepted is the
-/// first of what the other wrote, up to a forged message; or two texts that they hashed collide. So the payloads that
-/// the report reports of a role as accepted are the first of those that it reports of the other as written, or the
-/// number of a forged frame is named; and where all of them came, open ends have equal keys for the next message.
+/// first of what the other wrote, up to a forged message; or two texts that they hashed collide. So by the
+/// report the payloads that a role accepted are the first of those that the other wrote, or the number of a forged
+/// frame is named; and where all of them came, open ends have equal keys for the next message.
 ///
-/// Whatever the hashes are, the payloads that the report reports of each role are those of the messages that it wrote
-/// and accepted.
+/// Whatever the hashes are, the report's payloads are, for each role, those of the messages that it wrote and accepted.
 ///
-/// A setup with a fault, or lack of memory, is reported instead.
+/// The errors are a fault of the setup, and lack of memory.
 pub fn run_events<K: Agreeing>(
     alloc: Global,
     pattern: ValidPattern,
@@ -51,12 +49,4 @@ pub fn run_events<K: Agreeing>(
     keys_meet::<K, K>();
     let made = duel.run(alloc, events)?;
     Ok(made)
-}
-
-/// Where both ends of a duel report one hash, they have the one hash that the laws on agreement speak of.
-pub fn hash_is_reported<A: Keys, B: Keys>()
-    ensures { HashIsReported A.public_of A.agreement B.public_of B.agreement }
-{
-    end_is_reported::<A>();
-    end_is_reported::<B>();
 }

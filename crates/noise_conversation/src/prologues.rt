@@ -5,8 +5,9 @@ ghost use Rattle.noise_events.specs.Events.{events_of};
 ghost use Rattle.noise_duel.specs.Reports.{ReportsRun};
 ghost use Rattle.noise_conversation.specs.Clash.{ClashesInRun};
 
-use crate::network::hash_is_reported;
-use noise_duel::{Duel, Event, Report, clash_reported};
+use crate::laws::hash_is_reported;
+use noise_duel::laws::clash_reported;
+use noise_duel::{Duel, Event, Report};
 use noise_handshake::Keys;
 use std::alloc::{AllocError, Global};
 

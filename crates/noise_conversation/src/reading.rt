@@ -1,4 +1,4 @@
-//! Whether a message of a handshake comes as a payload.
+//! Whether a handshake message is one of a given payload.
 #![tactic(auto)]
 
 ghost use Rattle.std.specs.Prelude.{◌≡◌, ◌≤◌, ◌↔◌, ℕ, List, length, true};
@@ -9,7 +9,7 @@ ghost use Rattle.noise_conversation.specs.Taking.{IsReadAs};
 use crate::laws::read_exactly;
 use noise_handshake::{Handshake, Keys};
 
-/// Reads a message in place, of at most 65535 bytes, and returns whether it comes as this payload.
+/// Reads a message in place, of at most 65535 bytes, and returns whether its payload is this one.
 ///
 /// Where the other party's message is due, that is so exactly if the party accepts the message as one of the payload.
 /// The handshake is left as `Handshake::read` leaves it.

@@ -1,4 +1,4 @@
-//! Whether a frame comes as a payload.
+//! Whether a frame is one of a given payload.
 #![tactic(auto)]
 
 ghost use Rattle.std.specs.Prelude.{◌≡◌, ◌↔◌, true};
@@ -11,7 +11,7 @@ use crate::laws::reported_exactly;
 use noise_handshake::Keys;
 use noise_session::{End, Step};
 
-/// Hands the bytes that end a frame over to an end, and returns whether they come as this payload.
+/// Hands an end the last bytes of a frame, and returns whether its step is this payload.
 ///
 /// Where the end listens, that is so exactly if the frame's message is one of the payload there. The end is left as
 /// `End::take` leaves it.

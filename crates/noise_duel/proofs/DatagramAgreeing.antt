@@ -16,6 +16,7 @@ use Rattle.noise_session.specs.Transport.{transport_message, last_nonce}
 use Rattle.noise_session.specs.Windows.{is_among, is_old, window_fault}
 use Rattle.noise_session.specs.Datagrams.{AreOnce, DatagramState, IsSealed, Opens, datagram_fault, nonce_named}
 use Rattle.noise_session.specs.Datagrams.Opens.{opened}
+use Rattle.noise_session.specs.DatagramFaults.{fault-free}
 use Rattle.noise_duel.specs.DatagramAgreement.{AreAtNonces, AreCounted, ArriveOnce, ComesOfDatagrams}
 use Rattle.noise_duel.specs.DatagramAgreement.{DatagramRunsAgree, RunsMakeOneBeginning}
 use Rattle.noise_events.specs.DatagramEvents.{DatagramEvent}
@@ -36,25 +37,6 @@ use Rattle.noise_duel.proofs.Prefixes.{transport_message-same}
 use Rattle.std.proofs.lemmas.Option.{same_Some}
 
 -- ---- what is opened is the transport message of a nonce that wasn't accepted
-no-fault : {X : Type 0} (b : Bool) (x : X) (rest : Option X) → (if b then Some x else rest) ≡ None → (b ≡ false) × (rest ≡ None)
-no-fault true x rest e = cc
-no-fault false x rest e = (refl, e)
-
-fresh : (v : DatagramState) (bytes : List ℕ) → datagram_fault v bytes ≡ None → is_among v.accepted (nonce_named bytes) ≡ false
-fresh v bytes e =
-    let n = nonce_named bytes in
-    let window = window_fault v.width v.accepted n in
-    let reserved : Option DatagramFault = if n == last_nonce then Some fault.Reserved else window in
-    let long : Option DatagramFault = if nat_lt 65543 (length bytes) then Some fault.TooLong else reserved in
-    let short : Option DatagramFault = if nat_lt (length bytes) 24 then Some fault.Short else long in
-    let a = no-fault (v.one_way && same_role v.role Initiator) fault.OneWay short e in
-    let b = no-fault (nat_lt (length bytes) 24) fault.Short long a.1 in
-    let c = no-fault (nat_lt 65543 (length bytes)) fault.TooLong reserved b.1 in
-    let d = no-fault (n == last_nonce) fault.Reserved window c.1 in
-    let seen : Option DatagramFault = if is_among v.accepted n then Some fault.Repeated else None in
-    let f = no-fault (is_old v.width v.accepted n) fault.Old seen d.1 in
-    (no-fault (is_among v.accepted n) fault.Repeated None f.1).0
-
 opened-as : (v : DatagramState) (bytes payload : List ℕ) (w : DatagramState) → Opens v bytes (Ok payload) w → (datagram_fault v bytes ≡ None) × IsSealed v bytes payload
 opened-as v bytes payload w (opened _ _ _ none is) = (none, is)
 
@@ -124,7 +106,7 @@ holds-opened role r s bytes next note (opens _ _ payload o) h =
           c.opened,
         );
       };
-      once = (ap (λ (ns : List ℕ). is_among ns n) (sym c.accepted) ∙ fresh s.state bytes is.0, h.once);
+      once = (ap (λ (ns : List ℕ). is_among ns n) (sym c.accepted) ∙ (fault-free s.state bytes is.0).fresh, h.once);
     }
 
 hold-happened : (r : History) (d next : DatagramSides) (event : DatagramEvent) (note : Role × DatagramNote) → DatagramHappens d event note next

@@ -5,6 +5,7 @@ use Rattle.std.specs.Prelude.{Result}
 use Rattle.std.proofs.lemmas.List.{map-append}
 use Rattle.noise_names.specs.declared.token.Role.{Role}
 use Rattle.noise_names.specs.declared.token.Role.TheVariants.{Initiator, Responder}
+use Rattle.noise_names.specs.Tokens.{other}
 use Rattle.noise_session.specs.declared.datagram_fault.DatagramFault.{DatagramFault}
 use Rattle.noise_session.specs.declared.faults.SendFault.{SendFault}
 use Rattle.noise_session.specs.Datagrams.{DatagramState, DatagramsValue, Opens, DatagramsMatch, accepting, datagram, nonce_named, unsealed}
@@ -19,9 +20,9 @@ use Rattle.noise_duel.specs.DatagramRuns.DatagramHappens.{is_sealed, is_delivere
 use Rattle.noise_duel.specs.DatagramRuns.DatagramRun.{begins, ends}
 use Rattle.noise_duel.specs.DatagramRuns.PartyOpens.{opens, rejects}
 use Rattle.noise_duel.specs.DatagramRuns.PartySeals.{seals}
-use Rattle.noise_duel.specs.DatagramSides.{DatagramSide, DatagramSides, NonceMessage, sealed_datagrams, opening, sealing, datagram_bytes}
+use Rattle.noise_duel.specs.DatagramSides.{DatagramSide, DatagramSides, NonceMessage, party, with_party, sealed_datagrams, opening, sealing, datagram_bytes}
 use Rattle.noise_duel.specs.Entries.{bytes_of}
-use Rattle.noise_duel.specs.OneDatagram.{AreUnchanged, DatagramHappened, DatagramsHaveComeTo, HasFound, HasOpened, HasSealed}
+use Rattle.noise_duel.specs.OneDatagram.{DatagramHappened, DatagramsHaveComeTo, HasFound, HasOpened, HasSealed, SealedMatch}
 use Rattle.noise_duel.proofs.Linking.{length-bytes_of}
 
 -- ---- one party seals
@@ -71,7 +72,7 @@ opened-copy s bytes came payload reported entry d copy same note o p = record {
   next = opening s bytes payload;
   opens = subst (λ (n : DatagramNote). PartyOpens s bytes n (opening s bytes payload)) (ap Payload (sym same) ∙ sym note)
       (opens s bytes payload (subst (λ (b : List ℕ). Opens s.state b (Ok payload) (accepting s.state (nonce_named b))) copy o));
-  pictures = subst (λ (b : List ℕ). DatagramsMatch d (accepting s.state (nonce_named b))) copy p;
+  matches = subst (λ (b : List ℕ). DatagramsMatch d (accepting s.state (nonce_named b))) copy p;
   unchanged = refl;
 }
 
@@ -81,113 +82,103 @@ rejected-copy s bytes came why entry d before copy note o same p = record {
   next = s;
   opens = subst (λ (n : DatagramNote). PartyOpens s bytes n s) (sym note)
       (rejects s bytes why (subst (λ (b : List ℕ). Opens s.state b (Err why) s.state) copy o));
-  pictures = subst (λ (x : DatagramsValue). DatagramsMatch x s.state) (sym same) p;
+  matches = subst (λ (x : DatagramsValue). DatagramsMatch x s.state) (sym same) p;
   unchanged = refl;
 }
 
 -- ---- both parties
 
-pub sealed-initiator : (d : DatagramSides) (role : Role) (payload : List ℕ) (entry : DatagramEntry) (duel next : DatagramDuelValue)
-    (sealed after : SealedDatagrams) → role ≡ Initiator → DatagramDuelMatches duel d → AreUnchanged sealed d → next.responder ≡ duel.responder
-    → after.responder ≡ sealed.responder → HasSealed d.initiator payload entry next.initiator after.initiator.items
+abbrev datagrams_at : DatagramDuelValue → Role → DatagramsValue
+datagrams_at duel Initiator = duel.initiator
+datagrams_at duel Responder = duel.responder
+
+abbrev sealed_at : SealedDatagrams → Role → List (Vec ℕ Global)
+sealed_at sealed Initiator = sealed.initiator.items
+sealed_at sealed Responder = sealed.responder.items
+
+-- one party's datagrams are those of another side
+matches-at : (d : DatagramSides) (role : Role) (s : DatagramSide) (duel next : DatagramDuelValue) → DatagramDuelMatches duel d
+    → datagrams_at next (other role) ≡ datagrams_at duel (other role) → DatagramsMatch (datagrams_at next role) s.state
+    → DatagramDuelMatches next (with_party d role s)
+matches-at d Initiator s duel next p same here =
+    record { initiator = here; responder = subst (λ (x : DatagramsValue). DatagramsMatch x d.responder.state) (sym same) p.responder }
+matches-at d Responder s duel next p same here =
+    record { initiator = subst (λ (x : DatagramsValue). DatagramsMatch x d.initiator.state) (sym same) p.initiator; responder = here }
+
+sealed-now : (d : DatagramSides) (role : Role) (sealed : SealedDatagrams) → SealedMatch sealed d → bytes_of (sealed_at sealed role) ≡ sealed_datagrams (party d role)
+sealed-now d Initiator sealed k = k.initiator
+sealed-now d Responder sealed k = k.responder
+
+sealed-match-at : (d : DatagramSides) (role : Role) (s : DatagramSide) (sealed after : SealedDatagrams) → SealedMatch sealed d
+    → sealed_at after (other role) ≡ sealed_at sealed (other role) → bytes_of (sealed_at after role) ≡ sealed_datagrams s
+    → SealedMatch after (with_party d role s)
+sealed-match-at d Initiator s sealed after k rest here = record { initiator = here; responder = ap bytes_of rest ∙ k.responder }
+sealed-match-at d Responder s sealed after k rest here = record { initiator = ap bytes_of rest ∙ k.initiator; responder = here }
+
+pub seals-here : (d : DatagramSides) (role r : Role) (payload : List ℕ) (entry : DatagramEntry) (duel next : DatagramDuelValue)
+    (sealed after : SealedDatagrams) → role ≡ r → DatagramDuelMatches duel d → SealedMatch sealed d → datagrams_at next (other r) ≡ datagrams_at duel (other r)
+    → sealed_at after (other r) ≡ sealed_at sealed (other r) → HasSealed (party d r) payload entry (datagrams_at next r) (sealed_at after r)
     → DatagramHappened d (Seal role payload) (role, entry) next after
-sealed-initiator d Responder payload entry duel next sealed after is p k same rest h = cc
-sealed-initiator d Initiator payload entry duel next sealed after is p k same rest h = record {
-  next = record d { initiator = h.next };
-  happens = is_sealed d Initiator payload (datagram_note_of entry) h.next h.seals;
-  pictures = record { initiator = h.pictures; responder = subst (λ (x : DatagramsValue). DatagramsMatch x d.responder.state) (sym same) p.responder };
-  unchanged = record { initiator = h.unchanged; responder = ap (λ (v : Vec (Vec ℕ Global) Global). bytes_of v.items) rest ∙ k.responder };
-}
+seals-here d role r payload entry duel next sealed after is p k same rest h =
+    subst (λ (q : Role). DatagramHappened d (Seal q payload) (q, entry) next after) (sym is) (record {
+      next = with_party d r h.next;
+      happens = is_sealed d r payload (datagram_note_of entry) h.next h.seals;
+      matches = matches-at d r h.next duel next p same h.matches;
+      sealed_match = sealed-match-at d r h.next sealed after k rest h.sealed_match;
+    })
 
-pub sealed-responder : (d : DatagramSides) (role : Role) (payload : List ℕ) (entry : DatagramEntry) (duel next : DatagramDuelValue)
-    (sealed after : SealedDatagrams) → role ≡ Responder → DatagramDuelMatches duel d → AreUnchanged sealed d → next.initiator ≡ duel.initiator
-    → after.initiator ≡ sealed.initiator → HasSealed d.responder payload entry next.responder after.responder.items
-    → DatagramHappened d (Seal role payload) (role, entry) next after
-sealed-responder d Initiator payload entry duel next sealed after is p k same rest h = cc
-sealed-responder d Responder payload entry duel next sealed after is p k same rest h = record {
-  next = record d { responder = h.next };
-  happens = is_sealed d Responder payload (datagram_note_of entry) h.next h.seals;
-  pictures = record { initiator = subst (λ (x : DatagramsValue). DatagramsMatch x d.initiator.state) (sym same) p.initiator; responder = h.pictures };
-  unchanged = record { initiator = ap (λ (v : Vec (Vec ℕ Global) Global). bytes_of v.items) rest ∙ k.initiator; responder = h.unchanged };
-}
-
-came-initiator : (d : DatagramSides) (event : DatagramEvent) (bytes : List ℕ) (entry : DatagramEntry) (duel next : DatagramDuelValue)
-    (sealed : SealedDatagrams) → DatagramDuelMatches duel d → AreUnchanged sealed d → next.responder ≡ duel.responder
-    → (h : HasOpened d.initiator bytes entry next.initiator)
-    → DatagramHappens d event (Initiator, datagram_note_of entry) (record d { initiator = h.next })
-    → DatagramHappened d event (Initiator, entry) next sealed
-came-initiator d event bytes entry duel next sealed p k same h happens = record {
-  next = record d { initiator = h.next };
+comes-here : (d : DatagramSides) (r : Role) (event : DatagramEvent) (bytes : List ℕ) (entry : DatagramEntry) (duel next : DatagramDuelValue)
+    (sealed : SealedDatagrams) → DatagramDuelMatches duel d → SealedMatch sealed d → datagrams_at next (other r) ≡ datagrams_at duel (other r)
+    → (h : HasOpened (party d r) bytes entry (datagrams_at next r)) → DatagramHappens d event (r, datagram_note_of entry) (with_party d r h.next)
+    → DatagramHappened d event (r, entry) next sealed
+comes-here d r event bytes entry duel next sealed p k same h happens = record {
+  next = with_party d r h.next;
   happens = happens;
-  pictures = record { initiator = h.pictures; responder = subst (λ (x : DatagramsValue). DatagramsMatch x d.responder.state) (sym same) p.responder };
-  unchanged = record { initiator = k.initiator ∙ sym h.unchanged; responder = k.responder };
+  matches = matches-at d r h.next duel next p same h.matches;
+  sealed_match = sealed-match-at d r h.next sealed sealed k refl (sealed-now d r sealed k ∙ sym h.unchanged);
 }
 
-came-responder : (d : DatagramSides) (event : DatagramEvent) (bytes : List ℕ) (entry : DatagramEntry) (duel next : DatagramDuelValue)
-    (sealed : SealedDatagrams) → DatagramDuelMatches duel d → AreUnchanged sealed d → next.initiator ≡ duel.initiator
-    → (h : HasOpened d.responder bytes entry next.responder)
-    → DatagramHappens d event (Responder, datagram_note_of entry) (record d { responder = h.next })
-    → DatagramHappened d event (Responder, entry) next sealed
-came-responder d event bytes entry duel next sealed p k same h happens = record {
-  next = record d { responder = h.next };
-  happens = happens;
-  pictures = record { initiator = subst (λ (x : DatagramsValue). DatagramsMatch x d.initiator.state) (sym same) p.initiator; responder = h.pictures };
-  unchanged = record { initiator = k.initiator; responder = k.responder ∙ sym h.unchanged };
-}
+pub put-in-here : (d : DatagramSides) (role r : Role) (bytes : List ℕ) (entry : DatagramEntry) (duel next : DatagramDuelValue) (sealed : SealedDatagrams)
+    → role ≡ r → DatagramDuelMatches duel d → SealedMatch sealed d → datagrams_at next (other r) ≡ datagrams_at duel (other r)
+    → HasOpened (party d r) bytes entry (datagrams_at next r) → DatagramHappened d (Raw role bytes) (role, entry) next sealed
+put-in-here d role r bytes entry duel next sealed is p k same h =
+    subst (λ (q : Role). DatagramHappened d (Raw q bytes) (q, entry) next sealed) (sym is)
+    (comes-here d r (Raw r bytes) bytes entry duel next sealed p k same h (is_put_in d r bytes (datagram_note_of entry) h.next h.opens))
 
-pub put-in-initiator : (d : DatagramSides) (role : Role) (bytes : List ℕ) (entry : DatagramEntry) (duel next : DatagramDuelValue) (sealed : SealedDatagrams)
-    → role ≡ Initiator → DatagramDuelMatches duel d → AreUnchanged sealed d → next.responder ≡ duel.responder → HasOpened d.initiator bytes entry next.initiator
-    → DatagramHappened d (Raw role bytes) (role, entry) next sealed
-put-in-initiator d Responder bytes entry duel next sealed is p k same h = cc
-put-in-initiator d Initiator bytes entry duel next sealed is p k same h =
-    came-initiator d (Raw Initiator bytes) bytes entry duel next sealed p k same h
-    (is_put_in d Initiator bytes (datagram_note_of entry) h.next h.opens)
-
-pub put-in-responder : (d : DatagramSides) (role : Role) (bytes : List ℕ) (entry : DatagramEntry) (duel next : DatagramDuelValue) (sealed : SealedDatagrams)
-    → role ≡ Responder → DatagramDuelMatches duel d → AreUnchanged sealed d → next.initiator ≡ duel.initiator → HasOpened d.responder bytes entry next.responder
-    → DatagramHappened d (Raw role bytes) (role, entry) next sealed
-put-in-responder d Initiator bytes entry duel next sealed is p k same h = cc
-put-in-responder d Responder bytes entry duel next sealed is p k same h =
-    came-responder d (Raw Responder bytes) bytes entry duel next sealed p k same h
-    (is_put_in d Responder bytes (datagram_note_of entry) h.next h.opens)
-
-pub found-initiator : (d : DatagramSides) (role : Role) (n : ℕ) (found : Option (List ℕ)) (entry : DatagramEntry) (duel next : DatagramDuelValue)
-    (sealed : SealedDatagrams) → role ≡ Initiator → slice_get (sealed_datagrams d.responder) n ≡ found → DatagramDuelMatches duel d → AreUnchanged sealed d
-    → next.responder ≡ duel.responder → HasFound d.initiator n found entry next.initiator → DatagramHappened d (Open role n) (role, entry) next sealed
-found-initiator d Responder n found entry duel next sealed is got p k same h = cc
-found-initiator d Initiator n (Some bytes) entry duel next sealed is got p k same h =
-    came-initiator d (Open Initiator n) bytes entry duel next sealed p k same h
-    (is_delivered d Initiator n bytes (datagram_note_of entry) h.next got h.opens)
-found-initiator d Initiator n None entry duel next sealed is got p k same h = record {
+found-at : (d : DatagramSides) (r : Role) (n : ℕ) (found : Option (List ℕ)) (entry : DatagramEntry) (duel next : DatagramDuelValue) (sealed : SealedDatagrams)
+    → slice_get (sealed_datagrams (party d (other r))) n ≡ found → DatagramDuelMatches duel d → SealedMatch sealed d
+    → datagrams_at next (other r) ≡ datagrams_at duel (other r) → HasFound (party d r) n found entry (datagrams_at next r)
+    → DatagramHappened d (Open r n) (r, entry) next sealed
+found-at d r n (Some bytes) entry duel next sealed got p k same h =
+    comes-here d r (Open r n) bytes entry duel next sealed p k same h (is_delivered d r n bytes (datagram_note_of entry) h.next got h.opens)
+found-at d r n None entry duel next sealed got p k same h = record {
   next = d;
-  happens = subst (λ (note : DatagramNote). DatagramHappens d (Open Initiator n) (Initiator, note) d) (sym h.0) (is_missing d Initiator n got);
-  pictures = record { initiator = h.1; responder = subst (λ (x : DatagramsValue). DatagramsMatch x d.responder.state) (sym same) p.responder };
-  unchanged = k;
+  happens = subst (λ (note : DatagramNote). DatagramHappens d (Open r n) (r, note) d) (sym h.0) (is_missing d r n got);
+  matches = missing r same h.1;
+  sealed_match = k;
 }
+  where
+    missing : (q : Role) → datagrams_at next (other q) ≡ datagrams_at duel (other q) → DatagramsMatch (datagrams_at next q) (party d q).state
+        → DatagramDuelMatches next d
+    missing Initiator rest here = matches-at d Initiator d.initiator duel next p rest here
+    missing Responder rest here = matches-at d Responder d.responder duel next p rest here
 
-pub found-responder : (d : DatagramSides) (role : Role) (n : ℕ) (found : Option (List ℕ)) (entry : DatagramEntry) (duel next : DatagramDuelValue)
-    (sealed : SealedDatagrams) → role ≡ Responder → slice_get (sealed_datagrams d.initiator) n ≡ found → DatagramDuelMatches duel d → AreUnchanged sealed d
-    → next.initiator ≡ duel.initiator → HasFound d.responder n found entry next.responder → DatagramHappened d (Open role n) (role, entry) next sealed
-found-responder d Initiator n found entry duel next sealed is got p k same h = cc
-found-responder d Responder n (Some bytes) entry duel next sealed is got p k same h =
-    came-responder d (Open Responder n) bytes entry duel next sealed p k same h
-    (is_delivered d Responder n bytes (datagram_note_of entry) h.next got h.opens)
-found-responder d Responder n None entry duel next sealed is got p k same h = record {
-  next = d;
-  happens = subst (λ (note : DatagramNote). DatagramHappens d (Open Responder n) (Responder, note) d) (sym h.0) (is_missing d Responder n got);
-  pictures = record { initiator = subst (λ (x : DatagramsValue). DatagramsMatch x d.initiator.state) (sym same) p.initiator; responder = h.1 };
-  unchanged = k;
-}
+pub found-here : (d : DatagramSides) (role r : Role) (n : ℕ) (found : Option (List ℕ)) (entry : DatagramEntry) (duel next : DatagramDuelValue)
+    (sealed : SealedDatagrams) → role ≡ r → slice_get (sealed_datagrams (party d (other r))) n ≡ found → DatagramDuelMatches duel d → SealedMatch sealed d
+    → datagrams_at next (other r) ≡ datagrams_at duel (other r) → HasFound (party d r) n found entry (datagrams_at next r)
+    → DatagramHappened d (Open role n) (role, entry) next sealed
+found-here d role r n found entry duel next sealed is got p k same h =
+    subst (λ (q : Role). DatagramHappened d (Open q n) (q, entry) next sealed) (sym is) (found-at d r n found entry duel next sealed got p k same h)
 
 -- ---- events, one after another
 
 pub nothing-yet : (d : DatagramSides) (events : List DatagramEvent) (duel : DatagramDuelValue) (sealed : SealedDatagrams) (report : DatagramReport)
-    → DatagramDuelMatches duel d → AreUnchanged sealed d → report.entries.items ≡ [] → DatagramsHaveComeTo d events events duel sealed report
+    → DatagramDuelMatches duel d → SealedMatch sealed d → report.entries.items ≡ [] → DatagramsHaveComeTo d events events duel sealed report
 nothing-yet d events duel sealed report p k empty = record {
   now = d;
   goes_on = λ notes last h. subst (λ (es : List (Role × DatagramEntry)). DatagramRun d events (datagram_notes_of es ++ notes) last) (sym empty) h;
-  pictures = p;
-  unchanged = k;
+  matches = p;
+  sealed_match = k;
 }
 
 pub one-more : (d : DatagramSides) (events rest more : List DatagramEvent) (event : DatagramEvent) (reported : Role × DatagramEntry)
@@ -208,8 +199,8 @@ one-more d events rest more event reported duel next sealed after report beyond 
           (h.goes_on (note ∷ notes) last
           (subst (λ (es : List DatagramEvent). DatagramRun h.now es (note ∷ notes) last) (sym is)
           (begins h.now t.next last event more note notes t.happens run)));
-      pictures = t.pictures;
-      unchanged = t.unchanged;
+      matches = t.matches;
+      sealed_match = t.sealed_match;
     }
 
 pub all-come : (d : DatagramSides) (events rest : List DatagramEvent) (duel : DatagramDuelValue) (sealed : SealedDatagrams) (report : DatagramReport)
@@ -218,5 +209,5 @@ all-come d events rest duel sealed report is h = record {
   last = h.now;
   run = subst (λ (ns : List (Role × DatagramNote)). DatagramRun d events ns h.now) (append-nil (datagram_notes_of report.entries.items))
       (h.goes_on [] h.now (subst (λ (es : List DatagramEvent). DatagramRun h.now es [] h.now) (sym is) (ends h.now)));
-  pictures = h.pictures;
+  matches = h.matches;
 }

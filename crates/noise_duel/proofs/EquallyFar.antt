@@ -48,7 +48,7 @@ pub record EquallyFar (w : KeyMaterial) (n : ℕ) (d : Sides) : Type 0 where
   pub before : n < length d.initiator.state.party.pattern.messages → d.initiator.state.party.passed ≡ n
   pub beyond : length d.initiator.state.party.pattern.messages ≤ n → d.initiator.state.party.passed ≡ length d.initiator.state.party.pattern.messages
   pub partial : d.initiator.state.partial ≡ []
-  pub held_there : d.responder.state.partial ≡ []
+  pub partial_there : d.responder.state.partial ≡ []
   pub interval : d.responder.state.interval ≡ d.initiator.state.interval
   pub came_there : d.responder.state.received ≡ d.initiator.state.sent
   pub came_back : d.initiator.state.received ≡ d.responder.state.sent
@@ -170,7 +170,7 @@ module _ (laws : LawsBelow) (w : KeyMaterial) (long : (role : Role) (k : Own) �
       subst (λ (r : Role). IsEquipped p r v.own v.agree u.own) (sym a.role)
       (equipped laws w p a.valid Initiator v.own u.own v.agree u.agree long a.mine a.theirs) in
       let fits : overhead_of p (v.passed + 1) + length payload ≤ 65535 = subst (λ (k : ℕ). overhead_of p (k + 1) + length payload ≤ 65535) (sym at) room in
-      step-handshake laws s t payload a.valid a.counterparts has speaks a.keyed fits a.held_there
+      step-handshake laws s t payload a.valid a.counterparts has speaks a.keyed fits a.partial_there
   handshake-at n Responder payload d a more turn room =
       let s : Side = d.responder in
       let t : Side = d.initiator in
@@ -229,7 +229,7 @@ module _ (laws : LawsBelow) (w : KeyMaterial) (long : (role : Role) (k : Own) �
         before = λ h. ap (λ (k : ℕ). k + 1) at;
         beyond = λ h. omega (arith, h, more, at);
         partial = a.partial;
-        held_there = refl;
+        partial_there = refl;
         interval = a.interval;
         came_there = a.came_there;
         came_back = a.came_back;
@@ -298,7 +298,7 @@ module _ (laws : LawsBelow) (w : KeyMaterial) (long : (role : Role) (k : Own) �
         before = λ h. ap (λ (k : ℕ). k + 1) at;
         beyond = λ h. omega (arith, h, more, at);
         partial = refl;
-        held_there = a.held_there;
+        partial_there = a.partial_there;
         interval = a.interval;
         came_there = a.came_there;
         came_back = a.came_back;
@@ -361,7 +361,7 @@ module _ (w : KeyMaterial) where
       (and_right (is_one_way p) (same_role v.role Responder) (ap (λ (r : Role). same_role r Responder) a.role))
       (and_right (is_one_way u.pattern) (same_role u.role Initiator) (ap (λ (r : Role). same_role r Initiator) role_t))
       going going_t short (below-too s.state.sent n last_nonce a.few low) a.came_there (ap (λ (z : Party). z.history) a.counterparts.there) a.interval
-      (ap other role_t ∙ sym a.role) a.held_there
+      (ap other role_t ∙ sym a.role) a.partial_there
   transport-at n Responder payload d a ended_party one short low =
       let s : Side = d.responder in
       let t : Side = d.initiator in
@@ -407,7 +407,7 @@ module _ (w : KeyMaterial) where
         before = λ h. absurd (omega (arith, h, ended_party));
         beyond = λ h. all;
         partial = a.partial;
-        held_there = refl;
+        partial_there = refl;
         interval = a.interval;
         came_there = ap (λ (k : ℕ). k + 1) a.came_there;
         came_back = a.came_back;
@@ -453,7 +453,7 @@ module _ (w : KeyMaterial) where
         before = λ h. absurd (omega (arith, h, ended_party));
         beyond = λ h. all;
         partial = refl;
-        held_there = a.held_there;
+        partial_there = a.partial_there;
         interval = a.interval;
         came_there = a.came_there;
         came_back = ap (λ (k : ℕ). k + 1) a.came_back;

@@ -233,5 +233,5 @@ lines-leave come stand framed w p prologue a b interval lines notes d parts turn
           sent (ap (λ (ts : List TransportMessage). length ts) it.back ∙ sent-there) it.ends.partial,
       end-is p Responder b a interval r lines d.responder v made.1 there
           (ap (λ (z : Party). z.pattern) made.0.party ∙ k.pattern) role (ap (λ (z : Party). z.own) made.0.party ∙ k.own) count it.history
-          sent-there (ap (λ (ts : List TransportMessage). length ts) it.there ∙ sent) it.ends.held_there,
+          sent-there (ap (λ (ts : List TransportMessage). length ts) it.there ∙ sent) it.ends.partial_there,
     )

@@ -14,6 +14,7 @@ use Rattle.noise_handshake.specs.Party.{dh_result_of, own_at, remote_at, other_p
 use Rattle.noise_handshake.specs.Writing.{Writer, Given}
 use Rattle.noise_handshake.specs.Setup.{public_keys, has_token, token_of}
 use Rattle.noise_handshake.specs.Counterparts.{is_dh, keys_if, DhResultsAgree, IsEquipped}
+use Rattle.noise_handshake.specs.RemoteKeys.{remote-own}
 use Rattle.noise_duel.specs.Below.{LawsBelow}
 use Rattle.noise_duel.specs.Conversation.{KeyMaterial, carried_by, public_keys_in}
 use Rattle.std.proofs.lemmas.Bool.{or_right}
@@ -21,23 +22,6 @@ use Rattle.noise_names.specs.Lists.{cons-same}
 
 some-same : (o : Option (List ℕ)) (x y : List ℕ) → o ≡ Some x → o ≡ Some y → x ≡ y
 some-same o x y f g = cc
-
--- the key that a DH asks of the other party
-pub remote-own : (role : Role) (theirs : Own → Option (List ℕ)) (t : Token) → remote_at role (public_keys theirs) t ≡ theirs (own_at (other role) t)
-remote-own Initiator theirs E = refl
-remote-own Initiator theirs S = refl
-remote-own Initiator theirs Ee = refl
-remote-own Initiator theirs Es = refl
-remote-own Initiator theirs Se = refl
-remote-own Initiator theirs Ss = refl
-remote-own Initiator theirs Psk = refl
-remote-own Responder theirs E = refl
-remote-own Responder theirs S = refl
-remote-own Responder theirs Ee = refl
-remote-own Responder theirs Es = refl
-remote-own Responder theirs Se = refl
-remote-own Responder theirs Ss = refl
-remote-own Responder theirs Psk = refl
 
 -- a role has the keys and DH results of the key material
 pub record HasMaterial (w : KeyMaterial) (p : Plan) (role : Role) (own : Own → Option (List ℕ)) (agree : Own → List ℕ → Option (List ℕ)) : Type 0 where

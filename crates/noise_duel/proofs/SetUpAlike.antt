@@ -14,7 +14,7 @@ use Rattle.noise_handshake.specs.Party.{dh_result_of, own_at, remote_at}
 use Rattle.noise_handshake.specs.Setup.{has_before, public_keys, token_of}
 use Rattle.noise_handshake.specs.Counterparts.{is_dh, DhResultsAgree}
 use Rattle.noise_duel.specs.Below.{LawsBelow}
-use Rattle.noise_duel.proofs.Parts.{remote-own}
+use Rattle.noise_handshake.specs.RemoteKeys.{remote-own}
 use Rattle.noise_duel.specs.Messages.{Start}
 use Rattle.noise_duel.specs.Agreement.{IsSetUp}
 use Rattle.noise_duel.specs.Conversation.{KeyMaterial, IsPart, public_keys_in}

@@ -362,7 +362,7 @@ module _ (laws : LawsBelow) (w : KeyMaterial) (p : Plan) (prologue : List ℕ) (
     before = λ h. refl;
     beyond = λ h. none-left (length p.messages) h;
     partial = refl;
-    held_there = refl;
+    partial_there = refl;
     interval = refl;
     came_there = refl;
     came_back = refl;
@@ -403,7 +403,7 @@ lines-come-through laws w p prologue a b interval lines notes d parts turns run 
           there = c.equally_far.came_there;
           back = c.equally_far.came_back;
           partial = c.equally_far.partial;
-          held_there = c.equally_far.held_there;
+          partial_there = c.equally_far.partial_there;
         };
         there = c.equally_far.there;
         back = c.equally_far.back;

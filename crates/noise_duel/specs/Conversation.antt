@@ -1,5 +1,5 @@
 -- A whole conversation, in which no party has a state: what all messages are, from both parties' public keys, the DH
--- DH results and the psks (Noise 5.3, 9.2 and 13).
+-- results and the psks (Noise 5.3, 9.2 and 13).
 use Rattle.std.specs.Prelude.{◌≡◌, ℕ, ◌+◌, ◌≤◌, ◌<◌, List, [], ◌∷◌, ◌++◌, length, drop, take, count_by, map, Some, true, if◌then◌else◌, IsTrue, ⊤, None}
 use Rattle.std.specs.Prelude.{nat_lt, MatchBool, false, min}
 use Rattle.noise_names.specs.declared.token.Role.{Role}

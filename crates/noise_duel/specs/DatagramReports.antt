@@ -43,9 +43,9 @@ pub record DatagramDuelMatches (duel : DatagramDuelValue) (d : DatagramSides) : 
   pub initiator : DatagramsMatch duel.initiator d.initiator.state
   pub responder : DatagramsMatch duel.responder d.responder.state
 
--- The report reports what a run makes of the two, and those left picture the states after it.
+-- The report is that of a run of the two, and those left match the states after it.
 pub record DatagramReports (d : DatagramSides) (events : List DatagramEvent) (duel : DatagramDuelValue)
     (report : DatagramReport) : Type 0 where
   pub last : DatagramSides
   pub run : DatagramRun d events (datagram_notes_of report.entries.items) last
-  pub pictures : DatagramDuelMatches duel last
+  pub matches : DatagramDuelMatches duel last

@@ -18,15 +18,15 @@ pub record HasSealed (s : DatagramSide) (payload : List ℕ) (entry : DatagramEn
     (sealed : List (Vec ℕ Global)) : Type 0 where
   pub next : DatagramSide
   pub seals : PartySeals s payload (datagram_note_of entry) next
-  pub pictures : DatagramsMatch datagrams next.state
-  pub unchanged : bytes_of sealed ≡ sealed_datagrams next
+  pub matches : DatagramsMatch datagrams next.state
+  pub sealed_match : bytes_of sealed ≡ sealed_datagrams next
 
 -- Bytes came and were opened, or refused: the party's datagrams are those after that.
 pub record HasOpened (s : DatagramSide) (bytes : List ℕ) (entry : DatagramEntry)
     (datagrams : DatagramsValue) : Type 0 where
   pub next : DatagramSide
   pub opens : PartyOpens s bytes (datagram_note_of entry) next
-  pub pictures : DatagramsMatch datagrams next.state
+  pub matches : DatagramsMatch datagrams next.state
   pub unchanged : sealed_datagrams next ≡ sealed_datagrams s
 
 -- A datagram comes, or none of that number was sealed.
@@ -35,7 +35,7 @@ HasFound s n (Some bytes) entry datagrams = HasOpened s bytes entry datagrams
 HasFound s n None entry datagrams = (datagram_note_of entry ≡ Missing n) × DatagramsMatch datagrams s.state
 
 -- the datagrams that were sealed are those of the two sides
-pub record AreUnchanged (sealed : SealedDatagrams) (d : DatagramSides) : Type 0 where
+pub record SealedMatch (sealed : SealedDatagrams) (d : DatagramSides) : Type 0 where
   pub initiator : bytes_of sealed.initiator.items ≡ sealed_datagrams d.initiator
   pub responder : bytes_of sealed.responder.items ≡ sealed_datagrams d.responder
 
@@ -44,8 +44,8 @@ pub record DatagramHappened (d : DatagramSides) (event : DatagramEvent) (reporte
     (duel : DatagramDuelValue) (sealed : SealedDatagrams) : Type 0 where
   pub next : DatagramSides
   pub happens : DatagramHappens d event (reported.0, datagram_note_of reported.1) next
-  pub pictures : DatagramDuelMatches duel next
-  pub unchanged : AreUnchanged sealed next
+  pub matches : DatagramDuelMatches duel next
+  pub sealed_match : SealedMatch sealed next
 
 -- So far: whatever comes of the events that are left comes, after the notes so far, of all events.
 pub record DatagramsHaveComeTo (d : DatagramSides) (events rest : List DatagramEvent) (duel : DatagramDuelValue)
@@ -53,5 +53,5 @@ pub record DatagramsHaveComeTo (d : DatagramSides) (events rest : List DatagramE
   pub now : DatagramSides
   pub goes_on : (notes : List (Role × DatagramNote)) (last : DatagramSides) → DatagramRun now rest notes last
       → DatagramRun d events (datagram_notes_of report.entries.items ++ notes) last
-  pub pictures : DatagramDuelMatches duel now
-  pub unchanged : AreUnchanged sealed now
+  pub matches : DatagramDuelMatches duel now
+  pub sealed_match : SealedMatch sealed now

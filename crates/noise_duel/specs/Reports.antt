@@ -61,7 +61,7 @@ receive_key_in _ = None
 
 module _ {A B : Type 0} (public_a : A → Own → Option (List ℕ)) (agreement_a : A → Own → List ℕ → Option (List ℕ))
     (public_b : B → Own → Option (List ℕ)) (agreement_b : B → Own → List ℕ → Option (List ℕ)) where
-  -- The report reports what a run makes of two ends, and the ends left match the states after it.
+  -- The report is that of a run of two ends, and the ends left match the states after it.
   pub record Reports (d : Sides) (events : List Event) (duel : DuelValue A B) (report : Report) : Type 0 where
     pub last : Sides
     pub run : Run d events (notes_of report.entries.items) last

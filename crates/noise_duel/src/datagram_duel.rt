@@ -8,11 +8,11 @@ ghost use Rattle.noise_events.specs.DatagramEvents.{Open, Raw, Seal};
 ghost use Rattle.noise_events.specs.DatagramEvents.{datagram_event_of, datagram_events_of};
 ghost use Rattle.noise_duel.specs.DatagramReports.{DatagramReports, DatagramDuelMatches};
 ghost use Rattle.noise_duel.specs.DatagramSides.{DatagramSides, datagram_sides};
-ghost use Rattle.noise_duel.specs.OneDatagram.{AreUnchanged, DatagramHappened};
+ghost use Rattle.noise_duel.specs.OneDatagram.{DatagramHappened, SealedMatch};
 
-use crate::datagram_laws::datagrams_agree;
 use crate::datagram_party::{open, open_numbered, seal};
 use crate::datagram_report::{DatagramEntry, DatagramReport};
+use crate::laws::datagrams_agree;
 use noise_events::DatagramEvent;
 use noise_names::Role;
 use noise_session::Datagrams;
@@ -103,7 +103,7 @@ impl DatagramDuel {
         event: &DatagramEvent,
         sealed: &mut SealedDatagrams,
     ) -> Result<(Role, DatagramEntry), AllocError>
-        ensures { (d : DatagramSides) → DatagramDuelMatches self.old d → AreUnchanged sealed.old d
+        ensures { (d : DatagramSides) → DatagramDuelMatches self.old d → SealedMatch sealed.old d
             → IfOk result (λ reported. DatagramHappened d (datagram_event_of event.now) reported self.new sealed.new) }
     {
         match event {
@@ -130,7 +130,7 @@ impl DatagramDuel {
         payload: &[u8],
         sealed: &mut SealedDatagrams,
     ) -> Result<DatagramEntry, AllocError>
-        ensures { (d : DatagramSides) → DatagramDuelMatches self.old d → AreUnchanged sealed.old d
+        ensures { (d : DatagramSides) → DatagramDuelMatches self.old d → SealedMatch sealed.old d
             → IfOk result (λ entry. DatagramHappened d (Seal role payload.now) (role, entry) self.new sealed.new) }
     {
         match role {
@@ -147,7 +147,7 @@ impl DatagramDuel {
         number: usize,
         sealed: &SealedDatagrams,
     ) -> Result<DatagramEntry, AllocError>
-        ensures { (d : DatagramSides) → DatagramDuelMatches self.old d → AreUnchanged sealed.now d
+        ensures { (d : DatagramSides) → DatagramDuelMatches self.old d → SealedMatch sealed.now d
             → IfOk result (λ entry. DatagramHappened d (Open role number) (role, entry) self.new sealed.now) }
     {
         match role {
@@ -170,7 +170,7 @@ impl DatagramDuel {
         bytes: &[u8],
     ) -> Result<DatagramEntry, AllocError>
         ensures { (d : DatagramSides) (sealed : SealedDatagrams) → DatagramDuelMatches self.old d
-            → AreUnchanged sealed d
+            → SealedMatch sealed d
             → IfOk result (λ entry. DatagramHappened d (Raw role bytes.now) (role, entry) self.new sealed) }
     {
         match role {

@@ -7,7 +7,7 @@ use noise_names::Role;
 use noise_session::{DatagramFault, SendFault};
 use std::alloc::Global;
 
-/// What is reported of an event.
+/// What came of an event.
 #[derive(Debug, Drop, PartialEq, Eq)]
 pub enum DatagramEntry {
     /// This role sealed its datagram of this number, counted from 0 over those that it sealed in this run.
@@ -25,7 +25,7 @@ pub enum DatagramEntry {
 /// What came of the events of a run.
 #[derive(Debug, Drop, PartialEq, Eq)]
 pub struct DatagramReport {
-    /// What is reported of the events, one entry for each, in order, each with the role that it is about.
+    /// One entry for each event, in order, with the role that it is about.
     pub entries: Vec<(Role, DatagramEntry)>,
 }
 

@@ -26,7 +26,8 @@ use crate::writing::write;
 use noise_events::{Cuts, Event};
 use noise_handshake::Keys;
 use noise_names::Role;
-use noise_session::{End, Window, end_is_reported};
+use noise_session::laws::end_is_reported;
+use noise_session::{End, Window};
 use std::alloc::{AllocError, Global};
 use std::marker::Model;
 
@@ -97,7 +98,7 @@ impl<A: Keys, B: Keys> Duel<A, B> {
     }
 
     /// Runs a conversation: each line is a payload that its role writes, whose frame comes to the other end at once, in
-    /// these pieces. A line that isn't written, or isn't accepted, is reported, and the next one follows.
+    /// these pieces. Where a line isn't written, or isn't accepted, its entry says so, and the next one follows.
     ///
     /// Between two new ends with their parts of one key material, lines in turn that fit all come through.
     pub fn converse(

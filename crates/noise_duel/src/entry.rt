@@ -1,10 +1,10 @@
-//! What a run reports.
+//! The entries of a report.
 #![tactic(auto)]
 
 use noise_handshake::Cause;
 use noise_session::SendFault;
 
-/// What is reported of an event, one or more of them in order.
+/// What came of an event, which has one entry or more.
 #[derive(Debug, Drop, PartialEq, Eq)]
 pub enum Entry {
     /// This role wrote its frame of this number, counted from 0 over those that it wrote in this run.

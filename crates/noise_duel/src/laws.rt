@@ -5,6 +5,8 @@ ghost use Rattle.noise_duel.specs.Agreement.{HashReports, PsksReport, KeysReport
 ghost use Rattle.noise_duel.specs.Below.{LawsBelow};
 ghost use Rattle.noise_duel.specs.Clash.{ClashIsCollision, ClashFound, ClashReported};
 ghost use Rattle.noise_duel.specs.Invariant.{EndsComeOfMessages};
+ghost use Rattle.noise_duel.specs.DatagramAgreement.{DatagramRunsAgree, RunsMakeOneBeginning};
+ghost use Rattle.noise_duel.specs.DatagramRuns.{DatagramRunOnce};
 ghost use Rattle.noise_duel.specs.Conversation.{LinesComeThrough, LinesLeave, LinesRun};
 ghost use Rattle.noise_duel.specs.OwnFrames.{EndsFrame};
 ghost use Rattle.noise_duel.specs.Runs.{RunOnce};
@@ -15,7 +17,7 @@ use noise_handshake::laws::{
     accepted_once, due_is_written, keys_carried, overhead_added, refused_once, setup_is_whole,
     shown_is_known, starts_are_counterparts, tokens_match, written_is_accepted, written_once,
 };
-use noise_session::sent_once;
+use noise_session::laws::sent_once;
 
 // What the laws of the handshake say, in one.
 fn laws_below()
@@ -101,3 +103,16 @@ pub fn clash_reported()
 {
     ends_agree();
 }
+
+/// A run is determined: of two parties and a list of events one list of notes and one pair of parties comes.
+pub fn datagram_run_once()
+    ensures { DatagramRunOnce }
+{}
+
+/// In every run of the two parties of one handshake each is what it sealed and opened. In each direction no nonce is
+/// accepted twice, and the datagram that is accepted at a nonce is the one of that number, with its payload, or a
+/// forged one (Noise 11.4). Two new ends that a run over frames has brought to one history go over to such parties.
+pub fn datagrams_agree()
+    ensures agree { DatagramRunsAgree }
+    ensures start { RunsMakeOneBeginning }
+{}

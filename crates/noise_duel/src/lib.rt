@@ -2,24 +2,18 @@
 #![tactic(auto)]
 
 mod datagram_duel;
-mod datagram_laws;
 mod datagram_party;
 mod datagram_report;
 mod duel;
 mod entry;
-mod laws;
+pub mod laws;
 mod receiving;
 mod report;
 mod writing;
 
 pub use datagram_duel::DatagramDuel;
-pub use datagram_laws::{datagram_run_once, datagrams_agree};
 pub use datagram_report::{DatagramEntry, DatagramReport};
 pub use duel::Duel;
 pub use entry::{Entry, Idle};
-pub use laws::{
-    alike_are_parts, clash_reported, ends_agree, ends_match, hash_reports, lines_come_through,
-    run_once,
-};
 pub use noise_events::{Cuts, DatagramEvent, Event};
 pub use report::Report;

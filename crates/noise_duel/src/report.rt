@@ -14,7 +14,7 @@ pub struct Report {
     pub initiator: Vec<Vec<u8>>,
     /// The frames that the responder wrote, in order.
     pub responder: Vec<Vec<u8>>,
-    /// What is reported of the events, in order, each with the role that it is about.
+    /// What came of the events, in order: each entry with the role that it is about.
     pub entries: Vec<(Role, Entry)>,
 }
 

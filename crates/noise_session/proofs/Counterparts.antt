@@ -22,6 +22,7 @@ use Rattle.noise_session.specs.Transport.{transport_message, transport_key, last
 use Rattle.noise_session.specs.Steps.StepValue.{Payload}
 use Rattle.noise_session.specs.Progress.{Progress, is_open, idle_step, refusal}
 use Rattle.noise_session.specs.Progress.Progress.{Open}
+use Rattle.noise_session.specs.DatagramFaults.{no-fault}
 use Rattle.noise_session.specs.Ends.{EndState, progress_of}
 use Rattle.noise_session.specs.Counterparts.{EndCounterparts}
 use Rattle.noise_session.specs.Sending.{Sends}
@@ -48,10 +49,6 @@ record IsDue (one_way : Bool) (role : Role) (sent n : ℕ) : Type 0 where
   pub heard : (one_way && same_role role Responder) ≡ false
   pub room : nat_lt 65535 (n + 16) ≡ false
   pub low : (sent == last_nonce) ≡ false
-
-no-fault : (b : Bool) (x : SendFault) (rest : Option SendFault) → (if b then Some x else rest) ≡ None → (b ≡ false) × (rest ≡ None)
-no-fault true x rest e = cc
-no-fault false x rest e = (refl, e)
 
 due-open : (one_way : Bool) (role : Role) (sent received n : ℕ) → refusal (Open role one_way sent received) n ≡ None → IsDue one_way role sent n
 due-open one_way role sent received n e =
@@ -93,7 +90,7 @@ module _ (accepts : (v w : Party) (payload message : List ℕ) (xs : List (List 
   handshake-taken v w payload message xs valid c writes =
       let a : Accepts w.party message xs payload = accepts v.party w.party payload message xs valid c.parties writes in
       let y : EndState = record w { party = after_message w.party xs payload; partial = [] } in
-      let all : w.partial ++ frame message ≡ frame message ++ [] = ap (λ (h : List ℕ). h ++ frame message) c.held_there ∙ sym (append-nil (frame message)) in (
+      let all : w.partial ++ frame message ≡ frame message ++ [] = ap (λ (h : List ℕ). h ++ frame message) c.partial_there ∙ sym (append-nil (frame message)) in (
         y,
         judges w y (frame message) message [] (length (frame message)) (Payload payload) (listens-now w a.listens) all a.fits (omega arith)
             (accepted w message payload xs a),
@@ -103,7 +100,7 @@ module _ (accepts : (v w : Party) (payload message : List ℕ) (xs : List (List 
           there = c.there;
           back = c.back;
           partial = c.partial;
-          held_there = refl;
+          partial_there = refl;
         },
       )
 
@@ -140,7 +137,7 @@ module _ (accepts : (v w : Party) (payload message : List ℕ) (xs : List (List 
       ∙ ap (λ (k : ℕ). transport_message w.party.history (other w.party.role) k v.sent payload) (sym c.interval)
       ∙ ap (λ (k : ℕ). transport_message w.party.history (other w.party.role) w.interval k payload) (sym c.there) in
       let y : EndState = record w { received = w.received + 1; partial = [] } in
-      let whole : w.partial ++ frame m ≡ frame m ++ [] = ap (λ (h : List ℕ). h ++ frame m) c.held_there ∙ sym (append-nil (frame m)) in (
+      let whole : w.partial ++ frame m ≡ frame m ++ [] = ap (λ (h : List ℕ). h ++ frame m) c.partial_there ∙ sym (append-nil (frame m)) in (
         y,
         judges w y (frame m) m [] (length (frame m)) (Payload payload) idle whole (omega (arith, size, short)) (omega arith)
             (opened w m payload (ap is_open q) low same),
@@ -150,7 +147,7 @@ module _ (accepts : (v w : Party) (payload message : List ℕ) (xs : List (List 
           there = ap (λ (k : ℕ). k + 1) c.there;
           back = c.back;
           partial = c.partial;
-          held_there = refl;
+          partial_there = refl;
         },
       )
 

@@ -20,7 +20,7 @@ use Rattle.noise_session.specs.Windows.{is_among, window_fault}
 use Rattle.noise_session.specs.Datagrams.{DatagramState, Opens, Runs, AreOnce, AreParties, IsSealed, datagram, nonce_named, accepting, unsealed, datagram_fault}
 use Rattle.noise_session.specs.Datagrams.Opens.{opened, refused, forged}
 use Rattle.noise_session.specs.Datagrams.Runs.{ends, seals, opens, refuses}
-use Rattle.noise_session.proofs.DatagramStates.{no-fault, young}
+use Rattle.noise_session.specs.DatagramFaults.{fault-free, no-fault}
 use Rattle.noise_names.specs.Roles.{other-other}
 
 -- ---- once
@@ -39,7 +39,7 @@ not-again v w nonces (seals _ _ _ r) n there = not-again (record v { sent = v.se
 not-again v w nonces (opens _ x _ bytes payload rest o r) n there =
     let is = opened-as v bytes payload x o in
     let set = ap (λ (u : DatagramState). is_among u.accepted n) is.1 in
-    let apart : nonce_named bytes ≢ n = λ same. false≢true (sym (young v bytes is.0).1 ∙ ap (is_among v.accepted) same ∙ there) in
+    let apart : nonce_named bytes ≢ n = λ same. false≢true (sym (fault-free v bytes is.0).fresh ∙ ap (is_among v.accepted) same ∙ there) in
     rw (ne_eqb (nonce_named bytes) n apart) (not-again x w rest r n (set ∙ or_right (eqb (nonce_named bytes) n) (is_among v.accepted n) there))
 not-again v w nonces (refuses _ x _ bytes _ why o r) n there =
     not-again x w nonces r n (ap (λ (u : DatagramState). is_among u.accepted n) (refused-as v x bytes why o) ∙ there)

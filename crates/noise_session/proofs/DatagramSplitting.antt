@@ -100,21 +100,3 @@ datagrams-open d u h next bytes r payload_in viewed is o =
       unchanged = opened-unchanged r d next of.unchanged;
       matches = λ v s. opened-matches r d next v (nonce_named bytes) _ _ s (of.opens v s.receiver);
     })
-
--- the payload, where it was copied to its place
-pub placed-there : (out copied payload : List ℕ) → 8 ≤ length out → copied ≡ payload
-    → take (length payload) (drop 8 (put_mid 8 (8 + length payload - 8) out copied)) ≡ payload
-placed-there out copied payload long same =
-    let post = drop (8 + length payload - 8) (drop 8 out) in
-    ap (take (length payload)) (drop_at (take 8 out) (copied ++ post) 8 (length-take-le 8 out long)) ∙ take_at copied post (length payload) (ap length same) ∙ same
-
-pub seals-of : (h next : DatagramSenderValue) (n : ℕ) (p q out after : List ℕ) (r : Result ℕ SendFault) → p ≡ q → DatagramSenderSeals h next n p out after r
-    → DatagramSenderSeals h next n q out after r
-seals-of h next n p q out after r is s = subst (λ (x : List ℕ). DatagramSenderSeals h next n x out after r) is s
-
--- the bytes after the datagram, where the payload was copied to its place
-pub rest-there : (r : Result ℕ SendFault) (out copied new : List ℕ) (k : ℕ) → 8 ≤ length out → length copied ≡ k
-    → IfOk r (λ n. drop n new ≡ drop n (put_mid 8 (8 + k - 8) out copied)) → IfOk r (λ n. (n ≡ k + 24) × (n ≤ length new))
-    → IfOk r (λ n. drop n new ≡ drop n out)
-rest-there (Err fault) out copied new k long same rest len = tt
-rest-there (Ok n) out copied new k long same rest len = rest ∙ drop-put_mid 8 (8 + k - 8) out copied n (omega (arith, len.0)) long (omega (arith, same))

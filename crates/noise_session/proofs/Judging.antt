@@ -21,20 +21,20 @@ use Rattle.std.proofs.lemmas.Bool.{eqb-true, eqb-false}
 abbrev tested : Bool → Bool → Option OpenFault
 tested silent last = if silent then Some unopened.OneWay else if last then Some unopened.Exhausted else None
 
-abbrev StepValue : Bool → Bool → ℕ → Result ℕ OpenFault → Type 0
-StepValue silent last n r = MatchOption (tested silent last) (IfErr r (λ f. f ≡ unopened_fault n)) (λ f. r ≡ Err f)
+abbrev IsResult : Bool → Bool → ℕ → Result ℕ OpenFault → Type 0
+IsResult silent last n r = MatchOption (tested silent last) (IfErr r (λ f. f ≡ unopened_fault n)) (λ f. r ≡ Err f)
 
-reported-ok : (silent last : Bool) (n m : ℕ) → StepValue silent last n (Ok m) → last ≡ false
+reported-ok : (silent last : Bool) (n m : ℕ) → IsResult silent last n (Ok m) → last ≡ false
 reported-ok true last n m h = cc
 reported-ok false true n m h = cc
 reported-ok false false n m h = refl
 
-reported-short : (silent last : Bool) (n : ℕ) → StepValue silent last n (Err unopened.Short) → (silent ≡ false) × (last ≡ false) × (unopened.Short ≡ unopened_fault n)
+reported-short : (silent last : Bool) (n : ℕ) → IsResult silent last n (Err unopened.Short) → (silent ≡ false) × (last ≡ false) × (unopened.Short ≡ unopened_fault n)
 reported-short true last n h = cc
 reported-short false true n h = cc
 reported-short false false n h = (refl, refl, h)
 
-reported-tag : (silent last : Bool) (n : ℕ) → StepValue silent last n (Err unopened.Tag) → (silent ≡ false) × (last ≡ false) × (unopened.Tag ≡ unopened_fault n)
+reported-tag : (silent last : Bool) (n : ℕ) → IsResult silent last n (Err unopened.Tag) → (silent ≡ false) × (last ≡ false) × (unopened.Tag ≡ unopened_fault n)
 reported-tag true last n h = cc
 reported-tag false true n h = cc
 reported-tag false false n h = (refl, refl, h)
@@ -44,7 +44,7 @@ own-fault : (short : Bool) → unopened.Exhausted ≡ (if short then unopened.Sh
 own-fault true e = cc
 own-fault false e = cc
 
-reported-exhausted : (silent last : Bool) (n : ℕ) → StepValue silent last n (Err unopened.Exhausted) → last ≡ true
+reported-exhausted : (silent last : Bool) (n : ℕ) → IsResult silent last n (Err unopened.Exhausted) → last ≡ true
 reported-exhausted true last n h = cc
 reported-exhausted false true n h = refl
 reported-exhausted false false n h = absurd (own-fault (nat_lt n 16) h)
@@ -67,7 +67,7 @@ module _ (t : TransportValue) (v : EndState) (s : OpenMatches t v) (message : Li
   not-last : last ≡ false → v.received ≢ last_nonce
   not-last e = λ same. eqb-false t.receive_nonce last_nonce e (s.transport.receiver.nonce ∙ same)
 
-  pub opened-as : (n : ℕ) (after : List ℕ) → StepValue silent last (length message) (Ok n)
+  pub opened-as : (n : ℕ) (after : List ℕ) → IsResult silent last (length message) (Ok n)
       → message ≡ due_message (transport_in v) (take n after)
       → Judges v message (Payload (slice_range after 0 n)) (record v { received = v.received + 1; partial = [] })
   opened-as n after fault is =
@@ -75,13 +75,13 @@ module _ (t : TransportValue) (v : EndState) (s : OpenMatches t v) (message : Li
       subst (λ (k : ℕ). Judges v message (Payload (take k after)) (record v { received = v.received + 1; partial = [] })) all
       (opened v message (take n after) (is-open v t s) (not-last (reported-ok silent last (length message) n fault)) is)
 
-  never : StepValue silent last (length message) (Err unopened.Short) → (open_fault t ≡ None → (payload : List ℕ) → message ≢ due_message (transport_in v) payload)
+  never : IsResult silent last (length message) (Err unopened.Short) → (open_fault t ≡ None → (payload : List ℕ) → message ≢ due_message (transport_in v) payload)
       → (payload : List ℕ) → message ≢ due_message (transport_in v) payload
   never fault not =
       let f = reported-short silent last (length message) fault in
       not (rw (f.0, f.1) refl)
 
-  pub dropped-short : StepValue silent last (length message) (Err unopened.Short)
+  pub dropped-short : IsResult silent last (length message) (Err unopened.Short)
       → (open_fault t ≡ None → (payload : List ℕ) → message ≢ due_message (transport_in v) payload)
       → Judges v message (Dropped Short) (record v { partial = [] })
   dropped-short fault not =
@@ -89,7 +89,7 @@ module _ (t : TransportValue) (v : EndState) (s : OpenMatches t v) (message : Li
       subst (λ (c : Cause). Judges v message (Dropped c) (record v { partial = [] })) (short-is (nat_lt (length message) 16) f.2)
       (dropped v message (is-open v t s) (not-last f.1) (never fault not))
 
-  pub dropped-tag : StepValue silent last (length message) (Err unopened.Tag)
+  pub dropped-tag : IsResult silent last (length message) (Err unopened.Tag)
       → (open_fault t ≡ None → (payload : List ℕ) → message ≢ due_message (transport_in v) payload)
       → Judges v message (Dropped Tag) (record v { partial = [] })
   dropped-tag fault not =
@@ -98,7 +98,7 @@ module _ (t : TransportValue) (v : EndState) (s : OpenMatches t v) (message : Li
       subst (λ (c : Cause). Judges v message (Dropped c) (record v { partial = [] })) (tag-is (nat_lt (length message) 16) f.2)
       (dropped v message (is-open v t s) (not-last f.1) (not free))
 
-  pub exhausted-as : StepValue silent last (length message) (Err unopened.Exhausted) → Judges v message Exhausted (ended_session v)
+  pub exhausted-as : IsResult silent last (length message) (Err unopened.Exhausted) → Judges v message Exhausted (ended_session v)
   exhausted-as fault =
       exhausted v message (is-open v t s)
       (sym s.transport.receiver.nonce ∙ eqb-true t.receive_nonce last_nonce (reported-exhausted silent last (length message) fault))

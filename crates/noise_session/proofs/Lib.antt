@@ -16,5 +16,6 @@ pub mod Clearing
 pub mod Rings
 pub mod DatagramStates
 pub mod DatagramSplitting
+pub mod DatagramSealing
 pub mod DatagramLaws
 pub mod Exactly

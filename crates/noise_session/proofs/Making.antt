@@ -15,38 +15,38 @@ abbrev asked : Bool → Bool → Bool → Bool → Option WriteFault
 asked ended done turn long =
     if ended then Some write.Ended else if done then Some write.Done else if not turn then Some write.NotYourTurn else if long then Some write.TooLong else None
 
-abbrev computed : Bool → Bool → Option SendFault
-computed turn long = if not turn then Some fault.NotYourTurn else if long then Some fault.TooLong else None
+abbrev refused : Bool → Bool → Option SendFault
+refused turn long = if not turn then Some fault.NotYourTurn else if long then Some fault.TooLong else None
 
 -- what a result of the handshake reports of that
-abbrev StepValue : Bool → Bool → Bool → Bool → List ℕ → List ℕ → Result ℕ WriteFault → Type 0
-StepValue ended done turn long old new r = MatchOption (asked ended done turn long) (IfErr r IsAgreement) (λ f. (r ≡ Err f) × (new ≡ old))
+abbrev IsResult : Bool → Bool → Bool → Bool → List ℕ → List ℕ → Result ℕ WriteFault → Type 0
+IsResult ended done turn long old new r = MatchOption (asked ended done turn long) (IfErr r IsAgreement) (λ f. (r ≡ Err f) × (new ≡ old))
 
-ok-reported : (ended done turn long : Bool) (old new : List ℕ) (n : ℕ) → StepValue ended done turn long old new (Ok n) → computed turn long ≡ None
+ok-reported : (ended done turn long : Bool) (old new : List ℕ) (n : ℕ) → IsResult ended done turn long old new (Ok n) → refused turn long ≡ None
 ok-reported true done turn long old new n h = cc
 ok-reported false true turn long old new n h = cc
 ok-reported false false false long old new n h = cc
 ok-reported false false true true old new n h = cc
 ok-reported false false true false old new n h = refl
 
-turn-reported : (ended done turn long : Bool) (old new : List ℕ) → not ended && not done ≡ true → StepValue ended done turn long old new (Err write.NotYourTurn)
-    → computed turn long ≡ Some fault.NotYourTurn
+turn-reported : (ended done turn long : Bool) (old new : List ℕ) → not ended && not done ≡ true → IsResult ended done turn long old new (Err write.NotYourTurn)
+    → refused turn long ≡ Some fault.NotYourTurn
 turn-reported true done turn long old new due h = cc
 turn-reported false true turn long old new due h = cc
 turn-reported false false false long old new due h = refl
 turn-reported false false true true old new due h = cc
 turn-reported false false true false old new due h = absurd h
 
-long-reported : (ended done turn long : Bool) (old new : List ℕ) → not ended && not done ≡ true → StepValue ended done turn long old new (Err write.TooLong)
-    → computed turn long ≡ Some fault.TooLong
+long-reported : (ended done turn long : Bool) (old new : List ℕ) → not ended && not done ≡ true → IsResult ended done turn long old new (Err write.TooLong)
+    → refused turn long ≡ Some fault.TooLong
 long-reported true done turn long old new due h = cc
 long-reported false true turn long old new due h = cc
 long-reported false false false long old new due h = cc
 long-reported false false true true old new due h = refl
 long-reported false false true false old new due h = absurd h
 
-lack-reported : (ended done turn long : Bool) (old new : List ℕ) (k : ℕ) → StepValue ended done turn long old new (Err (write.Agreement k))
-    → computed turn long ≡ None
+lack-reported : (ended done turn long : Bool) (old new : List ℕ) (k : ℕ) → IsResult ended done turn long old new (Err (write.Agreement k))
+    → refused turn long ≡ None
 lack-reported true done turn long old new k h = cc
 lack-reported false true turn long old new k h = cc
 lack-reported false false false long old new k h = cc

@@ -1,6 +1,6 @@
 -- How far an end has come, by the state that it matches.
 use Rattle.std.proofs.Common.{◌≡◌, ◌≢◌, ℕ, ◌+◌, ◌==◌, ◌≤◌, nat_lt, ◌&&◌, not, List, length, Bool, true, false, Option, Some, None, IsTrue}
-use Rattle.std.proofs.Common.{if◌then◌else◌, refl, sym, ◌∙◌, ap, arith}
+use Rattle.std.proofs.Common.{if◌then◌else◌, refl, sym, ◌∙◌, ap, subst, arith}
 use Rattle.std.proofs.lemmas.Bool.Decides.{nat_tests}
 use Rattle.noise_names.specs.declared.token.Role.{Role}
 use Rattle.noise_names.specs.Plan.{Plan, is_one_way}
@@ -8,7 +8,8 @@ use Rattle.noise_state.specs.History.{hash}
 use Rattle.noise_keys.specs.declared.keys.Own.{Own}
 use Rattle.noise_session.specs.declared.phase.Phase.{Phase}
 use Rattle.noise_session.specs.declared.phase.Phase.TheVariants as phase
-use Rattle.noise_session.specs.Progress.{Progress, is_open, frame_len_of}
+use Rattle.noise_session.specs.Progress.{Progress, is_open, refusal, frame_len_of}
+use Rattle.noise_session.specs.declared.faults.SendFault.{SendFault}
 use Rattle.noise_session.specs.declared.faults.SendFault.TheVariants as fault
 use Rattle.noise_session.specs.Transport.{last_nonce}
 use Rattle.std.specs.Option.{ForSome}
@@ -16,9 +17,9 @@ use Rattle.std.specs.Prelude.{is_none}
 use Rattle.noise_names.specs.declared.token.Role.TheVariants.{Responder}
 use Rattle.noise_names.specs.Tokens.{same_role}
 use Rattle.noise_names.specs.Overhead.{overhead_of}
-use Rattle.noise_handshake.specs.HandshakeValue.{is_turn}
+use Rattle.noise_handshake.specs.HandshakeValue.{HandshakeValue, is_turn}
 use Rattle.noise_session.specs.Progress.Progress.{Handshaking, Open, HasEnded}
-use Rattle.noise_session.specs.Ends.{EndValue, EndState, EndMatches, IsReportedBy, PhaseMatches, OpenMatches, hash_in, progress_in, progress_of}
+use Rattle.noise_session.specs.Ends.{EndValue, EndState, EndMatches, IsReportedBy, PhaseMatches, HandshakeMatches, OpenMatches, hash_in, progress_in, progress_of}
 use Rattle.noise_session.specs.Ends.{remote_static_in, session_hash, session_remote_static, ended_session}
 use Rattle.noise_session.specs.inner.Phases.{ended_in}
 use Rattle.noise_session.specs.TransportValue.{TransportValue}
@@ -77,7 +78,21 @@ module _ {K : Type 0} (public_of : K → Own → Option (List ℕ)) (agreement :
       ∙ sym (progress-open v s.going s.all)
   phase-progress (phase.Ended role reported) v s = ap HasEnded s.role ∙ sym (progress-ended_session v s.ended)
 
-  -- so are its hash, and the other party's static key
+  -- the phase of a handshake, and of a transport
+  pub as-handshake : (p : Phase K) (h : HandshakeValue K) (every : ℕ) (v : EndState) → p ≡ phase.Handshaking h every → PhaseMatches public_of agreement p v
+      → HandshakeMatches public_of agreement h every v
+  as-handshake p h every v is s = subst (λ (q : Phase K). PhaseMatches public_of agreement q v) is s
+
+  pub as-open : (p : Phase K) (t : TransportValue) (v : EndState) → p ≡ phase.Open t → PhaseMatches public_of agreement p v → OpenMatches t v
+  as-open p t v is s = subst (λ (q : Phase K). PhaseMatches public_of agreement q v) is s
+
+  -- why nothing is written in this phase
+  pub refused-by : (p q : Phase K) (v : EndState) (n : ℕ) (why : Option SendFault) → PhaseMatches public_of agreement p v → p ≡ q
+      → refusal (progress_in q) n ≡ why → refusal (progress_of v) n ≡ why
+  refused-by p q v n why s is e =
+      ap (λ (x : Progress). refusal x n) (sym (phase-progress p v s)) ∙ ap (λ (x : Phase K). refusal (progress_in x) n) is ∙ e
+
+  -- its hash, and the other party's static key
   phase-hash : (p : Phase K) (v : EndState) → PhaseMatches public_of agreement p v → hash_in p ≡ session_hash v
   phase-hash (phase.Handshaking h every) v s = sym (no-hash v s.more)
   phase-hash (phase.Open t) v s = ap (λ (h : List ℕ). Some h) s.transport.hash ∙ sym (whole-hash v s.all)

@@ -43,43 +43,41 @@ unwritten out written from same =
     ∙ ap (λ (xs : List ℕ). take from out ++ xs) (take-append-drop (length out - from) (drop from out))
     ∙ take-append-drop from out
 
--- what follows the first two bytes of a buffer, all of which was written
-after_two : (out written : List ℕ) → 2 ≤ length out → drop 2 (put_mid 2 (length out - 2) out written) ≡ written
-after_two out written two =
-    let post = drop (length out - 2) (drop 2 out) in
-    let none : length post ≡ 0 = omega (arith, length-drop (length out - 2) (drop 2 out), length-drop 2 out) in
-    drop_at (take 2 out) (written ++ post) 2 (length-take-le 2 out two)
+-- what follows the first bytes of a buffer, all of which was written
+pub after-front : (at : ℕ) (out written : List ℕ) → at ≤ length out → drop at (put_mid at (length out - at) out written) ≡ written
+after-front at out written within =
+    let post = drop (length out - at) (drop at out) in
+    let none : length post ≡ 0 = omega (arith, length-drop (length out - at) (drop at out), length-drop at out) in
+    drop_at (take at out) (written ++ post) at (length-take-le at out within)
     ∙ (ap (λ (p : List ℕ). written ++ p) (nil_from_length post none) ∙ append-nil written)
 
--- A message of n bytes was written after the first two, and the frame's length over them.
-module _ (n k : ℕ) (out written new : List ℕ) (two : 2 ≤ length out) (whole : k ≡ n + 2) where
-  over_two : drop 2 new ≡ drop 2 (put_mid 2 (length out - 2) out written) → drop 2 new ≡ written
-  over_two is = is ∙ after_two out written two
+-- A message of n bytes was written after the first of a buffer, and these were written too.
+module _ (at n k : ℕ) (out written new : List ℕ) (within : at ≤ length out) (whole : k ≡ at + n) where
+  pub rest-after : drop at new ≡ drop at (put_mid at (length out - at) out written)
+      → drop n written ≡ drop n (take (length out - at) (drop at out)) → drop k new ≡ drop k out
+  rest-after is rest =
+      ap (λ (j : ℕ). drop j new) whole
+      ∙ (sym (drop-drop n at new)
+      ∙ (ap (drop n) (is ∙ after-front at out written within)
+      ∙ (rest ∙ (ap (drop n) (take_rest out at) ∙ (drop-drop n at out ∙ ap (λ (j : ℕ). drop j out) (sym whole))))))
 
-  pub framed_rest : drop 2 new ≡ drop 2 (put_mid 2 (length out - 2) out written)
-      → drop n written ≡ drop n (take (length out - 2) (drop 2 out)) → drop k new ≡ drop k out
-  framed_rest is rest =
-      let count : k ≡ 2 + n = omega arith in
-      ap (λ (j : ℕ). drop j new) count
-      ∙ (sym (drop-drop n 2 new)
-      ∙ (ap (drop n) (over_two is)
-      ∙ (rest ∙ (ap (drop n) (take_rest out 2) ∙ (drop-drop n 2 out ∙ ap (λ (j : ℕ). drop j out) (sym count))))))
-
-  pub framed : take k new ≡ frame (take n (drop 2 (put_mid 2 (length out - 2) out written))) → take k new ≡ frame (take n written)
-  framed is = is ∙ ap (λ (xs : List ℕ). frame (take n xs)) (after_two out written two)
+-- as a frame
+pub framed : (n k : ℕ) (out written new : List ℕ) → 2 ≤ length out
+    → take k new ≡ frame (take n (drop 2 (put_mid 2 (length out - 2) out written))) → take k new ≡ frame (take n written)
+framed n k out written new two is = is ∙ ap (λ (xs : List ℕ). frame (take n xs)) (after-front 2 out written two)
 
 -- what is left after the first bytes of a buffer holds a message
-pub room-after : (out : List ℕ) (m from : ℕ) → 2 + m ≤ length out → from ≤ 2 → m ≤ length (take (length out - from) (drop from out))
-room-after out m from room low =
+pub room-after : (at : ℕ) (out : List ℕ) (m from : ℕ) → at + m ≤ length out → from ≤ at → m ≤ length (take (length out - from) (drop from out))
+room-after at out m from room low =
     let rest : take (length out - from) (drop from out) ≡ drop from out = take_rest out from in
     omega (arith, ap length rest, length-drop from out)
 
--- what is written after the first two bytes leaves room for the whole
-pub room-left : (n : ℕ) (out written : List ℕ) → 2 ≤ length out → n ≤ length written → n + 2 ≤ length (put_mid 2 (length out - 2) out written)
-room-left n out written two within =
+-- what is written after the first bytes leaves room for the whole
+pub room-left : (at n : ℕ) (out written : List ℕ) → at ≤ length out → n ≤ length written → n + at ≤ length (put_mid at (length out - at) out written)
+room-left at n out written some within =
     omega (
       arith,
-      length-append (take 2 out) (written ++ drop (length out - 2) (drop 2 out)),
-      length-append written (drop (length out - 2) (drop 2 out)),
-      length-take-le 2 out two,
+      length-append (take at out) (written ++ drop (length out - at) (drop at out)),
+      length-append written (drop (length out - at) (drop at out)),
+      length-take-le at out some,
     )

@@ -11,4 +11,4 @@ pub record EndCounterparts (v w : EndState) : Type 0 where
   pub there : w.received ≡ v.sent
   pub back : v.received ≡ w.sent
   pub partial : v.partial ≡ []
-  pub held_there : w.partial ≡ []
+  pub partial_there : w.partial ≡ []

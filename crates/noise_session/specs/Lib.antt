@@ -19,6 +19,7 @@ pub mod Lending
 pub mod inner
 pub mod Windows
 pub mod Datagrams
+pub mod DatagramFaults
 pub mod DatagramCalls
 pub mod EndDatagrams
 pub mod Parts

@@ -31,7 +31,7 @@ pub data Judges : EndState → List ℕ → StepValue → EndState → Type 0 wh
       → Judges v message Exhausted (ended_session v)
 
 -- A piece of the stream comes to an end, which takes so many of its bytes: none where it doesn't listen; all where they
--- make no whole frame with those that are held; else those up to the end of the first frame.
+-- make no whole frame with the partial one; else those up to the end of the first frame.
 pub data Takes : EndState → List ℕ → ℕ → StepValue → EndState → Type 0 where
   idles : (v : EndState) (piece : List ℕ) (step : StepValue) → idle_step (progress_of v) ≡ Some step
       → Takes v piece 0 step v

@@ -1,4 +1,5 @@
 -- What only private functions and proofs of this crate need: no public clause names any of it.
+pub mod Halves
 pub mod Filling
 pub mod Partial
 pub mod Places

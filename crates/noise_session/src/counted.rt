@@ -115,7 +115,7 @@ pub(crate) fn fill_from<R: Read>(from: &mut Counted<R>, buffer: &mut [u8]) -> (u
     (at, Filling::Filled)
 }
 
-// Writes all bytes; where a write fails, it reports how many were written before. It doesn't flush, and tries no write
+// Writes all bytes; where a write fails, it returns how many were written before. It doesn't flush, and tries no write
 // again.
 pub(crate) fn write_out<W: Write>(out: &mut Counted<W>, bytes: &[u8]) -> Result<(), usize>
     ensures written { MatchResult result

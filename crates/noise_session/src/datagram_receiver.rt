@@ -1,8 +1,7 @@
 //! The receiving half of datagrams (Noise, 11.4).
 #![tactic(auto)]
 
-ghost use Rattle.std.specs.Prelude.{◌≡◌, ◌≢◌, ◌≤◌, ◌<◌, ◌+◌, length, take, drop, is_some, true, IsSome, IfSome, IfOk, IfNone};
-ghost use Rattle.noise_state.specs.Cipher.{key_in};
+ghost use Rattle.std.specs.Prelude.{◌≡◌, ◌≢◌, ◌≤◌, ◌<◌, ◌+◌, length, take, drop, is_some, true, IfSome, IfOk, IfNone};
 ghost use Rattle.noise_events.specs.Windows.{width_of};
 ghost use Rattle.noise_session.specs.Transport.{last_nonce};
 ghost use Rattle.noise_session.specs.Windows.{is_ring};
@@ -11,12 +10,8 @@ ghost use Rattle.noise_session.specs.DatagramCalls.{DatagramReceiverOpens, Opens
 ghost use Rattle.noise_session.specs.Parts.{datagram_receiver_in};
 
 use crate::limits::{DATAGRAM_MAX, DATAGRAM_OVERHEAD, LAST_NONCE, NONCE_LEN};
-use crate::one_way::hears_nothing;
-use crate::parts::key_and_nonce;
 use crate::window::Ring;
-use crate::{DatagramFault, DatagramReceiverParts};
-use noise_names::Role;
-use noise_state::CipherState;
+use crate::{DatagramFault, DatagramReceiverParts, HalfParts, Receiver};
 use std::marker::Model;
 
 /// The receiving half of datagrams: it opens those of the other party, each nonce at most once, as the whole
@@ -26,50 +21,37 @@ use std::marker::Model;
 /// every datagram. No call takes memory, and a fault changes nothing.
 #[derive(Drop)]
 pub struct DatagramReceiver {
-    role: Role,
-    one_way: bool,
-    cipher: CipherState,
+    receiver: Receiver, // its nonce is set for each datagram
     recent: Ring, // of the nonces that were opened
 }
 
 impl Model for DatagramReceiver {
-    ghost use Rattle.std.specs.Prelude.{◌≡◌, IsSome, true};
-    ghost use Rattle.noise_state.specs.Cipher.{key_in};
+    ghost use Rattle.std.specs.Prelude.{◌≡◌, true};
+    ghost use Rattle.noise_session.specs.inner.Halves.{datagram_receiver_value};
     ghost use Rattle.noise_session.specs.Windows.{is_ring};
     ghost use Rattle.noise_session.specs.Datagrams.{DatagramReceiverValue};
 
     ghost Value = { DatagramReceiverValue };
 
-    ghost view = { λ r. record {
-      role = r.role;
-      one_way = r.one_way;
-      key = key_in r.cipher;
-      recent = r.recent;
-    } };
+    ghost view = { λ d. datagram_receiver_value d.receiver d.recent };
 
-    // Some accepted nonces have the ring.
-    ghost invariant = { λ r. record {
-      key : IsSome (key_in r.cipher);
-      ring : is_ring r.recent ≡ true;
+    // Its key is never renewed, and some accepted nonces have the ring.
+    ghost invariant = { λ d. record {
+      interval : d.receiver.interval ≡ 0;
+      ring : is_ring d.recent ≡ true;
     } };
 }
 
 impl DatagramReceiver {
-    // The half that opens with this cipher state.
-    pub(crate) fn new(
-        role: Role,
-        one_way: bool,
-        cipher: CipherState,
-        recent: Ring,
-    ) -> DatagramReceiver
-        requires keyed { IsSome (key_in cipher) }
-        requires ring { is_ring recent ≡ true }
-        ensures { result ≡ record { role = role; one_way = one_way; key = key_in cipher; recent = recent } }
+    ghost use Rattle.noise_session.specs.inner.Halves.{datagram_receiver_value};
+
+    // The half that opens by the key of this one, and never renews it.
+    pub(crate) fn new(receiver: Receiver, recent: Ring) -> DatagramReceiver
+        requires { is_ring recent ≡ true }
+        ensures { result ≡ datagram_receiver_value receiver recent }
     {
         DatagramReceiver {
-            role,
-            one_way,
-            cipher,
+            receiver: receiver.without_renewal(),
             recent,
         }
     }
@@ -79,11 +61,12 @@ impl DatagramReceiver {
         ensures value { datagram_receiver_in result ≡ self }
         ensures whole { is_ring (datagram_receiver_in result).recent ≡ true }
     {
-        let (key, _) = key_and_nonce(self.cipher);
+        let half = self.receiver.into_parts();
+        let key = half.key;
         let (window, greatest, words) = self.recent.into_parts();
         DatagramReceiverParts {
-            role: self.role,
-            one_way: self.one_way,
+            role: half.role,
+            one_way: half.one_way,
             key,
             window,
             greatest,
@@ -101,12 +84,15 @@ impl DatagramReceiver {
     {
         let words = parts.words;
         let recent = Ring::from_parts(parts.window, parts.greatest, words)?;
-        Some(DatagramReceiver {
+        let key = parts.key;
+        let receiver = Receiver::from_parts(HalfParts {
             role: parts.role,
             one_way: parts.one_way,
-            cipher: CipherState::from_parts(Some(parts.key), 0),
-            recent,
-        })
+            interval: 0,
+            key,
+            nonce: 0,
+        });
+        Some(DatagramReceiver { receiver, recent })
     }
 
     // Why such bytes aren't opened, whatever message they have.
@@ -118,7 +104,7 @@ impl DatagramReceiver {
         ensures reported { (v : DatagramState) → DatagramReceiverMatches self.now v
             → result ≡ datagram_fault v datagram.now }
     {
-        if hears_nothing(self.one_way, self.role) {
+        if self.receiver.hears_nothing() {
             return Some(DatagramFault::OneWay);
         }
         if datagram.len() < DATAGRAM_OVERHEAD {
@@ -147,8 +133,8 @@ impl DatagramReceiver {
             return Err(fault);
         }
         let nonce = nonce_of(datagram);
-        self.cipher.set_nonce(nonce);
-        match self.cipher.decrypt(&[], &mut datagram[NONCE_LEN..]) {
+        self.receiver.set_nonce(nonce);
+        match self.receiver.open_within(&mut datagram[NONCE_LEN..]) {
             Ok(len) => {
                 self.recent.insert(nonce);
                 Ok(len)

@@ -1,20 +1,14 @@
 //! The sending half of datagrams (Noise, 11.4).
 #![tactic(auto)]
 
-ghost use Rattle.std.specs.Prelude.{◌≡◌, ◌≢◌, ◌≤◌, ◌+◌, [], length, take, drop, None, IsSome};
-ghost use Rattle.noise_state.specs.Cipher.{key_in, nonce_in};
-ghost use Rattle.noise_state.specs.History.{ciphertext_under};
-ghost use Rattle.noise_session.specs.Transport.{last_nonce};
+ghost use Rattle.std.specs.Prelude.{◌≡◌, ◌≤◌, ◌+◌, ◌++◌, length, take, drop, None};
+ghost use Rattle.std.specs.Int.{w64, to_be_bytes};
 ghost use Rattle.noise_session.specs.Datagrams.{unsealed};
 ghost use Rattle.noise_session.specs.DatagramCalls.{DatagramSenderSeals};
 ghost use Rattle.noise_session.specs.Parts.{datagram_sender_in};
 
-use crate::limits::{DATAGRAM_MAX, DATAGRAM_OVERHEAD, LAST_NONCE, NONCE_LEN};
-use crate::one_way::writes_nothing;
-use crate::parts::key_and_nonce;
-use crate::{DatagramSenderParts, SendFault};
-use noise_names::Role;
-use noise_state::CipherState;
+use crate::limits::NONCE_LEN;
+use crate::{DatagramSenderParts, HalfParts, SendFault, Sender};
 use std::marker::Model;
 
 /// The sending half of datagrams: it seals this party's payloads, as the whole `Datagrams` does.
@@ -23,38 +17,31 @@ use std::marker::Model;
 /// every payload. No call takes memory, and a fault changes nothing.
 #[derive(Drop)]
 pub struct DatagramSender {
-    role: Role,
-    one_way: bool,
-    cipher: CipherState,
+    sender: Sender,
 }
 
 impl Model for DatagramSender {
-    ghost use Rattle.std.specs.Prelude.{IsSome};
-    ghost use Rattle.noise_state.specs.Cipher.{key_in, nonce_in};
+    ghost use Rattle.std.specs.Prelude.{◌≡◌};
+    ghost use Rattle.noise_session.specs.inner.Halves.{datagram_sender_value};
     ghost use Rattle.noise_session.specs.Datagrams.{DatagramSenderValue};
 
     ghost Value = { DatagramSenderValue };
 
-    ghost view = { λ s. record {
-      role = s.role;
-      one_way = s.one_way;
-      key = key_in s.cipher;
-      nonce = nonce_in s.cipher;
-    } };
+    ghost view = { λ d. datagram_sender_value d.sender };
 
-    ghost invariant = { λ s. IsSome (key_in s.cipher) };
+    // Its key is never renewed.
+    ghost invariant = { λ d. d.sender.interval ≡ 0 };
 }
 
 impl DatagramSender {
-    // The half that seals with this cipher state.
-    pub(crate) fn new(role: Role, one_way: bool, cipher: CipherState) -> DatagramSender
-        requires { IsSome (key_in cipher) }
-        ensures { result ≡ record { role = role; one_way = one_way; key = key_in cipher; nonce = nonce_in cipher } }
+    ghost use Rattle.noise_session.specs.inner.Halves.{datagram_sender_value};
+
+    // The half that seals as this one does, and never renews its key.
+    pub(crate) fn new(sender: Sender) -> DatagramSender
+        ensures { result ≡ datagram_sender_value sender }
     {
         DatagramSender {
-            role,
-            one_way,
-            cipher,
+            sender: sender.without_renewal(),
         }
     }
 
@@ -62,12 +49,13 @@ impl DatagramSender {
     pub fn into_parts(self) -> DatagramSenderParts
         ensures { datagram_sender_in result ≡ self }
     {
-        let (key, nonce) = key_and_nonce(self.cipher);
+        let half = self.sender.into_parts();
+        let key = half.key;
         DatagramSenderParts {
-            role: self.role,
-            one_way: self.one_way,
+            role: half.role,
+            one_way: half.one_way,
             key,
-            nonce,
+            nonce: half.nonce,
         }
     }
 
@@ -78,10 +66,15 @@ impl DatagramSender {
     pub fn from_parts(parts: DatagramSenderParts) -> DatagramSender
         ensures { result ≡ datagram_sender_in parts }
     {
+        let key = parts.key;
         DatagramSender {
-            role: parts.role,
-            one_way: parts.one_way,
-            cipher: CipherState::from_parts(Some(parts.key), parts.nonce),
+            sender: Sender::from_parts(HalfParts {
+                role: parts.role,
+                one_way: parts.one_way,
+                interval: 0,
+                key,
+                nonce: parts.nonce,
+            }),
         }
     }
 
@@ -89,23 +82,7 @@ impl DatagramSender {
     pub fn nonce(&self) -> u64
         ensures { result ≡ self.now.nonce }
     {
-        self.cipher.nonce()
-    }
-
-    // Why a payload of this length isn't sealed now.
-    fn refusal(&self, payload_len: usize) -> Option<SendFault>
-        ensures { result ≡ unsealed self.now.role self.now.one_way self.now.nonce payload_len }
-    {
-        if writes_nothing(self.one_way, self.role) {
-            return Some(SendFault::OneWay);
-        }
-        if payload_len > DATAGRAM_MAX - DATAGRAM_OVERHEAD {
-            return Some(SendFault::TooLong);
-        }
-        if self.cipher.nonce() == LAST_NONCE {
-            return Some(SendFault::Exhausted);
-        }
-        None
+        self.sender.nonce()
     }
 
     /// Seals a payload into the first bytes of `out`, 24 more than it has, and returns how many.
@@ -117,15 +94,18 @@ impl DatagramSender {
             → length payload.now + 24 ≤ length out.old }
         ensures { DatagramSenderSeals self.old self.new (length payload.now) payload.now out.old out.new result }
     {
-        if let Some(fault) = self.refusal(payload.len()) {
+        let nonce = self.sender.nonce();
+        if let Some(fault) = self.sender.refusal(payload.len()) {
             return Err(fault);
         }
-        out[NONCE_LEN..NONCE_LEN + payload.len()].copy_from_slice(payload);
-        self.seal_in_place(out, payload.len())
+        match self.sender.seal(payload, &mut out[NONCE_LEN..]) {
+            Ok(len) => Ok(put_nonce(out, nonce, len)),
+            Err(_) => unreachable!(),
+        }
     }
 
     /// Seals the payload that is in `payload_len` bytes of `buffer`, from the ninth byte on, in place: the datagram is
-    /// in the first bytes, 24 more, and it reports how many.
+    /// in the first bytes, 24 more, and it returns how many.
     ///
     /// `buffer` holds them where the payload has at most 65519 bytes. The faults are those of `seal`.
     pub fn seal_in_place(
@@ -138,32 +118,29 @@ impl DatagramSender {
         ensures { DatagramSenderSeals self.old self.new payload_len (take payload_len (drop 8 buffer.old))
             buffer.old buffer.new result }
     {
-        if let Some(fault) = self.refusal(payload_len) {
+        let nonce = self.sender.nonce();
+        if let Some(fault) = self.sender.refusal(payload_len) {
             return Err(fault);
         }
-        let nonce = self.cipher.nonce();
-        let (front, message) = buffer.split_at_mut(NONCE_LEN);
-        front.copy_from_slice(&nonce.to_be_bytes());
-        Ok(NONCE_LEN + encrypt(&mut self.cipher, message, payload_len))
+        match self
+            .sender
+            .seal_in_place(&mut buffer[NONCE_LEN..], payload_len)
+        {
+            Ok(len) => Ok(put_nonce(buffer, nonce, len)),
+            Err(_) => unreachable!(),
+        }
     }
 }
 
-// Encrypts the payload in the first `payload_len` bytes of `message` in place, and returns how many bytes it has with
-// its tag.
-fn encrypt(cipher: &mut CipherState, message: &mut [u8], payload_len: usize) -> usize
-    requires keyed { IsSome (key_in cipher.old) }
-    requires left { nonce_in cipher.old ≢ last_nonce }
-    requires short { payload_len ≤ 65519 }
-    requires room { payload_len + 16 ≤ length message.old }
-    ensures len { (result ≡ payload_len + 16) × (result ≤ length message.new) }
-    ensures sealed { take result message.new
-        ≡ ciphertext_under (key_in cipher.old) (nonce_in cipher.old) [] (take payload_len message.old) }
-    ensures beyond { drop result message.new ≡ drop result message.old }
-    ensures key { key_in cipher.new ≡ key_in cipher.old }
-    ensures counted { nonce_in cipher.new ≡ nonce_in cipher.old + 1 }
+// Makes a datagram of the message of `len` bytes that stands in `out` behind the first 8 bytes: puts its nonce there,
+// and returns how many bytes the datagram has.
+fn put_nonce(out: &mut [u8], nonce: u64, len: usize) -> usize
+    requires short { len ≤ 65535 }
+    requires room { 8 + len ≤ length out.old }
+    ensures len { (result ≡ 8 + len) × (result ≤ length out.new) }
+    ensures datagram { take result out.new ≡ to_be_bytes w64 nonce ++ take len (drop 8 out.old) }
+    ensures beyond { drop 8 out.new ≡ drop 8 out.old }
 {
-    match cipher.encrypt(&[], message, payload_len) {
-        Ok(len) => len,
-        Err(_) => unreachable!(),
-    }
+    out[..NONCE_LEN].copy_from_slice(&nonce.to_be_bytes());
+    NONCE_LEN + len
 }

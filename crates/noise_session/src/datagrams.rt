@@ -12,10 +12,12 @@ ghost use Rattle.noise_session.specs.Datagrams.{DatagramState, DatagramsMatch, D
 ghost use Rattle.noise_session.specs.Datagrams.{datagram_sending_half, datagram_receiving_half};
 ghost use Rattle.noise_session.specs.DatagramCalls.{DatagramsOpen, DatagramsSeal, OpensAfterNonce};
 
+use crate::half::Half;
 use crate::limits::NONCE_LEN;
 use crate::window::Ring;
 use crate::{
-    DatagramFault, DatagramParts, DatagramReceiver, DatagramSender, SendFault, Transport, Window,
+    DatagramFault, DatagramParts, DatagramReceiver, DatagramSender, Receiver, SendFault, Sender,
+    Transport, Window,
 };
 use noise_handshake::Opened;
 use noise_state::CipherState;
@@ -75,12 +77,10 @@ impl Datagrams {
         ensures { (v : TransportState) → TransportMatches transport v
             → DatagramsMatch result (datagrams_after v window) }
     {
-        let role = transport.role();
-        let one_way = transport.one_way();
-        let (sending, receiving) = transport.into_ciphers();
+        let (sender, receiver) = transport.split();
         Datagrams {
-            sender: DatagramSender::new(role, one_way, sending),
-            receiver: DatagramReceiver::new(role, one_way, receiving, Ring::new(window)),
+            sender: DatagramSender::new(sender),
+            receiver: DatagramReceiver::new(receiver, Ring::new(window)),
         }
     }
 
@@ -106,8 +106,8 @@ impl Datagrams {
         }
     }
 
-    /// The datagrams that hold these parts: they match what those stood for that were taken apart. None where no
-    /// opened nonces leave the window's words so: the greatest nonce has its bit, and none above it has one.
+    /// The datagrams that hold these parts: they match the states of those that were taken apart. None where no opened
+    /// nonces leave such words of the window: the greatest nonce has its bit, and none above it has one.
     ///
     /// Datagrams that were taken apart are put together once: two of them would seal at the same nonce.
     pub fn from_parts(parts: DatagramParts) -> Option<Datagrams>
@@ -118,9 +118,11 @@ impl Datagrams {
         let recent = Ring::from_parts(parts.window, parts.greatest, words)?;
         let sending = CipherState::from_parts(Some(parts.send_key), parts.send_nonce);
         let receiving = CipherState::from_parts(Some(parts.receive_key), 0);
+        let sender = Sender::new(Half::new(parts.role, parts.one_way, 0, sending));
+        let receiver = Receiver::new(Half::new(parts.role, parts.one_way, 0, receiving));
         Some(Datagrams {
-            sender: DatagramSender::new(parts.role, parts.one_way, sending),
-            receiver: DatagramReceiver::new(parts.role, parts.one_way, receiving, recent),
+            sender: DatagramSender::new(sender),
+            receiver: DatagramReceiver::new(receiver, recent),
         })
     }
 
@@ -155,7 +157,7 @@ impl Datagrams {
     }
 
     /// Seals the payload that is in `payload_len` bytes of `buffer`, from the ninth byte on, in place: the datagram is
-    /// in the first bytes, 24 more, and it reports how many.
+    /// in the first bytes, 24 more, and it returns how many.
     ///
     /// `buffer` holds them where the payload has at most 65519 bytes. The faults are those of `seal`.
     pub fn seal_in_place(

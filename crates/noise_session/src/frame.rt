@@ -55,10 +55,10 @@ pub(crate) struct Frame {
 }
 
 impl Frame {
-    ghost use Rattle.noise_session.specs.inner.Partial.{bytes_of};
+    ghost use Rattle.noise_session.specs.inner.Partial.{partial_of};
 
     pub(crate) fn new(alloc: Global) -> Result<Frame, AllocError>
-        ensures { IfOk result (λ frame. bytes_of frame ≡ []) }
+        ensures { IfOk result (λ frame. partial_of frame ≡ []) }
     {
         let buffer = zeros(alloc)?;
         Ok(Frame {
@@ -71,7 +71,7 @@ impl Frame {
     // Forgets what has come, and returns how many bytes it was. They stay in the buffer.
     pub(crate) fn clear(&mut self) -> usize
         ensures count { result ≡ self.old.partial }
-        ensures empty { bytes_of self.new ≡ [] }
+        ensures empty { partial_of self.new ≡ [] }
         ensures buffer { self.new.buffer ≡ self.old.buffer }
     {
         let partial = self.partial;
@@ -82,8 +82,8 @@ impl Frame {
 
     // How many bytes have come.
     pub(crate) fn held(&self) -> usize
-        requires { IsPartial (bytes_of self.now) }
-        ensures count { result ≡ length (bytes_of self.now) }
+        requires { IsPartial (partial_of self.now) }
+        ensures count { result ≡ length (partial_of self.now) }
         ensures most { result ≤ 65536 }
     {
         self.partial
@@ -99,8 +99,8 @@ impl Frame {
     // Takes bytes up to the end of the frame's length, or of the frame once that is there, and returns how many.
     fn accept(&mut self, piece: &[u8]) -> usize
         ensures count { result ≤ length piece.now }
-        ensures taken { bytes_of self.new ≡ bytes_of self.old ++ take result piece.now }
-        ensures all { length (bytes_of self.new) < frame_length (bytes_of self.old) → result ≡ length piece.now }
+        ensures taken { partial_of self.new ≡ partial_of self.old ++ take result piece.now }
+        ensures all { length (partial_of self.new) < frame_length (partial_of self.old) → result ≡ length piece.now }
     {
         let count = piece.len().min(self.whole - self.partial);
         let end = self.partial + count;
@@ -114,9 +114,9 @@ impl Frame {
     fn read_up<R: Read>(&mut self, from: &mut Counted<R>) -> Filling
         ensures bytes { (piece : List ℕ)
             × Consumes (R.remaining (inner_of from.old)) (R.remaining (inner_of from.new)) piece
-            × (bytes_of self.new ≡ bytes_of self.old ++ piece) }
-        ensures filled { (result ≡ Filled) ↔ (length (bytes_of self.new) ≡ frame_length (bytes_of self.old)) }
-        ensures within { length (bytes_of self.new) ≤ frame_length (bytes_of self.old) }
+            × (partial_of self.new ≡ partial_of self.old ++ piece) }
+        ensures filled { (result ≡ Filled) ↔ (length (partial_of self.new) ≡ frame_length (partial_of self.old)) }
+        ensures within { length (partial_of self.new) ≤ frame_length (partial_of self.old) }
         ensures end { result ≡ End → IsAtEnd (R.remaining (inner_of from.new)) }
         ensures failures { failures_of from.new ≡ after_filling (failures_of from.old) result }
     {
@@ -131,8 +131,8 @@ impl Frame {
     pub(crate) fn fill_from<R: Read>(&mut self, from: &mut Counted<R>) -> Filling
         ensures bytes { (piece : List ℕ)
             × Consumes (R.remaining (inner_of from.old)) (R.remaining (inner_of from.new)) piece
-            × (bytes_of self.new ≡ bytes_of self.old ++ piece) }
-        ensures leaves { Leaves result (bytes_of self.new) }
+            × (partial_of self.new ≡ partial_of self.old ++ piece) }
+        ensures leaves { Leaves result (partial_of self.new) }
         ensures end { result ≡ End → IsAtEnd (R.remaining (inner_of from.new)) }
         ensures failures { failures_of from.new ≡ after_filling (failures_of from.old) result }
     {
@@ -145,11 +145,11 @@ impl Frame {
     // Takes bytes of a piece up to the frame's end, and returns how many; None where the frame isn't whole with all of
     // them.
     pub(crate) fn fill(&mut self, piece: &[u8]) -> Option<usize>
-        ensures part { IfNone result ((bytes_of self.new ≡ bytes_of self.old ++ piece.now)
-            × IsPartial (bytes_of self.new)) }
+        ensures part { IfNone result ((partial_of self.new ≡ partial_of self.old ++ piece.now)
+            × IsPartial (partial_of self.new)) }
         ensures whole { IfSome result
-            (λ n. (n ≤ length piece.now) × (bytes_of self.new ≡ bytes_of self.old ++ take n piece.now)
-            × IsWhole (bytes_of self.new)) }
+            (λ n. (n ≤ length piece.now) × (partial_of self.new ≡ partial_of self.old ++ take n piece.now)
+            × IsWhole (partial_of self.new)) }
     {
         let first = self.accept(piece);
         let count = first + self.accept(&piece[first..]);

@@ -35,7 +35,7 @@ pub fn message_is_due()
     ensures { (v w : TransportState) (payload : List ℕ) → Faces v w → due_message w payload ≡ next_message v payload }
 {}
 
-/// A piece gives one step at an end: the same number of bytes is taken, and the same state stands after it.
+/// A piece gives one step at an end: the same number of bytes is taken, and the same state is left.
 pub fn taken_once()
     ensures { (v x y : EndState) (piece : List ℕ) (m n : ℕ) (s t : StepValue)
         → Takes v piece m s x → Takes v piece n t y → (m ≡ n) × (s ≡ t) × (x ≡ y) }

@@ -10,9 +10,9 @@ mod end;
 mod faults;
 mod frame;
 mod framing;
+mod half;
 pub mod laws;
 pub mod limits;
-mod one_way;
 mod parts;
 mod phase;
 mod receiver;
@@ -32,10 +32,6 @@ pub use datagrams::Datagrams;
 pub use end::End;
 pub use faults::{OpenFault, ReceiveFault, SendFault};
 pub use framing::frame_message;
-pub use laws::{
-    accepted_exactly, cuts_alike, end_is_reported, message_is_due, opened_once, sealed_is_opened,
-    sent_once, taken_once, transport_message_same, written_is_taken,
-};
 pub use noise_events::Window;
 pub use parts::{
     DatagramParts, DatagramReceiverParts, DatagramSenderParts, HalfParts, TransportParts,

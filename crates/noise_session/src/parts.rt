@@ -1,12 +1,8 @@
 //! What a transport holds, for a caller that keeps it itself.
 #![tactic(auto)]
 
-ghost use Rattle.std.specs.Prelude.{◌≡◌, Some, IsSome};
-ghost use Rattle.noise_state.specs.Cipher.{key_in, nonce_in};
-
 use crate::Window;
 use noise_names::Role;
-use noise_state::CipherState;
 
 /// What a transport holds between two messages, for a caller that keeps it itself, as one in another language.
 #[derive(Drop)]
@@ -76,16 +72,4 @@ pub struct DatagramReceiverParts {
     pub greatest: u64,
     /// A bit for each nonce near it.
     pub words: [u64; 17],
-}
-
-// The key and the nonce of a cipher state.
-pub(crate) fn key_and_nonce(cipher: CipherState) -> ([u8; 32], u64)
-    requires { IsSome (key_in cipher) }
-    ensures key { key_in cipher ≡ Some result.0 }
-    ensures nonce { nonce_in cipher ≡ result.1 }
-{
-    match cipher.into_parts() {
-        (Some(key), nonce) => (key, nonce),
-        (None, _) => unreachable!(),
-    }
 }

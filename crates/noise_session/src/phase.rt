@@ -5,8 +5,6 @@ ghost use Rattle.std.specs.Prelude.{◌≡◌, ◌≤◌, ◌+◌, ℕ, List, []
 ghost use Rattle.noise_session.specs.TransportValue.{seal_fault};
 ghost use Rattle.noise_session.specs.inner.Phases.{is_due};
 
-use crate::limits::{LAST_NONCE, PAYLOAD_MAX};
-use crate::one_way::{hears_nothing, writes_nothing};
 use crate::step::Outcome;
 use crate::{OpenFault, Stage, Step, Transport};
 use noise_handshake::{Cause, Handshake, Keys, ReadFault};
@@ -142,9 +140,7 @@ impl<K: Keys> Phase<K> {
             Phase::Handshaking { handshake, .. } => {
                 handshake.writes_next().then_some(Step::YourTurn)
             }
-            Phase::Open(transport) => {
-                hears_nothing(transport.one_way(), transport.role()).then_some(Step::Silent)
-            }
+            Phase::Open(transport) => transport.hears_nothing().then_some(Step::Silent),
             Phase::Ended { .. } => Some(Step::Ended),
         }
     }
@@ -214,9 +210,8 @@ impl<K: Keys> DuePhase<K> {
 fn message_len(transport: &Transport, payload_len: usize) -> Option<usize>
     ensures { result ≡ (if is_none (seal_fault transport.now payload_len) then Some (payload_len + 16) else None) }
 {
-    let refused = writes_nothing(transport.one_way(), transport.role());
-    if refused || payload_len > PAYLOAD_MAX || transport.send_nonce() == LAST_NONCE {
-        return None;
+    match transport.refusal(payload_len) {
+        Some(_) => None,
+        None => Some(payload_len + 16),
     }
-    Some(payload_len + 16)
 }

@@ -1,21 +1,19 @@
 //! The sending half of a transport (Noise, 5.2 and 11.3).
 #![tactic(auto)]
 
-ghost use Rattle.std.specs.Prelude.{◌≡◌, ◌≤◌, ◌<◌, ◌+◌, length, take, None, IsSome};
-ghost use Rattle.noise_state.specs.Cipher.{key_in, nonce_in};
+ghost use Rattle.std.specs.Prelude.{◌≡◌, ◌≤◌, ◌<◌, ◌+◌, length, take, None};
 ghost use Rattle.noise_session.specs.Halves.{sender_fault, writes_nothing};
 ghost use Rattle.noise_session.specs.HalfCalls.{SenderSeals, SenderSealsFrame};
 ghost use Rattle.noise_session.specs.Parts.{half_in};
 ghost use Rattle.noise_session.specs.Transport.{last_nonce};
+ghost use Rattle.noise_session.specs.inner.Halves.{half_value};
 
 use crate::framing::frame_message;
+use crate::half::Half;
 use crate::limits::{LAST_NONCE, PAYLOAD_MAX};
-use crate::one_way::writes_nothing;
-use crate::parts::key_and_nonce;
 use crate::renewal::renew;
 use crate::{HalfParts, SendFault};
 use noise_names::Role;
-use noise_state::CipherState;
 use std::marker::Model;
 
 /// The sending half of a transport: it seals this party's payloads, as the whole transport does.
@@ -24,62 +22,30 @@ use std::marker::Model;
 /// every payload. No call takes memory, and a fault changes nothing.
 #[derive(Drop)]
 pub struct Sender {
-    role: Role,
-    one_way: bool,
-    interval: u64,
-    cipher: CipherState,
+    half: Half,
 }
 
 impl Model for Sender {
-    ghost use Rattle.std.specs.Prelude.{IsSome};
-    ghost use Rattle.noise_state.specs.Cipher.{key_in, nonce_in};
     ghost use Rattle.noise_session.specs.Halves.{HalfValue};
+    ghost use Rattle.noise_session.specs.inner.Halves.{half_value};
 
     ghost Value = { HalfValue };
 
-    ghost view = { λ s. record {
-      role = s.role;
-      one_way = s.one_way;
-      interval = s.interval;
-      key = key_in s.cipher;
-      nonce = nonce_in s.cipher;
-    } };
-
-    ghost invariant = { λ s. IsSome (key_in s.cipher) };
+    ghost view = { λ s. half_value s.half };
 }
 
 impl Sender {
-    // The half that seals with this cipher state.
-    pub(crate) fn new(role: Role, one_way: bool, interval: u64, cipher: CipherState) -> Sender
-        requires { IsSome (key_in cipher) }
-        ensures { result ≡ record {
-          role = role;
-          one_way = one_way;
-          interval = interval;
-          key = key_in cipher;
-          nonce = nonce_in cipher;
-        } }
+    pub(crate) fn new(half: Half) -> Sender
+        ensures { result ≡ half_value half }
     {
-        Sender {
-            role,
-            one_way,
-            interval,
-            cipher,
-        }
+        Sender { half }
     }
 
     /// What it holds, for a caller that keeps it itself until the next message.
     pub fn into_parts(self) -> HalfParts
         ensures { half_in result ≡ self }
     {
-        let (key, nonce) = key_and_nonce(self.cipher);
-        HalfParts {
-            role: self.role,
-            one_way: self.one_way,
-            interval: self.interval,
-            key,
-            nonce,
-        }
+        self.half.into_parts()
     }
 
     /// The sending half that holds these parts. Any parts make one: a key and a nonce don't show of which half they
@@ -89,74 +55,69 @@ impl Sender {
     pub fn from_parts(parts: HalfParts) -> Sender
         ensures { result ≡ half_in parts }
     {
-        Sender {
-            role: parts.role,
-            one_way: parts.one_way,
-            interval: parts.interval,
-            cipher: CipherState::from_parts(Some(parts.key), parts.nonce),
-        }
+        Sender::new(Half::from_parts(parts))
     }
 
-    // The cipher state.
-    pub(crate) fn into_cipher(self) -> CipherState
-        ensures { (key_in result ≡ self.key) × (nonce_in result ≡ self.nonce) × IsSome (key_in result) }
+    // The same half, whose key is never renewed.
+    pub(crate) fn without_renewal(self) -> Sender
+        ensures { result ≡ record self { interval = 0 } }
     {
-        self.cipher
+        Sender::new(self.half.without_renewal())
     }
 
     /// The role of this party.
     pub fn role(&self) -> Role
         ensures { result ≡ self.now.role }
     {
-        self.role
+        self.half.role
     }
 
     /// Whether only the initiator writes (Noise, 7.4).
     pub fn one_way(&self) -> bool
         ensures { result ≡ self.now.one_way }
     {
-        self.one_way
+        self.half.one_way
     }
 
     pub(crate) fn interval(&self) -> u64
         ensures { result ≡ self.now.interval }
     {
-        self.interval
+        self.half.interval
     }
 
     /// The nonce of the next message that is sealed.
     pub fn nonce(&self) -> u64
         ensures { result ≡ self.now.nonce }
     {
-        self.cipher.nonce()
+        self.half.cipher.nonce()
     }
 
     /// Whether nothing is written in its direction: the responder of a one-way session writes nothing (Noise, 7.4).
     pub fn writes_nothing(&self) -> bool
         ensures { result ≡ writes_nothing self.now }
     {
-        writes_nothing(self.one_way, self.role)
+        self.half.one_way && self.half.role == Role::Responder
     }
 
     // Sets the nonce of the next message.
     pub(crate) fn set_nonce(&mut self, nonce: u64)
         ensures { self.new ≡ record self.old { nonce = nonce } }
     {
-        self.cipher.set_nonce(nonce);
+        self.half.cipher.set_nonce(nonce);
     }
 
     // Why a payload of this length isn't sealed now.
-    fn refusal(&self, payload_len: usize) -> Option<SendFault>
+    pub(crate) fn refusal(&self, payload_len: usize) -> Option<SendFault>
         ensures fault { result ≡ sender_fault self.now payload_len }
         ensures below { result ≡ None → self.now.nonce < last_nonce }
     {
-        if writes_nothing(self.one_way, self.role) {
+        if self.writes_nothing() {
             return Some(SendFault::OneWay);
         }
         if payload_len > PAYLOAD_MAX {
             return Some(SendFault::TooLong);
         }
-        if self.cipher.nonce() == LAST_NONCE {
+        if self.half.cipher.nonce() == LAST_NONCE {
             return Some(SendFault::Exhausted);
         }
         None
@@ -178,7 +139,7 @@ impl Sender {
     }
 
     /// Seals the payload in the first `payload_len` bytes of `buffer` in place: the message is in the first bytes, 16
-    /// more, and it reports how many.
+    /// more, and it returns how many.
     ///
     /// `buffer` holds them where the payload has at most 65519 bytes. The faults are those of `seal`.
     pub fn seal_in_place(
@@ -192,9 +153,9 @@ impl Sender {
         if let Some(fault) = self.refusal(payload_len) {
             return Err(fault);
         }
-        match self.cipher.encrypt(&[], buffer, payload_len) {
+        match self.half.cipher.encrypt(&[], buffer, payload_len) {
             Ok(len) => {
-                renew(&mut self.cipher, self.interval);
+                renew(&mut self.half.cipher, self.half.interval);
                 Ok(len)
             }
             Err(_) => unreachable!(),

@@ -13,7 +13,7 @@ ghost use Rattle.noise_session.specs.Outputs.{after_output};
 ghost use Rattle.noise_session.specs.Progress.{idle_step, refusal, message_length, frame_len_of};
 ghost use Rattle.noise_session.specs.Sending.{EndSends, WritesInto, IsRefused};
 ghost use Rattle.noise_session.specs.Taking.{EndTakes, Judges};
-ghost use Rattle.noise_session.specs.inner.Partial.{bytes_of};
+ghost use Rattle.noise_session.specs.inner.Partial.{partial_of};
 ghost use Rattle.noise_session.specs.inner.Places.{reported_in, received_in, MatchesIn};
 ghost use Rattle.noise_session.specs.inner.Phases.{ended_in};
 
@@ -33,8 +33,8 @@ use std::io::Read;
 pub(crate) struct State<K: Keys> {
     pub(crate) party: DuePhase<K>,
     pub(crate) incoming: Frame,
-    ghost partial: { IsPartial (bytes_of incoming) },
-    ghost ended: { is_ended party.phase ≡ true → bytes_of incoming ≡ [] },
+    ghost partial: { IsPartial (partial_of incoming) },
+    ghost ended: { is_ended party.phase ≡ true → partial_of incoming ≡ [] },
 }
 
 impl<K: Keys> State<K> {
@@ -162,13 +162,13 @@ impl<K: Keys> State<K> {
 // Reads the message of a whole frame. Nothing is held after it.
 fn read<K: Keys>(party: &mut DuePhase<K>, incoming: &mut Frame) -> Outcome
     requires listens { idle_step (progress_in party.old.phase) ≡ None }
-    requires whole { IsWhole (bytes_of incoming.old) }
-    ensures empty { bytes_of incoming.new ≡ [] }
+    requires whole { IsWhole (partial_of incoming.old) }
+    ensures empty { partial_of incoming.new ≡ [] }
     ensures place { MatchesIn (drop 2 incoming.new.buffer.items) result }
-    ensures spelled { bytes_of incoming.old ≡ frame (drop 2 (bytes_of incoming.old)) }
-    ensures short { length (drop 2 (bytes_of incoming.old)) ≤ 65535 }
+    ensures spelled { partial_of incoming.old ≡ frame (drop 2 (partial_of incoming.old)) }
+    ensures short { length (drop 2 (partial_of incoming.old)) ≤ 65535 }
     ensures judges { (v : EndState) → PhaseMatches K.public_of K.agreement party.old.phase v → (next : EndState)
-        × Judges v (drop 2 (bytes_of incoming.old)) (reported_in (drop 2 incoming.new.buffer.items) result) next
+        × Judges v (drop 2 (partial_of incoming.old)) (reported_in (drop 2 incoming.new.buffer.items) result) next
         × PhaseMatches K.public_of K.agreement party.new.phase next × (next.partial ≡ []) }
 {
     let end = incoming.clear();

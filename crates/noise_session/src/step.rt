@@ -7,7 +7,7 @@ ghost use Rattle.noise_session.specs.inner.Places.{reported_in, MatchesIn};
 
 use noise_handshake::Cause;
 
-/// What an end reports of the bytes that it was handed.
+/// What an end makes of the bytes that it was handed.
 #[derive(Clone, Copy, Debug, PartialEq, Eq)]
 pub enum Step<'a> {
     /// The session has ended; no byte was taken.

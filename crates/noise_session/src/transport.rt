@@ -1,14 +1,15 @@
 //! Transport messages of one party (Noise, 5.2 and 11.3).
 #![tactic(auto)]
 
-ghost use Rattle.std.specs.Prelude.{◌≡◌, ◌≤◌, ◌+◌, length, take, None, IsSome, IfOk};
-ghost use Rattle.noise_state.specs.Cipher.{key_in, nonce_in};
+ghost use Rattle.std.specs.Prelude.{◌≡◌, ◌≤◌, ◌+◌, length, take, None, IfOk};
 ghost use Rattle.noise_handshake.specs.Party.{Party};
 ghost use Rattle.noise_handshake.specs.Opening.{Opens};
+ghost use Rattle.noise_session.specs.Halves.{hears_nothing};
 ghost use Rattle.noise_session.specs.HalfCalls.{OpensInPlace, TransportOpens, TransportSeals};
 ghost use Rattle.noise_session.specs.Parts.{transport_in};
 ghost use Rattle.noise_session.specs.TransportValue.{TransportState, TransportMatches, SenderMatches, ReceiverMatches, transport_of, sending_half, receiving_half, seal_fault};
 
+use crate::half::Half;
 use crate::{OpenFault, Receiver, SendFault, Sender, TransportParts};
 use noise_handshake::Opened;
 use noise_names::Role;
@@ -73,8 +74,8 @@ impl Transport {
         Transport {
             hash,
             remote_static,
-            sender: Sender::new(role, one_way, interval, sending),
-            receiver: Receiver::new(role, one_way, interval, receiving),
+            sender: Sender::new(Half::new(role, one_way, interval, sending)),
+            receiver: Receiver::new(Half::new(role, one_way, interval, receiving)),
         }
     }
 
@@ -100,7 +101,7 @@ impl Transport {
         }
     }
 
-    /// The transport that holds these parts: it matches what the transport stood for that was taken apart. Any parts
+    /// The transport that holds these parts: it matches the states of the one that was taken apart. Any parts
     /// make one: a key and a nonce don't show of which handshake they are.
     ///
     /// A transport that was taken apart is put together once: two of them would seal at the same nonce.
@@ -113,13 +114,18 @@ impl Transport {
         Transport {
             hash,
             remote_static: parts.remote_static,
-            sender: Sender::new(parts.role, parts.one_way, parts.interval, sending),
-            receiver: Receiver::new(parts.role, parts.one_way, parts.interval, receiving),
+            sender: Sender::new(Half::new(parts.role, parts.one_way, parts.interval, sending)),
+            receiver: Receiver::new(Half::new(
+                parts.role,
+                parts.one_way,
+                parts.interval,
+                receiving,
+            )),
         }
     }
 
     /// The half that seals and the half that opens, as for two threads. Each does what this transport does in its
-    /// direction; the hash and the other party's static key are reported by the transport alone.
+    /// direction; neither has the hash and the other party's static key.
     pub fn split(self) -> (Sender, Receiver)
         ensures sender { result.0 ≡ sending_half self }
         ensures receiver { result.1 ≡ receiving_half self }
@@ -164,16 +170,6 @@ impl Transport {
         self.sender.interval()
     }
 
-    // The cipher states of this party's messages and of the other's.
-    pub(crate) fn into_ciphers(self) -> (CipherState, CipherState)
-        ensures sending { (key_in result.0 ≡ self.send_key) × (nonce_in result.0 ≡ self.send_nonce)
-            × IsSome (key_in result.0) }
-        ensures receiving { (key_in result.1 ≡ self.receive_key) × (nonce_in result.1 ≡ self.receive_nonce)
-            × IsSome (key_in result.1) }
-    {
-        (self.sender.into_cipher(), self.receiver.into_cipher())
-    }
-
     /// The nonce of the next message that is sealed.
     pub fn send_nonce(&self) -> u64
         ensures { result ≡ self.now.send_nonce }
@@ -186,6 +182,20 @@ impl Transport {
         ensures { result ≡ self.now.receive_nonce }
     {
         self.receiver.nonce()
+    }
+
+    // Whether nothing comes in the direction of its receiver.
+    pub(crate) fn hears_nothing(&self) -> bool
+        ensures { result ≡ hears_nothing (receiving_half self.now) }
+    {
+        self.receiver.hears_nothing()
+    }
+
+    // Why a payload of this length isn't sealed now.
+    pub(crate) fn refusal(&self, payload_len: usize) -> Option<SendFault>
+        ensures { result ≡ seal_fault self.now payload_len }
+    {
+        self.sender.refusal(payload_len)
     }
 
     /// Sets the nonces of the next messages, where no key is ever renewed.
@@ -213,7 +223,7 @@ impl Transport {
     }
 
     /// Seals the payload in the first `payload_len` bytes of `buffer` in place: the message is in the first bytes, 16
-    /// more, and it reports how many.
+    /// more, and it returns how many.
     ///
     /// `buffer` holds them where the payload has at most 65519 bytes. The faults are those of `seal`.
     pub fn seal_in_place(

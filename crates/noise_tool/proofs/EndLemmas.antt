@@ -18,7 +18,8 @@ use Rattle.noise_vectors.specs.declared.file_keys.FileKeys.{FileKeys}
 use Rattle.noise_vectors.specs.declared.vector.VectorFile.{VectorFile}
 use Rattle.noise_vectors.specs.FileKeys.{public_of, agreement_of}
 use Rattle.noise_vectors.specs.SameFile.{SaySame}
-use Rattle.noise_tool.specs.Ends.{IsFilePattern, IsStartFault, known_before, setup_of}
+use Rattle.noise_handshake.specs.Counterparts.{shown_before}
+use Rattle.noise_tool.specs.Ends.{IsFilePattern, IsStartFault, setup_of}
 use Rattle.noise_tool.specs.Selection.{heading_lines}
 use Rattle.noise_tool.specs.Tracing.{start_lines_of, start_traces}
 use Rattle.noise_tool.specs.declared.key_use_lines.Selection.{Selection}
@@ -74,8 +75,8 @@ same-start selection f g plan s =
     ∙ ap (λ (k : FileKeys). lines f.prologue.items f.initiator k) (sym s.responder) where
       lines : List ℕ → FileKeys → FileKeys → List (List ℕ)
       lines text first second =
-          heading_lines selection ++ start_lines_of selection Initiator plan text first (known_before plan Responder (public_of second))
-          ++ start_lines_of selection Responder plan text second (known_before plan Initiator (public_of first))
+          heading_lines selection ++ start_lines_of selection Initiator plan text first (shown_before plan Responder (public_of second))
+          ++ start_lines_of selection Responder plan text second (shown_before plan Initiator (public_of first))
 
 -- ---- the role of an end
 

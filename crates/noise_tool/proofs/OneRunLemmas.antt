@@ -22,7 +22,8 @@ use Rattle.noise_vectors.specs.FileKeys.{agreement_of, public_of}
 use Rattle.noise_vectors.specs.declared.file_keys.FileKeys.{FileKeys}
 use Rattle.noise_vectors.specs.declared.vector.FileDatagrams.{FileDatagrams}
 use Rattle.noise_vectors.specs.declared.vector.VectorFile.{VectorFile}
-use Rattle.noise_tool.specs.Ends.{IsFilePattern, sides_of_file, known_before, setup_of}
+use Rattle.noise_handshake.specs.Counterparts.{shown_before}
+use Rattle.noise_tool.specs.Ends.{IsFilePattern, sides_of_file, setup_of}
 use Rattle.noise_handshake.specs.Setup.{setup_fault}
 use Rattle.noise_tool.specs.OneRun.{OneRun, RunAlike}
 use Rattle.noise_vectors.specs.SameFile.{held_datagrams}
@@ -38,7 +39,7 @@ start_from plan role prologue psks own other = record {
   prologue = prologue;
   own = public_of own;
   agree = agreement_of own;
-  remote = known_before plan role (public_of other);
+  remote = shown_before plan role (public_of other);
   psks = psks;
 }
 
@@ -127,13 +128,13 @@ last-moves _ (Some also) d xs e (ready over _ notes last may run) =
 
 setup-alike : (f g : VectorFile) (plan : Plan) (role : Role) → RunAlike f g → setup_of f plan role ≡ setup_of g plan role
 setup-alike f g plan Initiator same =
-    ap (λ (z : FileKeys). setup_fault plan Initiator (public_of z) (known_before plan Responder (public_of f.responder)) (length f.psks.items)) same.initiator
-    ∙ ap (λ (z : FileKeys). setup_fault plan Initiator (public_of g.initiator) (known_before plan Responder (public_of z)) (length f.psks.items)) same.responder
-    ∙ ap (λ (z : List (List ℕ)). setup_fault plan Initiator (public_of g.initiator) (known_before plan Responder (public_of g.responder)) (length z)) same.psks
+    ap (λ (z : FileKeys). setup_fault plan Initiator (public_of z) (shown_before plan Responder (public_of f.responder)) (length f.psks.items)) same.initiator
+    ∙ ap (λ (z : FileKeys). setup_fault plan Initiator (public_of g.initiator) (shown_before plan Responder (public_of z)) (length f.psks.items)) same.responder
+    ∙ ap (λ (z : List (List ℕ)). setup_fault plan Initiator (public_of g.initiator) (shown_before plan Responder (public_of g.responder)) (length z)) same.psks
 setup-alike f g plan Responder same =
-    ap (λ (z : FileKeys). setup_fault plan Responder (public_of z) (known_before plan Initiator (public_of f.initiator)) (length f.psks.items)) same.responder
-    ∙ ap (λ (z : FileKeys). setup_fault plan Responder (public_of g.responder) (known_before plan Initiator (public_of z)) (length f.psks.items)) same.initiator
-    ∙ ap (λ (z : List (List ℕ)). setup_fault plan Responder (public_of g.responder) (known_before plan Initiator (public_of g.initiator)) (length z)) same.psks
+    ap (λ (z : FileKeys). setup_fault plan Responder (public_of z) (shown_before plan Initiator (public_of f.initiator)) (length f.psks.items)) same.responder
+    ∙ ap (λ (z : FileKeys). setup_fault plan Responder (public_of g.responder) (shown_before plan Initiator (public_of z)) (length f.psks.items)) same.initiator
+    ∙ ap (λ (z : List (List ℕ)). setup_fault plan Responder (public_of g.responder) (shown_before plan Initiator (public_of g.initiator)) (length z)) same.psks
 
 pub run-moves : (f g : VectorFile) (xs : List (List ℕ)) → RunAlike f g → IsRunOf f xs → IsRunOf g xs
 run-moves f g xs same a = record {

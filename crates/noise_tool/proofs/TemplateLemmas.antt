@@ -24,7 +24,8 @@ use Rattle.noise_vectors.specs.declared.file_keys.FileKeys.TheVariants.{Table}
 use Rattle.noise_vectors.specs.declared.vector.VectorFile.{VectorFile}
 use Rattle.noise_template.specs.Template.{IsTemplate, key_byte, key_in, name_of, own_token, placeholder, psk_key, unless_known}
 use Rattle.noise_template.specs.Template as template
-use Rattle.noise_tool.specs.Ends.{IsFilePattern, keys_of_role, known_before, setup_of}
+use Rattle.noise_handshake.specs.Counterparts.{shown_before}
+use Rattle.noise_tool.specs.Ends.{IsFilePattern, keys_of_role, setup_of}
 
 -- ---- the pattern
 
@@ -221,7 +222,7 @@ keys-are p file t Responder = t.responder
 
 whole-setup : (p : Plan) → BeforeMatches p → (role : Role) (n : ℕ) → n ≡ psks_of p.messages
     → setup_fault p role (public_of (Table (template.keys_in p role)))
-    (known_before p (other role) (public_of (Table (template.keys_in p (other role))))) n ≡ None
+    (shown_before p (other role) (public_of (Table (template.keys_in p (other role))))) n ≡ None
 whole-setup p matches role n count =
     let e = own-there (is_among role E (places_of p)) (placeholder (key_byte role Ephemeral)) in
     let s = own-there (is_among role S (places_of p)) (placeholder (key_byte role Static)) in
@@ -234,6 +235,6 @@ whole-setup p matches role n count =
 
 pub no-setup-fault : (p : Plan) (file : VectorFile) → IsPattern p → BeforeMatches p → IsTemplate p file → (role : Role) → setup_of file p role ≡ None
 no-setup-fault p file h matches t role =
-    ap₂ (λ (own theirs : FileKeys). setup_fault p role (public_of own) (known_before p (other role) (public_of theirs)) (length file.psks.items))
+    ap₂ (λ (own theirs : FileKeys). setup_fault p role (public_of own) (shown_before p (other role) (public_of theirs)) (length file.psks.items))
     (keys-are p file t role) (keys-are p file t (other role))
     ∙ whole-setup p matches role (length file.psks.items) (ap length t.psks ∙ psk-count p h)

@@ -2,18 +2,17 @@
 use Rattle.std.specs.Prelude.{◌≡◌, ℕ, List, length, Option, Some, None, ⊤, if◌then◌else◌}
 use Rattle.noise_names.specs.declared.token.Role.{Role}
 use Rattle.noise_names.specs.declared.token.Role.TheVariants.{Initiator, Responder}
-use Rattle.noise_names.specs.declared.token.Token.TheVariants.{E, S}
 use Rattle.noise_names.specs.Tokens.{other}
 use Rattle.noise_names.specs.Names.{Section}
 use Rattle.noise_names.specs.Plan.{Plan}
 use Rattle.noise_names.specs.Validity.{IsValid, IsFirstFault}
 use Rattle.noise_keys.specs.declared.keys.Own.{Own}
-use Rattle.noise_keys.specs.declared.keys.Own.TheVariants.{Ephemeral, Static}
 use Rattle.noise_handshake.specs.declared.remote.Remote.{Remote}
 use Rattle.noise_keys.specs.declared.faults.SetupFault.{SetupFault}
 use Rattle.noise_handshake.specs.HandshakeValue.{HandshakeValue}
 use Rattle.noise_handshake.specs.Matching.{Matches}
-use Rattle.noise_handshake.specs.Setup.{has_before, setup_fault}
+use Rattle.noise_handshake.specs.Counterparts.{shown_before}
+use Rattle.noise_handshake.specs.Setup.{setup_fault}
 use Rattle.noise_handshake.specs.Party.{Party}
 use Rattle.noise_duel.specs.Conversation.{sides_at_start}
 use Rattle.noise_duel.specs.DuelValue.{DuelValue, DuelMatches}
@@ -37,19 +36,12 @@ IsFilePatternFault block name (Rule fault) = (plan : Plan) × IsFilePattern bloc
 IsFilePatternFault None name fault = IsUnnamed name fault
 IsFilePatternFault (Some block) name fault = ⊥
 
--- the public keys of a party's pre-message, which the other party knows before the first message (Noise 7.1)
-abbrev pub known_before : Plan → Role → (Own → Option (List ℕ)) → Remote
-known_before plan party own = record {
-  e = if has_before plan party E then own Ephemeral else None;
-  s = if has_before plan party S then own Static else None;
-}
-
 abbrev pub keys_of_role : VectorFile → Role → FileKeys
 keys_of_role file Initiator = file.initiator
 keys_of_role file Responder = file.responder
 
 abbrev pub known_to : VectorFile → Plan → Role → Remote
-known_to file plan role = known_before plan (other role) (public_of (keys_of_role file (other role)))
+known_to file plan role = shown_before plan (other role) (public_of (keys_of_role file (other role)))
 
 -- what a party starts from
 abbrev pub file_start : VectorFile → Plan → Role → Start

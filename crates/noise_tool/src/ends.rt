@@ -10,13 +10,14 @@ ghost use Rattle.noise_handshake.specs.Setup.{party_at_start, setup_fault};
 ghost use Rattle.noise_handshake.specs.Party.{Party};
 ghost use Rattle.noise_session.specs.Ends.{end_of};
 ghost use Rattle.noise_vectors.specs.FileKeys.{agreement_of, public_of};
-ghost use Rattle.noise_tool.specs.Ends.{AreEnds, AreHandshakes, FileDuelMatches, FileMatches, IsFilePatternFault, IsFilePattern, IsStartFault, known_before};
+ghost use Rattle.noise_tool.specs.Ends.{AreEnds, AreHandshakes, FileDuelMatches, FileMatches, IsFilePatternFault, IsFilePattern, IsStartFault};
 
 use noise_duel::{Duel, Event};
-use noise_handshake::{Handshake, Keys, Own, Remote};
+use noise_handshake::{Handshake, Remote};
 use noise_lines::{Fault, named_pattern};
-use noise_names::{Pattern, ProtocolName, Role, Token, ValidPattern};
-use noise_session::{End, end_is_reported};
+use noise_names::{Pattern, ProtocolName, Role, ValidPattern};
+use noise_session::End;
+use noise_session::laws::end_is_reported;
 use noise_vectors::{FileKeys, VectorFile, Version};
 use std::alloc::{AllocError, Global};
 
@@ -77,8 +78,8 @@ pub(crate) fn begin(file: VectorFile) -> Result<Beginning, Fault>
         version,
     } = file;
     let pattern = valid_pattern(block, &protocol)?;
-    let of_initiator = known_before(pattern.pattern(), Role::Initiator, &initiator);
-    let of_responder = known_before(pattern.pattern(), Role::Responder, &responder);
+    let of_initiator = Remote::shown_before(pattern.pattern(), Role::Initiator, &initiator);
+    let of_responder = Remote::shown_before(pattern.pattern(), Role::Responder, &responder);
     let same = pattern.clone()?;
     let first = handshake(
         pattern,
@@ -141,25 +142,6 @@ pub(crate) fn valid_pattern(
     match pattern.check() {
         Ok(valid) => Ok(valid),
         Err(fault) => Err(Fault::Rule(fault)),
-    }
-}
-
-// Of a party's public keys those of its pre-message, which the other party knows before the first message.
-pub(crate) fn known_before(pattern: &Pattern, party: Role, keys: &FileKeys) -> Remote
-    ensures { result ≡ known_before pattern.now party (public_of keys.now) }
-{
-    let pre = pattern.pre(party);
-    Remote {
-        e: if pre.contains(&Token::E) {
-            keys.public(Own::Ephemeral)
-        } else {
-            None
-        },
-        s: if pre.contains(&Token::S) {
-            keys.public(Own::Static)
-        } else {
-            None
-        },
     }
 }
 

@@ -4,7 +4,7 @@ ghost use Rattle.noise_tool.specs.Conversion.{ConversionsMeetThemselves};
 ghost use Rattle.noise_tool.specs.OneRun.{OneRun};
 ghost use Rattle.noise_tool.specs.TemplateStarts.{TemplatesStart};
 
-use noise_duel::{datagram_run_once, run_once};
+use noise_duel::laws::{datagram_run_once, run_once};
 use noise_handshake::laws::tokens_match;
 use noise_vectors::vector_texts_are_unique;
 

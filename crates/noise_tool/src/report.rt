@@ -19,7 +19,8 @@ use noise_duel::{Duel, Entry, Idle, Report};
 use noise_handshake::Cause;
 use noise_lines::{Line, role_word};
 use noise_names::Role;
-use noise_session::{End, SendFault, Stage, end_is_reported};
+use noise_session::laws::end_is_reported;
+use noise_session::{End, SendFault, Stage};
 use noise_vectors::FileKeys;
 use std::alloc::{AllocError, Global};
 

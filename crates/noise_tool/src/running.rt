@@ -23,7 +23,8 @@ use crate::ends::make_ends;
 use crate::report::{entry_lines, push_state_lines};
 use noise_duel::{DatagramDuel, Duel, Event};
 use noise_lines::{Fault, Line};
-use noise_session::{Window, end_is_reported};
+use noise_session::Window;
+use noise_session::laws::end_is_reported;
 use noise_vectors::{AllowedEvents, FileDatagrams, FileKeys, VectorFile, Version, said_lines};
 use std::alloc::{AllocError, Global};
 

@@ -14,7 +14,7 @@ ghost use Rattle.noise_tool.specs.Selection.{heading_lines};
 ghost use Rattle.noise_tool.specs.TracedEnds.{AreTracedEnds, TracedMatches};
 ghost use Rattle.noise_tool.specs.Tracing.{start_lines_of, start_traces};
 
-use crate::ends::{Beginning, begin, duel_of, known_before};
+use crate::ends::{Beginning, begin, duel_of};
 use crate::key_use_lines::Selection;
 use crate::trace_lines::push_start_lines;
 use crate::traced_end::TracedEnd;
@@ -114,8 +114,8 @@ fn start_lines(
     ensures { ((role : Role) → setup_of file.now pattern.now role ≡ None)
         → IfOk result (λ lines. bytes_of lines.items ≡ start_traces selection file.now pattern.now) }
 {
-    let of_initiator = known_before(pattern.pattern(), Role::Initiator, &file.initiator);
-    let of_responder = known_before(pattern.pattern(), Role::Responder, &file.responder);
+    let of_initiator = Remote::shown_before(pattern.pattern(), Role::Initiator, &file.initiator);
+    let of_responder = Remote::shown_before(pattern.pattern(), Role::Responder, &file.responder);
     let mut lines = Vec::new(alloc);
     push_heading(alloc, selection, &mut lines)?;
     push_start(

@@ -30,7 +30,7 @@ use crate::traced_event::trace_event;
 use noise_duel::{Duel, Entry, Event, Report};
 use noise_lines::Fault;
 use noise_names::Role;
-use noise_session::end_is_reported;
+use noise_session::laws::end_is_reported;
 use noise_vectors::{
     AllowedEvents, FileKeys, VectorFile, Version, read_vector, vector_texts_are_unique,
 };

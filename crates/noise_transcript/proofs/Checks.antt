@@ -25,7 +25,8 @@ use Rattle.noise_vectors.specs.declared.vector.AllowedEvents.TheVariants.{SayOnl
 use Rattle.noise_vectors.specs.declared.vector.VectorFile.{VectorFile}
 use Rattle.noise_vectors.specs.declared.vector.Version.{Version}
 use Rattle.noise_vectors.specs.declared.vector.Version.TheVariants.{One, Two}
-use Rattle.noise_tool.specs.Ends.{IsFilePattern, known_before, setup_of}
+use Rattle.noise_handshake.specs.Counterparts.{shown_before}
+use Rattle.noise_tool.specs.Ends.{IsFilePattern, setup_of}
 use Rattle.noise_tool.specs.Running.{datagrams_of_version}
 use Rattle.noise_transcript.specs.Fitting.{HasFittingLines, IsXor}
 
@@ -47,7 +48,7 @@ xor_starts p prologue psks a b =
     starts (λ keys own. key_of own keys.e keys.s) (λ keys own remote. xor_dh_result (key_of own keys.e keys.s) remote) p prologue psks a b
 
 abbrev setup_from : Plan → Role → FileKeys → FileKeys → ℕ → Option SetupFault
-setup_from p role own theirs n = setup_fault p role (public_of own) (known_before p (other role) (public_of theirs)) n
+setup_from p role own theirs n = setup_fault p role (public_of own) (shown_before p (other role) (public_of theirs)) n
 
 by-role : (P : Role → Type 0) → P Initiator → P Responder → (role : Role) → P role
 by-role P i r Initiator = i

@@ -29,7 +29,8 @@ use Rattle.noise_vectors.specs.declared.vector.Version.{Version}
 use Rattle.noise_vectors.specs.declared.vector.Version.TheVariants.{One, Two}
 use Rattle.noise_lines.specs.declared.faults.Fault.{Fault}
 use Rattle.noise_lines.specs.declared.faults.Fault.TheVariants as fault
-use Rattle.noise_tool.specs.Ends.{HasSetupFault, IsFilePatternFault, IsFilePattern, IsStartFault, known_before, setup_of}
+use Rattle.noise_handshake.specs.Counterparts.{shown_before}
+use Rattle.noise_tool.specs.Ends.{HasSetupFault, IsFilePatternFault, IsFilePattern, IsStartFault, setup_of}
 use Rattle.noise_tool.specs.Performing.{HasUnmet, IsPlain, IsRunFault, IsUnmet}
 use Rattle.noise_tool.specs.Running.{datagrams_of_version}
 use Rattle.noise_transcript.specs.Fitting.{HasFittingLines, IsXor}
@@ -87,7 +88,7 @@ no-start-fault f p lines why fits h = absurd (no-pattern-fault f.block f.protoco
 -- ---- of each file that says the same
 
 abbrev setup_from : Plan → Role → FileKeys → FileKeys → ℕ → Option SetupFault
-setup_from p role own theirs n = setup_fault p role (public_of own) (known_before p (other role) (public_of theirs)) n
+setup_from p role own theirs n = setup_fault p role (public_of own) (shown_before p (other role) (public_of theirs)) n
 
 setup-same : (f g : VectorFile) (p : Plan) → SaySame f g → (role : Role) → setup_of f p role ≡ setup_of g p role
 setup-same f g p same Initiator =

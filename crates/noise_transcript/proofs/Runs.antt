@@ -8,6 +8,7 @@ use Rattle.noise_names.specs.Plan.{Plan, places_of}
 use Rattle.noise_names.specs.Validity.{IsValid, is_among, occurs}
 use Rattle.noise_keys.specs.declared.keys.Own.{Own}
 use Rattle.noise_handshake.specs.Counterparts.{is_dh}
+use Rattle.noise_handshake.specs.RemoteKeys.{remote-own}
 use Rattle.noise_handshake.specs.declared.remote.Remote.{Remote}
 use Rattle.noise_handshake.specs.Setup.{public_keys, setup_fault, token_of}
 use Rattle.noise_handshake.specs.Party.{own_at, remote_at}
@@ -29,7 +30,7 @@ use Rattle.noise_transcript.specs.Fitting.{HasFittingLines}
 use Rattle.noise_transcript.specs.Talked.{FittingLinesRun, exchange_lines}
 use Rattle.noise_transcript.proofs.Exchange.{noted-lines, same-writers}
 use Rattle.noise_transcript.proofs.Reached.{both-there}
-use Rattle.noise_transcript.proofs.Xor.{keys-agree, long-keys, remote-own, xor-dh-results}
+use Rattle.noise_transcript.proofs.Xor.{keys-agree, long-keys, xor-dh-results}
 
 -- what the laws of the crates below say
 pub record Laws : Type 0 where

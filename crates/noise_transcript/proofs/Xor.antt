@@ -56,10 +56,3 @@ pub xor-dh-results : (keys : FileKeys) → IsXor keys → (x : Own) (l : Option 
     → is_some (dh_result_of (agreement_of keys) x l) ≡ true
 xor-dh-results (Xor keys) i x l h k = dh_results (agreement_of (Xor keys)) x l k (λ m. gives (key_of x keys.e keys.s) m h)
 xor-dh-results (Table keys) i x l h k = absurd i
-
--- the other party's key at a DH token
-pub remote-own : (role : Role) (theirs : Own → Option (List ℕ)) (t : Token) → remote_at role (public_keys theirs) t ≡ theirs (own_at (other role) t)
-remote-own Initiator theirs E = refl
-remote-own Initiator theirs _ = refl
-remote-own Responder theirs E = refl
-remote-own Responder theirs _ = refl

@@ -3,8 +3,8 @@
 
 ghost use Rattle.noise_transcript.specs.Talked.{FittingLinesRun};
 
-use noise_conversation::fitting_lines_take_turns;
-use noise_duel::{alike_are_parts, lines_come_through};
+use noise_conversation::laws::fitting_lines_take_turns;
+use noise_duel::laws::{alike_are_parts, lines_come_through};
 use noise_handshake::laws::{setup_is_whole, tokens_match};
 
 /// The lines of a file's run, where the lines that it says fit: each message of the transcript as a frame, with its

@@ -5,7 +5,7 @@ use Rattle.noise_session.specs.declared.counted.Filling.TheVariants.{Filled, End
 use Rattle.noise_session.specs.Counting.{one_more}
 use Rattle.noise_session.specs.Frames.{IsPartial, IsWhole}
 
--- what is held of a frame after a reading of its missing bytes
+-- what has come of a frame after a reading of its missing bytes
 abbrev pub Leaves : Filling → List ℕ → Type 0
 Leaves Filled bytes = IsWhole bytes
 Leaves End bytes = IsPartial bytes

@@ -5,11 +5,11 @@ use Rattle.noise_session.specs.declared.faults.SendFault.{SendFault}
 use Rattle.noise_session.specs.declared.state.State.{State}
 use Rattle.noise_session.specs.Ends.{EndValue}
 use Rattle.noise_session.specs.Frames.{frame}
-use Rattle.noise_session.specs.inner.Partial.{bytes_of}
+use Rattle.noise_session.specs.inner.Partial.{partial_of}
 
 -- what the end holds
 abbrev pub end_in : {K : Type 0} {ghosts : Ghosts K} → State K ghosts → EndValue K
-end_in s = record { phase = s.party.phase; partial = bytes_of s.incoming }
+end_in s = record { phase = s.party.phase; partial = partial_of s.incoming }
 
 -- the message of the last frame, with what the buffer holds after it
 abbrev pub message_in : {K : Type 0} {ghosts : Ghosts K} → State K ghosts → List ℕ

@@ -8,7 +8,7 @@ use Rattle.noise_duel.specs.SetUpAlike.{material_of}
 use Rattle.noise_conversation.specs.Lines.{bytes_not_taken}
 use Rattle.noise_conversation.specs.Setup.{history_of}
 use Rattle.noise_conversation.proofs.Fit.{in-turn, none-left-ended_party}
-use Rattle.noise_conversation.proofs.StepValue.{hash-reported}
+use Rattle.noise_conversation.proofs.HashReported.{hash-reported}
 use Rattle.noise_conversation.proofs.conversation.say_lines.Goals as goal
 
 pub returns : goal.returns

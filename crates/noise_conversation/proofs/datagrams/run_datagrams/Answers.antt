@@ -28,8 +28,8 @@ returns g c =
     let events = datagram_events_of c.args.events.now in
     let reported = datagram_notes_of c.in_ok-made.made.1.entries.items in
     let begun = c.datagrams_agree.ensures.start p a b i j opening notes d c.args.window run one in
-    let pictures = c.go_over-parties.ensures d.initiator.state d.responder.state (record { initiator = matches.initiator; responder = matches.responder }) in
-    let left = c.in_ok-made.ensures.reports v w pictures in
+    let matches = c.go_over-parties.ensures d.initiator.state d.responder.state (record { initiator = matches.initiator; responder = matches.responder }) in
+    let left = c.in_ok-made.ensures.reports v w matches in
     let reports = c.datagram_entries_agree.ensures.reported v w events reported left.last begun left.run in
     let agree = c.datagram_entries_agree.ensures.agree v w events reported left.last begun left.run in
     record {
@@ -38,7 +38,7 @@ returns g c =
       responder = reports.1;
       there = agree.0;
       back = agree.1;
-      keys = c.datagram_entries_agree.ensures.keys v w events reported left.last c.in_ok-made.made.0 begun left.run left.pictures;
+      keys = c.datagram_entries_agree.ensures.keys v w events reported left.last c.in_ok-made.made.0 begun left.run left.matches;
     }) in
     record {
       reports = λ v w matches. c.in_ok-made.ensures.reports (datagrams_of v.party c.args.window) (datagrams_of w.party c.args.window) (c.go_over-parties.ensures v w matches);

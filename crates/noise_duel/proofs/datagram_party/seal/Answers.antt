@@ -22,8 +22,8 @@ returns-in_ok-push-in-Ok c s p unchanged =
     record {
       next = sealing s payload;
       seals = seals-as s payload c.in_ok-reported-in-Ok.reported.items c.len-number.result none number (sym reported);
-      pictures = c.in-Ok.ensures.matches s.state p;
-      unchanged = frames-unchanged c.args.sealed.now.items c.push.new.self.items c.truncate.new.self bytes (sealed_datagrams s) (sealed_datagrams (sealing s payload))
+      matches = c.in-Ok.ensures.matches s.state p;
+      sealed_match = frames-unchanged c.args.sealed.now.items c.push.new.self.items c.truncate.new.self bytes (sealed_datagrams s) (sealed_datagrams (sealing s payload))
           c.in_ok-push-in-Ok.ensures.items written unchanged
           (one-more-in s payload ∙ ap (λ (b : List ℕ). sealed_datagrams s ++ b ∷ []) (sym made.0));
     }
@@ -33,6 +33,6 @@ returns-in-Err c s p unchanged = record {
   next = s;
   seals = seals_nothing s c.args.payload.now c.in-Err.fault
       (sym (fault-in-state c.args.datagrams.now s.state (length c.args.payload.now) p) ∙ that-fault _ c.in-Err.fault c.in-Err.ensures.half.fault);
-  pictures = subst (λ (d : DatagramsValue). DatagramsMatch d s.state) (sym c.in-Err.ensures.unchanged) p;
-  unchanged = unchanged;
+  matches = subst (λ (d : DatagramsValue). DatagramsMatch d s.state) (sym c.in-Err.ensures.unchanged) p;
+  sealed_match = unchanged;
 }

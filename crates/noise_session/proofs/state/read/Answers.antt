@@ -1,5 +1,5 @@
 use Rattle.std.proofs.Common.{◌≡◌, ◌-◌, List, ℕ, take, drop, sym, subst, arith}
-use Rattle.noise_session.specs.inner.Partial.{bytes_of}
+use Rattle.noise_session.specs.inner.Partial.{partial_of}
 use Rattle.noise_session.specs.Steps.{StepValue}
 use Rattle.noise_session.specs.Taking.{Judges}
 use Rattle.noise_session.specs.inner.Places.{reported_in}
@@ -9,12 +9,12 @@ use Rattle.noise_session.proofs.state.read.Goals as goal
 pub returns-clause-judges : goal.returns-clause-judges
 returns-clause-judges g c v s =
     let r = c.read.ensures.judges v s in
-    let message : take (c.clear-end.result - 2) (drop 2 c.deref_mut.result.now) ≡ drop 2 (bytes_of c.args.incoming.now) =
+    let message : take (c.clear-end.result - 2) (drop 2 c.deref_mut.result.now) ≡ drop 2 (partial_of c.args.incoming.now) =
     rw (c.clear-end.ensures.count, c.deref_mut.ensures.value, c.clear-end.ensures.buffer) (drop-front _ 2 _) in
     let long = c.deref_mut.ensures.len in
     let room = c.clear-end.new.self.room in (
       r.0,
-      subst (λ (t : StepValue). Judges v (drop 2 (bytes_of c.args.incoming.now)) t r.0)
+      subst (λ (t : StepValue). Judges v (drop 2 (partial_of c.args.incoming.now)) t r.0)
           (sym (reported-after c.deref_mut.result.now c.read.new.message _ _ _ c.read.result (omega arith) c.read.ensures.place
           (omega arith)))
           (subst (λ (m : List ℕ). Judges v m (reported_in c.read.new.message c.read.result) r.0) message r.1),

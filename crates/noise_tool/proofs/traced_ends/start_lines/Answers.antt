@@ -4,7 +4,7 @@ use Rattle.noise_names.specs.Plan.{Plan}
 use Rattle.noise_handshake.specs.declared.remote.Remote.{Remote}
 use Rattle.noise_handshake.specs.Setup.{setup_fault}
 use Rattle.noise_vectors.specs.FileKeys.{public_of}
-use Rattle.noise_tool.specs.Ends.{known_before}
+use Rattle.noise_handshake.specs.Counterparts.{shown_before}
 use Rattle.noise_tool.specs.Tracing.{start_lines_of}
 use Rattle.noise_tool.proofs.traced_ends.start_lines.Goals as goal
 
@@ -12,10 +12,10 @@ pub returns : goal.returns
 returns c = λ set_up.
     let file = c.args.file.now in
     let plan = c.args.pattern.now in
-    let known : c.known_before-of_responder.result ≡ known_before plan Responder (public_of file.responder) =
-    c.known_before-of_responder.ensures ∙ ap (λ (z : Plan). known_before z Responder (public_of file.responder)) c.pattern-2.ensures.value in
-    let known-2 : c.known_before-of_initiator.result ≡ known_before plan Initiator (public_of file.initiator) =
-    c.known_before-of_initiator.ensures ∙ ap (λ (z : Plan). known_before z Initiator (public_of file.initiator)) c.pattern.ensures.value in
+    let known : c.shown_before-of_responder.result ≡ shown_before plan Responder (public_of file.responder) =
+    c.shown_before-of_responder.ensures ∙ ap (λ (z : Plan). shown_before z Responder (public_of file.responder)) c.pattern-2.ensures.value in
+    let known-2 : c.shown_before-of_initiator.result ≡ shown_before plan Initiator (public_of file.initiator) =
+    c.shown_before-of_initiator.ensures ∙ ap (λ (z : Plan). shown_before z Initiator (public_of file.initiator)) c.pattern.ensures.value in
     let text : c.deref.result.now ≡ file.prologue.items = search rules in
     let text-2 : c.deref-2.result.now ≡ file.prologue.items = search rules in
     let head = rw c.new-lines.ensures.items at c.in_ok-push_heading.ensures in

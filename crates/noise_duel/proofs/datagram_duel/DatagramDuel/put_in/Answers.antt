@@ -1,19 +1,20 @@
 use Rattle.std.proofs.Common.{refl, sym, subst}
 use Rattle.std.proofs.lemmas.Result.{IfOk-weaker}
+use Rattle.noise_names.specs.declared.token.Role.TheVariants.{Initiator, Responder}
 use Rattle.noise_duel.specs.DatagramReports.{DatagramDuelValue, DatagramDuelMatches}
-use Rattle.noise_duel.proofs.DatagramHappening.{put-in-initiator, put-in-responder}
+use Rattle.noise_duel.proofs.DatagramHappening.{put-in-here}
 use Rattle.noise_duel.proofs.datagram_duel.DatagramDuel.put_in.Goals as goal
 
 pub returns-in-Initiator : goal.returns-in-Initiator
 returns-in-Initiator c d sealed p k =
     let mine = subst (λ (duel : DatagramDuelValue). DatagramDuelMatches duel d) (sym c.self.view_is) p in
     IfOk-weaker c.open.result _ _ (λ entry h.
-    put-in-initiator d c.args.role c.args.bytes.now entry _ _ sealed c.in-Initiator.is mine k refl h)
+    put-in-here d c.args.role Initiator c.args.bytes.now entry _ _ sealed c.in-Initiator.is mine k refl h)
     (c.open.ensures d.initiator mine.initiator)
 
 pub returns-in-Responder : goal.returns-in-Responder
 returns-in-Responder c d sealed p k =
     let mine = subst (λ (duel : DatagramDuelValue). DatagramDuelMatches duel d) (sym c.self.view_is) p in
     IfOk-weaker c.open-in-Responder.result _ _ (λ entry h.
-    put-in-responder d c.args.role c.args.bytes.now entry _ _ sealed c.in-Responder.is mine k refl h)
+    put-in-here d c.args.role Responder c.args.bytes.now entry _ _ sealed c.in-Responder.is mine k refl h)
     (c.open-in-Responder.ensures d.responder mine.responder)

@@ -17,7 +17,7 @@ loop-event-preserved c v w p =
     (drop_more c.args.events.now c.loop-event.event-index c.event-item.result c.loop-event-test.true
     ∙ ap (λ e. e ∷ drop (c.loop-event.event-index + 1) c.args.events.now) (sym c.event-item.is)))
     c.in_ok-push.ensures.items
-    h (c.in_ok-reported.ensures h.now h.pictures h.unchanged)
+    h (c.in_ok-reported.ensures h.now h.matches h.sealed_match)
 
 pub returns-clause-reports : goal.returns-clause-reports
 returns-clause-reports c v w p =

@@ -1,23 +1,31 @@
-use Rattle.std.proofs.Common.{◌≡◌, ◌≤◌, length, None, ap, arith, rules}
-use Rattle.noise_session.specs.Datagrams.{unsealed}
-use Rattle.noise_session.proofs.DatagramSplitting.{placed-there, rest-there, seals-of}
+use Rattle.std.proofs.Common.{◌≡◌, ◌≤◌, ◌+◌, ◌-◌, ◌++◌, ℕ, length, take, drop, None, refl, sym, ◌∙◌, ap, subst, arith}
+use Rattle.std.proofs.lemmas.List.{take_rest}
+use Rattle.std.specs.Int.{w64, to_be_bytes}
+use borrow.Rule.Slice.PartMut.{put_mid}
+use Rattle.noise_session.specs.Halves.{sender_fault}
+use Rattle.noise_session.specs.Datagrams.{DatagramSenderValue, unsealed}
+use Rattle.noise_session.proofs.DatagramSealing.{datagram-sealed, not-sealed, unsealed-same}
 use Rattle.noise_session.proofs.datagram_sender.DatagramSender.seal.Goals as goal
+
+pub returns-in-Some : goal.returns-in-Some
+returns-in-Some c =
+    not-sealed c.self.inside.sender c.args.self.now (length c.args.payload.now) _ c.args.out.now c.in-Some.fault c.self.view_is
+    (omega (arith, c.nonce-nonce.type_inv, c.nonce-nonce.ensures)) (sym c.in-Some.ensures.fault)
 
 pub returns : goal.returns
 returns c =
-    let h = c.args.self.now in
-    let payload = c.args.payload.now in
-    let none : unsealed h.role h.one_way h.nonce (length payload) ≡ None = cc c.in_default.ensures in
-    let long : 8 ≤ length c.args.out.now = omega (arith, c.requires none) in
-    let s = seals-of _ _ _ _ payload _ _ _ (placed-there c.args.out.now c.copy_from_slice.new.self payload long c.copy_from_slice.ensures.after)
-    c.seal_in_place.ensures in
-    record {
-      fault = s.fault;
-      len = s.len;
-      rest = rest-there c.seal_in_place.result c.args.out.now c.copy_from_slice.new.self c.seal_in_place.new.buffer (length payload) long
-          (ap length c.copy_from_slice.ensures.after) s.rest s.len;
-      counted = s.counted;
-      unchanged = search rules;
-      sealed = s.sealed;
-      seals = s.seals;
-    }
+    let h = c.self.inside.sender in
+    let n = length c.args.payload.now in
+    let out = c.args.out.now in
+    let written = c.seal.new.out in
+    let len = c.in-Ok.len in
+    let none : sender_fault h n ≡ None = cc c.in_default.ensures.fault in
+    let low = c.in_default.ensures.below refl in
+    let room : n + 24 ≤ length out =
+    c.requires (subst (λ (d : DatagramSenderValue). unsealed d.role d.one_way d.nonce n ≡ None) c.self.view_is
+    (sym (unsealed-same h n (omega (arith, low))) ∙ none)) in
+    datagram-sealed h c.seal.new.self c.args.self.now n len c.put_nonce.result (c.args.payload.now) (c.args.payload.now) out written c.put_nonce.new.out
+    c.self.view_is c.self.invariant (omega arith) refl c.in-Ok.ensures c.put_nonce.ensures.len
+    (c.put_nonce.ensures.datagram
+    ∙ ap (λ (k : ℕ). to_be_bytes w64 k ++ take len (drop 8 (put_mid 8 (length out - 8) out written))) c.nonce-nonce.ensures)
+    c.put_nonce.ensures.beyond

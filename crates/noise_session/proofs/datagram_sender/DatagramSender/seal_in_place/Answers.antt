@@ -1,39 +1,31 @@
-use Rattle.std.proofs.Common.{◌≡◌, ℕ, ◌+◌, List, [], ◌++◌, take, drop, rules, sym, ◌∙◌, ap, subst}
+use Rattle.std.proofs.Common.{◌≡◌, ◌≤◌, ◌+◌, ◌-◌, ◌++◌, ℕ, length, take, drop, None, refl, sym, ◌∙◌, ap, subst, arith}
+use Rattle.std.proofs.lemmas.List.{take_rest}
 use Rattle.std.specs.Int.{w64, to_be_bytes}
-use Rattle.noise_state.specs.Cipher.{key_in, nonce_in}
-use Rattle.noise_state.specs.History.{ciphertext_under}
-use Rattle.noise_session.specs.Transport.{transport_message}
-use Rattle.noise_session.specs.contracts.datagram_sender.DatagramSender.{the_view}
-use Rattle.noise_session.specs.Datagrams.{DatagramSenderValue, DatagramSenderMatches}
-use Rattle.noise_session.proofs.DatagramStates.{sealed-front, sealed-rest, piece-transport_message, half-sealed}
+use borrow.Rule.Slice.PartMut.{put_mid}
+use Rattle.noise_session.specs.Halves.{sender_fault}
+use Rattle.noise_session.specs.Datagrams.{DatagramSenderValue, unsealed}
+use Rattle.noise_session.proofs.DatagramSealing.{datagram-sealed, not-sealed, unsealed-same}
 use Rattle.noise_session.proofs.datagram_sender.DatagramSender.seal_in_place.Goals as goal
+
+pub returns-in-Some : goal.returns-in-Some
+returns-in-Some c =
+    not-sealed c.self.inside.sender c.args.self.now c.args.payload_len _ c.args.buffer.now c.in-Some.fault c.self.view_is
+    (omega (arith, c.nonce-nonce.type_inv, c.nonce-nonce.ensures)) (sym c.in-Some.ensures.fault)
 
 pub returns : goal.returns
 returns c =
-    let text = take c.args.payload_len (drop 8 c.args.buffer.now) in
-    let made = take (8 + c.encrypt.result) (c.copy_from_slice.new.self ++ c.encrypt.new.message) in
-    let front = c.copy_from_slice.ensures.after ∙ c.to_be_bytes.ensures in
-    let named = front ∙ ap (to_be_bytes w64) c.nonce-nonce.ensures in
-    let message = c.encrypt.ensures.sealed
-    ∙ ap (λ (m : List ℕ). ciphertext_under (key_in c.self.inside.cipher) (nonce_in c.self.inside.cipher) [] (take c.args.payload_len m))
-    c.split_at_mut-front.ensures.back in
-    record {
-      fault = search rules;
-      len = search rules;
-      rest = sealed-rest c.copy_from_slice.new.self c.encrypt.new.message c.args.buffer.now c.encrypt.result c.nonce-nonce.result front
-          (c.encrypt.ensures.beyond ∙ ap (drop c.encrypt.result) c.split_at_mut-front.ensures.back);
-      counted = search rules;
-      unchanged = search rules;
-      sealed = subst (λ (h : DatagramSenderValue). made ≡ to_be_bytes w64 h.nonce ++ ciphertext_under h.key h.nonce [] text) c.self.view_is
-          (sealed-front c.copy_from_slice.new.self c.encrypt.new.message (ciphertext_under (key_in c.self.inside.cipher) (nonce_in c.self.inside.cipher) [] text)
-          c.encrypt.result (nonce_in c.self.inside.cipher) named message);
-      seals = λ v h.
-          let here = subst (λ (d : DatagramSenderValue). DatagramSenderMatches d v) (sym c.self.view_is) h in
-          let sent : c.nonce-nonce.result ≡ v.sent = c.nonce-nonce.ensures ∙ here.nonce in (
-            sealed-front c.copy_from_slice.new.self c.encrypt.new.message (transport_message v.history v.role 0 v.sent text) c.encrypt.result v.sent
-                (front ∙ ap (to_be_bytes w64) sent)
-                (message ∙ piece-transport_message (key_in c.self.inside.cipher) (nonce_in c.self.inside.cipher) v.sent v.history v.role text here.key here.nonce),
-            half-sealed (the_view c.self.inside) v (key_in c.encrypt.new.cipher) (nonce_in c.encrypt.new.cipher) here
-                c.encrypt.ensures.key c.encrypt.ensures.counted,
-          );
-    }
+    let h = c.self.inside.sender in
+    let n = c.args.payload_len in
+    let out = c.args.buffer.now in
+    let written = c.seal_in_place.new.buffer in
+    let len = c.in-Ok.len in
+    let none : sender_fault h n ≡ None = cc c.in_default.ensures.fault in
+    let low = c.in_default.ensures.below refl in
+    let room : n + 24 ≤ length out =
+    c.requires (subst (λ (d : DatagramSenderValue). unsealed d.role d.one_way d.nonce n ≡ None) c.self.view_is
+    (sym (unsealed-same h n (omega (arith, low))) ∙ none)) in
+    datagram-sealed h c.seal_in_place.new.self c.args.self.now n len c.put_nonce.result (take n (take (length out - 8) (drop 8 out))) (take n (drop 8 out)) out written c.put_nonce.new.out
+    c.self.view_is c.self.invariant (omega arith) (ap (take n) (take_rest out 8)) c.in-Ok.ensures c.put_nonce.ensures.len
+    (c.put_nonce.ensures.datagram
+    ∙ ap (λ (k : ℕ). to_be_bytes w64 k ++ take len (drop 8 (put_mid 8 (length out - 8) out written))) c.nonce-nonce.ensures)
+    c.put_nonce.ensures.beyond

@@ -1,7 +1,7 @@
 use Rattle.std.proofs.Common.{◌≡◌, ◌-◌, ◌<◌, ℕ, length, take, drop, sym, ap, subst, arith, length-drop}
 use Rattle.std.proofs.lemmas.List.{length-take-le, take_rest}
 use Rattle.noise_session.specs.Frames.{IsPartial}
-use Rattle.noise_session.specs.inner.Partial.{bytes_of}
+use Rattle.noise_session.specs.inner.Partial.{partial_of}
 use Rattle.noise_session.proofs.Growing.{two-parts, all-came}
 use Rattle.noise_session.proofs.frame.Frame.fill.Goals as goal
 
@@ -13,7 +13,7 @@ returns-clause-whole c =
     let rest : take (length piece - first) (drop first piece) ≡ drop first piece = take_rest piece first in
     let long = length-take-le self.partial self.buffer.items (omega arith) in (
       omega (arith, ap length rest, length-drop first piece),
-      two-parts (bytes_of c.args.self.now) (bytes_of c.accept-first.new.self) (bytes_of self) piece first c.accept.result c.accept-first.ensures.taken
+      two-parts (partial_of c.args.self.now) (partial_of c.accept-first.new.self) (partial_of self) piece first c.accept.result c.accept-first.ensures.taken
           c.accept.ensures.taken,
       omega arith,
     )
@@ -21,10 +21,10 @@ returns-clause-whole c =
 pub returns-then-self-clause-part : goal.returns-then-self-clause-part
 returns-then-self-clause-part c =
     let new = c.accept.new.self in
-    let long : length (bytes_of new) ≡ new.partial = length-take-le new.partial new.buffer.items (omega (arith, new.room, new.most, new.within)) in
-    let partial : IsPartial (bytes_of new) =
-    subst (λ (k : ℕ). length (bytes_of new) < k) new.known (subst (λ (k : ℕ). k < new.whole) (sym long) c.if-self.true) in (
-      all-came (bytes_of c.args.self.now) (bytes_of c.accept-first.new.self) (bytes_of new) c.args.piece.now c.accept-first.result c.accept.result
+    let long : length (partial_of new) ≡ new.partial = length-take-le new.partial new.buffer.items (omega (arith, new.room, new.most, new.within)) in
+    let partial : IsPartial (partial_of new) =
+    subst (λ (k : ℕ). length (partial_of new) < k) new.known (subst (λ (k : ℕ). k < new.whole) (sym long) c.if-self.true) in (
+      all-came (partial_of c.args.self.now) (partial_of c.accept-first.new.self) (partial_of new) c.args.piece.now c.accept-first.result c.accept.result
           c.accept-first.ensures.taken c.accept.ensures.taken c.accept-first.ensures.count c.accept.ensures.count
           c.accept-first.ensures.all c.accept.ensures.all partial,
       partial,

@@ -2,17 +2,17 @@ use Rattle.std.proofs.Common.{◌+◌, [], None, Some, refl, sym, subst}
 use Rattle.std.specs.Prelude.{slice_range}
 use Rattle.noise_handshake.specs.Matching.{after_message}
 use Rattle.noise_session.specs.declared.phase.Phase.{Phase}
+use Rattle.noise_session.specs.declared.phase.Phase.TheVariants as phase
 use Rattle.noise_session.specs.TransportValue.{TransportValue, TransportMatches}
 use Rattle.noise_session.specs.Ends.{EndState, PhaseMatches, HandshakeMatches, OpenMatches, EndedMatches, transport_in, ended_session}
 use Rattle.noise_session.specs.Taking.Judges.{accepted, refused}
-use Rattle.noise_session.proofs.Parties.{no-hash}
+use Rattle.noise_session.proofs.Parties.{no-hash, as-handshake, as-open, phase-partial}
 use Rattle.noise_session.proofs.Judging.{opened-as, dropped-short, dropped-tag, exhausted-as, ended-open}
 use Rattle.noise_session.proofs.phase.DuePhase.read.Goals as goal
 
 pub returns-in-Ok-clause-judges : goal.returns-in-Ok-clause-judges
 returns-in-Ok-clause-judges g c v s =
-    let h : HandshakeMatches g.K.Keys.public_of g.K.Keys.agreement c.in-Handshaking.handshake c.in-Handshaking.interval v =
-    subst (λ (p : Phase g.row.K.Denot). PhaseMatches g.K.Keys.public_of g.K.Keys.agreement p v) c.in-Handshaking.is s in
+    let h = as-handshake g.K.Keys.public_of g.K.Keys.agreement _ _ _ v c.in-Handshaking.is s in
     let r = c.in-Ok.ensures.reads v.party h.party in
     let payload = slice_range c.read_within.new.message c.in-Ok.place.0 c.in-Ok.place.1 in
     let next : EndState = record v { party = after_message v.party r.0 payload; partial = [] } in
@@ -20,8 +20,7 @@ returns-in-Ok-clause-judges g c v s =
 
 pub returns-in-Err-Refused-clause-judges : goal.returns-in-Err-Refused-clause-judges
 returns-in-Err-Refused-clause-judges g c v s =
-    let h : HandshakeMatches g.K.Keys.public_of g.K.Keys.agreement c.in-Handshaking.handshake c.in-Handshaking.interval v =
-    subst (λ (p : Phase g.row.K.Denot). PhaseMatches g.K.Keys.public_of g.K.Keys.agreement p v) c.in-Handshaking.is s in
+    let h = as-handshake g.K.Keys.public_of g.K.Keys.agreement _ _ _ v c.in-Handshaking.is s in
     let r = rw c.in-Err-Refused.field-0-is at c.in-Err-Refused.ensures.reads v.party h.party in
     let ended_party : EndedMatches c.read_within.new.self.role None (ended_session v) = record { ended = refl; role = r.1.role; hash = sym (no-hash v h.more) } in (
       ended_session v,
@@ -32,7 +31,7 @@ returns-in-Err-Refused-clause-judges g c v s =
 
 pub returns-in-Ok-open_within-clause-judges : goal.returns-in-Ok-open_within-clause-judges
 returns-in-Ok-open_within-clause-judges g c v s =
-    let o : OpenMatches c.in-Open.transport v = subst (λ (p : Phase g.row.K.Denot). PhaseMatches g.K.Keys.public_of g.K.Keys.agreement p v) c.in-Open.is s in
+    let o = as-open g.K.Keys.public_of g.K.Keys.agreement _ _ v c.in-Open.is s in
     let r = c.in-Ok-open_within.ensures.opens.half.opens (transport_in v) o.transport.receiver in
     let next : EndState = record v { received = v.received + 1; partial = [] } in (
       next,
@@ -44,37 +43,29 @@ returns-in-Ok-open_within-clause-judges g c v s =
 
 pub returns-in-Err-Short-clause-judges : goal.returns-in-Err-Short-clause-judges
 returns-in-Err-Short-clause-judges g c v s =
-    let o : OpenMatches c.in-Open.transport v = subst (λ (p : Phase g.row.K.Denot). PhaseMatches g.K.Keys.public_of g.K.Keys.agreement p v) c.in-Open.is s in
+    let o = as-open g.K.Keys.public_of g.K.Keys.agreement _ _ v c.in-Open.is s in
     let fault = rw c.in-Err-Short.field-0-is at c.in-Err-Short.ensures.opens.half.fault in
     let next : EndState = record v { partial = [] } in (
       next,
       dropped-short c.in-Open.transport v o c.args.message.now fault (c.in-Err-Short.ensures.opens.half.opens (transport_in v) o.transport.receiver),
-      record {
-        going = o.going;
-        all = o.all;
-        transport = subst (λ t. TransportMatches t (transport_in v)) (sym c.in-Err-Short.ensures.opens.unchanged) o.transport;
-      },
+      phase-partial g.K.Keys.public_of g.K.Keys.agreement (phase.Open c.open_within.new.self) v [] (subst (λ (t : TransportValue). OpenMatches t v) (sym c.in-Err-Short.ensures.opens.unchanged) o),
       refl,
     )
 
 pub returns-in-Err-Tag-clause-judges : goal.returns-in-Err-Tag-clause-judges
 returns-in-Err-Tag-clause-judges g c v s =
-    let o : OpenMatches c.in-Open.transport v = subst (λ (p : Phase g.row.K.Denot). PhaseMatches g.K.Keys.public_of g.K.Keys.agreement p v) c.in-Open.is s in
+    let o = as-open g.K.Keys.public_of g.K.Keys.agreement _ _ v c.in-Open.is s in
     let fault = rw c.in-Err-Tag.field-0-is at c.in-Err-Tag.ensures.opens.half.fault in
     let next : EndState = record v { partial = [] } in (
       next,
       dropped-tag c.in-Open.transport v o c.args.message.now fault (c.in-Err-Tag.ensures.opens.half.opens (transport_in v) o.transport.receiver),
-      record {
-        going = o.going;
-        all = o.all;
-        transport = subst (λ t. TransportMatches t (transport_in v)) (sym c.in-Err-Tag.ensures.opens.unchanged) o.transport;
-      },
+      phase-partial g.K.Keys.public_of g.K.Keys.agreement (phase.Open c.open_within.new.self) v [] (subst (λ (t : TransportValue). OpenMatches t v) (sym c.in-Err-Tag.ensures.opens.unchanged) o),
       refl,
     )
 
 pub returns-in-Err-Exhausted-clause-judges : goal.returns-in-Err-Exhausted-clause-judges
 returns-in-Err-Exhausted-clause-judges g c v s =
-    let o : OpenMatches c.in-Open.transport v = subst (λ (p : Phase g.row.K.Denot). PhaseMatches g.K.Keys.public_of g.K.Keys.agreement p v) c.in-Open.is s in
+    let o = as-open g.K.Keys.public_of g.K.Keys.agreement _ _ v c.in-Open.is s in
     let fault = rw c.in-Err-Exhausted.field-0-is at c.in-Err-Exhausted.ensures.opens.half.fault in
     let ended_party : EndedMatches c.open_within.new.self.role (Some c.open_within.new.self.hash) (ended_session v) =
     subst (λ (t : TransportValue). EndedMatches t.role (Some t.hash) (ended_session v)) (sym c.in-Err-Exhausted.ensures.opens.unchanged)

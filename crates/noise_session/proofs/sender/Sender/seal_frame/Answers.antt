@@ -1,19 +1,19 @@
 use Rattle.std.proofs.Common.{ap, ◌∙◌, arith, rules}
 use Rattle.noise_session.specs.Frames.{frame}
-use Rattle.noise_session.proofs.Places.{framed, framed_rest}
+use Rattle.noise_session.proofs.Places.{framed, rest-after}
 use Rattle.noise_session.proofs.sender.Sender.seal_frame.Goals as goal
 
 pub returns : goal.returns
 returns c =
     let s = c.in-Ok.ensures in
-    let message = framed c.in-Ok.len c.frame_message.result c.args.out.now c.seal.new.out c.frame_message.new.out (omega arith) c.frame_message.ensures.len.0
+    let message = framed c.in-Ok.len c.frame_message.result c.args.out.now c.seal.new.out c.frame_message.new.out (omega arith)
     c.frame_message.ensures.frame in
     record {
       fault = search rules;
       below = search rules;
       len = search rules;
-      rest = framed_rest c.in-Ok.len c.frame_message.result c.args.out.now c.seal.new.out c.frame_message.new.out (omega arith)
-          c.frame_message.ensures.len.0 c.frame_message.ensures.beyond s.rest;
+      rest = rest-after 2 c.in-Ok.len c.frame_message.result c.args.out.now c.seal.new.out c.frame_message.new.out (omega arith)
+          (omega arith) c.frame_message.ensures.beyond s.rest;
       counted = search rules;
       unchanged = search rules;
       sealed = message ∙ ap frame s.sealed;

@@ -6,7 +6,7 @@ use Rattle.noise_session.specs.Progress.{idle_step}
 use Rattle.noise_session.specs.Ends.{EndState, progress_of, progress_in}
 use Rattle.noise_session.specs.Taking.Takes.{idles, judges}
 use Rattle.noise_session.specs.Inputs.Receives.{takes, pauses, is_cut, fails}
-use Rattle.noise_session.specs.inner.Partial.{bytes_of}
+use Rattle.noise_session.specs.inner.Partial.{partial_of}
 use Rattle.noise_session.specs.inner.Places.{reported_in}
 use Rattle.noise_session.specs.Steps.{StepValue, step_value}
 use Rattle.noise_session.proofs.Streaming.{consumed_none}
@@ -29,7 +29,7 @@ returns-in-Filled-clause-receives g c v s =
     let piece = r.0 in
     let judged = c.read.ensures.judges v s.phase in
     let next = judged.0 in
-    let message = drop 2 (bytes_of c.fill_from.new.self) in
+    let message = drop 2 (partial_of c.fill_from.new.self) in
     let whole : v.partial ++ piece ≡ frame message ++ [] =
     ap (λ (xs : List ℕ). xs ++ piece) (sym s.partial) ∙ (sym r.2 ∙ (c.read.ensures.spelled ∙ sym (append-nil (frame message)))) in
     let taken : length piece + length {A = ℕ} [] ≡ length piece = omega arith in
@@ -47,7 +47,7 @@ returns-in-Failed-clause-receives g c v s =
     let idle : idle_step (progress_in c.args.self.now.party.phase) ≡ None = c.in_default.ensures in
     let none : idle_step (progress_of v) ≡ None = ap idle_step (sym (phase-progress g.K.Keys.public_of g.K.Keys.agreement c.args.self.now.party.phase v s.phase)) ∙ idle in
     let r = c.in-Failed.ensures.bytes in
-    let bytes : bytes_of c.fill_from.new.self ≡ v.partial ++ r.0 = r.2 ∙ ap (λ (xs : List ℕ). xs ++ r.0) s.partial in
+    let bytes : partial_of c.fill_from.new.self ≡ v.partial ++ r.0 = r.2 ∙ ap (λ (xs : List ℕ). xs ++ r.0) s.partial in
     let partial : IsPartial (v.partial ++ r.0) = subst (λ (xs : List ℕ). IsPartial xs) bytes c.in-Failed.ensures.leaves in
     let next : EndState = record v { partial = v.partial ++ r.0 } in (
       r.0,
@@ -62,11 +62,11 @@ returns-then-held-eq0-clause-receives g c v s =
     let idle : idle_step (progress_in c.args.self.now.party.phase) ≡ None = c.in_default.ensures in
     let none : idle_step (progress_of v) ≡ None = ap idle_step (sym (phase-progress g.K.Keys.public_of g.K.Keys.agreement c.args.self.now.party.phase v s.phase)) ∙ idle in
     let r = c.in-End.ensures.bytes in
-    let old = bytes_of c.args.self.now.incoming in
+    let old = partial_of c.args.self.now.incoming in
     let count = c.held.ensures.count in
     let zero = c.if-held-eq0.true in
-    let sum : length (bytes_of c.fill_from.new.self) ≡ length old + length r.0 = ap (λ (xs : List ℕ). length xs) r.2 ∙ length-append old r.0 in
-    let no_new : bytes_of c.fill_from.new.self ≡ [] = nil_from_length _ (omega arith) in
+    let sum : length (partial_of c.fill_from.new.self) ≡ length old + length r.0 = ap (λ (xs : List ℕ). length xs) r.2 ∙ length-append old r.0 in
+    let no_new : partial_of c.fill_from.new.self ≡ [] = nil_from_length _ (omega arith) in
     let no_old : old ≡ [] = nil_from_length _ (omega arith) in
     let no_piece : r.0 ≡ [] = nil_from_length _ (omega arith) in
     ([], v, pauses v none (sym s.partial ∙ no_old), subst (Consumes _ _) no_piece r.1, record { phase = s.phase; partial = no_new ∙ (sym no_old ∙ s.partial) })
@@ -78,10 +78,10 @@ returns-else-held-eq0-clause-receives g c v s =
     let r = c.in-End.ensures.bytes in
     let count = c.held.ensures.count in
     let some = c.if-held-eq0.false in
-    let bytes : bytes_of c.fill_from.new.self ≡ v.partial ++ r.0 = r.2 ∙ ap (λ (xs : List ℕ). xs ++ r.0) s.partial in
+    let bytes : partial_of c.fill_from.new.self ≡ v.partial ++ r.0 = r.2 ∙ ap (λ (xs : List ℕ). xs ++ r.0) s.partial in
     let partial : IsPartial (v.partial ++ r.0) = subst (λ (xs : List ℕ). IsPartial xs) bytes c.in-End.ensures.leaves in
     let next : EndState = record v { partial = v.partial ++ r.0 } in
-    let begun : v.partial ++ r.0 ≢ [] = λ e. let empty : length (bytes_of c.fill_from.new.self) ≡ 0 = ap (λ (xs : List ℕ). length xs) (bytes ∙ e) in
+    let begun : v.partial ++ r.0 ≢ [] = λ e. let empty : length (partial_of c.fill_from.new.self) ≡ 0 = ap (λ (xs : List ℕ). length xs) (bytes ∙ e) in
     absurd (omega arith) in (
       r.0,
       next,

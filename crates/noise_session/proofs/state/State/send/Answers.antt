@@ -7,7 +7,7 @@ use Rattle.noise_session.specs.Ends.{progress_in}
 use Rattle.noise_session.specs.Frames.{frame}
 use Rattle.noise_session.specs.Sending.{Sends}
 use Rattle.noise_session.proofs.Making.{refused-too}
-use Rattle.noise_session.proofs.Places.{unwritten, framed, framed_rest, room-after, room-left}
+use Rattle.noise_session.proofs.Places.{unwritten, framed, rest-after, room-after, room-left}
 use Rattle.noise_session.proofs.state.State.send.Goals as goal
 
 -- the length of a frame that is due
@@ -23,7 +23,7 @@ write-requires g c = λ due.
     let n = length c.args.payload.now in
     let out = c.args.out.now in
     let p = progress_in c.args.self.now.party.phase in
-    room-after out (message_length p n) c.min-start.result (due-fits p n (length out) c.requires due) (omega arith)
+    room-after 2 out (message_length p n) c.min-start.result (due-fits p n (length out) c.requires due) (omega arith)
 
 pub frame_message-requires-clause-room : goal.frame_message-requires-clause-room
 frame_message-requires-clause-room g c =
@@ -33,7 +33,7 @@ frame_message-requires-clause-room g c =
     let room = due-fits (progress_in c.args.self.now.party.phase) n (length out) c.requires c.in-Ok.ensures.len.0 in
     let start : 2 ≡ c.min-start.result = omega arith in
     subst (λ (k : ℕ). len + 2 ≤ length (put_mid k (length out - k) out c.write.new.out)) start
-    (room-left len out c.write.new.out (omega arith) c.in-Ok.ensures.len.2)
+    (room-left 2 len out c.write.new.out (omega arith) c.in-Ok.ensures.len.2)
 
 pub returns-in-Ok-clause-writes : goal.returns-in-Ok-clause-writes
 returns-in-Ok-clause-writes g c =
@@ -56,13 +56,13 @@ returns-in-Ok-clause-writes g c =
     let count : 2 + message_length p n ≡ whole = omega (arith, c.in-Ok.ensures.len.1, c.frame_message.ensures.len.0) in
     record {
       len = (due-len p n due ∙ ap (λ (k : ℕ). Some k) count, c.frame_message.ensures.len.1);
-      beyond = framed_rest len whole out written new (omega arith) c.frame_message.ensures.len.0 after rest;
+      beyond = rest-after 2 len whole out written new (omega arith) (omega (arith, c.frame_message.ensures.len.0)) after rest;
       refused = rw due tt;
       sends = λ v s.
           let w = c.in-Ok.ensures.sends v s in (
             w.0,
             subst (λ (f : List ℕ). Sends v c.args.payload.now (Ok f) w.0)
-                (sym (framed len whole out written new (omega arith) c.frame_message.ensures.len.0 is)) w.1,
+                (sym (framed len whole out written new (omega arith) is)) w.1,
             w.2,
           );
     }

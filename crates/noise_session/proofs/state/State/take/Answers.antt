@@ -4,7 +4,7 @@ use Rattle.noise_session.specs.Frames.{frame, IsPartial}
 use Rattle.noise_session.specs.Progress.{idle_step}
 use Rattle.noise_session.specs.Ends.{EndState, progress_of, progress_in}
 use Rattle.noise_session.specs.Taking.Takes.{idles, waits, judges}
-use Rattle.noise_session.specs.inner.Partial.{bytes_of}
+use Rattle.noise_session.specs.inner.Partial.{partial_of}
 use Rattle.noise_session.specs.Steps.{step_value}
 use Rattle.noise_session.proofs.Parties.{phase-progress, phase-partial}
 use Rattle.noise_session.proofs.state.State.take.Goals as goal
@@ -23,7 +23,7 @@ returns-in-None-clause-takes g c v s =
     let none : idle_step (progress_of v) ≡ None = ap idle_step (sym (phase-progress g.K.Keys.public_of g.K.Keys.agreement c.args.self.now.party.phase v s.phase)) ∙ idle in
     let piece = c.args.piece.now in
     let part = c.in-None.ensures.part in
-    let bytes : bytes_of c.fill.new.self ≡ v.partial ++ piece = part.0 ∙ ap (λ (xs : List ℕ). xs ++ piece) s.partial in
+    let bytes : partial_of c.fill.new.self ≡ v.partial ++ piece = part.0 ∙ ap (λ (xs : List ℕ). xs ++ piece) s.partial in
     let partial : IsPartial (v.partial ++ piece) = subst (λ (xs : List ℕ). IsPartial xs) bytes part.1 in
     let next : EndState = record v { partial = v.partial ++ piece } in (
       next,
@@ -40,7 +40,7 @@ returns-in-Some-fill-clause-takes g c v s =
     let whole = c.in-Some-fill.ensures.whole in
     let judged = c.read.ensures.judges v s.phase in
     let next = judged.0 in
-    let message = drop 2 (bytes_of c.fill.new.self) in
+    let message = drop 2 (partial_of c.fill.new.self) in
     let front : v.partial ++ take count piece ≡ frame message = sym (ap (λ (xs : List ℕ). xs ++ take count piece) s.partial)
     ∙ (sym whole.1 ∙ c.read.ensures.spelled) in
     let joined : v.partial ++ piece ≡ frame message ++ drop count piece =

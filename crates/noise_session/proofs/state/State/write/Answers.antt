@@ -10,7 +10,7 @@ use Rattle.noise_session.specs.inner.Phases.{is_due}
 use Rattle.noise_session.specs.Frames.{frame}
 use Rattle.noise_session.specs.Sending.{Sends}
 use Rattle.noise_session.specs.Sending.Sends.{refuses, lacks_dh_result, sends_handshake, sends_transport}
-use Rattle.noise_session.proofs.Parties.{no-hash, is-open, phase-progress}
+use Rattle.noise_session.proofs.Parties.{no-hash, is-open, phase-progress, as-handshake, as-open, refused-by}
 use Rattle.noise_session.proofs.Judging.{ended-open}
 use Rattle.noise_session.proofs.Making.{ok-due, not-turn, too-long, lack-due, seal-due, seal-refused}
 use Rattle.noise_session.proofs.state.State.write.Goals as goal
@@ -18,13 +18,10 @@ use Rattle.noise_session.proofs.state.State.write.Goals as goal
 pub returns-in-Ok-clause-sends : goal.returns-in-Ok-clause-sends
 returns-in-Ok-clause-sends g c v s =
     let n = length c.args.payload.now in
-    let h : HandshakeMatches g.K.Keys.public_of g.K.Keys.agreement c.in-Handshaking.handshake c.in-Handshaking.interval v =
-    subst (λ (p : Phase g.row.K.Denot). PhaseMatches g.K.Keys.public_of g.K.Keys.agreement p v) c.in-Handshaking.is s.phase in
+    let h = as-handshake g.K.Keys.public_of g.K.Keys.agreement _ _ _ v c.in-Handshaking.is s.phase in
     let w = c.in-Ok.ensures.writes v.party h.party in
-    let due : refusal (progress_of v) n ≡ None =
-    ap (λ (p : Progress). refusal p n)
-    (sym (phase-progress g.K.Keys.public_of g.K.Keys.agreement (phase.Handshaking c.in-Handshaking.handshake c.in-Handshaking.interval) v h))
-    ∙ ok-due c.in-Handshaking.handshake n c.args.out.now c.write.new.out c.in-Ok.len c.in-Ok.ensures.fault in
+    let due = refused-by g.K.Keys.public_of g.K.Keys.agreement _ _ v n _ s.phase c.in-Handshaking.is
+    (ok-due c.in-Handshaking.handshake n c.args.out.now c.write.new.out c.in-Ok.len c.in-Ok.ensures.fault) in
     let next : EndState = record v { party = after_own v.party w.0 c.args.payload.now } in (
       next,
       sends_handshake v c.args.payload.now (take c.in-Ok.len c.write.new.out) w.0 due w.1,
@@ -34,15 +31,12 @@ returns-in-Ok-clause-sends g c v s =
 pub returns-in-Err-NotYourTurn-clause-sends : goal.returns-in-Err-NotYourTurn-clause-sends
 returns-in-Err-NotYourTurn-clause-sends g c v s =
     let n = length c.args.payload.now in
-    let h : HandshakeMatches g.K.Keys.public_of g.K.Keys.agreement c.in-Handshaking.handshake c.in-Handshaking.interval v =
-    subst (λ (p : Phase g.row.K.Denot). PhaseMatches g.K.Keys.public_of g.K.Keys.agreement p v) c.in-Handshaking.is s.phase in
+    let h = as-handshake g.K.Keys.public_of g.K.Keys.agreement _ _ _ v c.in-Handshaking.is s.phase in
     let reported = rw c.in-Err-NotYourTurn.field-0-is at c.in-Err-NotYourTurn.ensures.fault in
     let unchanged = rw c.in-Err-NotYourTurn.field-0-is at c.in-Err-NotYourTurn.ensures.state in
     let due = subst (λ (p : Phase g.row.K.Denot). IsTrue (is_due p)) c.in-Handshaking.is c.args.self.now.party.due in
-    let why : refusal (progress_of v) n ≡ Some fault.NotYourTurn =
-    ap (λ (p : Progress). refusal p n)
-    (sym (phase-progress g.K.Keys.public_of g.K.Keys.agreement (phase.Handshaking c.in-Handshaking.handshake c.in-Handshaking.interval) v h))
-    ∙ not-turn c.in-Handshaking.handshake n c.args.out.now c.write.new.out due reported in (
+    let why = refused-by g.K.Keys.public_of g.K.Keys.agreement _ _ v n _ s.phase c.in-Handshaking.is
+    (not-turn c.in-Handshaking.handshake n c.args.out.now c.write.new.out due reported) in (
       refuses v c.args.payload.now fault.NotYourTurn why,
       record { phase = subst (λ u. HandshakeMatches g.K.Keys.public_of g.K.Keys.agreement u c.in-Handshaking.interval v) (sym unchanged) h; partial = s.partial },
     )
@@ -50,15 +44,12 @@ returns-in-Err-NotYourTurn-clause-sends g c v s =
 pub returns-in-Err-TooLong-clause-sends : goal.returns-in-Err-TooLong-clause-sends
 returns-in-Err-TooLong-clause-sends g c v s =
     let n = length c.args.payload.now in
-    let h : HandshakeMatches g.K.Keys.public_of g.K.Keys.agreement c.in-Handshaking.handshake c.in-Handshaking.interval v =
-    subst (λ (p : Phase g.row.K.Denot). PhaseMatches g.K.Keys.public_of g.K.Keys.agreement p v) c.in-Handshaking.is s.phase in
+    let h = as-handshake g.K.Keys.public_of g.K.Keys.agreement _ _ _ v c.in-Handshaking.is s.phase in
     let reported = rw c.in-Err-TooLong.field-0-is at c.in-Err-TooLong.ensures.fault in
     let unchanged = rw c.in-Err-TooLong.field-0-is at c.in-Err-TooLong.ensures.state in
     let due = subst (λ (p : Phase g.row.K.Denot). IsTrue (is_due p)) c.in-Handshaking.is c.args.self.now.party.due in
-    let why : refusal (progress_of v) n ≡ Some fault.TooLong =
-    ap (λ (p : Progress). refusal p n)
-    (sym (phase-progress g.K.Keys.public_of g.K.Keys.agreement (phase.Handshaking c.in-Handshaking.handshake c.in-Handshaking.interval) v h))
-    ∙ too-long c.in-Handshaking.handshake n c.args.out.now c.write.new.out due reported in (
+    let why = refused-by g.K.Keys.public_of g.K.Keys.agreement _ _ v n _ s.phase c.in-Handshaking.is
+    (too-long c.in-Handshaking.handshake n c.args.out.now c.write.new.out due reported) in (
       refuses v c.args.payload.now fault.TooLong why,
       record { phase = subst (λ u. HandshakeMatches g.K.Keys.public_of g.K.Keys.agreement u c.in-Handshaking.interval v) (sym unchanged) h; partial = s.partial },
     )
@@ -66,14 +57,11 @@ returns-in-Err-TooLong-clause-sends g c v s =
 pub returns-in-Err-Agreement-clause-sends : goal.returns-in-Err-Agreement-clause-sends
 returns-in-Err-Agreement-clause-sends g c v s =
     let n = length c.args.payload.now in
-    let h : HandshakeMatches g.K.Keys.public_of g.K.Keys.agreement c.in-Handshaking.handshake c.in-Handshaking.interval v =
-    subst (λ (p : Phase g.row.K.Denot). PhaseMatches g.K.Keys.public_of g.K.Keys.agreement p v) c.in-Handshaking.is s.phase in
+    let h = as-handshake g.K.Keys.public_of g.K.Keys.agreement _ _ _ v c.in-Handshaking.is s.phase in
     let reported = rw c.in-Err-Agreement.field-0-is at c.in-Err-Agreement.ensures.fault in
     let w = rw c.in-Err-Agreement.field-0-is at c.in-Err-Agreement.ensures.writes v.party h.party in
-    let due : refusal (progress_of v) n ≡ None =
-    ap (λ (p : Progress). refusal p n)
-    (sym (phase-progress g.K.Keys.public_of g.K.Keys.agreement (phase.Handshaking c.in-Handshaking.handshake c.in-Handshaking.interval) v h))
-    ∙ lack-due c.in-Handshaking.handshake n c.args.out.now c.write.new.out c.in-Err-Agreement.token reported in
+    let due = refused-by g.K.Keys.public_of g.K.Keys.agreement _ _ v n _ s.phase c.in-Handshaking.is
+    (lack-due c.in-Handshaking.handshake n c.args.out.now c.write.new.out c.in-Err-Agreement.token reported) in
     let ended_party : EndedMatches c.write.new.self.role None (ended_session v) = record { ended = refl; role = w.1.role; hash = sym (no-hash v h.more) } in (
       lacks_dh_result v c.args.payload.now c.in-Err-Agreement.token due w.0.1,
       record {
@@ -85,19 +73,16 @@ returns-in-Err-Agreement-clause-sends g c v s =
 pub returns-in-Ended-clause-sends : goal.returns-in-Ended-clause-sends
 returns-in-Ended-clause-sends g c v s =
     let n = length c.args.payload.now in
-    let why : refusal (progress_of v) n ≡ Some fault.Ended =
-    ap (λ (p : Progress). refusal p n) (sym (phase-progress g.K.Keys.public_of g.K.Keys.agreement c.args.self.now.party.phase v s.phase))
-    ∙ ap (λ (p : Phase g.row.K.Denot). refusal (progress_in p) n) c.in-Ended.is in
+    let why = refused-by g.K.Keys.public_of g.K.Keys.agreement _ _ v n _ s.phase c.in-Ended.is refl in
     (refuses v c.args.payload.now fault.Ended why, s)
 
 pub returns-in-Ok-seal-clause-sends : goal.returns-in-Ok-seal-clause-sends
 returns-in-Ok-seal-clause-sends g c v s =
     let n = length c.args.payload.now in
-    let o : OpenMatches c.in-Open.transport v = subst (λ (p : Phase g.row.K.Denot). PhaseMatches g.K.Keys.public_of g.K.Keys.agreement p v) c.in-Open.is s.phase in
+    let o = as-open g.K.Keys.public_of g.K.Keys.agreement _ _ v c.in-Open.is s.phase in
     let r = c.in-Ok-seal.ensures.half.seals (transport_in v) o.transport.sender in
-    let due : refusal (progress_of v) n ≡ None =
-    ap (λ (p : Progress). refusal p n) (sym (phase-progress g.K.Keys.public_of g.K.Keys.agreement (phase.Open c.in-Open.transport) v o))
-    ∙ seal-due (seal_fault c.in-Open.transport n) c.in-Ok-seal.len c.in-Ok-seal.ensures.half.fault in
+    let due = refused-by g.K.Keys.public_of g.K.Keys.agreement _ _ v n _ s.phase c.in-Open.is
+    (seal-due (seal_fault c.in-Open.transport n) c.in-Ok-seal.len c.in-Ok-seal.ensures.half.fault) in
     let next : EndState = record v { sent = v.sent + 1 } in (
       next,
       subst (λ (m : List ℕ). Sends v c.args.payload.now (Ok (frame m)) next) (sym r.0)
@@ -108,11 +93,10 @@ returns-in-Ok-seal-clause-sends g c v s =
 pub returns-in-Err-Exhausted-clause-sends : goal.returns-in-Err-Exhausted-clause-sends
 returns-in-Err-Exhausted-clause-sends g c v s =
     let n = length c.args.payload.now in
-    let o : OpenMatches c.in-Open.transport v = subst (λ (p : Phase g.row.K.Denot). PhaseMatches g.K.Keys.public_of g.K.Keys.agreement p v) c.in-Open.is s.phase in
+    let o = as-open g.K.Keys.public_of g.K.Keys.agreement _ _ v c.in-Open.is s.phase in
     let reported = rw c.in-Err-Exhausted.field-0-is at c.in-Err-Exhausted.ensures.half.fault in
-    let why : refusal (progress_of v) n ≡ Some fault.Exhausted =
-    ap (λ (p : Progress). refusal p n) (sym (phase-progress g.K.Keys.public_of g.K.Keys.agreement (phase.Open c.in-Open.transport) v o))
-    ∙ seal-refused (seal_fault c.in-Open.transport n) fault.Exhausted reported in
+    let why = refused-by g.K.Keys.public_of g.K.Keys.agreement _ _ v n _ s.phase c.in-Open.is
+    (seal-refused (seal_fault c.in-Open.transport n) fault.Exhausted reported) in
     let ended_party : EndedMatches c.seal.new.self.role (Some c.seal.new.self.hash) (ended_session v) =
     subst (λ (t : TransportValue). EndedMatches t.role (Some t.hash) (ended_session v)) (sym c.in-Err-Exhausted.ensures.unchanged)
     (ended-open c.in-Open.transport v o []) in (
@@ -123,23 +107,21 @@ returns-in-Err-Exhausted-clause-sends g c v s =
 pub returns-in-Err-OneWay-clause-sends : goal.returns-in-Err-OneWay-clause-sends
 returns-in-Err-OneWay-clause-sends g c v s =
     let n = length c.args.payload.now in
-    let o : OpenMatches c.in-Open.transport v = subst (λ (p : Phase g.row.K.Denot). PhaseMatches g.K.Keys.public_of g.K.Keys.agreement p v) c.in-Open.is s.phase in
+    let o = as-open g.K.Keys.public_of g.K.Keys.agreement _ _ v c.in-Open.is s.phase in
     let reported = rw c.in-Err-OneWay.field-0-is at c.in-Err-OneWay.ensures.half.fault in
-    let why : refusal (progress_of v) n ≡ Some fault.OneWay =
-    ap (λ (p : Progress). refusal p n) (sym (phase-progress g.K.Keys.public_of g.K.Keys.agreement (phase.Open c.in-Open.transport) v o))
-    ∙ seal-refused (seal_fault c.in-Open.transport n) fault.OneWay reported in (
+    let why = refused-by g.K.Keys.public_of g.K.Keys.agreement _ _ v n _ s.phase c.in-Open.is
+    (seal-refused (seal_fault c.in-Open.transport n) fault.OneWay reported) in (
       refuses v c.args.payload.now fault.OneWay why,
-      record { phase = record { going = o.going; all = o.all; transport = subst (λ t. TransportMatches t (transport_in v)) (sym c.in-Err-OneWay.ensures.unchanged) o.transport }; partial = s.partial },
+      record { phase = subst (λ (t : TransportValue). OpenMatches t v) (sym c.in-Err-OneWay.ensures.unchanged) o; partial = s.partial },
     )
 
 pub returns-in-Err-TooLong-seal-clause-sends : goal.returns-in-Err-TooLong-seal-clause-sends
 returns-in-Err-TooLong-seal-clause-sends g c v s =
     let n = length c.args.payload.now in
-    let o : OpenMatches c.in-Open.transport v = subst (λ (p : Phase g.row.K.Denot). PhaseMatches g.K.Keys.public_of g.K.Keys.agreement p v) c.in-Open.is s.phase in
+    let o = as-open g.K.Keys.public_of g.K.Keys.agreement _ _ v c.in-Open.is s.phase in
     let reported = rw c.in-Err-TooLong-seal.field-0-is at c.in-Err-TooLong-seal.ensures.half.fault in
-    let why : refusal (progress_of v) n ≡ Some fault.TooLong =
-    ap (λ (p : Progress). refusal p n) (sym (phase-progress g.K.Keys.public_of g.K.Keys.agreement (phase.Open c.in-Open.transport) v o))
-    ∙ seal-refused (seal_fault c.in-Open.transport n) fault.TooLong reported in (
+    let why = refused-by g.K.Keys.public_of g.K.Keys.agreement _ _ v n _ s.phase c.in-Open.is
+    (seal-refused (seal_fault c.in-Open.transport n) fault.TooLong reported) in (
       refuses v c.args.payload.now fault.TooLong why,
-      record { phase = record { going = o.going; all = o.all; transport = subst (λ t. TransportMatches t (transport_in v)) (sym c.in-Err-TooLong-seal.ensures.unchanged) o.transport }; partial = s.partial },
+      record { phase = subst (λ (t : TransportValue). OpenMatches t v) (sym c.in-Err-TooLong-seal.ensures.unchanged) o; partial = s.partial },
     )

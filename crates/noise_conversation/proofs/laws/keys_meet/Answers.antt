@@ -1,5 +1,5 @@
 use Rattle.noise_conversation.proofs.Fronts.{keys-come}
-use Rattle.noise_conversation.proofs.entries.keys_meet.Goals as goal
+use Rattle.noise_conversation.proofs.laws.keys_meet.Goals as goal
 
 pub returns : goal.returns
 returns g c =

@@ -1,5 +1,5 @@
 use Rattle.noise_conversation.proofs.DatagramEntries.{datagrams-are-reported, datagram-entries-agree, datagram-keys-come}
-use Rattle.noise_conversation.proofs.datagrams.datagram_entries_agree.Goals as goal
+use Rattle.noise_conversation.proofs.laws.datagram_entries_agree.Goals as goal
 
 pub returns : goal.returns
 returns c = record {

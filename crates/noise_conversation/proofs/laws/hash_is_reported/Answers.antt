@@ -1,5 +1,5 @@
 use Rattle.std.proofs.Common.{◌∙◌, sym}
-use Rattle.noise_conversation.proofs.network.hash_is_reported.Goals as goal
+use Rattle.noise_conversation.proofs.laws.hash_is_reported.Goals as goal
 
 pub returns : goal.returns
 returns g c duel d hash s e f = record {

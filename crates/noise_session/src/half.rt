@@ -1,0 +1,81 @@
+//! What a party holds of one direction of its transport.
+#![tactic(auto)]
+
+ghost use Rattle.std.specs.Prelude.{◌≡◌, Some, IsSome};
+ghost use Rattle.noise_state.specs.Cipher.{key_in, nonce_in};
+
+use crate::HalfParts;
+use noise_names::Role;
+use noise_state::CipherState;
+
+// One direction of a party's transport, or of its datagrams, whose key is never renewed.
+#[derive(Drop)]
+pub(crate) struct Half {
+    pub(crate) role: Role,
+    pub(crate) one_way: bool,
+    pub(crate) interval: u64,
+    pub(crate) cipher: CipherState,
+    ghost keyed: { IsSome (key_in cipher) },
+}
+
+impl Half {
+    ghost use Rattle.noise_session.specs.Parts.{half_in};
+    ghost use Rattle.noise_session.specs.inner.Halves.{half_value};
+
+    pub(crate) fn new(role: Role, one_way: bool, interval: u64, cipher: CipherState) -> Half
+        requires { IsSome (key_in cipher) }
+        ensures { half_value result ≡ record {
+          role = role;
+          one_way = one_way;
+          interval = interval;
+          key = key_in cipher;
+          nonce = nonce_in cipher;
+        } }
+    {
+        Half {
+            role,
+            one_way,
+            interval,
+            cipher,
+        }
+    }
+
+    pub(crate) fn into_parts(self) -> HalfParts
+        ensures { half_in result ≡ half_value self }
+    {
+        let (key, nonce) = key_and_nonce(self.cipher);
+        HalfParts {
+            role: self.role,
+            one_way: self.one_way,
+            interval: self.interval,
+            key,
+            nonce,
+        }
+    }
+
+    pub(crate) fn from_parts(parts: HalfParts) -> Half
+        ensures { half_value result ≡ half_in parts }
+    {
+        let cipher = CipherState::from_parts(Some(parts.key), parts.nonce);
+        Half::new(parts.role, parts.one_way, parts.interval, cipher)
+    }
+
+    // The same half, whose key is never renewed.
+    pub(crate) fn without_renewal(self) -> Half
+        ensures { half_value result ≡ record (half_value self) { interval = 0 } }
+    {
+        Half::new(self.role, self.one_way, 0, self.cipher)
+    }
+}
+
+// The key and the nonce of a cipher state.
+fn key_and_nonce(cipher: CipherState) -> ([u8; 32], u64)
+    requires { IsSome (key_in cipher) }
+    ensures key { key_in cipher ≡ Some result.0 }
+    ensures nonce { nonce_in cipher ≡ result.1 }
+{
+    match cipher.into_parts() {
+        (Some(key), nonce) => (key, nonce),
+        (None, _) => unreachable!(),
+    }
+}
