@@ -10,9 +10,9 @@ pub(crate) fn block_reported(text: &[u8], number: usize, column: usize) -> Sente
     if lacks_block(text) {
         return NO_BLOCK;
     }
-    match block_fault(text) {
-        Some(fault) if fault.line == number.saturating_sub(2) => {
-            Sentences::of(fault_advice(block_of(text), fault, column))
+    match (block_of(text), block_fault(text)) {
+        (Some(block), Some(fault)) if fault.line == number.saturating_sub(2) => {
+            Sentences::of(fault_advice(block, fault, column))
         }
         _ => Sentences::new(
             "The pattern's first line has the base and the psk places of the protocol's name, and a colon, and this \

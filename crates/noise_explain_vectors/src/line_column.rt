@@ -1,14 +1,14 @@
 //! The column of a fault of a vector file.
 
-ghost use Rattle.std.specs.Prelude.{◌≡◌, ◌≤◌, ◌-◌, ◌++◌, ℕ, List, IfSome, IsTrue, length};
-ghost use Rattle.noise_explain.specs.Places.{after_line, repeated};
-ghost use Rattle.noise_explain_vectors.specs.VectorColumns.{IsBlockColumn, IsBlockFault, IsLineColumn, column_after, first_word, right_at, word_at, word_column, wrong_at};
+ghost use Rattle.std.specs.Prelude.{◌≡◌, ◌⊎◌, ◌+◌, ◌-◌, ◌≤◌, ℕ, List, length, IfSome, MatchOption};
+ghost use Rattle.noise_explain_vectors.specs.VectorColumns.{HasNoBlockFault, IsBlock, IsBlockColumn, IsBlockFault, IsLineColumn, IsWordColumn, first_word};
+ghost use Rattle.noise_explain_vectors.specs.VectorColumns.{IsShortLine, IsWholeLine, IsWrongWord, word_at};
 
 use crate::line_shapes::shapes_of;
 use crate::shapes::{Shape, has_shape};
 use noise_explain::{after_line, column_of, line_at};
 use noise_names::{Pattern, TextFault};
-use noise_vectors::LineKind;
+use noise_vectors::{LineKind, lines_before_end};
 
 // The column of a fault of this kind in the line of this number.
 pub(crate) fn line_column(kind: LineKind, text: &[u8], number: usize) -> usize
@@ -30,34 +30,35 @@ pub(crate) fn line_column(kind: LineKind, text: &[u8], number: usize) -> usize
     }
 }
 
-// The column of the first word that isn't of its shape.
+// The column of the word at fault.
 fn word_column(kind: LineKind, line: &[u8]) -> usize
-    ensures { result ≡ word_column kind line.now }
+    ensures { IsWordColumn kind line.now result }
 {
-    let at = wrong_at(shapes_of(kind, first_word(line)), line);
-    if at <= line.len() { at + 1 } else { 1 }
+    match wrong_at(shapes_of(kind, first_word(line)), line) {
+        Some(at) => at + 1,
+        None => 1,
+    }
 }
 
-// How many bytes stand before the first word that isn't of its shape.
-pub(crate) fn wrong_at(shapes: &[Shape], line: &[u8]) -> usize
-    ensures { result ≡ wrong_at shapes.now line.now 0 }
+// How many bytes stand before the word at fault, or before the end of a line that lacks a word. None: all words are of
+// their shapes.
+pub(crate) fn wrong_at(shapes: &[Shape], line: &[u8]) -> Option<usize>
+    ensures at { MatchOption result (IsWholeLine shapes.now line.now 1)
+        (λ at. IsWrongWord shapes.now line.now (at + 1) ⊎ IsShortLine shapes.now line.now (at + 1)) }
+    ensures within { IfSome result (λ at. at ≤ length line.now) }
 {
+    let len = line.len();
     let mut at: usize = 0;
     for shape in shapes {
-        if !is_right_at(*shape, line, at) {
-            return at.min(line.len());
+        if at > len {
+            return Some(len);
+        }
+        if !has_shape(*shape, word_at(line, at)) {
+            return Some(at);
         }
         at += word_at(line, at).len() + 1;
     }
-    at
-}
-
-// Whether a word of this shape begins there.
-fn is_right_at(shape: Shape, line: &[u8], at: usize) -> bool
-    ensures value { result ≡ right_at shape line.now at }
-    ensures within { IsTrue result → at ≤ length line.now }
-{
-    at <= line.len() && has_shape(shape, word_at(line, at))
+    if at > len { None } else { Some(at) }
 }
 
 // The word that begins so many bytes after the line's begin.
@@ -88,43 +89,31 @@ fn word_len(text: &[u8]) -> usize
 fn block_column(text: &[u8], number: usize) -> usize
     ensures { IsBlockColumn text.now number result }
 {
-    match block_fault(text) {
-        Some(fault) if fault.line == number.saturating_sub(2) => {
-            column_of(fault.kind, fault.line, line_at(text, number))
-        }
-        _ => 1,
+    let Some(fault) = block_fault(text) else {
+        return 1;
+    };
+    if fault.line == number.saturating_sub(2) {
+        column_of(fault.kind, fault.line, line_at(text, number))
+    } else {
+        1
     }
 }
 
 // The fault that the lines of that pattern have as a pattern text.
 pub(crate) fn block_fault(text: &[u8]) -> Option<TextFault>
-    ensures { IfSome result (IsBlockFault text.now) }
+    ensures { MatchOption result (HasNoBlockFault text.now) (IsBlockFault text.now) }
 {
-    match Pattern::parse_text(block_of(text)) {
+    let block = block_of(text)?;
+    match Pattern::parse_text(block) {
         Ok(_) => None,
         Err(fault) => Some(fault),
     }
 }
 
 // The lines after the first two, up to a line `end`.
-pub(crate) fn block_of(text: &[u8]) -> &[u8]
-    ensures { (after : List ℕ) × (repeated after_line 2 text.now ≡ result.now ++ after) }
+pub(crate) fn block_of(text: &[u8]) -> Option<&[u8]>
+    ensures { MatchOption result ((block : List ℕ) → ¬ IsBlock text.now block) (λ found. IsBlock text.now found.now) }
 {
     let rest = after_line(after_line(text));
-    let (block, _) = rest.split_at(block_len(rest));
-    block
-}
-
-// How many bytes stand before a line `end`, or all where there is none.
-fn block_len(rest: &[u8]) -> usize
-    ensures { result ≤ length rest.now }
-{
-    let mut len: usize = 0;
-    for line in rest.split(|b| *b == b'\n') {
-        if line == b"end".as_slice() {
-            return len.min(rest.len());
-        }
-        len = len.saturating_add(line.len()).saturating_add(1);
-    }
-    rest.len()
+    lines_before_end(rest)
 }

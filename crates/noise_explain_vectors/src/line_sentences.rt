@@ -5,7 +5,7 @@ use crate::line_place::{NeededRole, is_after_datagrams, is_first_version, needed
 use crate::line_shapes::shapes_of;
 use crate::sentences::Sentences;
 use crate::shapes::Shape;
-use crate::word_sentences::{CUTS, word_reported};
+use crate::word_sentences::word_reported;
 use noise_explain::{Advice, slip};
 use noise_vectors::LineKind;
 
@@ -22,13 +22,12 @@ pub(crate) fn line_reported(kind: LineKind, text: &[u8], number: usize, line: &[
     }
     let first = first_word(line);
     let shapes = shapes_of(kind, first);
-    let at = wrong_at(shapes, line);
     if shapes.is_empty() {
-        first_reported(kind, text, number, line)
-    } else if at > line.len() {
-        whole_reported(kind, text, number, line)
-    } else {
-        place_reported(shapes, line, at)
+        return first_reported(kind, text, number, line);
+    }
+    match wrong_at(shapes, line) {
+        Some(at) => place_reported(shapes, line, at),
+        None => whole_reported(kind, text, number, line),
     }
 }
 
@@ -51,10 +50,6 @@ fn place_reported(shapes: &[Shape], line: &[u8], at: usize) -> Sentences {
     let index = before.iter().filter(|b| **b == b' ').count();
     let word = word_at(line, at);
     match shapes.get(index).copied() {
-        Some(Shape::Rest) => {
-            let (_, name) = line.split_at(at.min(line.len()));
-            word_reported(Shape::Rest, name)
-        }
         Some(shape) if !word.is_empty() => word_reported(shape, word),
         _ if at >= line.len() => Sentences::new(
             "A word is missing at the end of the line.",
@@ -204,14 +199,6 @@ fn expect_reported(line: &[u8]) -> Sentences {
 // What is wrong with a line whose words are each of their shape.
 fn whole_reported(kind: LineKind, text: &[u8], number: usize, line: &[u8]) -> Sentences {
     match kind {
-        LineKind::Prologue => Sentences::new(
-            "A prologue has at most 65535 bytes, and this one has more.",
-            "Shorten it.",
-        ),
-        LineKind::Interval => Sentences::new(
-            "NUM is below 18446744073709551616 here, and this isn't.",
-            "Write a smaller number.",
-        ),
         LineKind::Psk => Sentences::new(
             "A file has at most 9 psk lines, and this is one more.",
             "Leave it out.",
@@ -225,6 +212,8 @@ fn whole_reported(kind: LineKind, text: &[u8], number: usize, line: &[u8]) -> Se
         LineKind::Header
         | LineKind::Protocol
         | LineKind::Pattern
+        | LineKind::Prologue
+        | LineKind::Interval
         | LineKind::Expect
         | LineKind::Ending => other_reported(),
     }
@@ -243,7 +232,7 @@ fn other_party_reported(role: NeededRole) -> Sentences {
     }
 }
 
-// An event that may not stand there, or is beyond a limit.
+// An event that may not stand there.
 fn whole_event_reported(text: &[u8], number: usize, line: &[u8]) -> Sentences {
     let first = first_word(line);
     let is_datagrams = first == b"datagrams".as_slice();
@@ -267,46 +256,10 @@ fn whole_event_reported(text: &[u8], number: usize, line: &[u8]) -> Sentences {
             "Move it above that line, or leave it out.",
         )
     } else {
-        limit_reported(first, line)
+        other_reported()
     }
 }
 
 fn is_datagram_event(first: &[u8]) -> bool {
     first == b"seal".as_slice() || first == b"open".as_slice() || first == b"foreign".as_slice()
-}
-
-// Which limit an event is beyond.
-fn limit_reported(first: &[u8], line: &[u8]) -> Sentences {
-    if first == b"raw".as_slice() || first == b"foreign".as_slice() {
-        return Sentences::new(
-            "At most 131072 bytes come at once, and these are more.",
-            "Leave some out.",
-        );
-    }
-    if line.len() > 131072 {
-        return Sentences::new(
-            "A payload has at most 65535 bytes, and this one has more.",
-            "Shorten it.",
-        );
-    }
-    if first == b"open".as_slice() || !has_small_number(first, line) {
-        return Sentences::new(
-            "NUM is below 4294967296 here, and this isn't.",
-            "Write a smaller number.",
-        );
-    }
-    CUTS
-}
-
-// Whether the number of a delivery is below 2^32.
-fn has_small_number(first: &[u8], line: &[u8]) -> bool {
-    if first != b"deliver".as_slice() {
-        return true;
-    }
-    let role = word_at(line, 8);
-    let number = word_at(line, role.len().saturating_add(9));
-    match std::str::from_utf8(number) {
-        Ok(digits) => digits.parse::<u32>().is_ok(),
-        Err(_) => false,
-    }
 }

@@ -1,9 +1,9 @@
 //! The shapes of the words of a vector file's lines.
 
 ghost use Rattle.std.specs.Prelude.{◌≡◌};
-ghost use Rattle.noise_explain_vectors.specs.VectorColumns.{event_shapes, hex_event, only_if, shapes_of};
+ghost use Rattle.noise_explain_vectors.specs.VectorColumns.{event_shapes, only_if, shapes_of};
 
-use crate::shapes::{Shape, is_role};
+use crate::shapes::Shape;
 use noise_vectors::LineKind;
 
 // The shapes of the words of a line that has to be of this kind and begins with this word: none where no such line
@@ -18,16 +18,19 @@ pub(crate) fn shapes_of(kind: LineKind, first: &[u8]) -> &'static [Shape]
         ),
         LineKind::Protocol => either(
             first == b"protocol".as_slice(),
-            &[Shape::First, Shape::Rest],
+            &[Shape::First, Shape::Name],
         ),
-        LineKind::Prologue => either(first == b"prologue".as_slice(), &[Shape::First, Shape::Hex]),
+        LineKind::Prologue => either(
+            first == b"prologue".as_slice(),
+            &[Shape::First, Shape::Hex(65535)],
+        ),
         LineKind::Interval => either(
             first == b"interval".as_slice(),
-            &[Shape::First, Shape::Number],
+            &[Shape::First, Shape::Number(18446744073709551615)],
         ),
         LineKind::Psk => either(first == b"psk".as_slice(), &[Shape::First, Shape::Key]),
         LineKind::Keys => either(
-            is_role(first),
+            first == b"initiator".as_slice() || first == b"responder".as_slice(),
             &[Shape::First, Shape::Kind, Shape::MaybeKey, Shape::MaybeKey],
         ),
         LineKind::Answer => either(
@@ -51,23 +54,23 @@ fn event_shapes(first: &[u8]) -> &'static [Shape]
     ensures { result.now ≡ event_shapes first.now }
 {
     if first == b"say".as_slice() {
-        &[Shape::First, Shape::Role, Shape::Hex, Shape::Cuts]
+        &[Shape::First, Shape::Role, Shape::Hex(65535), Shape::Cuts]
     } else if first == b"deliver".as_slice() {
-        &[Shape::First, Shape::Role, Shape::Number, Shape::Cuts]
+        &[
+            Shape::First,
+            Shape::Role,
+            Shape::Number(4294967295),
+            Shape::Cuts,
+        ]
     } else if first == b"open".as_slice() {
-        &[Shape::First, Shape::Role, Shape::Number]
-    } else if is_hex_event(first) {
-        &[Shape::First, Shape::Role, Shape::Hex]
+        &[Shape::First, Shape::Role, Shape::Number(4294967295)]
+    } else if first == b"write".as_slice() || first == b"seal".as_slice() {
+        &[Shape::First, Shape::Role, Shape::Hex(65535)]
+    } else if first == b"raw".as_slice() || first == b"foreign".as_slice() {
+        &[Shape::First, Shape::Role, Shape::Hex(131072)]
     } else if first == b"datagrams".as_slice() {
         &[Shape::First, Shape::Window]
     } else {
         &[]
     }
-}
-
-fn is_hex_event(first: &[u8]) -> bool
-    ensures { result ≡ hex_event first.now }
-{
-    (first == b"write".as_slice() || first == b"raw".as_slice())
-        || (first == b"seal".as_slice() || first == b"foreign".as_slice())
 }

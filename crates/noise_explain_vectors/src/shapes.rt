@@ -1,18 +1,20 @@
 //! What the words of a vector file's lines have to be.
 
-ghost use Rattle.std.specs.Prelude.{◌≡◌, ◌||◌, ◌==◌, bytes_eq, codes};
-ghost use Rattle.std.specs.List.{list_all};
-ghost use Rattle.noise_explain_vectors.specs.VectorColumns.{are_digits, are_hex, are_numbers, has_leading_zero, has_shape, is_digit, is_hex, is_key, is_number};
+ghost use Rattle.std.specs.Prelude.{◌≡◌, ◌≤◌, ◌↔◌, ℕ, IsTrue, decimal};
+ghost use Rattle.noise_explain_vectors.specs.VectorColumns.{HasShape};
 
-use noise_vectors::is_lower_digit;
+use noise_names::ProtocolName;
+use noise_vectors::{
+    is_hex_word, read_cuts, read_key, read_number, read_optional_key, read_own, read_role,
+};
 
 /// What a word has to be.
 #[derive(Clone, Copy, Debug, PartialEq, Eq)]
 pub(crate) enum Shape {
     /// The first word of the line, by which the others are reported.
     First,
-    /// All that is left of the line, of which no word is reported.
-    Rest,
+    /// A protocol's name.
+    Name,
     /// `1` or `2`.
     Version,
     /// `xor` or `table`.
@@ -23,102 +25,85 @@ pub(crate) enum Shape {
     Own,
     /// `64`, `256` or `1024`.
     Window,
-    /// Bytes in hex.
-    Hex,
+    /// At most so many bytes in hex.
+    Hex(usize),
     /// A key in hex.
     Key,
     /// A key in hex, or `-`.
     MaybeKey,
-    /// A number.
-    Number,
+    /// A number, at most this one.
+    Number(u64),
     /// The pieces of a frame.
     Cuts,
 }
 
 // Whether a word is what this shape says.
 pub(crate) fn has_shape(shape: Shape, word: &[u8]) -> bool
-    ensures { result ≡ has_shape shape word.now }
+    ensures { IsTrue result ↔ HasShape shape word.now }
 {
     match shape {
         Shape::First => true,
-        Shape::Rest => false,
+        Shape::Name => is_name(word),
         Shape::Version => word == b"1".as_slice() || word == b"2".as_slice(),
         Shape::Kind => word == b"xor".as_slice() || word == b"table".as_slice(),
         Shape::Role => is_role(word),
-        Shape::Own => word == b"e".as_slice() || word == b"s".as_slice(),
+        Shape::Own => is_own_word(word),
         Shape::Window => is_window(word),
-        Shape::Hex => is_hex(word),
+        Shape::Hex(most) => is_hex_word(word, most),
         Shape::Key => is_key(word),
-        Shape::MaybeKey => word == b"-".as_slice() || is_key(word),
-        Shape::Number => is_number(word),
-        Shape::Cuts => word == b"-".as_slice() || are_numbers(word),
+        Shape::MaybeKey => is_optional_key(word),
+        Shape::Number(most) => is_number(word, most),
+        Shape::Cuts => are_cuts(word),
     }
 }
 
-pub(crate) fn is_role(word: &[u8]) -> bool
-    ensures { result ≡ (bytes_eq word.now (codes "initiator") || bytes_eq word.now (codes "responder")) }
+fn is_name(word: &[u8]) -> bool
+    ensures { IsTrue result ↔ HasShape Shape.Name word.now }
 {
-    word == b"initiator".as_slice() || word == b"responder".as_slice()
+    ProtocolName::parse(word).is_ok()
+}
+
+fn is_role(word: &[u8]) -> bool
+    ensures { IsTrue result ↔ HasShape Shape.Role word.now }
+{
+    read_role(word).is_some()
+}
+
+fn is_own_word(word: &[u8]) -> bool
+    ensures { IsTrue result ↔ HasShape Shape.Own word.now }
+{
+    read_own(word).is_some()
 }
 
 fn is_window(word: &[u8]) -> bool
-    ensures { result ≡ has_shape Shape.Window word.now }
+    ensures { IsTrue result ↔ HasShape Shape.Window word.now }
 {
     word == b"64".as_slice() || (word == b"256".as_slice() || word == b"1024".as_slice())
 }
 
-fn is_hex(word: &[u8]) -> bool
-    ensures { result ≡ is_hex word.now }
-{
-    word == b"-".as_slice() || (!word.is_empty() && (word.len() % 2 == 0 && are_hex(word)))
-}
-
 fn is_key(word: &[u8]) -> bool
-    ensures { result ≡ is_key word.now }
+    ensures { IsTrue result ↔ HasShape Shape.Key word.now }
 {
-    word.len() == 64 && are_hex(word)
+    read_key(word).is_some()
 }
 
-// Whether it has lower-case hex digits alone.
-pub(crate) fn are_hex(word: &[u8]) -> bool
-    ensures { result ≡ are_hex word.now }
+fn is_optional_key(word: &[u8]) -> bool
+    ensures { IsTrue result ↔ HasShape Shape.MaybeKey word.now }
 {
-    word.iter().all(|digit| is_lower_digit(*digit))
+    read_optional_key(word).is_some()
 }
 
-fn is_number(word: &[u8]) -> bool
-    ensures { result ≡ is_number word.now }
+fn is_number(word: &[u8], most: u64) -> bool
+    ensures { IsTrue result ↔ (n : ℕ) × (n ≤ most) × (word.now ≡ decimal n) }
 {
-    are_digits(word) && !has_leading_zero(word)
+    match read_number(word) {
+        Some(number) => number <= most,
+        None => false,
+    }
 }
 
-fn are_digits(word: &[u8]) -> bool
-    ensures { result ≡ are_digits word.now }
+fn are_cuts(word: &[u8]) -> bool
+    ensures { IsTrue result ↔ HasShape Shape.Cuts word.now }
 {
-    !word.is_empty() && has_digits_alone(word)
-}
-
-fn has_digits_alone(word: &[u8]) -> bool
-    ensures { result ≡ list_all is_digit word.now }
-{
-    word.iter().all(|digit| is_digit(*digit))
-}
-
-fn is_digit(byte: u8) -> bool
-    ensures { result ≡ is_digit byte }
-{
-    byte.is_ascii_digit()
-}
-
-fn has_leading_zero(word: &[u8]) -> bool
-    ensures { result ≡ has_leading_zero word.now }
-{
-    word.starts_with(b"0".as_slice()) && word.len() != 1
-}
-
-// Whether it has numbers alone, with commas between them.
-fn are_numbers(word: &[u8]) -> bool
-    ensures { result ≡ are_numbers word.now }
-{
-    word.split(|b| *b == b',').all(|number| is_number(number))
+    read_cuts(word).is_some()
 }

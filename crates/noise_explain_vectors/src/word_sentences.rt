@@ -7,7 +7,7 @@ use noise_names::{NameFault, ProtocolName};
 // What is wrong with a word that isn't of this shape.
 pub(crate) fn word_reported(shape: Shape, word: &[u8]) -> Sentences {
     match shape {
-        Shape::First | Shape::Rest => name_reported(word),
+        Shape::First | Shape::Name => name_reported(word),
         Shape::Version => Sentences::new(
             "The version is 1 or 2, and another word stands here.",
             "Write 1, or 2 for datagrams or expected output.",
@@ -28,20 +28,18 @@ pub(crate) fn word_reported(shape: Shape, word: &[u8]) -> Sentences {
             "W is 64, 256 or 1024, and another word stands here.",
             "Write one of the three.",
         ),
-        Shape::Hex => hex_reported(word),
+        Shape::Hex(most) => hex_reported(word, most),
         Shape::Key => key_reported(word),
         Shape::MaybeKey => maybe_key_reported(word),
-        Shape::Number => number_reported(word),
-        Shape::Cuts => CUTS,
+        Shape::Number(most) => number_reported(word, most),
+        Shape::Cuts => Sentences::new(
+            "CUTS is -, or 1 to 8 numbers from 0 to 65535 joined by commas, the last not 0, and this is neither.",
+            "Write - for one piece, or for example 1,2,16",
+        ),
     }
 }
 
-pub(crate) const CUTS: Sentences = Sentences {
-    says: "CUTS is -, or 1 to 8 numbers from 0 to 65535 joined by commas, the last not 0, and this is neither.",
-    mends: "Write - for one piece, or for example 1,2,16",
-};
-
-fn hex_reported(word: &[u8]) -> Sentences {
+fn hex_reported(word: &[u8], most: usize) -> Sentences {
     if word.starts_with(b"0x".as_slice()) {
         return Sentences::new(
             "HEX has hex digits alone, and 0x stands before them.",
@@ -57,10 +55,26 @@ fn hex_reported(word: &[u8]) -> Sentences {
             "HEX has the digits 0 to 9 and a to f alone, and another character stands here.",
             "Write two digits for each byte, or - for no bytes.",
         ),
+        Slip::Count if word.len() % 2 == 0 => long_reported(most),
         Slip::Count => Sentences::new(
             "HEX has two digits for each byte, and the number of these is odd.",
             "Write the digit that is missing: a byte below 16 begins with 0.",
         ),
+    }
+}
+
+// Hex of more bytes than this.
+fn long_reported(most: usize) -> Sentences {
+    if most > 65535 {
+        Sentences::new(
+            "HEX has at most 131072 bytes here, and this has more.",
+            "Leave some out.",
+        )
+    } else {
+        Sentences::new(
+            "HEX has at most 65535 bytes here, and this has more.",
+            "Shorten it.",
+        )
     }
 }
 
@@ -120,7 +134,7 @@ fn slip_of(word: &[u8]) -> Slip {
     Slip::Count
 }
 
-fn number_reported(word: &[u8]) -> Sentences {
+fn number_reported(word: &[u8], most: u64) -> Sentences {
     match word.first().copied() {
         Some(b'+') | Some(b'-') => Sentences::new(
             "NUM has digits alone, and a sign or a hyphen stands here.",
@@ -130,10 +144,26 @@ fn number_reported(word: &[u8]) -> Sentences {
             "NUM has no leading zero, and one stands here.",
             "Leave it out.",
         ),
+        Some(b'1'..=b'9') if word.iter().all(|b| b.is_ascii_digit()) => large_reported(most),
         _ => Sentences::new(
             "NUM is a decimal number, and this isn't one.",
             "Write digits alone.",
         ),
+    }
+}
+
+// A number beyond this one.
+fn large_reported(most: u64) -> Sentences {
+    if most > 4294967295 {
+        Sentences::new(
+            "NUM is below 18446744073709551616 here, and this isn't.",
+            "Write a smaller number.",
+        )
+    } else {
+        Sentences::new(
+            "NUM is below 4294967296 here, and this isn't.",
+            "Write a smaller number.",
+        )
     }
 }
 

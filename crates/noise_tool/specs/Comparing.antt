@@ -87,6 +87,10 @@ pub record ComparesPrefix (log file : Option (List ℕ)) (before after : Option 
 
 -- ---- a log that isn't compared
 
+-- the log and the file are both standard input, which is read once
+abbrev pub NamesInputTwice : Compared → Type 0
+NamesInputTwice names = (is_input (string_bytes names.log) ≡ true) × (is_input (string_bytes names.file) ≡ true)
+
 -- why it isn't, by its text
 abbrev pub IsWrongLog : List ℕ → Uncompared → Type 0
 IsWrongLog log NoLine = lines_of log ≡ []
@@ -96,8 +100,7 @@ IsWrongLog log _ = ⊥
 
 -- why it isn't, by the names and by the texts of the log and the vector file, where these are known
 abbrev pub IsUncompared : Compared → Option (List ℕ) → Option (List ℕ) → Uncompared → Type 0
-IsUncompared names log file NamedTwice =
-    (is_input (string_bytes names.log) ≡ true) × (is_input (string_bytes names.file) ≡ true)
+IsUncompared names log file NamedTwice = NamesInputTwice names
 IsUncompared names log file (WrongFile fault) = (status_of fault ≤ 2) × IfSome file (λ f. IsRunFault Any f fault)
 IsUncompared names log file why = IfSome log (λ l. IsWrongLog l why)
 
@@ -115,3 +118,8 @@ pub record IsNotCompared (names : Compared) (log file : Option (List ℕ)) (befo
   pub why : Uncompared
   pub is_why : IsUncompared names log file why
   pub grown : AppendsPrefix before after (uncompared_line names why)
+
+-- Nothing is compared. At status 2 the error output grew by a prefix of the line that standard input is named twice.
+pub record IsRefusedTwice (names : Compared) (before after : Option (List ℕ)) (status : ℕ) : Type 0 where
+  pub none : 2 ≤ status
+  pub grown : status ≡ 2 → AppendsPrefix before after (uncompared_line names NamedTwice)

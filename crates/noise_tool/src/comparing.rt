@@ -9,11 +9,11 @@ ghost use Rattle.noise_lines.specs.Reported.{error_text};
 ghost use Rattle.noise_lines.specs.declared.faults.Fault.{Fault};
 ghost use Rattle.noise_lines.specs.TracedLines.{traces_of};
 ghost use Rattle.noise_vectors.specs.Expectations.{bytes_of};
-ghost use Rattle.noise_tool.specs.Comparing.{Compares, ComparesPrefix, IfMade, IfWrong, IsCompared, IsNotCompared, IsUncompared, IsWrongLog};
-ghost use Rattle.noise_tool.specs.Comparing.{finding_status, schedule_of, uncompared_line};
+ghost use Rattle.noise_tool.specs.Comparing.{Compares, ComparesPrefix, IfMade, IfWrong, IsCompared, IsNotCompared, IsRefusedTwice, IsUncompared, IsWrongLog};
+ghost use Rattle.noise_tool.specs.Comparing.{NamesInputTwice, finding_status, schedule_of, uncompared_line};
 ghost use Rattle.noise_tool.specs.Testing.{RunsTo};
 ghost use Rattle.noise_tool.specs.declared.comparing.Comparison.TheVariants.{Wrong};
-ghost use Rattle.noise_tool.specs.declared.comparing.Uncompared.TheVariants.{WrongFile};
+ghost use Rattle.noise_tool.specs.declared.comparing.Uncompared.TheVariants.{NamedTwice, WrongFile};
 
 use crate::testing::{FilesByName, is_input, trace_named};
 use crate::tracing::Traced;
@@ -66,6 +66,8 @@ pub fn compare_log<F: FilesByName, O: Write, E: Write>(
     ensures quiet { (2 ≤ result) ⊎ (err.new ≡ err.old) }
     ensures fault { result ≡ 2 → IsNotCompared names.now (F.bytes_at files.now (string_bytes names.now.log))
         (F.bytes_at files.now (string_bytes names.now.file)) (E.contents err.old) (E.contents err.new) }
+    ensures twice { NamesInputTwice names.now
+        → IsRefusedTwice names.now (E.contents err.old) (E.contents err.new) result }
     ensures unwritten { result ≡ 2 → out.new ≡ out.old }
     ensures outside { result ≡ 3 → (fault : Fault) × (status_of fault ≡ 3)
         × AppendsPrefix (E.contents err.old) (E.contents err.new) (error_text fault) }
@@ -115,6 +117,7 @@ fn compare_named<F: FilesByName>(
     ensures wrong { IfOk result (λ made. IfWrong made
         (IsUncompared names.now (F.bytes_at files.now (string_bytes names.now.log)) (F.bytes_at files.now
         (string_bytes names.now.file)))) }
+    ensures twice { IfOk result (λ made. NamesInputTwice names.now → made ≡ Wrong NamedTwice) }
     ensures fault { IfErr result (λ fault. status_of fault ≡ 3) }
 {
     let (log_name, file_name) = (names.log.as_str(), names.file.as_str());

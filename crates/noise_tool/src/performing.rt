@@ -10,7 +10,7 @@ ghost use Rattle.noise_vectors.specs.declared.vector.AllowedEvents.TheVariants.{
 ghost use Rattle.noise_vectors.specs.declared.vector.Version.TheVariants.{One};
 ghost use Rattle.noise_tool.specs.Performing.{Converts, HasConverted, IsDone, IsFault, IsNotMet, IsOfLines, IsPlain, IsReadVector, IsRunFault, IsStopped, IsTooLongConverted, IsUnlike};
 ghost use Rattle.noise_tool.specs.Performing.{IfCommand, IfCompare, IfExplain, IfTest, IsShortFile, LeavesAtTwo, LeavesFile, LeavesInput, ReadsShort, RunsFile, UnlessTwo};
-ghost use Rattle.noise_tool.specs.Comparing.{ComparesFiles, ComparesPrefix, IsNotCompared};
+ghost use Rattle.noise_tool.specs.Comparing.{ComparesFiles, ComparesPrefix, IsNotCompared, IsRefusedTwice, NamesInputTwice};
 ghost use Rattle.noise_tool.specs.Explaining.{ExplainsFiles, ExplainsPrefix, StopsExplaining};
 ghost use Rattle.noise_tool.specs.Templating.{HasTemplated, IsTemplateFault, LeavesPattern, ReadsShortPattern};
 ghost use Rattle.noise_tool.specs.Testing.{EndsTest, TestsFiles, TestsPrefix};
@@ -80,6 +80,8 @@ pub fn perform<R: Read, F: FilesByName, O: Write, E: Write>(
     ensures compare_fault { result ≡ 2
         → IfCompare order.now (λ names. IsNotCompared names (F.bytes_at files.now (string_bytes names.log))
         (F.bytes_at files.now (string_bytes names.file)) (E.contents err.old) (E.contents err.new)) }
+    ensures compare_twice { IfCompare order.now (λ names. NamesInputTwice names
+        → IsRefusedTwice names (E.contents err.old) (E.contents err.new) result) }
     ensures compare_prefix { IfCompare order.now (λ names. (out.new ≡ out.old)
         ⊎ ComparesPrefix (F.bytes_at files.now (string_bytes names.log))
         (F.bytes_at files.now (string_bytes names.file)) (O.contents out.old) (O.contents out.new)) }

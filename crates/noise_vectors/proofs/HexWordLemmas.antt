@@ -14,6 +14,7 @@ use Rattle.hex.proofs.HexLemmas.{decode_of-even, decode_sized-ok, decode_sized-t
 use Rattle.hex.specs.Hex.{decode_sized}
 use Rattle.std.specs.Prelude.{IsOk, MatchResult}
 use Rattle.noise_vectors.specs.HexWord.{hex_of, is_lower_digit, IsDigits, IsHexWord}
+use Rattle.noise_vectors.specs.VectorFile.{AreBytes}
 
 -- ---- the digits, by tests that compute
 
@@ -224,3 +225,22 @@ length-hex_word word (b ∷ rest) e =
     let long = length-encode_with lower_digits (b ∷ rest) in
     let len : length word ≡ length (hex_of (b ∷ rest)) = ap length e in
     omega (arith, long)
+
+-- the word of few bytes is short
+pub short-hex_word : (word bytes : List ℕ) (most : ℕ) → AreBytes most bytes → word ≡ hex_of bytes → ¬ (most < length word / 2)
+short-hex_word word [] most h e long =
+    let len : length word ≡ 1 = ap length e in
+    omega arith
+short-hex_word word (b ∷ bs) most h e long =
+    let twice = length-hex_of (b ∷ bs) (omega arith) in
+    let few : length (b ∷ bs) ≤ most = h.0 in
+    let len : length word ≡ length (hex_of (b ∷ bs)) = ap length e in
+    omega (arith, twice)
+
+-- few digits are the word of few bytes
+pub few-digits : (word : List ℕ) (most : ℕ) → IsDigits word → length word / 2 ≤ most
+    → (bytes : List ℕ) × AreBytes most bytes × (word ≡ hex_of bytes)
+few-digits word most h few =
+    let is = IsHexWord-digits word h in
+    let long = length-hex_word word is.0 is.2 in
+    (is.0, (omega (arith, long), is.1), is.2)

@@ -1,6 +1,6 @@
 //! The pattern that a file spells itself.
 
-ghost use Rattle.std.specs.Prelude.{◌≡◌, ◌↔◌, ◌+◌, ◌++◌, [], ℕ, List, IfErr, IfOk, IsFalse, IsTrue, MatchResult, Ok, codes};
+ghost use Rattle.std.specs.Prelude.{◌≡◌, ◌↔◌, ◌+◌, ◌++◌, [], ℕ, List, None, IfErr, IfOk, IfSome, IsFalse, IsTrue, MatchResult, Ok, codes};
 ghost use Rattle.std.specs.List.{All};
 ghost use Rattle.noise_names.specs.Limits.{IsPattern};
 ghost use Rattle.noise_names.specs.Names.{IsSection};
@@ -42,6 +42,18 @@ pub(crate) fn read_block(
             Ok(pattern)
         }
         Err(number) => Err(VectorFault::Line(before.saturating_add(number), LineKind::Pattern)),
+    }
+}
+
+/// The lines of a text before the next line `end`, if there is one.
+pub fn lines_before_end(text: &[u8]) -> Option<&[u8]>
+    ensures block { IfSome result (λ found. (block : Block text.now) × (found.now ≡ lines_of itself block.lines [])) }
+    ensures none { result ≡ None → ¬ Block text.now }
+{
+    let mut lines = Lines::new(text);
+    match take_block(&mut lines) {
+        Ok(found) => Some(found),
+        Err(_) => None,
     }
 }
 

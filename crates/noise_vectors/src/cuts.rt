@@ -10,7 +10,7 @@ use arrayvec::ArrayVec;
 use noise_events::Cuts;
 
 /// `-` for one piece, or 1 to 8 numbers below 65536, joined by commas, the last not 0.
-pub(crate) fn read_cuts(word: &[u8]) -> Option<Cuts>
+pub fn read_cuts(word: &[u8]) -> Option<Cuts>
     ensures value { IfSome result (λ cuts. word.now ≡ lengths_word cuts) }
     ensures right { IfSome result AreCuts }
     ensures every { (cuts : List ℕ) → AreCuts cuts → word.now ≡ lengths_word cuts → result ≡ Some cuts }

@@ -1,7 +1,8 @@
 //! Bytes as words of hex digits.
 
-ghost use Rattle.std.specs.Prelude.{◌≡◌, ◌↔◌, ◌+◌, ◌<◌, ◌++◌, length, vec_len, vec_capacity, IfOk, IfSome, IsSome, IsTrue, OnOk, OnErr, Ok, None};
+ghost use Rattle.std.specs.Prelude.{◌≡◌, ◌↔◌, ◌+◌, ◌<◌, ◌++◌, ℕ, List, length, vec_len, vec_capacity, IfOk, IfSome, IsSome, IsTrue, OnOk, OnErr, Ok, None};
 ghost use Rattle.noise_vectors.specs.HexWord.{hex_of, is_lower_digit, IsDigits, IsHexWord};
+ghost use Rattle.noise_vectors.specs.VectorFile.{AreBytes};
 
 use std::alloc::{AllocError, Global};
 
@@ -47,6 +48,19 @@ pub fn read_hex(alloc: Global, word: &[u8]) -> Result<Option<Vec<u8>>, AllocErro
     }
 }
 
+/// Whether it is the word of at most so many bytes.
+pub fn is_hex_word(word: &[u8], most: usize) -> bool
+    ensures { IsTrue result ↔ (bytes : List ℕ) × AreBytes most bytes × (word.now ≡ hex_of bytes) }
+{
+    if word == b"-".as_slice() {
+        return true;
+    }
+    if word.len() / 2 > most {
+        return false;
+    }
+    is_digits(word)
+}
+
 /// Whether it is the lower-case hex digits of one byte or more.
 pub(crate) fn is_digits(word: &[u8]) -> bool
     ensures { IsTrue result ↔ IsDigits word.now }
@@ -54,8 +68,8 @@ pub(crate) fn is_digits(word: &[u8]) -> bool
     !word.is_empty() && word.len() % 2 == 0 && word.iter().all(|digit| is_lower_digit(*digit))
 }
 
-/// Whether it is a lower-case hex digit.
-pub fn is_lower_digit(byte: u8) -> bool
+// Whether it is a lower-case hex digit.
+fn is_lower_digit(byte: u8) -> bool
     ensures { result ≡ is_lower_digit byte }
 {
     matches!(byte, b'0'..=b'9' | b'a'..=b'f')

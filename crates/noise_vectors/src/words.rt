@@ -55,7 +55,7 @@ fn place_of(text: &[u8], byte: u8) -> Option<usize>
 }
 
 /// A decimal number below 2^64, without sign or leading zeros.
-pub(crate) fn read_number(word: &[u8]) -> Option<u64>
+pub fn read_number(word: &[u8]) -> Option<u64>
     ensures value { IfSome result (λ number. word.now ≡ decimal number) }
     ensures every { (number : ℕ) → number < 2 ^ 64 → word.now ≡ decimal number → result ≡ Some number }
 {
@@ -89,7 +89,7 @@ pub(crate) fn read_length(word: &[u8]) -> Option<u16>
 }
 
 /// A key of 64 lower-case hex digits.
-pub(crate) fn read_key(word: &[u8]) -> Option<[u8; 32]>
+pub fn read_key(word: &[u8]) -> Option<[u8; 32]>
     ensures value { IfSome result (λ key. word.now ≡ encode_lower key) }
     ensures right { IfSome result IsKey }
     ensures every { (key : List ℕ) → IsKey key → word.now ≡ encode_lower key → result ≡ Some key }
@@ -103,7 +103,7 @@ pub(crate) fn read_key(word: &[u8]) -> Option<[u8; 32]>
 }
 
 /// A key, or `-` for none.
-pub(crate) fn read_optional_key(word: &[u8]) -> Option<Option<[u8; 32]>>
+pub fn read_optional_key(word: &[u8]) -> Option<Option<[u8; 32]>>
     ensures value { IfSome result (λ key. word.now ≡ key_word key) }
     ensures right { IfSome result (λ key. IfSome key IsKey) }
     ensures every { (key : Option (List ℕ)) → IfSome key IsKey → word.now ≡ key_word key → result ≡ Some key }
@@ -115,7 +115,7 @@ pub(crate) fn read_optional_key(word: &[u8]) -> Option<Option<[u8; 32]>>
 }
 
 /// `initiator` or `responder`.
-pub(crate) fn read_role(word: &[u8]) -> Option<Role>
+pub fn read_role(word: &[u8]) -> Option<Role>
     ensures value { IfSome result (λ role. word.now ≡ role_word role) }
     ensures every { (role : Role) → word.now ≡ role_word role → result ≡ Some role }
 {
@@ -163,7 +163,7 @@ pub(crate) fn read_datagram_kind(word: &[u8]) -> Option<DatagramKind>
 }
 
 /// `e` for the ephemeral key pair, or `s` for the static one.
-pub(crate) fn read_own(word: &[u8]) -> Option<Own>
+pub fn read_own(word: &[u8]) -> Option<Own>
     ensures value { IfSome result (λ own. word.now ≡ own_word own) }
     ensures every { (own : Own) → word.now ≡ own_word own → result ≡ Some own }
 {

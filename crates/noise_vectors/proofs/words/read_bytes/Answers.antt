@@ -1,8 +1,7 @@
-use Rattle.std.proofs.Common.{rules, arith, ◌≡◌, ◌<◌, ◌≤◌, ◌/◌, ap, ℕ, List, [], ◌∷◌, Option, Some, None, length, Vec, Global, vec_len}
+use Rattle.std.proofs.Common.{rules, arith, ◌≡◌, ◌≤◌, ◌/◌, ℕ, List, Option, Some, None, length, Vec, Global, vec_len}
 use Rattle.std.specs.Prelude.{IfSome, IsSome}
 use Rattle.noise_vectors.specs.HexWord.{hex_of}
-use Rattle.noise_vectors.specs.VectorFile.{AreBytes}
-use Rattle.noise_vectors.proofs.HexWordLemmas.{bytes_of-word, length-hex_of, length-hex_word}
+use Rattle.noise_vectors.proofs.HexWordLemmas.{bytes_of-word, length-hex_word, short-hex_word}
 use Rattle.noise_vectors.proofs.words.read_bytes.Goals as goal
 
 -- the bytes of a short word are few
@@ -25,16 +24,5 @@ returns-in-Some-clause-right c =
     few c.args.word.now c.args.most c.if-word-most.false (Some c.in-Some.bytes) word in
     (omega (arith, short, c.in-Some.bytes.ok.0), bytes_of-word c.args.word.now c.in-Some.bytes.items word (c.in_ok-bytes.ensures.found.0 some))
 
--- the word of few bytes is short
-short : (word bytes : List ℕ) (most : ℕ) → AreBytes most bytes → word ≡ hex_of bytes → ¬ (most < length word / 2)
-short word [] most h e long =
-    let len : length word ≡ 1 = ap length e in
-    omega arith
-short word (b ∷ bs) most h e long =
-    let twice = length-hex_of (b ∷ bs) (omega arith) in
-    let few : length (b ∷ bs) ≤ most = h.0 in
-    let len : length word ≡ length (hex_of (b ∷ bs)) = ap length e in
-    omega (arith, twice)
-
 pub returns-then-word-most-clause-every : goal.returns-then-word-most-clause-every
-returns-then-word-most-clause-every c = λ bytes h e. absurd (short c.args.word.now bytes c.args.most h e c.if-word-most.true)
+returns-then-word-most-clause-every c = λ bytes h e. absurd (short-hex_word c.args.word.now bytes c.args.most h e c.if-word-most.true)
