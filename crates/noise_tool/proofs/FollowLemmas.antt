@@ -50,7 +50,7 @@ read-pattern s next message step (accepts_handshake _ _ payload xs accepts) = re
 read-pattern s next message step (accepts_transport _ _ payload opens more spelled) = refl
 read-pattern s next message step (refuses_message _ _ _ after gives judges) = judged-pattern s.state after message step judges
 
-over-pattern : (over : Bool) (v : EndState) → (if over then ended_session v else v).party.pattern ≡ v.party.pattern
+over-pattern : (ended : Bool) (v : EndState) → (if ended then ended_session v else v).party.pattern ≡ v.party.pattern
 over-pattern true v = refl
 over-pattern false v = refl
 
@@ -65,7 +65,7 @@ written-pattern s next payload note (writes_transport _ message _ free opens is)
 
 -- ---- what is held
 
-over-partial : (over : Bool) (v : EndState) (partial : List ℕ) → partial ≡ v.partial → (if over then [] else partial) ≡ (if over then ended_session v else v).partial
+over-partial : (ended : Bool) (v : EndState) (partial : List ℕ) → partial ≡ v.partial → (if ended then [] else partial) ≡ (if ended then ended_session v else v).partial
 over-partial true v partial e = refl
 over-partial false v partial e = e
 

@@ -142,7 +142,7 @@ abbrev pub Holds : Trace → Type 0
 Holds t = (v : EndState) (bytes : List ℕ) → Follow t v → Follow t (record v { partial = bytes })
 
 module _ (t : Trace) (closes : Closes t) where
-  after-closes : (v : EndState) (over : Bool) → Follow t v → Follow t (if over then ended_session v else v)
+  after-closes : (v : EndState) (ended : Bool) → Follow t v → Follow t (if ended then ended_session v else v)
   after-closes v true follows = closes v follows
   after-closes v false follows = follows
 

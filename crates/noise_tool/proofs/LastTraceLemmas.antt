@@ -20,18 +20,18 @@ use Rattle.noise_tool.specs.Tracing.{datagram_keys_of, last_traces}
 use Rattle.noise_tool.specs.declared.key_use_lines.Selection.{Selection}
 use Rattle.std.proofs.lemmas.Bool.{and_parts, eqb-true}
 
-pub last-goes : (selection : Selection) (over : Option FileDatagrams) (d : Sides) (after : List (List ℕ)) (a : AreLast over d after)
-    → (is_some over && are_ready d) ≡ true
-    → last_traces selection over d after a ≡ (datagram_keys_of selection Initiator d.initiator.state ++ datagram_keys_of selection Responder d.responder.state) ∷ []
-last-goes selection over d after (without _) e = absurd (cc e)
-last-goes selection over d after (unready _ _ not_ready) e = let bad = sym not_ready ∙ e in absurd (cc bad)
-last-goes selection over d after (ready _ _ notes last are run) e = refl
+pub last-goes : (selection : Selection) (datagrams : Option FileDatagrams) (d : Sides) (after : List (List ℕ)) (a : AreLast datagrams d after)
+    → (is_some datagrams && are_ready d) ≡ true
+    → last_traces selection datagrams d after a ≡ (datagram_keys_of selection Initiator d.initiator.state ++ datagram_keys_of selection Responder d.responder.state) ∷ []
+last-goes selection datagrams d after (without _) e = absurd (cc e)
+last-goes selection datagrams d after (unready _ _ not_ready) e = let bad = sym not_ready ∙ e in absurd (cc bad)
+last-goes selection datagrams d after (ready _ _ notes last are run) e = refl
 
-pub last-stays : (selection : Selection) (over : Option FileDatagrams) (d : Sides) (after : List (List ℕ)) (a : AreLast over d after)
-    → (is_some over && are_ready d) ≡ false → last_traces selection over d after a ≡ []
-last-stays selection over d after (without _) e = refl
-last-stays selection over d after (unready _ _ not_ready) e = refl
-last-stays selection over d after (ready _ _ notes last are run) e = let bad = sym are ∙ e in absurd (cc bad)
+pub last-stays : (selection : Selection) (datagrams : Option FileDatagrams) (d : Sides) (after : List (List ℕ)) (a : AreLast datagrams d after)
+    → (is_some datagrams && are_ready d) ≡ false → last_traces selection datagrams d after a ≡ []
+last-stays selection datagrams d after (without _) e = refl
+last-stays selection datagrams d after (unready _ _ not_ready) e = refl
+last-stays selection datagrams d after (ready _ _ notes last are run) e = let bad = sym are ∙ e in absurd (cc bad)
 
 -- ---- ends that are ready have passed the handshake
 
@@ -47,9 +47,9 @@ ready-passed v e =
     (passed-test v.party.ended (v.party.passed == length v.party.pattern.messages) v.party.pattern v.party.role v.party.passed v.sent v.received
     (is_one_way v.party.pattern) (and_parts (is_untouched (progress_of v)) (length v.partial == 0) e).0)
 
-pub ready-over : (over : Option FileDatagrams) (d : Sides) → (is_some over && are_ready d) ≡ true → AreOver d
-ready-over over d e =
-    let both = (and_parts (is_some over) (are_ready d) e).1 in (
+pub ready-over : (datagrams : Option FileDatagrams) (d : Sides) → (is_some datagrams && are_ready d) ≡ true → AreOver d
+ready-over datagrams d e =
+    let both = (and_parts (is_some datagrams) (are_ready d) e).1 in (
       ready-passed d.initiator.state (and_parts (is_ready d.initiator.state) (is_ready d.responder.state) both).0,
       ready-passed d.responder.state (and_parts (is_ready d.initiator.state) (is_ready d.responder.state) both).1,
     )

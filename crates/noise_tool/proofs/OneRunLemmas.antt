@@ -76,16 +76,16 @@ over-once once d v w es fs ms ns x y same events h k =
 last-once : DatagramRunOnce → (o u : Option FileDatagrams) (d : Sides) (xs ys : List (List ℕ)) → held_datagrams o ≡ held_datagrams u → AreLast o d xs → AreLast u d ys
     → xs ≡ ys
 last-once once _ _ d xs ys e (without _) (without _) = refl
-last-once once _ _ d xs ys e (without _) (unready over _ partial) = absurd (cc)
-last-once once _ _ d xs ys e (without _) (ready over _ notes last may run) = absurd (cc)
-last-once once _ _ d xs ys e (unready over _ partial) (without _) = absurd (cc)
-last-once once _ _ d xs ys e (unready over _ partial) (unready also _ more) = refl
-last-once once _ _ d xs ys e (unready over _ partial) (ready also _ notes last may run) = absurd (false≢true (sym partial ∙ may))
-last-once once _ _ d xs ys e (ready over _ notes last may run) (without _) = absurd (cc)
-last-once once _ _ d xs ys e (ready over _ notes last may run) (unready also _ partial) = absurd (false≢true (sym partial ∙ may))
-last-once once _ _ d xs ys e (ready over _ notes last may run) (ready also _ reported left indeed again) =
-    let same : (over.window, datagram_events_of over.events.items) ≡ (also.window, datagram_events_of also.events.items) = cc in
-    over-once once d over.window also.window (datagram_events_of over.events.items) (datagram_events_of also.events.items) notes reported last left
+last-once once _ _ d xs ys e (without _) (unready datagrams _ partial) = absurd (cc)
+last-once once _ _ d xs ys e (without _) (ready datagrams _ notes last may run) = absurd (cc)
+last-once once _ _ d xs ys e (unready datagrams _ partial) (without _) = absurd (cc)
+last-once once _ _ d xs ys e (unready datagrams _ partial) (unready also _ more) = refl
+last-once once _ _ d xs ys e (unready datagrams _ partial) (ready also _ notes last may run) = absurd (false≢true (sym partial ∙ may))
+last-once once _ _ d xs ys e (ready datagrams _ notes last may run) (without _) = absurd (cc)
+last-once once _ _ d xs ys e (ready datagrams _ notes last may run) (unready also _ partial) = absurd (false≢true (sym partial ∙ may))
+last-once once _ _ d xs ys e (ready datagrams _ notes last may run) (ready also _ reported left indeed again) =
+    let same : (datagrams.window, datagram_events_of datagrams.events.items) ≡ (also.window, datagram_events_of also.events.items) = cc in
+    over-once once d datagrams.window also.window (datagram_events_of datagrams.events.items) (datagram_events_of also.events.items) notes reported last left
     (ap (λ (p : Window × List DatagramEvent). p.0) same) (ap (λ (p : Window × List DatagramEvent). p.1) same) run again
 
 -- ---- all lines
@@ -114,17 +114,17 @@ one-run once datagrams f g xs ys same a b =
 last-moves : (o u : Option FileDatagrams) (d : Sides) (xs : List (List ℕ)) → held_datagrams o ≡ held_datagrams u → AreLast o d xs → AreLast u d xs
 last-moves _ None d xs e (without _) = without d
 last-moves _ (Some also) d xs e (without _) = absurd (cc)
-last-moves _ None d xs e (unready over _ partial) = absurd (cc)
-last-moves _ (Some also) d xs e (unready over _ partial) = unready also d partial
-last-moves _ None d xs e (ready over _ notes last may run) = absurd (cc)
-last-moves _ (Some also) d xs e (ready over _ notes last may run) =
-    let same : (over.window, datagram_events_of over.events.items) ≡ (also.window, datagram_events_of also.events.items) = cc in
-    let window : over.window ≡ also.window = ap (λ (p : Window × List DatagramEvent). p.0) same in
-    let events : datagram_events_of over.events.items ≡ datagram_events_of also.events.items = ap (λ (p : Window × List DatagramEvent). p.1) same in
+last-moves _ None d xs e (unready datagrams _ partial) = absurd (cc)
+last-moves _ (Some also) d xs e (unready datagrams _ partial) = unready also d partial
+last-moves _ None d xs e (ready datagrams _ notes last may run) = absurd (cc)
+last-moves _ (Some also) d xs e (ready datagrams _ notes last may run) =
+    let same : (datagrams.window, datagram_events_of datagrams.events.items) ≡ (also.window, datagram_events_of also.events.items) = cc in
+    let window : datagrams.window ≡ also.window = ap (λ (p : Window × List DatagramEvent). p.0) same in
+    let events : datagram_events_of datagrams.events.items ≡ datagram_events_of also.events.items = ap (λ (p : Window × List DatagramEvent). p.1) same in
     subst (λ (z : Window). AreLast (Some also) d (datagram_run_lines z notes last)) (sym window)
     (ready also d notes last may
     (subst (λ (z : Window). DatagramRun (gone_over d z) (datagram_events_of also.events.items) notes last) window
-    (subst (λ (z : List DatagramEvent). DatagramRun (gone_over d over.window) z notes last) events run)))
+    (subst (λ (z : List DatagramEvent). DatagramRun (gone_over d datagrams.window) z notes last) events run)))
 
 setup-alike : (f g : VectorFile) (plan : Plan) (role : Role) → RunAlike f g → setup_of f plan role ≡ setup_of g plan role
 setup-alike f g plan Initiator same =

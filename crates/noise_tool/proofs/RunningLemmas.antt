@@ -56,41 +56,41 @@ pub after-without : {E : Type 0} (given : Option FileDatagrams) (d : Sides) (r :
 after-without given d r old new none h =
     on_ok r _ _ (λ e. (state_lines d, subst (λ (o : Option FileDatagrams). AreLast o d (state_lines d)) (sym none) (without d), e)) h
 
-pub after-unready : {E : Type 0} (given : Option FileDatagrams) (over : FileDatagrams) (d : Sides) (r : Result Unit E) (old new : List (List ℕ))
-    → given ≡ Some over → are_ready d ≡ false → OnOk r (new ≡ old ++ codes "no-datagrams" ∷ state_lines d)
+pub after-unready : {E : Type 0} (given : Option FileDatagrams) (datagrams : FileDatagrams) (d : Sides) (r : Result Unit E) (old new : List (List ℕ))
+    → given ≡ Some datagrams → are_ready d ≡ false → OnOk r (new ≡ old ++ codes "no-datagrams" ∷ state_lines d)
     → OnOk r ((x : List (List ℕ)) × AreLast given d x × (new ≡ old ++ x))
-after-unready given over d r old new some not_ready h =
+after-unready given datagrams d r old new some not_ready h =
     on_ok r _ _ (λ e. (
       codes "no-datagrams" ∷ state_lines d,
-      subst (λ (o : Option FileDatagrams). AreLast o d (codes "no-datagrams" ∷ state_lines d)) (sym some) (unready over d not_ready),
+      subst (λ (o : Option FileDatagrams). AreLast o d (codes "no-datagrams" ∷ state_lines d)) (sym some) (unready datagrams d not_ready),
       e,
     )) h
 
-pub after-ready : {E : Type 0} (given : Option FileDatagrams) (over : FileDatagrams) (d : Sides) (r : Result Unit E) (old new : List (List ℕ))
-    → given ≡ Some over → are_ready d ≡ true
+pub after-ready : {E : Type 0} (given : Option FileDatagrams) (datagrams : FileDatagrams) (d : Sides) (r : Result Unit E) (old new : List (List ℕ))
+    → given ≡ Some datagrams → are_ready d ≡ true
     → OnOk r ((notes : List (Role × DatagramNote)) × (last : DatagramSides)
-    × DatagramRun (gone_over d over.window) (datagram_events_of over.events.items) notes last
-    × (new ≡ old ++ window_words over.window ∷ (map datagram_line notes ++ datagram_state_lines last)))
+    × DatagramRun (gone_over d datagrams.window) (datagram_events_of datagrams.events.items) notes last
+    × (new ≡ old ++ window_words datagrams.window ∷ (map datagram_line notes ++ datagram_state_lines last)))
     → OnOk r ((x : List (List ℕ)) × AreLast given d x × (new ≡ old ++ x))
-after-ready given over d r old new some are h =
+after-ready given datagrams d r old new some are h =
     on_ok r _ _ (λ x.
-    let lines : List (List ℕ) = window_words over.window ∷ (map datagram_line x.0 ++ datagram_state_lines x.1) in
-    (lines, subst (λ (o : Option FileDatagrams). AreLast o d lines) (sym some) (ready over d x.0 x.1 are x.2), x.3)) h
+    let lines : List (List ℕ) = window_words datagrams.window ∷ (map datagram_line x.0 ++ datagram_state_lines x.1) in
+    (lines, subst (λ (o : Option FileDatagrams). AreLast o d lines) (sym some) (ready datagrams d x.0 x.1 are x.2), x.3)) h
 
 -- the line of the window, those of the datagrams, and the states
-pub after-window : {E : Type 0} (over : FileDatagrams) (v w : DatagramState) (notes : List (Role × DatagramNote)) (last : DatagramSides) (r : Result Unit E)
-    (old one two new : List (List ℕ)) → DatagramRun (datagram_sides v w) (datagram_events_of over.events.items) notes last
-    → one ≡ old ++ window_words over.window ∷ [] → two ≡ one ++ map datagram_line notes → OnOk r (new ≡ two ++ datagram_state_lines last)
-    → OnOk r ((notes : List (Role × DatagramNote)) × (last : DatagramSides) × DatagramRun (datagram_sides v w) (datagram_events_of over.events.items) notes last
-    × (new ≡ old ++ window_words over.window ∷ (map datagram_line notes ++ datagram_state_lines last)))
-after-window over v w notes last r old one two new run first more h =
+pub after-window : {E : Type 0} (datagrams : FileDatagrams) (v w : DatagramState) (notes : List (Role × DatagramNote)) (last : DatagramSides) (r : Result Unit E)
+    (old one two new : List (List ℕ)) → DatagramRun (datagram_sides v w) (datagram_events_of datagrams.events.items) notes last
+    → one ≡ old ++ window_words datagrams.window ∷ [] → two ≡ one ++ map datagram_line notes → OnOk r (new ≡ two ++ datagram_state_lines last)
+    → OnOk r ((notes : List (Role × DatagramNote)) × (last : DatagramSides) × DatagramRun (datagram_sides v w) (datagram_events_of datagrams.events.items) notes last
+    × (new ≡ old ++ window_words datagrams.window ∷ (map datagram_line notes ++ datagram_state_lines last)))
+after-window datagrams v w notes last r old one two new run first more h =
     on_ok r _ _ (λ e. (
       notes,
       last,
       run,
       e ∙ ap (λ (t : List (List ℕ)). t ++ datagram_state_lines last) (more ∙ ap (λ (t : List (List ℕ)). t ++ map datagram_line notes) first)
-          ∙ append_assoc (old ++ window_words over.window ∷ []) (map datagram_line notes) (datagram_state_lines last)
-          ∙ append_assoc old (window_words over.window ∷ []) (map datagram_line notes ++ datagram_state_lines last),
+          ∙ append_assoc (old ++ window_words datagrams.window ∷ []) (map datagram_line notes) (datagram_state_lines last)
+          ∙ append_assoc old (window_words datagrams.window ∷ []) (map datagram_line notes ++ datagram_state_lines last),
     )) h
 
 -- the line of ends that don't go over, and the states

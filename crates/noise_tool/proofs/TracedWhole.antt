@@ -26,16 +26,16 @@ abbrev Lines : Type 0
 Lines = List (List ℕ)
 
 -- the lines after the events, and those of the key schedules there
-record HasEnded (selection : Selection) (over : Option FileDatagrams) (last : Sides) (lines whole : Lines) (traces pushed : Traces) : Type 0 where
+record HasEnded (selection : Selection) (datagrams : Option FileDatagrams) (last : Sides) (lines whole : Lines) (traces pushed : Traces) : Type 0 where
   pub after : Lines
-  pub are_last : AreLast over last after
+  pub are_last : AreLast datagrams last after
   pub whole_is : whole ≡ lines ++ after
-  pub pushed_is : pushed ≡ traces ++ last_traces selection over last after are_last
+  pub pushed_is : pushed ≡ traces ++ last_traces selection datagrams last after are_last
 
-ended_session-of : (selection : Selection) (over : Option FileDatagrams) (last : Sides) (lines whole : Lines) (traces pushed : Traces)
-    → ((after : Lines) (are_last : AreLast over last after) → pushed ≡ traces ++ last_traces selection over last after are_last)
-    → (after : Lines) × AreLast over last after × (whole ≡ lines ++ after) → HasEnded selection over last lines whole traces pushed
-ended_session-of selection over last lines whole traces pushed keys c = record {
+ended_session-of : (selection : Selection) (datagrams : Option FileDatagrams) (last : Sides) (lines whole : Lines) (traces pushed : Traces)
+    → ((after : Lines) (are_last : AreLast datagrams last after) → pushed ≡ traces ++ last_traces selection datagrams last after are_last)
+    → (after : Lines) × AreLast datagrams last after × (whole ≡ lines ++ after) → HasEnded selection datagrams last lines whole traces pushed
+ended_session-of selection datagrams last lines whole traces pushed keys c = record {
   after = c.0;
   are_last = c.1;
   whole_is = c.2;

@@ -56,19 +56,19 @@ datagram_run_lines window notes last = window_words window ∷ (map datagram_lin
 -- the lines grew by those of these datagrams, from these sides on
 abbrev pub AppendsDatagrams : DatagramSides → FileDatagrams → Vec (Vec ℕ Global) Global → Vec (Vec ℕ Global) Global
     → Type 0
-AppendsDatagrams start over before after = (notes : List (Role × DatagramNote)) × (last : DatagramSides)
-    × DatagramRun start (datagram_events_of over.events.items) notes last
-    × Appended before after (datagram_run_lines over.window notes last)
+AppendsDatagrams start datagrams before after = (notes : List (Role × DatagramNote)) × (last : DatagramSides)
+    × DatagramRun start (datagram_events_of datagrams.events.items) notes last
+    × Appended before after (datagram_run_lines datagrams.window notes last)
 
 -- The lines after those of the events. Without datagrams: the states of both ends. With them: those of the
 -- datagrams; or that they can't go over, and their states.
 pub data AreLast : Option FileDatagrams → Sides → List (List ℕ) → Type 0 where
   without : (d : Sides) → AreLast None d (state_lines d)
-  unready : (over : FileDatagrams) (d : Sides) → are_ready d ≡ false
-      → AreLast (Some over) d (codes "no-datagrams" ∷ state_lines d)
-  ready : (over : FileDatagrams) (d : Sides) (notes : List (Role × DatagramNote)) (last : DatagramSides)
-      → are_ready d ≡ true → DatagramRun (gone_over d over.window) (datagram_events_of over.events.items) notes last
-      → AreLast (Some over) d (datagram_run_lines over.window notes last)
+  unready : (datagrams : FileDatagrams) (d : Sides) → are_ready d ≡ false
+      → AreLast (Some datagrams) d (codes "no-datagrams" ∷ state_lines d)
+  ready : (datagrams : FileDatagrams) (d : Sides) (notes : List (Role × DatagramNote)) (last : DatagramSides)
+      → are_ready d ≡ true → DatagramRun (gone_over d datagrams.window) (datagram_events_of datagrams.events.items) notes last
+      → AreLast (Some datagrams) d (datagram_run_lines datagrams.window notes last)
 
 -- these events, of which the sides make these lines' notes, leave the duel
 pub record LeavesLines (start : Sides) (events : List Event) (duel : DuelValue FileKeys FileKeys)

@@ -151,11 +151,11 @@ fn go_over(
     ensures printed { AreExpected lines.old.items → OnOk result (AreExpected lines.new.items) }
 {
     end_is_reported::<FileKeys>();
-    let Some(over) = datagrams else {
+    let Some(datagrams) = datagrams else {
         return push_state_lines(alloc, &duel, lines);
     };
-    match duel.into_datagrams(over.window) {
-        Ok(duel) => push_datagrams(alloc, duel, &over, lines),
+    match duel.into_datagrams(datagrams.window) {
+        Ok(duel) => push_datagrams(alloc, duel, &datagrams, lines),
         Err(duel) => push_without_datagrams(alloc, &duel, lines),
     }
 }
@@ -164,15 +164,15 @@ fn go_over(
 fn push_datagrams(
     alloc: Global,
     duel: DatagramDuel,
-    over: &FileDatagrams,
+    datagrams: &FileDatagrams,
     lines: &mut Vec<Vec<u8>>,
 ) -> Result<(), AllocError>
     ensures after { (v w : DatagramState) → DatagramDuelMatches duel (datagram_sides v w)
-        → OnOk result (AppendsDatagrams (datagram_sides v w) over.now lines.old lines.new) }
+        → OnOk result (AppendsDatagrams (datagram_sides v w) datagrams.now lines.old lines.new) }
     ensures printed { AreExpected lines.old.items → OnOk result (AreExpected lines.new.items) }
 {
-    push_window(alloc, over.window, lines)?;
-    let (duel, report) = duel.run(alloc, &over.events)?;
+    push_window(alloc, datagrams.window, lines)?;
+    let (duel, report) = duel.run(alloc, &datagrams.events)?;
     push_datagram_lines(alloc, &report, lines)?;
     push_datagram_states(alloc, &duel, lines)
 }

@@ -373,9 +373,9 @@ reports-expected : (alloc : Global) (allowed : AllowedEvents) (text from : List 
 reports-expected alloc allowed text from total fault b one all t (inl is) = reported-of allowed text fault Memory is tt
 reports-expected alloc allowed text from total fault b one all t (inr (inl (is, cut))) =
     reported-of allowed text fault (Line (total + 1) kinds.Ending) is
-    (expected-cut alloc allowed text from t.after total b t.over cut.done cut.are cut.few one all t.are t.is_allowed t.text_is cut.text_is)
+    (expected-cut alloc allowed text from t.after total b t.datagrams cut.done cut.are cut.few one all t.are t.is_allowed t.text_is cut.text_is)
 reports-expected alloc allowed text from total fault b one all t (inr (inr w)) =
-    expected-reported alloc allowed text from t.after w.left total fault b t.over w.done w.are w.few one all t.are t.is_allowed t.text_is t.stands w.text_is
+    expected-reported alloc allowed text from t.after w.left total fault b t.datagrams w.done w.are w.few one all t.are t.is_allowed t.text_is t.stands w.text_is
     w.stands w.it w.full
 
 two-reported : (alloc : Global) (allowed : AllowedEvents) (text from : List ℕ) (total : ℕ) (fault : VectorFault)

@@ -213,11 +213,11 @@ ReportsDatagrams allowed from total fault =
 
 -- a line of what is expected is reported, after these datagrams
 pub record ReportsExpected (allowed : AllowedEvents) (from : List ℕ) (total : ℕ) (fault : VectorFault) : Type 0 where
-  pub over : Option FileDatagrams
-  pub are : IfSome over (λ over. All IsDatagramEvent over.events.items)
-  pub is_allowed : allowed ≡ SayOnly → over ≡ None
+  pub datagrams : Option FileDatagrams
+  pub are : IfSome datagrams (λ datagrams. All IsDatagramEvent datagrams.events.items)
+  pub is_allowed : allowed ≡ SayOnly → datagrams ≡ None
   pub after : List ℕ
-  pub text_is : from ≡ datagrams_text over after
+  pub text_is : from ≡ datagrams_text datagrams after
   pub stands : AfterDatagrams after
   pub it : ReportsAfter expect_lines after total fault
 

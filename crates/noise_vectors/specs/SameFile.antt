@@ -29,7 +29,7 @@ number_of (Two additions) = 2
 -- the window and the events of the datagrams, where there are any
 abbrev pub held_datagrams : Option FileDatagrams → Option (Window × List DatagramEvent)
 held_datagrams None = None
-held_datagrams (Some over) = Some (over.window, datagram_events_of over.events.items)
+held_datagrams (Some datagrams) = Some (datagrams.window, datagram_events_of datagrams.events.items)
 
 abbrev pub datagrams_of : Version → Option (Window × List DatagramEvent)
 datagrams_of One = None

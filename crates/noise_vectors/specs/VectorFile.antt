@@ -73,7 +73,7 @@ IsExpected words = (0 < length words) × All (λ b. (32 ≤ b) × (b ≤ 126)) w
 -- The events over datagrams are right, where a file of version 2 has some.
 abbrev pub IsVersion : Version → Type 0
 IsVersion One = ⊤
-IsVersion (Two additions) = IfSome additions.datagrams (λ over. All IsDatagramEvent over.events.items)
+IsVersion (Two additions) = IfSome additions.datagrams (λ datagrams. All IsDatagramEvent datagrams.events.items)
     × All (λ words. IsExpected words.items) additions.expected.items
 
 -- where only `say` is allowed, no other event is

@@ -62,14 +62,14 @@ fn read_datagrams(
     allowed: AllowedEvents,
 ) -> Result<Option<FileDatagrams>, VectorFault>
     ensures text { IfOk result (λ found. lines.old.rest.now ≡ datagrams_text found lines.new.rest.now) }
-    ensures right { IfOk result (λ found. IfSome found (λ over. All IsDatagramEvent over.events.items)) }
+    ensures right { IfOk result (λ found. IfSome found (λ datagrams. All IsDatagramEvent datagrams.events.items)) }
     ensures allowed { IfOk result (λ found. allowed ≡ SayOnly → found ≡ None) }
     ensures ended { AfterEvents lines.old.rest.now → IfOk result (λ found. AfterDatagrams lines.new.rest.now) }
     ensures counted { IfOk result (λ found. last_number lines.new ≡ last_number lines.old) }
     ensures reported { IfErr result (ReportsDatagrams allowed lines.old.rest.now (last_number lines.old)) }
-    ensures every { (over : Option FileDatagrams) (rest : List ℕ) → IfSome over
-        (λ over. All IsDatagramEvent over.events.items)
-        → (allowed ≡ SayOnly → over ≡ None) → AfterDatagrams rest → lines.old.rest.now ≡ datagrams_text over rest
+    ensures every { (datagrams : Option FileDatagrams) (rest : List ℕ) → IfSome datagrams
+        (λ datagrams. All IsDatagramEvent datagrams.events.items)
+        → (allowed ≡ SayOnly → datagrams ≡ None) → AfterDatagrams rest → lines.old.rest.now ≡ datagrams_text datagrams rest
         → MatchResult result (λ found. lines.new.rest.now ≡ rest) (λ fault. fault ≡ Memory) }
 {
     if !lines.rest.starts_with(b"datagrams ".as_slice()) {

@@ -45,7 +45,7 @@ returns-in_err-expected-clause-reported c =
     rw (p.1, p.2) (inr (
       second,
       inr (record {
-        over = c.in_ok-datagrams.datagrams;
+        datagrams = c.in_ok-datagrams.datagrams;
         are = c.in_ok-datagrams.ensures.right;
         is_allowed = c.in_ok-datagrams.ensures.allowed;
         after = after;
