@@ -8,13 +8,14 @@ ghost use Rattle.noise_c.specs.Checked.{ChecksPattern};
 use crate::codes::numbers::{NAME, OK, PATTERN, RULE};
 use crate::codes::text_code;
 use crate::structs::NoisePatternResult;
+use noise_names::laws::{names_are_short, texts_are_short, texts_are_unique};
 use noise_names::{Pattern, ProtocolName, ValidPattern, fundamental};
 
 // The pattern of a protocol name, if it is valid. Else the number of the fault: NAME or PATTERN.
 fn named(name: &[u8]) -> Result<ValidPattern, u32>
     ensures { FindsPattern (IsNamed name.now) 82 (length name.now) (IsNameFault name.now) result }
 {
-    ProtocolName::names_are_short();
+    names_are_short();
     let Ok(name) = ProtocolName::parse(name) else {
         return Err(NAME);
     };
@@ -40,8 +41,8 @@ fn named(name: &[u8]) -> Result<ValidPattern, u32>
 fn spelled(text: &[u8]) -> Result<ValidPattern, u32>
     ensures { FindsPattern (Spells text.now) 413 (length text.now) (IsSpellingFault text.now) result }
 {
-    Pattern::texts_are_short();
-    Pattern::texts_are_unique();
+    texts_are_short();
+    texts_are_unique();
     match Pattern::parse_text(text) {
         Ok(pattern) => match pattern.check() {
             Ok(valid) => Ok(valid),
@@ -69,7 +70,7 @@ pub(crate) fn pattern_of(bytes: &[u8]) -> Result<ValidPattern, u32>
 pub extern "C" fn noise_check_pattern(text: &[u8], results: &mut NoisePatternResult) -> u32
     ensures { ChecksPattern text.now results.old results.new result }
 {
-    Pattern::texts_are_unique();
+    texts_are_unique();
     let pattern = match Pattern::parse_text(text) {
         Ok(pattern) => pattern,
         Err(fault) => {

@@ -81,7 +81,8 @@ fn after_match<'a, 'b>(
 ) -> Result<usize, Option<&'a Line<'b>>>
     requires { from ≤ length right.now }
     ensures { MatchResult result
-        (λ next. (next ≤ length right.now) × (after_match logged.now (drop from right.now) ≡ Some (drop next right.now)))
+        (λ next. (next ≤ length right.now)
+        × (after_match logged.now (drop from right.now) ≡ Some (drop next right.now)))
         (λ other. (after_match logged.now (drop from right.now) ≡ None)
         × (option_copied other ≡ find (is_of_place logged.now) (drop from right.now))) }
 {

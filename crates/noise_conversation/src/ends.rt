@@ -12,6 +12,7 @@ ghost use Rattle.noise_conversation.specs.inner.NewEnds.{MakesEnds};
 
 use crate::ConversationFault;
 use noise_duel::Duel;
+use noise_handshake::own_keys::shown_before;
 use noise_handshake::{Agreeing, Handshake, Keys, Own, Remote};
 use noise_names::{Role, ValidPattern};
 use noise_session::End;
@@ -33,8 +34,8 @@ pub(crate) fn make_ends<K: Agreeing>(
     ensures { MakesEnds K.public_of K.agreement pattern
         (starts K.public_of K.agreement pattern prologue.now psks.now initiator responder) interval result }
 {
-    let of_initiator = Remote::shown_before(pattern.pattern(), Role::Initiator, &initiator);
-    let of_responder = Remote::shown_before(pattern.pattern(), Role::Responder, &responder);
+    let of_initiator = shown_before(&pattern, Role::Initiator, &initiator);
+    let of_responder = shown_before(&pattern, Role::Responder, &responder);
     long_keys(&initiator);
     long_keys(&responder);
     let same = copy(&pattern)?;

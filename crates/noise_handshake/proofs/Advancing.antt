@@ -1,6 +1,8 @@
 -- What a message that passed leaves.
-use Rattle.std.proofs.Common.{◌≡◌, ◌+◌, ◌++◌, ℕ, List, Bool, true, false, drop, take, refl, sym, ap, ◌∙◌, drop-drop}
-use Rattle.std.specs.Prelude.{Option, Some, None, if◌then◌else◌}
+use Rattle.std.proofs.Common.{◌≡◌, ◌+◌, ◌++◌, ℕ, List, Bool, true, false, drop, take, length, refl, sym, ap, ◌∙◌, drop-drop}
+use Rattle.std.specs.Prelude.{Option, Some, None, count_by, if◌then◌else◌}
+use Rattle.noise_names.specs.Tokens.{is_psk}
+use Rattle.noise_handshake.specs.Party.{tokens_at}
 use Rattle.std.proofs.lemmas.List.{take-append-drop}
 use Rattle.noise_handshake.specs.HandshakeValue.{HandshakeValue, Advances, read_fault, write_fault}
 
@@ -20,14 +22,16 @@ unended-write h len e = unended h.ended _ _ e
 
 -- some of the psks that were left are taken from their front
 pub advanced : {K : Type 0} (old new : HandshakeValue K) (psks : List (List ℕ)) (used count : ℕ) → new.pattern ≡ old.pattern → new.role ≡ old.role → new.keys ≡ old.keys
-    → new.passed ≡ old.passed + 1 → new.ended ≡ false → old.psks ≡ drop used psks → new.psks ≡ drop (used + count) psks → Advances old new
-advanced old new psks used count p r k n e before after = record {
+    → new.passed ≡ old.passed + 1 → new.ended ≡ false → old.psks ≡ drop used psks → new.psks ≡ drop (used + count) psks
+    → length (take count old.psks) ≡ count_by is_psk (tokens_at old.pattern.messages old.passed) → Advances old new
+advanced old new psks used count p r k n e before after due = record {
   pattern = p;
   role = r;
   keys = k;
   passed = n;
   ended = e;
   taken = take count old.psks;
+  count = due;
   psks = sym (take-append-drop count old.psks)
       ∙ ap (λ (z : List (List ℕ)). take count old.psks ++ z) (ap (drop count) before ∙ drop-drop count used psks ∙ sym after);
 }

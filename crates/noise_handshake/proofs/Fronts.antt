@@ -16,7 +16,7 @@ use Rattle.noise_handshake.specs.Message.{after_tokens}
 use Rattle.noise_handshake.specs.Party.{Reader, BeginsAs, CanBegin, cause_at, remote_after}
 use Rattle.noise_handshake.specs.Wanting.{LacksDhResultFor}
 use Rattle.noise_handshake.specs.Writing.{Writer, Given, LacksDhResultAt}
-use Rattle.noise_handshake.specs.inner.Known.{are_known, is_known, e_after, s_after}
+use Rattle.noise_handshake.specs.inner.Known.{e_after, s_after}
 use Rattle.noise_handshake.specs.inner.Layout.{tokens_of, ArePlaced}
 use Rattle.noise_handshake.specs.inner.Listening.{StopsKnowing}
 use Rattle.std.proofs.lemmas.Bool.{and_parts, and_from}
@@ -30,14 +30,6 @@ pub placed-take : (has_psks keyed : Bool) (place : ℕ) (ps : List PlacedToken) 
 placed-take has_psks keyed place ps zero a = tt
 placed-take has_psks keyed place [] (suc k) a = tt
 placed-take has_psks keyed place (p ∷ ps) (suc k) a = (a.0, a.1, placed-take has_psks (keyed_after has_psks keyed p.token) (place + p.width) ps k a.2)
-
-pub known-take : (role : Role) (e s : Bool) (ts : List Token) (k : ℕ) → are_known role e s ts ≡ true → are_known role e s (take k ts) ≡ true
-known-take role e s ts zero h = refl
-known-take role e s [] (suc k) h = refl
-known-take role e s (t ∷ ts) (suc k) h =
-    and_from (is_known role e s t) (are_known role (e_after e t) (s_after s t) (take k ts))
-    (and_parts (is_known role e s t) (are_known role (e_after e t) (s_after s t) ts) h).0
-    (known-take role (e_after e t) (s_after s t) ts k (and_parts (is_known role e s t) (are_known role (e_after e t) (s_after s t) ts) h).1)
 
 pub all-take : (p : Token → Bool) (ts : List Token) (k : ℕ) → list_all p ts ≡ true → list_all p (take k ts) ≡ true
 all-take p ts zero h = refl

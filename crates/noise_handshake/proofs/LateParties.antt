@@ -31,7 +31,6 @@ use Rattle.noise_handshake.specs.declared.late_faults.Want.{Want}
 use Rattle.noise_handshake.specs.declared.stop.Stop.{Stop}
 use Rattle.noise_handshake.proofs.Standing.{ends, listens, with-psks}
 use Rattle.noise_handshake.proofs.Later.{count-take, count-less, given-same, leads-same, reads-same, stops-same, stops-for-same, lacks-same, lacks-for-same}
-use Rattle.noise_handshake.proofs.Keeping.{psks_of-drop}
 use Rattle.noise_handshake.proofs.Once.{refuses-one}
 use Rattle.noise_handshake.specs.Setup.{psks_of, setup_fault}
 use Rattle.noise_handshake.specs.declared.remote.Remote.{Remote}
@@ -241,26 +240,16 @@ late-advances h h2 lacking w a =
       passed = a.passed;
       ended = a.ended;
       taken = a.taken;
+      count = a.count;
       psks = ap (λ (k : ℕ). take k h.psks) count ∙ ap (take (length a.taken + (length h2.psks - lacking))) a.psks
           ∙ take-append-add a.taken h2.psks (length h2.psks - lacking);
     }
 
--- the psks that lack are still to come
-lacking-left : {K : Type 0} (h h2 : HandshakeValue K) (lacking : ℕ) → Advances h h2 → h.passed < length h.pattern.messages
-    → length h.psks ≡ psks_of (drop h.passed h.pattern.messages) → length h2.psks ≡ psks_of (drop h2.passed h2.pattern.messages)
-    → lacking ≤ length h.psks → count_by is_psk (tokens_at h.pattern.messages h.passed) ≤ length h.psks - lacking → lacking ≤ length h2.psks
-lacking-left h h2 lacking a due n n2 w c =
-    let next : h2.passed ≡ suc h.passed = omega (arith, a.passed) in
-    let left : length h2.psks ≡ psks_of (drop (suc h.passed) h.pattern.messages) =
-    n2 ∙ ap (λ (k : ℕ). psks_of (drop k h2.pattern.messages)) next ∙ ap (λ (p : Plan). psks_of (drop (suc h.passed) p.messages)) a.pattern in
-    omega (arith, n, left, psks_of-drop h.pattern.messages h.passed due, w, c)
-
 module _ {K : Type 0} (h : HandshakeValue K) (lacking : ℕ) (w : lacking ≤ length h.psks) (g : HandshakeValue K) (seen : without_last lacking h ≡ g)
-    (few : count_by is_psk (tokens_at h.pattern.messages h.passed) ≤ length g.psks) (h2 : HandshakeValue K) (a : Advances h h2)
-    (due : h.passed < length h.pattern.messages) (n : length h.psks ≡ psks_of (drop h.passed h.pattern.messages))
-    (n2 : length h2.psks ≡ psks_of (drop h2.passed h2.pattern.messages)) where
+    (few : count_by is_psk (tokens_at h.pattern.messages h.passed) ≤ length g.psks) (h2 : HandshakeValue K) (a : Advances h h2) where
+  -- the missing psks are still to come
   pub left-after : lacking ≤ length h2.psks
-  left-after = lacking-left h h2 lacking a due n n2 w (omega (arith, few, given-is h lacking w g seen))
+  left-after = omega (arith, few, given-is h lacking w g seen, a.count, ap length a.psks, length-append a.taken h2.psks, w)
 
   pub advances-after : Advances g (without_last lacking h2)
   advances-after = subst (λ (z : HandshakeValue K). Advances z (without_last lacking h2)) seen (late-advances h h2 lacking left-after a)

@@ -1,6 +1,7 @@
 -- The next message of a handshake: what its fields give a reader or a writer, and what they hold after it.
 use Rattle.std.proofs.Common.{◌≡◌, ℕ, ◌+◌, ◌-◌, ◌<◌, ◌≤◌, ◌^◌, List, Bool, true, false, length, take, drop, sym, ap, subst, refl, ◌∙◌, arith}
 use Rattle.std.proofs.Common.{length-drop, drop-drop}
+use Rattle.std.proofs.lemmas.List.{length-take-le}
 use Rattle.std.specs.Prelude.{None, Option, Some, count_by, is_some, IsTrue, not, ◌&&◌, ◌==◌}
 use Rattle.std.specs.List.{list_all}
 use Rattle.noise_names.specs.declared.token.Token.{Token}
@@ -249,10 +250,16 @@ module _ {K : Type 0} (public_of : K → Own → Option (List ℕ)) (a : Inside 
     short-next len none = short-view public_of (held_in a) i.2 len (none-write public_of a i h seen len none) agreement v matches-in
 
 -- one message more has passed
-module _ {K : Type 0} (a : Inside K) (h : HandshakeValue K) (seen : held_in a ≡ h) (going : a.ended ≡ false) (known : Remote) (new : SymmetricState)
-    (laid : MessageLayout) where
+module _ {K : Type 0} (public_of : K → Own → Option (List ℕ)) (a : Inside K) (i : IsKept public_of a) (less : a.passed < length a.pattern.messages)
+    (h : HandshakeValue K) (seen : held_in a ≡ h) (going : a.ended ≡ false) (known : Remote) (new : SymmetricState) (laid : MessageLayout) where
+  taken-count : length (take a.next.psks (drop a.used a.psks.items)) ≡ count_by is_psk (tokens_at a.pattern.messages a.passed)
+  taken-count =
+      let n = (i.4 less).psks in
+      length-take-le a.next.psks (drop a.used a.psks.items)
+      (omega (arith, n, enough public_of (held_in a) i.2 (tokens_at a.pattern.messages a.passed) refl less)) ∙ n
+
   pub advances-next : Advances h (held_in (record a { used = a.used + a.next.psks; passed = a.passed + 1; next = laid; state = new; remote = known }))
   advances-next =
       let b : Inside K = record a { used = a.used + a.next.psks; passed = a.passed + 1; next = laid; state = new; remote = known } in
       subst (λ (z : HandshakeValue K). Advances z (held_in b)) seen
-      (advanced (held_in a) (held_in b) a.psks.items a.used a.next.psks refl refl refl refl going refl refl)
+      (advanced (held_in a) (held_in b) a.psks.items a.used a.next.psks refl refl refl refl going refl refl taken-count)

@@ -9,7 +9,7 @@ use Rattle.noise_handshake.specs.Length.{keyed_after, keyed_after_tokens, token_
 use Rattle.noise_handshake.specs.declared.remote.Remote.{Remote}
 use Rattle.noise_handshake.specs.Writing.{Writer, Gives, Given, LacksDhResultAt}
 use Rattle.noise_handshake.specs.Nonces.{nonce_after, nonce_after_tokens}
-use Rattle.noise_handshake.specs.inner.Known.{is_known, are_known, e_after, s_after, e_after_tokens, s_after_tokens}
+use Rattle.noise_handshake.specs.inner.Known.{e_after, s_after, e_after_tokens, s_after_tokens}
 use Rattle.std.specs.List.{list_all}
 use Rattle.noise_handshake.specs.Party.{psks_after, other_psks}
 use Rattle.noise_handshake.proofs.Later.{one-more}
@@ -76,10 +76,6 @@ module _ (tokens ts : List Token) (t : Token) (split : tokens ≡ t ∷ ts) wher
       let one : count_by is_psk (Psk ∷ ts) ≡ suc (count_by is_psk ts) = one-more ts in
       omega (arith, due, one)
 
-  pub known-first : (role : Role) (e s : Bool) → IsTrue (are_known role e s tokens) → IsTrue (is_known role e s t)
-  known-first role e s h =
-      first-true (is_known role e s t) (are_known role (e_after e t) (s_after s t) ts) (subst (λ (us : List Token). IsTrue (are_known role e s us)) split h)
-
   -- its place in what is counted on the way
   pub place-fits : (n k : ℕ) → n + length tokens < 2 ^ 64 - 1 → k < length ts → k + 1 < 2 ^ 64
   place-fits n k h j = omega (arith, h, j, ap length split)
@@ -126,14 +122,6 @@ module _ (tokens ts : List Token) (t : Token) (split : tokens ≡ t ∷ ts) wher
   -- what those after it ask
   pub all-later : (test : Token → Bool) → IsTrue (list_all test tokens) → IsTrue (list_all test ts)
   all-later test h = second-true (test t) (list_all test ts) (subst (λ (us : List Token). IsTrue (list_all test us)) split h)
-
-  pub known-later : (role : Role) (e s e2 s2 : Bool) → e2 ≡ e_after e t → s2 ≡ s_after s t → IsTrue (are_known role e s tokens)
-      → IsTrue (are_known role e2 s2 ts)
-  known-later role e s e2 s2 f g h =
-      let l1 : IsTrue (are_known role (e_after e t) (s_after s t) ts) =
-      second-true (is_known role e s t) (are_known role (e_after e t) (s_after s t) ts) (subst (λ (us : List Token). IsTrue (are_known role e s us)) split h) in
-      let l2 : IsTrue (are_known role e2 (s_after s t) ts) = subst (λ (b : Bool). IsTrue (are_known role b (s_after s t) ts)) (sym f) l1 in
-      subst (λ (b : Bool). IsTrue (are_known role e2 b ts)) (sym g) l2
 
   pub psks-later : (psks others : List (List ℕ)) → others ≡ psks_after psks t → count_by is_psk tokens ≤ length psks
       → count_by is_psk ts ≤ length others

@@ -65,22 +65,38 @@ pub pre-tokens : (p : Plan) (role : Role) (t : Token)
 pre-tokens p Initiator t = or-false (has_token t p.initiator)
 pre-tokens p Responder t = refl
 
+-- in a pre-message or one of these messages
+pub matches-first : (p : Plan) (role : Role) (t : Token) (ms : List (List Token))
+    → is_among role t (token_places Initiator 0 0 p.initiator ++ token_places Responder 0 0 p.responder ++ message_places Initiator 1 ms)
+    ≡ has_token t (pre_of role p) || is_among role t (message_places Initiator 1 ms)
+matches-first p role t ms =
+    let test : Place → Bool = λ q. is_at t q.step && same_role q.party role in
+    let a : List Place = token_places Initiator 0 0 p.initiator in
+    let b : List Place = token_places Responder 0 0 p.responder in
+    let m : List Place = message_places Initiator 1 ms in
+    list_any-append test (a ++ b) m
+    ∙ ap (λ (x : Bool). x || list_any test m)
+    (list_any-append test a b ∙ ap (λ (x : Bool). x || list_any test b) (matches-token_places Initiator role t 0 0 p.initiator)
+    ∙ ap (λ (x : Bool). (same_role Initiator role && has_token t p.initiator) || x) (matches-token_places Responder role t 0 0 p.responder)
+    ∙ pre-tokens p role t)
+
 -- in a pre-message or a message
 pub matches-places_of : (p : Plan) (role : Role) (t : Token)
     → is_among role t (places_of p) ≡ has_token t (pre_of role p) || is_among role t (message_places Initiator 1 p.messages)
 matches-places_of p role t =
     let test : Place → Bool = λ q. is_at t q.step && same_role q.party role in
-    let a : List Place = token_places Initiator 0 0 p.initiator in
-    let b : List Place = token_places Responder 0 0 p.responder in
-    let m : List Place = message_places Initiator 1 p.messages in
-    list_any-append test ((a ++ b) ++ m) (transport_places p)
-    ∙ ap (λ (x : Bool). list_any test ((a ++ b) ++ m) || x) (no-transport p role t)
-    ∙ or-false (list_any test ((a ++ b) ++ m))
-    ∙ list_any-append test (a ++ b) m
-    ∙ ap (λ (x : Bool). x || list_any test m)
-    (list_any-append test a b ∙ ap (λ (x : Bool). x || list_any test b) (matches-token_places Initiator role t 0 0 p.initiator)
-    ∙ ap (λ (x : Bool). (same_role Initiator role && has_token t p.initiator) || x) (matches-token_places Responder role t 0 0 p.responder)
-    ∙ pre-tokens p role t)
+    let first : List Place = token_places Initiator 0 0 p.initiator ++ token_places Responder 0 0 p.responder ++ message_places Initiator 1 p.messages in
+    list_any-append test first (transport_places p)
+    ∙ ap (λ (x : Bool). list_any test first || x) (no-transport p role t)
+    ∙ or-false (list_any test first)
+    ∙ matches-first p role t p.messages
+
+-- a walk that finds none before the messages
+pub found-after : (role : Role) (t : Token) (pre tokens : List Token) (found all : Bool) (ms : List (List Token)) → tokens ≡ pre
+    → found ≡ has_token t tokens → found ≡ false
+    → all ≡ has_token t pre || is_among role t (message_places Initiator 1 ms) → is_among role t (message_places Initiator 1 ms) ≡ all
+found-after role t pre tokens found all ms e h none is =
+    sym (is ∙ ap (λ (b : Bool). b || is_among role t (message_places Initiator 1 ms)) (ap (has_token t) (sym e) ∙ sym h ∙ none))
 
 pub before-matches : (p : Plan) (party : Role) (t : Token) → has_before p party t ≡ true → is_among party t (places_of p) ≡ true
 before-matches p party t e = matches-places_of p party t ∙ ap (λ (b : Bool). b || is_among party t (message_places Initiator 1 p.messages)) e

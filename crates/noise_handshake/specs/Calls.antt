@@ -8,19 +8,9 @@ use Rattle.noise_handshake.specs.declared.faults.ReadFault.{ReadFault}
 use Rattle.noise_handshake.specs.declared.faults.WriteFault.{WriteFault}
 use Rattle.noise_handshake.specs.HandshakeValue.{HandshakeValue, is_turn}
 use Rattle.noise_handshake.specs.Matching.{Matches, DoesNotRead, DoesNotWrite, after_message, after_not_read, after_not_written, after_own}
-use Rattle.noise_handshake.specs.Party.{Party, Reader, Accepts, Refuses}
+use Rattle.noise_handshake.specs.Party.{Party, Accepts, Refuses}
 use Rattle.noise_handshake.specs.Wanting.{WantsToRead, WantsToWrite}
-use Rattle.noise_handshake.specs.Writing.{Writer, LacksDhResult, Writes}
-
--- what reading asks of a party with these keys
-abbrev pub reader_of : {K : Type 0} → (K → Own → List ℕ → Option (List ℕ)) → Role → Bool → K → Reader
-reader_of agreement role has_psks keys = record { role = role; has_psks = has_psks; agree = agreement keys }
-
--- what writing asks of it
-abbrev pub writer_of : {K : Type 0} → (K → Own → Option (List ℕ)) → (K → Own → List ℕ → Option (List ℕ)) → Role → Bool
-    → K → Writer
-writer_of public_of agreement role has_psks keys =
-    record { role = role; has_psks = has_psks; own = public_of keys; agree = agreement keys }
+use Rattle.noise_handshake.specs.Writing.{LacksDhResult, Writes}
 
 -- no message has passed of a handshake with this pattern, role and keys, and it hasn't ended
 abbrev pub HasBegun : {K : Type 0} → Plan → Role → K → HandshakeValue K → Type 0

@@ -1,11 +1,12 @@
 -- What a handshake holds, and why it doesn't read or write now.
-use Rattle.std.specs.Prelude.{◌≡◌, ℕ, ◌+◌, ◌*◌, ◌++◌, ◌==◌, nat_lt, List, length, Bool, true, false, not, Option, Some, None, if◌then◌else◌}
+use Rattle.std.specs.Prelude.{◌≡◌, ℕ, ◌+◌, ◌*◌, ◌++◌, ◌==◌, nat_lt, List, length, Bool, true, false, not, Option, count_by, Some, None, if◌then◌else◌}
 use Rattle.noise_names.specs.declared.token.Role.{Role}
 use Rattle.noise_names.specs.declared.token.Role.TheVariants.{Initiator}
-use Rattle.noise_names.specs.Tokens.{same_role, turn_from}
+use Rattle.noise_names.specs.Tokens.{is_psk, same_role, turn_from}
 use Rattle.noise_names.specs.Plan.{Plan}
 use Rattle.noise_names.specs.Overhead.{overhead_of}
 use Rattle.noise_state.specs.declared.symmetric.SymmetricState.{SymmetricState}
+use Rattle.noise_handshake.specs.Party.{tokens_at}
 use Rattle.noise_handshake.specs.declared.remote.Remote.{Remote}
 use Rattle.noise_handshake.specs.declared.faults.ReadFault.{ReadFault}
 use Rattle.noise_handshake.specs.declared.faults.ReadFault.TheVariants as read
@@ -70,6 +71,7 @@ pub record Advances {K : Type 0} (old new : HandshakeValue K) : Type 0 where
   pub passed : new.passed ≡ old.passed + 1
   pub ended : new.ended ≡ false
   pub taken : List (List ℕ)
+  pub count : length taken ≡ count_by is_psk (tokens_at old.pattern.messages old.passed)
   pub psks : old.psks ≡ taken ++ new.psks
 
 -- what a fault of reading leaves

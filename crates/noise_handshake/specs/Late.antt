@@ -34,7 +34,7 @@ abbrev pub late_fault : Plan → Role → (Own → Option (List ℕ)) → Remote
 late_fault p role own remote psks =
     setup_fault p role own remote (max psks (psks_of p.messages))
 
--- A handshake may hold this and the psks that lack.
+-- A handshake may hold this and the missing psks.
 abbrev pub IsLateWhole : {K : Type 0} → (K → Own → Option (List ℕ)) → HandshakeValue K → Type 0
 IsLateWhole public_of h = (later : List (List ℕ)) × IsWhole public_of (with_later h later)
 

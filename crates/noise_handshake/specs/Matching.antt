@@ -1,9 +1,9 @@
 -- Which party a handshake matches, the parties after its messages, and why it doesn't read or write.
 use Rattle.std.specs.Prelude.{◌≡◌, ℕ, ◌+◌, ◌<◌, ◌≤◌, List, length, drop, count_by, Option, true, false, is_some}
 use Rattle.noise_names.specs.Tokens.{is_psk}
-use Rattle.noise_names.specs.Plan.{has_psk}
+use Rattle.noise_names.specs.Plan.{Plan, has_psk}
 use Rattle.noise_names.specs.Overhead.{has_key, overhead_of}
-use Rattle.noise_state.specs.History.{cipher_key}
+use Rattle.noise_state.specs.History.{History, cipher_key}
 use Rattle.noise_state.specs.Standing.{StateMatches}
 use Rattle.noise_keys.specs.declared.keys.Own.{Own}
 use Rattle.noise_handshake.specs.declared.faults.ReadFault.{ReadFault}
@@ -33,13 +33,17 @@ after_own v xs payload = record v {
   history = after_payload (has_psk v.pattern) v.history (tokens_now v) xs payload;
 }
 
--- the party of a party that has ended
+-- the party once it has ended
 abbrev pub ended_party : Party → Party
 ended_party v = record v { ended = true }
 
--- The party's history has a key exactly where the pattern says so.
+-- The history of a pattern's first messages, so many, has a key exactly where the pattern says so.
+abbrev pub IsKeyedAt : Plan → ℕ → History → Type 0
+IsKeyedAt p passed r = is_some (cipher_key r) ≡ has_key p (passed_places p passed)
+
+-- The same of the party's history.
 abbrev pub IsKeyed : Party → Type 0
-IsKeyed v = is_some (cipher_key v.history) ≡ has_key v.pattern (passed_places v.pattern v.passed)
+IsKeyed v = IsKeyedAt v.pattern v.passed v.history
 
 -- The handshake matches the party, by the meaning of its keys.
 module _ {K : Type 0} (public_of : K → Own → Option (List ℕ)) (agreement : K → Own → List ℕ → Option (List ℕ)) where

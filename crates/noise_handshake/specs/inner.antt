@@ -5,6 +5,8 @@ pub mod Known
 pub mod Late
 pub mod Layout
 pub mod Listening
+pub mod Means
+pub mod Parts
 pub mod PreMessage
 pub mod Reading
 pub mod Sound

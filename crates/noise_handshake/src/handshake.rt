@@ -6,8 +6,9 @@ ghost use Rattle.std.specs.Prelude.{IfErr, OnErr, MatchResult, MatchOption, IsSo
 ghost use Rattle.std.specs.Option.{ForSome};
 
 use crate::layout::{MessageLayout, lay_next, psk_after};
+use crate::own_keys::public_keys;
 use crate::reading::{lacked, read_before, read_lacking, read_message};
-use crate::setup::{public_keys, setup_fault, start};
+use crate::setup::{setup_fault, start};
 use crate::stop::Stop;
 use crate::tokens::Means;
 use crate::writing::{write_lacking, write_lacking_before, write_message};
@@ -60,7 +61,7 @@ impl<K: Keys> Handshake<K> {
     ghost use Rattle.noise_handshake.specs.inner.Layout.{IsLaid};
     ghost use Rattle.noise_handshake.specs.Party.{Party, Refuses, Speaks, reader, tokens_at, tokens_now};
     ghost use Rattle.noise_handshake.specs.inner.Late.{IsPskAfter};
-    ghost use Rattle.noise_handshake.specs.inner.Listening.{BeginsBefore};
+    ghost use Rattle.noise_handshake.specs.inner.Listening.{BeginsBefore, StopsBefore};
     ghost use Rattle.noise_names.specs.Tokens.{is_psk};
     ghost use Rattle.noise_handshake.specs.HandshakeValue.{is_turn, read_fault, after_read_fault, write_fault, after_write_fault, message_len_of, IsRefusal};
     ghost use Rattle.noise_handshake.specs.HandshakeValue.{IsAgreement, Advances, IsOfDue, after_unread, ended_as};
@@ -617,9 +618,8 @@ impl<K: Keys> Handshake<K> {
         requires due { read_fault self.now ≡ None }
         requires within { k ≤ length (tokens_at self.now.pattern.messages self.now.passed) }
         ensures { (v : Party) → Matches K.public_of K.agreement self.now v → MatchResult result
-            (λ s. BeginsBefore (reader v) v.remote v.psks v.history (tokens_now v) message.now k s)
-            (λ stop. (stop.token < k) × Refuses v message.now stop.token stop.cause
-            × ReadingWants v message.now stop.want) }
+            (BeginsBefore (reader v) v.remote v.psks v.history (tokens_now v) message.now k)
+            (StopsBefore v message.now k) }
     {
         let psks = &self.psks[self.used..];
         read_before(

@@ -15,14 +15,14 @@ use noise_names::{Role, ValidPattern};
 use std::marker::Model;
 
 /// One party of a handshake as `Handshake` is, which may start with fewer psks than the pattern has psk tokens
-/// (Noise, 9): reading and writing ask for the others when their tokens come, and `put_secret` hands them in. So a
+/// (Noise, 9): reading and writing ask for the others when their tokens come, and `put_psk` hands them in. So a
 /// responder can choose the psk when it knows the other party.
 ///
 /// It runs as a handshake that had all psks from the start: what its calls do holds for each party whose psks
 /// begin with those that were handed in. No message is read or written whose psk tokens lack a psk.
 #[derive(Drop)]
 pub struct LateHandshake<K: Keys> {
-    // It has zeros in place of the psks that lack, the last ones. No call mixes them.
+    // It has zeros in place of the missing psks, the last ones. No call mixes them.
     filled: Handshake<K>,
     lacking: usize,
 }
@@ -265,7 +265,6 @@ impl<K: Keys> LateHandshake<K> {
                     }
                     Err(Unread::Declined(fault)) => return Err(LateUnread::Declined(fault)),
                 };
-                let _ = self.filled.left();
                 Ok(place)
             }
             Some(k) => match self.filled.read_before(k, message) {
@@ -381,12 +380,10 @@ impl<K: Keys> LateHandshake<K> {
         if let Some(want) = self.wants_to_write() {
             return Err(LateUnwritten::Wants(want));
         }
-        let _ = self.filled.left();
         let len = match self.filled.write(payload, out) {
             Ok(len) => len,
             Err(fault) => return Err(LateUnwritten::Withheld(fault)),
         };
-        let _ = self.filled.left();
         Ok(len)
     }
 

@@ -10,7 +10,7 @@ ghost use Rattle.noise_handshake.specs.Length.{keyed_after, keyed_after_tokens, 
 ghost use Rattle.noise_handshake.specs.inner.Layout.{placed_from, tokens_of, IsLaid, LaysNext};
 ghost use Rattle.noise_handshake.specs.inner.Late.{IsPskAfter};
 
-use crate::setup::psk_count;
+use crate::tokens::psk_count;
 use arrayvec::ArrayVec;
 use noise_names::{Pattern, Token};
 

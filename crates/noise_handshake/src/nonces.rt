@@ -2,7 +2,6 @@
 #![tactic(auto)]
 
 ghost use Rattle.std.specs.Prelude.{◌≡◌, ◌≤◌, ◌<◌, ◌+◌, ◌-◌, ◌*◌, ◌^◌, length};
-ghost use Rattle.noise_names.specs.Plan.{has_psk};
 ghost use Rattle.noise_names.specs.Overhead.{has_key};
 ghost use Rattle.noise_state.specs.Cipher.{next_nonce};
 ghost use Rattle.noise_handshake.specs.Length.{keyed_after_tokens};
@@ -10,10 +9,8 @@ ghost use Rattle.noise_handshake.specs.Nonces.{nonce_after, nonce_after_tokens, 
 ghost use Rattle.noise_handshake.specs.Passed.{passed_places};
 ghost use Rattle.noise_handshake.specs.inner.Keyed.{keyed_after_messages};
 
-use crate::Own;
 use crate::layout::keyed_after;
-use crate::setup::has_token;
-use noise_names::{Message, Pattern, Role, Token, ValidPattern};
+use noise_names::{Message, Pattern, Token, ValidPattern};
 
 // Whether there is a key, and its nonce.
 #[derive(Clone, Copy)]
@@ -78,16 +75,6 @@ fn after_messages(has_psks: bool, count: Count, messages: &[Message]) -> Count
     after_messages(has_psks, next, later)
 }
 
-// Whether there is a key after the pre-messages.
-fn keyed_first(pattern: &Pattern, has_psks: bool) -> bool
-    requires { has_psks ≡ has_psk pattern.now }
-    ensures { result ≡ has_key pattern.now (passed_places pattern.now 0) }
-{
-    let first = has_token(pattern.pre(Role::Initiator), Own::Ephemeral);
-    let second = has_token(pattern.pre(Role::Responder), Own::Ephemeral);
-    has_psks && (first || second)
-}
-
 // Whether there is a key in a handshake in which so many messages have passed, and its nonce.
 pub(crate) fn count_due(valid: &ValidPattern, passed: u8) -> Count
     requires { passed ≤ length valid.now.messages }
@@ -98,7 +85,7 @@ pub(crate) fn count_due(valid: &ValidPattern, passed: u8) -> Count
     let pattern: &Pattern = valid.pattern();
     let has_psks = !pattern.is_plain();
     let count = Count {
-        keyed: keyed_first(pattern, has_psks),
+        keyed: valid.has_key(0),
         nonce: 0,
     };
     after_messages(has_psks, count, &pattern.messages()[..passed as usize])

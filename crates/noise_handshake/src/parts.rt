@@ -10,11 +10,13 @@ ghost use Rattle.noise_handshake.specs.Nonces.{nonce_due};
 ghost use Rattle.noise_handshake.specs.Passed.{passed_places};
 ghost use Rattle.noise_handshake.specs.Setup.{lacks_own, psks_of};
 ghost use Rattle.noise_handshake.specs.Parts.{held_of, IsWhole};
+ghost use Rattle.noise_handshake.specs.inner.Parts.{HasDueState, HasShownKeys};
 
 use crate::nonces::count_due;
-use crate::setup::{lacks_own, psk_total, was_sent};
+use crate::own_keys::was_sent;
+use crate::setup::{lacks_own, psk_total};
 use crate::{Keys, Own, Remote};
-use noise_names::{Role, ValidPattern};
+use noise_names::{Role, Token, ValidPattern};
 use noise_state::StateParts;
 
 /// What messages change of a handshake, its psks aside.
@@ -55,27 +57,20 @@ impl<K: Keys> Parts<K> {
     // that has passed.
     fn has_remote(&self) -> bool
         requires { self.now.progress.passed ≤ length self.now.pattern.messages }
-        ensures { IsTrue result
-            ↔ ((is_some self.now.progress.remote.e ≡ is_among (other self.now.role) E
-            (passed_places self.now.pattern self.now.progress.passed))
-            × (is_some self.now.progress.remote.s ≡ is_among (other self.now.role) S
-            (passed_places self.now.pattern self.now.progress.passed))) }
+        ensures { IsTrue result ↔ HasShownKeys self.now }
     {
         let pattern = self.pattern.pattern();
         let passed = self.progress.passed as usize;
         let other = self.role.other();
-        self.progress.remote.e.is_some() == was_sent(pattern, passed, other, Own::Ephemeral)
-            && self.progress.remote.s.is_some() == was_sent(pattern, passed, other, Own::Static)
+        self.progress.remote.e.is_some() == was_sent(pattern, passed, other, Token::E)
+            && self.progress.remote.s.is_some() == was_sent(pattern, passed, other, Token::S)
     }
 
     // Whether there is a cipher key exactly where the pattern says so, and the nonce counts what was encrypted under
     // it.
     fn has_state(&self) -> bool
         requires { self.now.progress.passed ≤ length self.now.pattern.messages }
-        ensures whole { IsTrue result
-            ↔ ((is_some self.now.progress.state.key ≡ has_key self.now.pattern
-            (passed_places self.now.pattern self.now.progress.passed))
-            × (self.now.progress.state.nonce ≡ nonce_due self.now.pattern self.now.progress.passed)) }
+        ensures whole { IsTrue result ↔ HasDueState self.now }
         ensures bound { IsTrue result → self.now.progress.state.nonce ≤ 11 * self.now.progress.passed }
     {
         let due = count_due(&self.pattern, self.progress.passed);

@@ -7,11 +7,12 @@ ghost use Rattle.noise_state.specs.Cipher.{next_nonce};
 ghost use Rattle.noise_state.specs.Standing.{StateMatches, keyed, nonce_now};
 ghost use Rattle.noise_handshake.specs.Nonces.{nonce_after, nonce_after_message, nonce_after_tokens};
 ghost use Rattle.noise_state.specs.History.{History, nonce};
-ghost use Rattle.noise_handshake.specs.inner.Known.{is_known, are_known, e_after, s_after, e_after_tokens, s_after_tokens};
+ghost use Rattle.noise_handshake.specs.inner.Known.{are_known, e_after, s_after, e_after_tokens, s_after_tokens};
 ghost use Rattle.noise_handshake.specs.Length.{keyed_after, keyed_after_tokens, token_width};
 ghost use Rattle.noise_handshake.specs.Party.{Reader, remote_after, Reads};
 ghost use Rattle.noise_handshake.specs.Party.{psks_after};
-ghost use Rattle.noise_handshake.specs.Calls.{reader_of, IsPlaceIn, IsSameAround};
+ghost use Rattle.noise_handshake.specs.Calls.{IsPlaceIn, IsSameAround};
+ghost use Rattle.noise_handshake.specs.inner.Means.{reader_of};
 ghost use Rattle.noise_handshake.specs.inner.Listening.{ReaderWants, width_of_key};
 ghost use Rattle.noise_names.specs.declared.token.Token.{Token};
 ghost use Rattle.noise_handshake.specs.inner.Layout.{tokens_of, ArePlaced};
@@ -125,7 +126,6 @@ fn read_token<K: Keys>(
     requires psk { placed.token ≡ Token.Psk → 0 < length psks.now }
     requires width { placed.width ≡ token_width (keyed state.old) placed.token }
     requires nonces { nonce_now state.old < 2 ^ 64 - 1 }
-    requires known { IsTrue (is_known means.now.role (is_some known.old.e) (is_some known.old.s) placed.token) }
     ensures width { IfOk result (λ n. n ≡ token_width (keyed state.old) placed.token) }
     ensures range { IfOk result (λ n. n ≤ length message.now) }
     ensures key { OnOk result (keyed state.new ≡ keyed_after means.now.has_psks (keyed state.old) placed.token) }
@@ -136,8 +136,8 @@ fn read_token<K: Keys>(
         ≡ nonce_after means.now.has_psks (keyed state.old) (nonce_now state.old) placed.token) }
     ensures unchanged { OnErr result (known.new ≡ known.old) }
     ensures read { (r : History) → StateMatches state.old r
-        → let v : Reader = reader_of K.agreement means.now.role means.now.has_psks means.now.keys in
-        ReadsToken v r state.new known.old known.new psks.now placed.token message.now result }
+        → ReadsToken (reader_of K.agreement means.now) r state.new known.old known.new psks.now placed.token
+        message.now result }
 {
     match placed.token {
         Token::E => read_e(state, means.has_psks, known, message),
@@ -177,8 +177,6 @@ fn read_tokens<K: Keys>(
         × ArePlaced means.now.has_psks (keyed state.old) place placed.now }
     requires psks { count_by is_psk (tokens_of placed.now) ≤ length psks.now }
     requires nonces { nonce_now state.old + length (tokens_of placed.now) < 2 ^ 64 - 1 }
-    requires known { IsTrue (are_known means.now.role (is_some known.old.e) (is_some known.old.s)
-        (tokens_of placed.now)) }
     ensures within { IfOk result (λ n. n ≤ length message.now) }
     ensures range { (place : ℕ) → place ≤ length message.now
         → ArePlaced means.now.has_psks (keyed state.old) place placed.now
@@ -191,10 +189,9 @@ fn read_tokens<K: Keys>(
     ensures nonce { nonce_now state.new ≤ nonce_now state.old + length (tokens_of placed.now) }
     ensures counted { OnOk result (nonce_now state.new
         ≡ nonce_after_tokens means.now.has_psks (keyed state.old) (nonce_now state.old) (tokens_of placed.now)) }
-    ensures read { (r : History) (place : ℕ) → StateMatches state.old r → place ≤ length message.now
-        → ArePlaced means.now.has_psks (keyed state.old) place placed.now
-        → let v : Reader = reader_of K.agreement means.now.role means.now.has_psks means.now.keys in
-        ReadsTokens v r state.new known.old known.new psks.now (tokens_of placed.now) message.now place result }
+    ensures read { (r : History) (place : ℕ) → StateMatches state.old r → place ≤ length message.now →
+        ArePlaced means.now.has_psks (keyed state.old) place placed.now → ReadsTokens (reader_of K.agreement means.now)
+        r state.new known.old known.new psks.now (tokens_of placed.now) message.now place result }
 {
     let Some((first, later)) = placed.split_first() else {
         return Ok(0);
@@ -259,8 +256,7 @@ pub(crate) fn read_lacking<K: Keys>(
     requires known { IsTrue (are_known means.now.role (is_some known.now.e) (is_some known.now.s)
         (tokens_of placed.now)) }
     ensures { (r : History) → StateMatches state.now r
-        → let v : Reader = reader_of K.agreement means.now.role means.now.has_psks means.now.keys in
-        ReaderWants v known.now psks.now r (tokens_of placed.now) message.now result }
+        → ReaderWants (reader_of K.agreement means.now) known.now psks.now r (tokens_of placed.now) message.now result }
 {
     let mut trial = state.for_trial();
     let mut remote_after = *known;
@@ -271,7 +267,7 @@ pub(crate) fn read_lacking<K: Keys>(
 }
 
 // Reads the tokens before token k, and returns the other party's static key as it is known there; or where reading
-// stops before, and the DH that lacks its DH result there.
+// stops before, and which DH result it lacks there.
 pub(crate) fn read_before<K: Keys>(
     state: &SymmetricState,
     known: &Remote,
@@ -289,8 +285,8 @@ pub(crate) fn read_before<K: Keys>(
     requires within { k ≤ length placed.now }
     requires few { length placed.now ≤ 10 }
     ensures { (r : History) → StateMatches state.now r
-        → let v : Reader = reader_of K.agreement means.now.role means.now.has_psks means.now.keys in
-        ReadsBefore v r known.now psks.now (tokens_of placed.now) k message.now result }
+        → ReadsBefore (reader_of K.agreement means.now) r known.now psks.now (tokens_of placed.now) k
+        message.now result }
 {
     let mut trial = state.for_trial();
     let mut remote_after = *known;
@@ -324,8 +320,6 @@ pub(crate) fn read_message<K: Keys>(
     requires psks { count_by is_psk (tokens_of placed.now) ≤ length psks.now }
     requires fits { length message.old ≤ 65535 }
     requires nonces { nonce_now state.old + length (tokens_of placed.now) < 2 ^ 64 - 1 }
-    requires known { IsTrue (are_known means.now.role (is_some known.old.e) (is_some known.old.s)
-        (tokens_of placed.now)) }
     ensures range { IfOk result (IsPlaceIn message.new) }
     ensures beyond { IfOk result (IsSameAround message.old message.new) }
     ensures stop { IfErr result (λ stop. stop.0 ≤ length (tokens_of placed.now)) }
@@ -337,7 +331,7 @@ pub(crate) fn read_message<K: Keys>(
     ensures counted { OnOk result (nonce_now state.new
         ≡ nonce_after_message means.now.has_psks (keyed state.old) (nonce_now state.old) (tokens_of placed.now)) }
     ensures read { (r : History) → StateMatches state.old r
-        → let v : Reader = reader_of K.agreement means.now.role means.now.has_psks means.now.keys in ReadsMessage v r
+        → ReadsMessage (reader_of K.agreement means.now) r
         state.new known.old known.new psks.now (tokens_of placed.now) message.old message.new result }
     ensures unchanged { OnErr result (message.new ≡ message.old) }
 {

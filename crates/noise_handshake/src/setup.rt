@@ -1,11 +1,9 @@
 //! How a handshake starts, and what is wrong with a setup (Noise, 5.3 and 9.2).
 #![tactic(auto)]
 
-ghost use Rattle.std.specs.Prelude.{◌≡◌, ◌≤◌, ◌*◌, ◌||◌, ◌&&◌, true, not, ℕ, length, count_by, is_some, is_none, None};
+ghost use Rattle.std.specs.Prelude.{◌≡◌, ◌≤◌, ◌*◌, ◌||◌, ◌&&◌, true, not, length, is_some, is_none, None};
 ghost use Rattle.std.specs.List.{list_any};
-ghost use Rattle.noise_names.specs.Tokens.{is_psk, same_role, same_token};
-ghost use Rattle.noise_names.specs.Plan.{places_of, message_places};
-ghost use Rattle.noise_names.specs.Validity.{is_among};
+ghost use Rattle.noise_names.specs.Tokens.{same_role, same_token};
 ghost use Rattle.noise_names.specs.Overhead.{has_key};
 ghost use Rattle.noise_names.specs.declared.token.Token.TheVariants.{E, S};
 ghost use Rattle.noise_state.specs.Standing.{StateMatches, keyed, nonce_now};
@@ -15,91 +13,11 @@ ghost use Rattle.noise_handshake.specs.Setup.{token_of, psks_of, setup_fault, pu
 ghost use Rattle.noise_handshake.specs.inner.PreMessage.{HasPre};
 ghost use Rattle.noise_handshake.specs.Passed.{passed_places};
 
-use crate::tokens::mix_ephemeral;
+use crate::own_keys::{has_token, keys_of, sends, token_of};
+use crate::tokens::{mix_ephemeral, psk_count};
 use crate::{Keys, Own, Remote, SetupFault};
 use noise_names::{Message, Pattern, Role, Token};
 use noise_state::SymmetricState;
-
-// Whether a token sends such a key.
-fn sends(token: Token, own: Own) -> bool
-    ensures { result ≡ same_token token (token_of own) }
-{
-    match (token, own) {
-        (Token::E, Own::Ephemeral) => true,
-        (Token::S, Own::Static) => true,
-        _ => false,
-    }
-}
-
-// Whether one of the tokens does.
-pub(crate) fn has_token(tokens: &[Token], own: Own) -> bool
-    ensures { result ≡ list_any (λ t. same_token t (token_of own)) tokens.now }
-{
-    tokens.iter().any(|token| sends(*token, own))
-}
-
-fn is_same(party: Role, role: Role) -> bool
-    ensures { result ≡ same_role party role }
-{
-    match (party, role) {
-        (Role::Initiator, Role::Initiator) => true,
-        (Role::Responder, Role::Responder) => true,
-        _ => false,
-    }
-}
-
-// Whether the party is this role, and sends such a key by one of the tokens.
-fn sends_as(tokens: &[Token], party: Role, role: Role, own: Own) -> bool
-    ensures { result ≡ (same_role party role && list_any (λ t. same_token t (token_of own)) tokens.now) }
-{
-    is_same(party, role) && has_token(tokens, own)
-}
-
-// Whether a role sends such a key in one of these messages, the first of which the party writes.
-fn sends_in(messages: &[Message], party: Role, role: Role, own: Own) -> bool
-    ensures { (n : ℕ) → result ≡ is_among role (token_of own) (message_places party n messages.now) }
-{
-    let Some((message, later)) = messages.split_first() else {
-        return false;
-    };
-    if sends_as(message.tokens(), party, role, own) {
-        return true;
-    }
-    sends_in(later, party.other(), role, own)
-}
-
-// Whether a role sends such a key in its pre-message or a message.
-fn uses(pattern: &Pattern, role: Role, own: Own) -> bool
-    ensures { result ≡ is_among role (token_of own) (places_of pattern.now) }
-{
-    let before = has_token(pattern.pre(role), own);
-    if before {
-        return true;
-    }
-    sends_in(pattern.messages(), Role::Initiator, role, own)
-}
-
-// Whether a role has sent such a key in its pre-message or one of so many messages.
-pub(crate) fn was_sent(pattern: &Pattern, passed: usize, role: Role, own: Own) -> bool
-    requires { passed ≤ length pattern.now.messages }
-    ensures { result ≡ is_among role (token_of own) (passed_places pattern.now passed) }
-{
-    let before = has_token(pattern.pre(role), own);
-    if before {
-        return true;
-    }
-    sends_in(&pattern.messages()[..passed], Role::Initiator, role, own)
-}
-
-// How many psks the tokens take.
-pub(crate) fn psk_count(tokens: &[Token]) -> usize
-    ensures { result ≡ count_by is_psk tokens.now }
-{
-    tokens
-        .iter()
-        .filter(|token| matches!(**token, Token::Psk))
-        .count()
-}
 
 // How many psks the messages take.
 pub(crate) fn psk_total(messages: &[Message]) -> usize
@@ -117,7 +35,7 @@ pub(crate) fn psk_total(messages: &[Message]) -> usize
 pub(crate) fn lacks_own<K: Keys>(pattern: &Pattern, role: Role, keys: &K, own: Own) -> bool
     ensures { result ≡ lacks_own pattern.now role (token_of own) (K.public_of keys.now own) }
 {
-    uses(pattern, role, own) && keys.public(own).is_none()
+    sends(pattern, role, token_of(own)) && keys.public(own).is_none()
 }
 
 // Whether a key of this pre-message isn't there.
@@ -125,8 +43,8 @@ fn lacks_key(pre: &[Token], remote: &Remote) -> bool
     ensures { result ≡ ((list_any (λ t. same_token t E) pre.now && is_none remote.now.e)
         || (list_any (λ t. same_token t S) pre.now && is_none remote.now.s)) }
 {
-    (has_token(pre, Own::Ephemeral) && remote.e.is_none())
-        || (has_token(pre, Own::Static) && remote.s.is_none())
+    (has_token(pre, Token::E) && remote.e.is_none())
+        || (has_token(pre, Token::S) && remote.s.is_none())
 }
 
 // Whether a key is there that isn't in this pre-message.
@@ -134,8 +52,8 @@ fn has_other_key(pre: &[Token], remote: &Remote) -> bool
     ensures { result ≡ ((is_some remote.now.e && not (list_any (λ t. same_token t E) pre.now))
         || (is_some remote.now.s && not (list_any (λ t. same_token t S) pre.now))) }
 {
-    (remote.e.is_some() && !has_token(pre, Own::Ephemeral))
-        || (remote.s.is_some() && !has_token(pre, Own::Static))
+    (remote.e.is_some() && !has_token(pre, Token::E))
+        || (remote.s.is_some() && !has_token(pre, Token::S))
 }
 
 // What is wrong with a setup.
@@ -171,16 +89,6 @@ pub(crate) fn setup_fault<K: Keys>(
     }
 }
 
-// The public keys of a party's own.
-pub(crate) fn public_keys<K: Keys>(keys: &K) -> Remote
-    ensures { result ≡ public_keys (K.public_of keys.now) }
-{
-    Remote {
-        e: keys.public(Own::Ephemeral),
-        s: keys.public(Own::Static),
-    }
-}
-
 // Mixes the keys of a pre-message.
 pub(crate) fn mix_premessage(
     state: &mut SymmetricState,
@@ -206,13 +114,6 @@ pub(crate) fn mix_premessage(
         _ => {}
     }
     mix_premessage(state, has_psks, keys, later)
-}
-
-// The public keys of a party, for a role with these keys of its own and these of the other party.
-fn keys_of(party: Role, role: Role, own: &Remote, remote: &Remote) -> Remote
-    ensures { result ≡ keys_of party role own.now remote.now }
-{
-    if is_same(party, role) { *own } else { *remote }
 }
 
 // Mixes the prologue, an empty one too.

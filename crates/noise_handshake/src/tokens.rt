@@ -1,12 +1,12 @@
 //! What a token asks of a party, whether it writes or reads it (Noise, 5.3 and 9.2).
 #![tactic(auto)]
 
-ghost use Rattle.std.specs.Prelude.{◌≡◌, ◌<◌, ◌≤◌, length, is_some, Some, None, IsTrue, MatchOption};
+ghost use Rattle.std.specs.Prelude.{◌≡◌, ◌<◌, ◌≤◌, length, count_by, Some, None, MatchOption};
 ghost use Rattle.noise_names.specs.declared.token.Token.{Token};
+ghost use Rattle.noise_names.specs.Tokens.{is_psk};
 ghost use Rattle.noise_state.specs.Standing.{StateMatches, keyed, nonce_now};
 ghost use Rattle.noise_handshake.specs.Nonces.{nonce_after};
 ghost use Rattle.noise_state.specs.History.{History};
-ghost use Rattle.noise_handshake.specs.inner.Known.{remote_known};
 ghost use Rattle.noise_handshake.specs.Length.{keyed_after};
 ghost use Rattle.noise_handshake.specs.Message.{with_ephemeral};
 ghost use Rattle.noise_handshake.specs.Party.{dh_result_of, own_at, remote_at, psks_after};
@@ -23,8 +23,8 @@ pub(crate) struct Means<K> {
     pub(crate) has_psks: bool,
 }
 
-// Which own key a DH token takes.
-fn own_at(role: Role, token: Token) -> Own
+/// Which own key a DH token takes (the table of Noise, 5.3).
+pub fn own_at(role: Role, token: Token) -> Own
     ensures { result ≡ own_at role token }
 {
     match (role, token) {
@@ -54,25 +54,18 @@ pub(crate) fn asked_at(role: Role, known: &Remote, token: Token) -> Option<(Own,
     Some((own_at(role, token), key))
 }
 
-// The DH result at a DH token.
-pub(crate) fn dh_result_at<K: Keys>(
-    keys: &K,
-    role: Role,
-    known: &Remote,
-    token: Token,
-) -> Option<[u8; 32]>
-    requires { IsTrue (remote_known role (is_some known.now.e) (is_some known.now.s) token) }
+/// The DH result at a DH token, where there is one.
+pub fn dh_result_at<K: Keys>(keys: &K, role: Role, known: &Remote, token: Token) -> Option<[u8; 32]>
     ensures { result ≡ dh_result_of (K.agreement keys.now) (own_at role token) (remote_at role known.now token) }
 {
-    let own = own_at(role, token);
     match remote_at(role, known, token) {
-        Some(key) => keys.agree(own, &key),
-        None => unreachable!(),
+        Some(key) => keys.agree(own_at(role, token), &key),
+        None => None,
     }
 }
 
-// Mixes an ephemeral public key; in a psk pattern it is a key input too.
-pub(crate) fn mix_ephemeral(state: &mut SymmetricState, has_psks: bool, key: &[u8; 32])
+/// Mixes an ephemeral public key; in a psk pattern it is a key input too (Noise, 9.2).
+pub fn mix_ephemeral(state: &mut SymmetricState, has_psks: bool, key: &[u8; 32])
     ensures mixed { (r : History) → StateMatches state.old r
         → StateMatches state.new (with_ephemeral has_psks r key.now) }
     ensures keyed { keyed state.new ≡ keyed_after has_psks (keyed state.old) Token.E }
@@ -85,8 +78,8 @@ pub(crate) fn mix_ephemeral(state: &mut SymmetricState, has_psks: bool, key: &[u
     }
 }
 
-// The psks still to come after a token.
-pub(crate) fn psks_after(psks: &[[u8; 32]], token: Token) -> &[[u8; 32]]
+/// The psks still to come after a token.
+pub fn psks_after(psks: &[[u8; 32]], token: Token) -> &[[u8; 32]]
     requires { token ≡ Token.Psk → 0 < length psks.now }
     ensures { result.now ≡ psks_after psks.now token }
 {
@@ -94,4 +87,14 @@ pub(crate) fn psks_after(psks: &[[u8; 32]], token: Token) -> &[[u8; 32]]
         Token::Psk => &psks[1..],
         _ => psks,
     }
+}
+
+/// How many psks the tokens take.
+pub fn psk_count(tokens: &[Token]) -> usize
+    ensures { result ≡ count_by is_psk tokens.now }
+{
+    tokens
+        .iter()
+        .filter(|token| matches!(**token, Token::Psk))
+        .count()
 }

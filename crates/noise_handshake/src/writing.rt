@@ -12,7 +12,7 @@ ghost use Rattle.noise_handshake.specs.Message.{with_ephemeral};
 ghost use Rattle.noise_handshake.specs.inner.Known.{is_known, remote_known};
 ghost use Rattle.noise_handshake.specs.Length.{keyed_after, keyed_after_tokens, tag_width, token_width, tokens_width, added_width};
 ghost use Rattle.noise_handshake.specs.Writing.{Writer};
-ghost use Rattle.noise_handshake.specs.Calls.{writer_of};
+ghost use Rattle.noise_handshake.specs.inner.Means.{writer_of};
 ghost use Rattle.noise_handshake.specs.inner.Speaking.{has_own, WriterWants};
 ghost use Rattle.noise_handshake.specs.inner.Writing.{GivesOrNone, WritesMessage, WritesToken, WritesTokens};
 ghost use Rattle.noise_names.specs.declared.token.Token.{Token};
@@ -91,7 +91,6 @@ fn write_token<K: Keys>(
 ) -> Option<usize>
     requires psk { token ≡ Token.Psk → 0 < length psks.now }
     requires own { IsTrue (has_own (K.public_of means.now.keys) token) }
-    requires known { IsTrue (is_known means.now.role (is_some known.now.e) (is_some known.now.s) token) }
     requires room { token_width (keyed state.old) token ≤ length out.old }
     requires nonces { nonce_now state.old < 2 ^ 64 - 1 }
     ensures width { IfSome result (λ n. n ≡ token_width (keyed state.old) token) }
@@ -101,8 +100,8 @@ fn write_token<K: Keys>(
     ensures counted { IfSome result
         (λ _. nonce_now state.new ≡ nonce_after means.now.has_psks (keyed state.old) (nonce_now state.old) token) }
     ensures written { (r : History) → StateMatches state.old r
-        → let w : Writer = writer_of K.public_of K.agreement means.now.role means.now.has_psks means.now.keys in
-        WritesToken w r state.new known.now psks.now token out.new result }
+        → WritesToken (writer_of K.public_of K.agreement means.now) r state.new known.now psks.now token
+        out.new result }
 {
     match token {
         Token::E => match means.keys.public(Own::Ephemeral) {
@@ -136,8 +135,6 @@ fn write_tokens<K: Keys>(
 ) -> Result<usize, usize>
     requires psks { count_by is_psk (tokens_of placed.now) ≤ length psks.now }
     requires own { IsTrue (list_all (has_own (K.public_of means.now.keys)) (tokens_of placed.now)) }
-    requires known { IsTrue (list_all (is_known means.now.role (is_some known.now.e) (is_some known.now.s))
-        (tokens_of placed.now)) }
     requires room { tokens_width means.now.has_psks (keyed state.old) (tokens_of placed.now) ≤ length out.old }
     requires nonces { nonce_now state.old + length (tokens_of placed.now) < 2 ^ 64 - 1 }
     ensures width { MatchResult result (λ n. n ≡ tokens_width means.now.has_psks (keyed state.old)
@@ -151,8 +148,8 @@ fn write_tokens<K: Keys>(
         (λ _. nonce_now state.new ≡ nonce_after_tokens means.now.has_psks (keyed state.old) (nonce_now state.old)
         (tokens_of placed.now)) }
     ensures written { (r : History) → StateMatches state.old r
-        → let w : Writer = writer_of K.public_of K.agreement means.now.role means.now.has_psks means.now.keys in
-        WritesTokens w r state.new known.now psks.now (tokens_of placed.now) out.new result }
+        → WritesTokens (writer_of K.public_of K.agreement means.now) r state.new known.now psks.now
+        (tokens_of placed.now) out.new result }
 {
     let Some((first, later)) = placed.split_first() else {
         return Ok(0);
@@ -177,9 +174,7 @@ fn text_at<K: Keys>(
     requires psk { token ≡ Token.Psk → 0 < length psks.now }
     requires own { IsTrue (has_own (K.public_of means.now.keys) token) }
     requires known { IsTrue (is_known means.now.role (is_some known.now.e) (is_some known.now.s) token) }
-    ensures text { let w : Writer =
-        writer_of K.public_of K.agreement means.now.role means.now.has_psks means.now.keys in
-        GivesOrNone w known.now psks.now token result }
+    ensures text { GivesOrNone (writer_of K.public_of K.agreement means.now) known.now psks.now token result }
     ensures dh { result ≡ None
         → IsTrue (remote_known means.now.role (is_some known.now.e) (is_some known.now.s) token) }
 {
@@ -202,8 +197,8 @@ pub(crate) fn write_lacking<K: Keys>(
     requires own { IsTrue (list_all (has_own (K.public_of means.now.keys)) (tokens_of placed.now)) }
     requires known { IsTrue (list_all (is_known means.now.role (is_some known.now.e) (is_some known.now.s))
         (tokens_of placed.now)) }
-    ensures { let w : Writer = writer_of K.public_of K.agreement means.now.role means.now.has_psks means.now.keys in
-        WriterWants w known.now psks.now (tokens_of placed.now) result }
+    ensures { WriterWants (writer_of K.public_of K.agreement means.now) known.now psks.now (tokens_of placed.now)
+        result }
 {
     let (first, later) = placed.split_first()?;
     match text_at(known, means, psks, first.token) {
@@ -228,14 +223,14 @@ pub(crate) fn write_lacking_before<K: Keys>(
     requires known { IsTrue (list_all (is_known means.now.role (is_some known.now.e) (is_some known.now.s))
         (tokens_of placed.now)) }
     requires within { k ≤ length placed.now }
-    ensures { let w : Writer = writer_of K.public_of K.agreement means.now.role means.now.has_psks means.now.keys in
-        WriterWants w known.now psks.now (take k (tokens_of placed.now)) result }
+    ensures { WriterWants (writer_of K.public_of K.agreement means.now) known.now psks.now
+        (take k (tokens_of placed.now)) result }
 {
     write_lacking(known, means, psks, &placed[..k])
 }
 
-// Writes a message to the front of a buffer, and returns how long it is, or which token is the first DH without an
-// DH result. What the buffer and the state hold is open in that case.
+// Writes a message to the front of a buffer, and returns how long it is, or which token is the first DH without a
+// result. What the buffer and the state hold is open in that case.
 pub(crate) fn write_message<K: Keys>(
     state: &mut SymmetricState,
     known: &Remote,
@@ -247,8 +242,6 @@ pub(crate) fn write_message<K: Keys>(
 ) -> Result<usize, usize>
     requires psks { count_by is_psk (tokens_of placed.now) ≤ length psks.now }
     requires own { IsTrue (list_all (has_own (K.public_of means.now.keys)) (tokens_of placed.now)) }
-    requires known { IsTrue (list_all (is_known means.now.role (is_some known.now.e) (is_some known.now.s))
-        (tokens_of placed.now)) }
     requires room { added_width means.now.has_psks (keyed state.old) (tokens_of placed.now) + length payload.now
         ≤ length out.old }
     requires most { added_width means.now.has_psks (keyed state.old)
@@ -265,8 +258,8 @@ pub(crate) fn write_message<K: Keys>(
         (λ _. nonce_now state.new ≡ nonce_after_message means.now.has_psks (keyed state.old) (nonce_now state.old)
         (tokens_of placed.now)) }
     ensures written { (r : History) → StateMatches state.old r
-        → let w : Writer = writer_of K.public_of K.agreement means.now.role means.now.has_psks means.now.keys in
-        WritesMessage w r state.new known.now psks.now (tokens_of placed.now) payload.now out.new result }
+        → WritesMessage (writer_of K.public_of K.agreement means.now) r state.new known.now psks.now
+        (tokens_of placed.now) payload.now out.new result }
 {
     let from = match write_tokens(state, known, means, psks, placed, out) {
         Ok(from) => from,

@@ -156,7 +156,7 @@ pub line-more : (places lines rest bytes after : List ℕ) (number : ℕ) (j nex
     → rest ≡ line bytes ++ after → IsNextOf places (has_dots lines) r.passed bytes next → AreRight places lines after (number + 1) next
 line-more places lines rest bytes after number j next r is whole n = record {
   passed = n.passed;
-  stands = n.stands;
+  matches = n.matches;
   are = n.are_right;
   lines_are = r.lines_are ∙ ap (λ (y : List ℕ). passed_lines r.passed ++ y) whole ∙ sym (append_assoc (passed_lines r.passed) (line bytes) after)
       ∙ ap (λ (y : List ℕ). y ++ after) (sym n.lines);
@@ -181,7 +181,7 @@ behind places lines number j r = at r.passed.ahead refl where
 no-message : (s : Section) (lines : List ℕ) (number : ℕ) (j : Judged) → IsSection s → (r : AreRight s.places lines [] number j)
     → IsExtended s.places (has_dots lines) r.passed → j.messages ≡ 0 → IsTextFaultAt (text_with s lines) number kinds.Ending
 no-message s lines number j h r x none =
-    let empty : r.passed.messages ≡ [] = nil_from_length r.passed.messages (sym r.stands.messages ∙ none) in
+    let empty : r.passed.messages ≡ [] = nil_from_length r.passed.messages (sym r.matches.messages ∙ none) in
     inr (record {
       front = passed_lines r.passed;
       left = [];
@@ -211,17 +211,17 @@ place-beyond s lines number j h r x some beyond = inr (
     body = passed_lines r.passed;
     it = begins-right s lines [] number j h r x;
     messages = r.passed.messages;
-    some = some-messages j r.passed r.stands some;
+    some = some-messages j r.passed r.matches some;
     are = at-message s.places (has_dots lines) r.passed x (behind s.places lines number j r);
-    beyond = within-count j r.passed s.places false r.stands beyond;
+    beyond = within-count j r.passed s.places false r.matches beyond;
   },
 )
 
 name-taken : (s : Section) (lines : List ℕ) (number : ℕ) (j : Judged) → IsSection s → (r : AreRight s.places lines [] number j)
     → j.messages ≢ 0 → list_all (λ n. leb n j.messages) s.places ≡ true → IsTextFaultAt (text_with s lines) 1 kinds.NameTaken
 name-taken s lines number j h r some within =
-    let w = whole s.places (has_dots lines) r.passed h.places r.are (behind s.places lines number j r) (some-messages j r.passed r.stands some)
-    (within-count j r.passed s.places true r.stands within) in
+    let w = whole s.places (has_dots lines) r.passed h.places r.are (behind s.places lines number j r) (some-messages j r.passed r.matches some)
+    (within-count j r.passed s.places true r.matches within) in
     let body : lines ≡ body_of w.p = r.lines_are ∙ append-nil (passed_lines r.passed) ∙ sym w.body_is in
     let heading : line (section_bytes s.base s.places ++ codes ":") ≡ line (section_bytes s.base w.p.places ++ codes ":") =
     ap (λ (ns : List ℕ). line (section_bytes s.base ns ++ codes ":")) (sym w.places_are) in (
@@ -286,7 +286,7 @@ right-start places lines j e =
         → AreRight places lines lines 2 (record { dots_ahead = b; initiator = false; responder = false; messages = 0 })
     at b d = record {
       passed = record { ahead = b; initiator = []; responder = []; messages = [] };
-      stands = record { ahead = refl; initiator = refl; responder = refl; messages = refl };
+      matches = record { ahead = refl; initiator = refl; responder = refl; messages = refl };
       are = record {
         initiator = refl;
         responder = refl;

@@ -90,7 +90,7 @@ next-dots places s dotted j ahead begun st p =
     ] in
     record {
       passed = record { ahead = false; initiator = s.initiator; responder = s.responder; messages = s.messages };
-      stands = record { ahead = refl; initiator = st.initiator; responder = st.responder; messages = st.messages };
+      matches = record { ahead = refl; initiator = st.initiator; responder = st.responder; messages = st.messages };
       are_right = record {
         initiator = p.initiator;
         responder = p.responder;
@@ -118,7 +118,7 @@ next-first places s dotted tokens j ahead no_first no_second some pre st p =
     ∙ ap (λ (ts : List Token). pre_line Initiator ts ++ pre_line Responder s.responder) first ∙ ap (pre_line Responder) second in
     record {
       passed = next;
-      stands = record { ahead = st.ahead; initiator = sym (is-some tokens some); responder = st.responder; messages = st.messages };
+      matches = record { ahead = st.ahead; initiator = sym (is-some tokens some); responder = st.responder; messages = st.messages };
       are_right = record {
         initiator = pre;
         responder = p.responder;
@@ -145,7 +145,7 @@ next-second places s dotted tokens j ahead no_second some pre st p =
     ∙ ap (λ (ts : List Token). pre_line Initiator s.initiator ++ pre_line Responder ts) second ∙ append-nil (pre_line Initiator s.initiator) in
     record {
       passed = next;
-      stands = record { ahead = st.ahead; initiator = st.initiator; responder = sym (is-some tokens some); messages = st.messages };
+      matches = record { ahead = st.ahead; initiator = st.initiator; responder = sym (is-some tokens some); messages = st.messages };
       are_right = record {
         initiator = p.initiator;
         responder = pre;
@@ -174,7 +174,7 @@ next-message places s dotted tokens role j ahead turn less some few psks st p =
     let number : j.messages + 1 ≡ 1 + length s.messages = omega arith in
     record {
       passed = next;
-      stands = record { ahead = st.ahead; initiator = st.initiator; responder = st.responder; messages = omega arith };
+      matches = record { ahead = st.ahead; initiator = st.initiator; responder = st.responder; messages = omega arith };
       are_right = record {
         initiator = p.initiator;
         responder = p.responder;
@@ -232,7 +232,7 @@ judged-line places dotted s r a b e h =
 -- ---- the lines after the heading, of which some were judged right
 pub record AreRight (places lines rest : List ℕ) (number : ℕ) (j : Judged) : Type 0 where
   pub passed : Passed
-  pub stands : Matches j passed
+  pub matches : Matches j passed
   pub are : IsPassed places (has_dots lines) passed
   pub lines_are : lines ≡ passed_lines passed ++ rest
   pub counted : number ≡ line_feeds (passed_lines passed) + 2

@@ -1,5 +1,5 @@
--- What the check keeps of the places that it passed, and what that reports of the next one. No public contract cites
--- this file.
+-- What the check records of the places that it has passed, and which rules the next place breaks by that. No public
+-- contract cites this file.
 use Rattle.std.specs.Prelude.{◌≡◌, ℕ, ◌+◌, if◌then◌else◌, Bool, not, ◌&&◌, ◌||◌, List, [], ◌∷◌, ◌++◌, Option, Some, None, Result, MatchResult}
 use Rattle.noise_names.specs.declared.token.Role.{Role}
 use Rattle.noise_names.specs.declared.token.Role.TheVariants.{Initiator, Responder}
@@ -10,7 +10,7 @@ use Rattle.noise_names.specs.Tokens.{same_role}
 use Rattle.noise_names.specs.Plan.{Place, Step, does, payload, transport}
 use Rattle.noise_names.specs.Validity.{is_among, occurs, is_at, unless_satisfied, comes_with, first_fault_from}
 
--- what is kept of the places that were passed
+-- what is recorded of the places that were passed
 unfoldable pub seen_of : List Place → Seen
 seen_of places = record {
   initiator_e = is_among Initiator E places;
@@ -24,7 +24,7 @@ seen_of places = record {
   psk = occurs Psk places;
 }
 
--- what is kept with one place more
+-- the same with one place more
 abbrev pub with_place : Seen → Place → Seen
 with_place seen p = record {
   initiator_e = (is_at E p.step && same_role p.party Initiator) || seen.initiator_e;
@@ -38,7 +38,7 @@ with_place seen p = record {
   psk = is_at Psk p.step || seen.psk;
 }
 
--- the rules that a step breaks, from what is kept of the earlier places
+-- whether the party has sent its ephemeral key, and its static one
 abbrev pub e_of : Seen → Role → Bool
 e_of seen Initiator = seen.initiator_e
 e_of seen Responder = seen.responder_e
@@ -47,6 +47,7 @@ abbrev pub s_of : Seen → Role → Bool
 s_of seen Initiator = seen.initiator_s
 s_of seen Responder = seen.responder_s
 
+-- the rules that a place breaks, by the record of the earlier places
 abbrev pub dh_rules : Bool → Bool → Bool → List ℕ
 dh_rules first second done = unless_satisfied 1 (first && second) ++ unless_satisfied 3 (not done)
 
@@ -74,8 +75,8 @@ abbrev pub lowest_of : List ℕ → Option ℕ
 lowest_of [] = None
 lowest_of (rule ∷ _) = Some rule
 
--- From what was kept of the earlier places, these were passed, and what is kept is now that of the earlier places and
--- these; or the first fault is among them.
+-- From the record of the earlier places: these were passed, and the record is now that of the earlier places and these;
+-- or the first fault is among them.
 abbrev pub Walks : Seen → Seen → List Place → Result (Unit {0}) RuleFault → Type 0
 Walks old new places result =
     (earlier later : List Place) → old ≡ seen_of earlier →
@@ -84,12 +85,12 @@ Walks old new places result =
     × (first_fault_from earlier (places ++ later) ≡ first_fault_from (earlier ++ places) later))
     (λ fault. first_fault_from earlier (places ++ later) ≡ Some fault)
 
--- whether there is a key, from what is kept of the earlier places and whether the pattern has a psk token
+-- whether there is a key, by the record of the earlier places and whether the pattern has a psk token
 abbrev pub key_by : Seen → Bool → Bool
 key_by seen psk =
     seen.ee || seen.es || seen.se || seen.ss || seen.psk || (psk && (seen.initiator_e || seen.responder_e))
 
--- what a place adds to its message, from what is kept of the earlier places
+-- what a place adds to its message, by the record of the earlier places
 abbrev pub tag_by : Seen → Bool → ℕ
 tag_by seen psk = if key_by seen psk then 16 else 0
 

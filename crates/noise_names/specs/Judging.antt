@@ -15,7 +15,7 @@ use Rattle.noise_names.specs.Text.{line, message_lines, pre_line, pre_lines, wor
 use Rattle.noise_names.specs.Tokens.{own_tokens, turn_from}
 use Rattle.noise_names.specs.WrongText.{IsTokens, arrow_then, dots, is_within}
 
--- the tokens of a list, as many as are kept of them
+-- the tokens of a list, as many as are recorded
 pub record HasTokens (w : Words) (tokens : List Token) : Type 0 where
   pub some : tokens ≢ []
   pub first : w.first.items ≡ take 11 tokens
@@ -91,7 +91,7 @@ pub record Matches (j : Judged) (s : Passed) : Type 0 where
 -- one more right line
 pub record IsNextOf (places : List ℕ) (dotted : Bool) (s : Passed) (bytes : List ℕ) (j : Judged) : Type 0 where
   pub passed : Passed
-  pub stands : Matches j passed
+  pub matches : Matches j passed
   pub are_right : IsPassed places dotted passed
   pub lines : passed_lines passed ≡ passed_lines s ++ line bytes
 

@@ -1,4 +1,4 @@
--- What a pattern keeps to (Noise, 7.1 to 7.3, and 9.4 for psk tokens; the numbers are this library's), and where its
+-- The limits of a pattern (Noise, 7.1 to 7.3, and 9.4 for psk tokens; the numbers are this library's), and where its
 -- psk tokens stand.
 use Rattle.std.specs.Prelude.{◌≡◌, ℕ, ◌+◌, ◌==◌, Bool, true, false, ◌&&◌, nat_le, nat_lt, Option, find, List, [], ◌∷◌, ◌++◌, length, IsTrue, if◌then◌else◌}
 use Rattle.std.specs.Prelude.{MatchOption, ⊤}

@@ -21,7 +21,7 @@ pub other-same_role : (role : Role) → same_role role (other role) ≡ false
 other-same_role Initiator = refl
 other-same_role Responder = refl
 
--- what the test reports of two roles
+-- what the test says of two roles
 pub same_role-true : (a b : Role) → same_role a b ≡ true → a ≡ b
 same_role-true Initiator Initiator e = refl
 same_role-true Initiator Responder e = absurd (cc)

@@ -71,7 +71,7 @@ encrypts _ = false
 
 -- rule n, if it is broken
 abbrev pub unless_satisfied : ℕ → Bool → List ℕ
-unless_satisfied n kept = if kept then [] else n ∷ []
+unless_satisfied n satisfied = if satisfied then [] else n ∷ []
 
 -- the rules that a place breaks after the earlier ones, the lowest first
 abbrev pub broken_rules : List Place → Place → List ℕ

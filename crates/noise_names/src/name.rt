@@ -52,11 +52,6 @@ impl ProtocolName {
         read_name(bytes)
     }
 
-    /// A protocol name has at most 82 bytes. It does nothing: its contract is the law.
-    pub fn names_are_short()
-        ensures { (bytes : List ℕ) (name : Section) → Names bytes name → length bytes ≤ 82 }
-    {}
-
     // The name of a base and its psk places.
     pub(crate) fn of(base: &[u8], places: PskPlaces) -> ProtocolName
         requires { IsTrue (is_base base.now) }

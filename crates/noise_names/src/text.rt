@@ -39,19 +39,4 @@ impl Pattern {
     {
         out.extend_from_slice(&write::text(self))
     }
-
-    /// No text spells two patterns. It does nothing: its contract is the law.
-    pub fn texts_are_unique()
-        ensures { (text : List ℕ) (p q : Plan) → Spells text p → Spells text q → p ≡ q }
-    {}
-
-    /// A text has one fault at most. It does nothing: its contract is the law.
-    pub fn text_faults_are_unique()
-        ensures { (text : List ℕ) (f g : TextFault) → IsTextFault text f → IsTextFault text g → f ≡ g }
-    {}
-
-    /// A pattern text has at most 413 bytes. It does nothing: its contract is the law.
-    pub fn texts_are_short()
-        ensures { (text : List ℕ) (p : Plan) → Spells text p → length text ≤ 413 }
-    {}
 }

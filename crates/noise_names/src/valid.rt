@@ -29,7 +29,9 @@ impl Model for ValidPattern {
 impl ValidPattern {
     ghost use Rattle.noise_names.specs.Plan.{is_one_way, first_places};
     ghost use Rattle.noise_names.specs.Overhead.{has_key, overhead_of};
-    ghost use Rattle.noise_names.specs.Validity.{IsValid, TokensKeepRules};
+    ghost use Rattle.noise_names.specs.Validity.{IsValid};
+    ghost use Rattle.noise_names.specs.Checking.{seen_of};
+    ghost use Rattle.noise_names.specs.Tokens.{turn_from};
     ghost use Rattle.noise_names.specs.Limits.{Placed};
     ghost use Rattle.noise_names.specs.Fundamental.{fundamental_of};
 
@@ -58,19 +60,24 @@ impl ValidPattern {
         &self.pattern
     }
 
-    /// That each token of a valid pattern's messages keeps the five rules after the places before it. It does nothing:
-    /// its contract is the law.
-    pub fn keeps_rules(&self)
-        ensures { TokensKeepRules self.now }
-    {
-        let _ = &self.pattern;
-    }
-
     /// Whether it is one-way (Noise, 7.4): one message alone.
     pub fn one_way(&self) -> bool
         ensures { result ≡ is_one_way self.now }
     {
         self.pattern.messages().len() == 1
+    }
+
+    // What comes before the message after so many, and whose turn it is then.
+    fn seen_after(&self, passed: usize) -> (Seen, Role)
+        requires { passed ≤ length self.now.messages }
+        ensures seen { result.0 ≡ seen_of (first_places self.now passed) }
+        ensures turn { result.1 ≡ turn_from Role.Initiator passed }
+    {
+        let mut seen = Seen::new();
+        seen.add_tokens(Role::Initiator, self.pattern.pre(Role::Initiator));
+        seen.add_tokens(Role::Responder, self.pattern.pre(Role::Responder));
+        let party = seen.add_messages(&self.pattern.messages()[..passed]);
+        (seen, party)
     }
 
     /// How many bytes longer a message is than its payload (Noise, 5.3 and 9.2). Messages count from 1.
@@ -80,12 +87,13 @@ impl ValidPattern {
         ensures { result ≡ overhead_of self.now message }
     {
         let index = usize::from(message) - 1;
-        let messages = self.pattern.messages();
-        let mut seen = Seen::new();
-        seen.add_tokens(Role::Initiator, self.pattern.pre(Role::Initiator));
-        seen.add_tokens(Role::Responder, self.pattern.pre(Role::Responder));
-        let party = seen.add_messages(&messages[..index]);
-        seen.overhead(self.pattern.has_psk(), party, &messages[index])
+        let (seen, party) = self.seen_after(index);
+        let mut seen = seen;
+        seen.overhead(
+            self.pattern.has_psk(),
+            party,
+            &self.pattern.messages()[index],
+        )
     }
 
     /// Whether there is a cipher key after the pre-messages and so many messages (Noise, 5.2 and 9.2).
@@ -93,11 +101,7 @@ impl ValidPattern {
         requires { passed ≤ length self.now.messages }
         ensures { result ≡ has_key self.now (first_places self.now passed) }
     {
-        let messages = self.pattern.messages();
-        let mut seen = Seen::new();
-        seen.add_tokens(Role::Initiator, self.pattern.pre(Role::Initiator));
-        seen.add_tokens(Role::Responder, self.pattern.pre(Role::Responder));
-        let _ = seen.add_messages(&messages[..usize::from(passed)]);
+        let (seen, _) = self.seen_after(usize::from(passed));
         seen.has_key(self.pattern.has_psk())
     }
 }

@@ -34,7 +34,9 @@ use Rattle.noise_vectors.specs.declared.file_keys.FileKeys.TheVariants.{Table}
 use Rattle.noise_vectors.specs.declared.vector.VectorFile.{VectorFile}
 use Rattle.noise_vectors.specs.declared.vector.Version.TheVariants.{One}
 use Rattle.noise_template.specs.Template.{IsTemplate, IsTemplateText, dh_byte, entries_for, entry, key_byte, key_in, keys_in, keys_text, name_of, occurs_in}
-use Rattle.noise_template.specs.Template.{own_in, own_token, placeholder, psk_key, psks_text, say_words, speakers, template_text, unless_known, writers}
+use Rattle.noise_handshake.specs.Party.{own_at}
+use Rattle.noise_handshake.specs.Setup.{token_of}
+use Rattle.noise_template.specs.Template.{placeholder, psk_key, psks_text, say_words, speakers, template_text, unless_known, writers}
 
 -- ---- the file
 
@@ -159,14 +161,14 @@ dh_byte-small Ss = omega arith
 dh_byte-small Psk = omega arith
 
 key-in-right : (p : Plan) (role : Role) (own : Own) → IfSome (key_in p role own) IsKey
-key-in-right p role own = by (is_among role (own_token own) (places_of p)) where
+key-in-right p role own = by (is_among role (token_of own) (places_of p)) where
   by : (b : Bool) → IfSome (if b then Some (placeholder (key_byte role own)) else None) IsKey
   by true = key-right (key_byte role own) (key_byte-small role own)
   by false = tt
 
 entry-right : (role : Role) (t : Token) → IsEntry (entry role t)
 entry-right role t = (
-  key-right (key_byte (other role) (own_in (other role) t)) (key_byte-small (other role) (own_in (other role) t)),
+  key-right (key_byte (other role) (own_at (other role) t)) (key_byte-small (other role) (own_at (other role) t)),
   key-right (dh_byte t) (dh_byte-small t),
 )
 

@@ -1,3 +1,2 @@
 pub mod FileLemmas
-pub mod NeedLemmas
 pub mod PushLemmas

@@ -12,6 +12,8 @@ use Rattle.noise_names.specs.Fundamental.{fundamental_of}
 use Rattle.noise_names.specs.Limits.{IsPattern}
 use Rattle.noise_names.specs.Plan.{Plan, places_of}
 use Rattle.noise_names.specs.Validity.{is_among}
+use Rattle.noise_handshake.specs.Party.{own_at}
+use Rattle.noise_handshake.specs.Setup.{token_of}
 use Rattle.noise_keys.specs.declared.keys.Own.{Own}
 use Rattle.noise_keys.specs.declared.keys.Own.TheVariants.{Ephemeral, Static}
 use Rattle.noise_keys.specs.Table as table
@@ -55,32 +57,19 @@ psk_key place = placeholder (160 + place)
 
 -- ---- what a pattern needs
 
--- the token that sends a key (7.1)
-abbrev pub own_token : Own → Token
-own_token Ephemeral = E
-own_token Static = S
-
 -- a party's public key, where the pattern has a token that sends it, pre-messages counted
 abbrev pub key_in : Plan → Role → Own → Option (List ℕ)
-key_in p role own = if is_among role (own_token own) (places_of p) then Some (placeholder (key_byte role own)) else None
+key_in p role own = if is_among role (token_of own) (places_of p) then Some (placeholder (key_byte role own)) else None
 
 -- whether a message has the token
 abbrev pub occurs_in : Token → List (List Token) → Bool
 occurs_in t messages = list_any (λ tokens. list_any (λ u. same_token u t) tokens) messages
 
--- the key pair of a party that a DH token takes (5.3): its first letter is the initiator's, its second the responder's
-abbrev pub own_in : Role → Token → Own
-own_in Initiator Se = Static
-own_in Initiator Ss = Static
-own_in Responder Es = Static
-own_in Responder Ss = Static
-own_in _ _ = Ephemeral
-
 -- the answer of a party to a DH token: of its own key pair and the other's public key, the same at both
 abbrev pub entry : Role → Token → table.TableEntry
 entry role t = record {
-  own = own_in role t;
-  remote = placeholder (key_byte (other role) (own_in (other role) t));
+  own = own_at role t;
+  remote = placeholder (key_byte (other role) (own_at (other role) t));
   answer = placeholder (dh_byte t);
 }
 

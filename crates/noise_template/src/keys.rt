@@ -6,7 +6,9 @@ ghost use Rattle.hex.specs.Hex.{encode_lower};
 ghost use Rattle.noise_vectors.specs.VectorText.{answer_words, key_word, lines_of, own_word, psk_words};
 ghost use Rattle.noise_template.specs.Template.{dh_byte, entries_for, entry, key_byte, key_in, keys_line, keys_text, placeholder, psk_key, psks_text};
 
-use crate::needs::{mixes, own_in, sends};
+use crate::needs::mixes;
+use noise_handshake::own_keys::{sends, token_of};
+use noise_handshake::tokens::own_at;
 use noise_keys::Own;
 use noise_lines::role_word;
 use noise_names::{Pattern, Role, Token};
@@ -68,7 +70,7 @@ fn push_keys(pattern: &Pattern, role: Role, text: &mut Vec<u8>) -> Result<(), Al
 fn push_own(pattern: &Pattern, role: Role, own: Own, text: &mut Vec<u8>) -> Result<(), AllocError>
     ensures { OnOk result (text.new.items ≡ text.old.items ++ key_word (key_in pattern.now role own)) }
 {
-    if sends(pattern, role, own) {
+    if sends(pattern, role, token_of(own)) {
         return push_key(key_byte(role, own), text);
     }
     text.push(b'-')?;
@@ -96,9 +98,9 @@ fn push_entry(role: Role, dh: Token, text: &mut Vec<u8>) -> Result<(), AllocErro
     ensures { OnOk result (text.new.items ≡ text.old.items ++ (answer_words (entry role dh) ++ 10 ∷ [])) }
 {
     text.extend_from_slice(b"answer ".as_slice())?;
-    text.extend_from_slice(own_word(own_in(role, dh)).as_bytes())?;
+    text.extend_from_slice(own_word(own_at(role, dh)).as_bytes())?;
     text.push(b' ')?;
-    push_key(key_byte(role.other(), own_in(role.other(), dh)), text)?;
+    push_key(key_byte(role.other(), own_at(role.other(), dh)), text)?;
     text.push(b' ')?;
     push_key(dh_byte(dh), text)?;
     text.push(b'\n')?;

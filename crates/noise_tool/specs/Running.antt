@@ -67,7 +67,8 @@ pub data AreLast : Option FileDatagrams → Sides → List (List ℕ) → Type 0
   unready : (datagrams : FileDatagrams) (d : Sides) → are_ready d ≡ false
       → AreLast (Some datagrams) d (codes "no-datagrams" ∷ state_lines d)
   ready : (datagrams : FileDatagrams) (d : Sides) (notes : List (Role × DatagramNote)) (last : DatagramSides)
-      → are_ready d ≡ true → DatagramRun (gone_over d datagrams.window) (datagram_events_of datagrams.events.items) notes last
+      → are_ready d ≡ true
+      → DatagramRun (gone_over d datagrams.window) (datagram_events_of datagrams.events.items) notes last
       → AreLast (Some datagrams) d (datagram_run_lines datagrams.window notes last)
 
 -- these events, of which the sides make these lines' notes, leave the duel

@@ -166,8 +166,8 @@ module _ (selection : Selection) where
       (datagram_key_lines role (initiator_key v.party.history) (responder_key v.party.history))
 
   -- after the first of the last lines, where both ends have gone over to datagrams
-  abbrev pub last_traces : (datagrams : Option FileDatagrams) (d : Sides) (after : List (List ℕ)) → AreLast datagrams d after
-      → List (List (List ℕ))
+  abbrev pub last_traces : (datagrams : Option FileDatagrams) (d : Sides) (after : List (List ℕ))
+      → AreLast datagrams d after → List (List (List ℕ))
   last_traces datagrams d after (without _) = []
   last_traces datagrams d after (unready _ _ not_ready) = []
   last_traces datagrams d after (ready _ _ notes last are run) =

@@ -13,6 +13,7 @@ ghost use Rattle.noise_vectors.specs.FileKeys.{agreement_of, public_of};
 ghost use Rattle.noise_tool.specs.Ends.{AreEnds, AreHandshakes, FileDuelMatches, FileMatches, IsFilePatternFault, IsFilePattern, IsStartFault};
 
 use noise_duel::{Duel, Event};
+use noise_handshake::own_keys::shown_before;
 use noise_handshake::{Handshake, Remote};
 use noise_lines::{Fault, named_pattern};
 use noise_names::{Pattern, ProtocolName, Role, ValidPattern};
@@ -78,8 +79,8 @@ pub(crate) fn begin(file: VectorFile) -> Result<Beginning, Fault>
         version,
     } = file;
     let pattern = valid_pattern(block, &protocol)?;
-    let of_initiator = Remote::shown_before(pattern.pattern(), Role::Initiator, &initiator);
-    let of_responder = Remote::shown_before(pattern.pattern(), Role::Responder, &responder);
+    let of_initiator = shown_before(&pattern, Role::Initiator, &initiator);
+    let of_responder = shown_before(&pattern, Role::Responder, &responder);
     let same = pattern.clone()?;
     let first = handshake(
         pattern,

@@ -24,7 +24,8 @@ use byteorder::{BigEndian, ByteOrder};
 use noise_duel::Entry;
 use noise_names::Role;
 use noise_session::SendFault;
-use noise_trace::{EndTrace, KeyUse, end_is_followed};
+use noise_trace::laws::end_is_followed;
+use noise_trace::{EndTrace, KeyUse};
 use noise_vectors::FileKeys;
 use std::alloc::{AllocError, Global};
 

@@ -19,6 +19,7 @@ use crate::key_use_lines::Selection;
 use crate::trace_lines::push_start_lines;
 use crate::traced_end::TracedEnd;
 use noise_duel::{Duel, Event};
+use noise_handshake::own_keys::shown_before;
 use noise_handshake::{Handshake, Remote};
 use noise_lines::Fault;
 use noise_names::{Role, ValidPattern};
@@ -114,8 +115,8 @@ fn start_lines(
     ensures { ((role : Role) → setup_of file.now pattern.now role ≡ None)
         → IfOk result (λ lines. bytes_of lines.items ≡ start_traces selection file.now pattern.now) }
 {
-    let of_initiator = Remote::shown_before(pattern.pattern(), Role::Initiator, &file.initiator);
-    let of_responder = Remote::shown_before(pattern.pattern(), Role::Responder, &file.responder);
+    let of_initiator = shown_before(pattern, Role::Initiator, &file.initiator);
+    let of_responder = shown_before(pattern, Role::Responder, &file.responder);
     let mut lines = Vec::new(alloc);
     push_heading(alloc, selection, &mut lines)?;
     push_start(

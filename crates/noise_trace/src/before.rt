@@ -12,10 +12,11 @@ ghost use Rattle.noise_handshake.specs.Matching.{Matches};
 ghost use Rattle.noise_handshake.specs.declared.faults.Cause.{Cause};
 
 use crate::own::{OwnMeans, give};
-use crate::tokens::{Means, bytes_from, follow, psk_count};
+use crate::tokens::{Means, bytes_from, follow};
 use crate::values::{mix_piece, values_of};
 use crate::{Part, StateValues, Step};
 use arrayvec::ArrayVec;
+use noise_handshake::tokens::psk_count;
 use noise_handshake::{Handshake, Keys, Remote};
 use noise_names::{Message, Role, Token};
 use noise_state::SymmetricState;

@@ -8,10 +8,10 @@ ghost use Rattle.noise_state.specs.History.{History, Ciphertext, and_then, ciphe
 ghost use Rattle.noise_state.specs.Standing.{StateMatches, nonce_now};
 ghost use Rattle.noise_trace.specs.inner.Means.{GivesToken, GivesTokens};
 
-use crate::tokens::{dh_result_at, mix_ephemeral, psks_after};
 use crate::values::values_of;
 use crate::{Part, Step};
 use arrayvec::ArrayVec;
+use noise_handshake::tokens::{dh_result_at, mix_ephemeral, psks_after};
 use noise_handshake::{Keys, Own, Remote};
 use noise_names::{Role, Token};
 use noise_state::SymmetricState;

@@ -11,12 +11,13 @@ ghost use Rattle.noise_handshake.specs.Party.{with_premessage};
 ghost use Rattle.noise_trace.specs.inner.PreMessages.{HasKeys, Mixes};
 ghost use Rattle.noise_trace.specs.Start.{key_steps, pre_steps, start_step, start_steps};
 
-use crate::tokens::mix_ephemeral;
 use crate::values::values_of;
 use crate::{StartPart, StartStep};
 use arrayvec::ArrayVec;
 use noise_handshake::laws::{setup_is_whole, tokens_match};
-use noise_handshake::{Keys, Own, Remote};
+use noise_handshake::own_keys::{keys_of, public_keys};
+use noise_handshake::tokens::mix_ephemeral;
+use noise_handshake::{Keys, Remote};
 use noise_names::{Role, Token, ValidPattern};
 use noise_state::SymmetricState;
 
@@ -81,27 +82,6 @@ fn mix_keys(
     };
     mix_one(state, has_psks, party, keys, *token, steps);
     mix_keys(state, has_psks, party, keys, later, steps);
-}
-
-// The public keys of a party, for a role with these keys of its own and these of the other party.
-fn keys_of(party: Role, role: Role, own: &Remote, remote: &Remote) -> Remote
-    ensures { result ≡ keys_of party role own.now remote.now }
-{
-    match (party, role) {
-        (Role::Initiator, Role::Initiator) => *own,
-        (Role::Responder, Role::Responder) => *own,
-        _ => *remote,
-    }
-}
-
-// The public keys of a party's own.
-fn public_keys<K: Keys>(keys: &K) -> Remote
-    ensures { result ≡ public_keys (K.public_of keys.now) }
-{
-    Remote {
-        e: keys.public(Own::Ephemeral),
-        s: keys.public(Own::Static),
-    }
 }
 
 /// The steps of a handshake's start, of a setup that `Handshake::new` takes: one for the protocol name, one for the

@@ -7,13 +7,14 @@ ghost use Rattle.noise_names.specs.Tokens.{is_psk};
 ghost use Rattle.noise_state.specs.History.{History, Ciphertext, and_then, ciphertext};
 ghost use Rattle.noise_state.specs.Standing.{StateMatches, keyed, nonce_now};
 ghost use Rattle.noise_handshake.specs.Message.{with_ephemeral};
-ghost use Rattle.noise_handshake.specs.Party.{dh_result_of, own_at, remote_at, psks_after};
+ghost use Rattle.noise_handshake.specs.Party.{psks_after};
 ghost use Rattle.noise_trace.specs.inner.Means.{FollowsToken, FollowsOne, FollowsTokens};
 
 use crate::values::values_of;
 use crate::{Part, Step};
 use arrayvec::ArrayVec;
-use noise_handshake::{Keys, Own, Remote};
+use noise_handshake::tokens::{dh_result_at, mix_ephemeral, psks_after};
+use noise_handshake::{Keys, Remote};
 use noise_names::{Role, Token};
 use noise_state::SymmetricState;
 
@@ -25,55 +26,6 @@ pub(crate) struct Means<'a, K: Keys> {
     pub(crate) has_psks: bool,
     pub(crate) reads: bool,
     pub(crate) message: &'a [u8],
-}
-
-// Which own key a DH token takes (the table of Noise, 5.3).
-fn own_at(role: Role, token: Token) -> Own
-    ensures { result ≡ own_at role token }
-{
-    match (role, token) {
-        (Role::Initiator, Token::Se | Token::Ss) => Own::Static,
-        (Role::Responder, Token::Es | Token::Ss) => Own::Static,
-        _ => Own::Ephemeral,
-    }
-}
-
-// Which remote key it takes, if it is known.
-fn remote_at(role: Role, known: &Remote, token: Token) -> Option<[u8; 32]>
-    ensures { result ≡ remote_at role known.now token }
-{
-    match (role, token) {
-        (Role::Initiator, Token::Es | Token::Ss) => known.s,
-        (Role::Responder, Token::Se | Token::Ss) => known.s,
-        _ => known.e,
-    }
-}
-
-// The DH result at a DH token, where there is one.
-pub(crate) fn dh_result_at<K: Keys>(
-    keys: &K,
-    role: Role,
-    known: &Remote,
-    token: Token,
-) -> Option<[u8; 32]>
-    ensures { result ≡ dh_result_of (K.agreement keys.now) (own_at role token) (remote_at role known.now token) }
-{
-    match remote_at(role, known, token) {
-        Some(key) => keys.agree(own_at(role, token), &key),
-        None => None,
-    }
-}
-
-// Mixes an ephemeral public key; in a psk pattern it is a key input too (Noise, 9.2).
-pub(crate) fn mix_ephemeral(state: &mut SymmetricState, has_psks: bool, key: &[u8; 32])
-    ensures mixed { (r : History) → StateMatches state.old r
-        → StateMatches state.new (with_ephemeral has_psks r key.now) }
-    ensures nonce { nonce_now state.new ≤ nonce_now state.old }
-{
-    state.mix_hash(key);
-    if has_psks {
-        state.mix_key(key);
-    }
 }
 
 // Takes a public key in the clear.
@@ -198,27 +150,6 @@ fn known_next(reads: bool, known: &Remote, learned: Remote) -> Remote
     ensures { result ≡ (if reads then learned else known.now) }
 {
     if reads { learned } else { *known }
-}
-
-// The psks still to come after a token.
-pub(crate) fn psks_after(psks: &[[u8; 32]], token: Token) -> &[[u8; 32]]
-    requires { token ≡ Token.Psk → 0 < length psks.now }
-    ensures { result.now ≡ psks_after psks.now token }
-{
-    match token {
-        Token::Psk => &psks[1..],
-        _ => psks,
-    }
-}
-
-// How many psks tokens take.
-pub(crate) fn psk_count(tokens: &[Token]) -> usize
-    ensures { result ≡ count_by is_psk tokens.now }
-{
-    tokens
-        .iter()
-        .filter(|token| matches!(**token, Token::Psk))
-        .count()
 }
 
 // The bytes of a message from a place on.

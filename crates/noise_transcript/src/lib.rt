@@ -2,10 +2,9 @@
 //! accepted. No program calls this crate.
 #![tactic(auto)]
 
-mod laws;
+pub mod laws;
 mod talking;
 #[cfg(test)]
 mod tests;
 
-pub use laws::fitting_lines_run;
 pub use talking::talk;

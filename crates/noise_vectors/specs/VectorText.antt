@@ -110,7 +110,8 @@ window_words window = codes "datagrams " ++ decimal (width_of window)
 -- the datagrams, where the file has them
 abbrev pub datagrams_text : Option FileDatagrams → List ℕ → List ℕ
 datagrams_text None rest = rest
-datagrams_text (Some datagrams) rest = line (window_words datagrams.window) (lines_of datagram_event_words datagrams.events.items rest)
+datagrams_text (Some datagrams) rest =
+    line (window_words datagrams.window) (lines_of datagram_event_words datagrams.events.items rest)
 
 abbrev pub expect_line : List ℕ → List ℕ
 expect_line words = codes "expect " ++ words

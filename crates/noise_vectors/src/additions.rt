@@ -69,7 +69,8 @@ fn read_datagrams(
     ensures reported { IfErr result (ReportsDatagrams allowed lines.old.rest.now (last_number lines.old)) }
     ensures every { (datagrams : Option FileDatagrams) (rest : List ℕ) → IfSome datagrams
         (λ datagrams. All IsDatagramEvent datagrams.events.items)
-        → (allowed ≡ SayOnly → datagrams ≡ None) → AfterDatagrams rest → lines.old.rest.now ≡ datagrams_text datagrams rest
+        → (allowed ≡ SayOnly → datagrams ≡ None) → AfterDatagrams rest
+        → lines.old.rest.now ≡ datagrams_text datagrams rest
         → MatchResult result (λ found. lines.new.rest.now ≡ rest) (λ fault. fault ≡ Memory) }
 {
     if !lines.rest.starts_with(b"datagrams ".as_slice()) {

@@ -2,11 +2,11 @@
 
 ghost use Rattle.noise_vectors.specs.SameFile.{VectorTextsAreUnique};
 
-use noise_names::Pattern;
+use noise_names::laws::texts_are_unique;
 
 /// No text is that of two vector files that say different things, of either version.
 pub fn vector_texts_are_unique()
     ensures { VectorTextsAreUnique }
 {
-    Pattern::texts_are_unique();
+    texts_are_unique();
 }

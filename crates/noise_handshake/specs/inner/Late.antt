@@ -1,4 +1,4 @@
--- What a handshake holds that was filled up for the psks that lack.
+-- What a handshake holds that has zeros for the missing psks.
 use Rattle.std.specs.Prelude.{◌≡◌, ℕ, suc, ◌-◌, ◌<◌, List, ◌∷◌, ◌++◌, length, take, drop, count_by}
 use Rattle.noise_names.specs.declared.token.Token.{Token}
 use Rattle.noise_names.specs.declared.token.Token.TheVariants.{Psk}

@@ -1,5 +1,5 @@
 -- What the private functions of reading say of a party that listens.
-use Rattle.std.specs.Prelude.{◌≡◌, ℕ, List, ◌++◌, take, Bool, Option, is_some, if◌then◌else◌, MatchOption}
+use Rattle.std.specs.Prelude.{◌≡◌, ◌<◌, ℕ, List, ◌++◌, take, Bool, Option, is_some, if◌then◌else◌, MatchOption}
 use Rattle.noise_names.specs.declared.token.Token.{Token}
 use Rattle.noise_names.specs.declared.token.Role.{Role}
 use Rattle.noise_names.specs.Plan.{has_psk}
@@ -7,9 +7,11 @@ use Rattle.noise_state.specs.History.{History, cipher_key}
 use Rattle.noise_keys.specs.declared.keys.Own.{Own}
 use Rattle.noise_handshake.specs.declared.remote.Remote.{Remote}
 use Rattle.noise_handshake.specs.declared.faults.Cause.{Cause}
+use Rattle.noise_handshake.specs.declared.stop.Stop.{Stop}
 use Rattle.noise_handshake.specs.declared.faults.Cause.TheVariants.{Agreement}
 use Rattle.noise_handshake.specs.Message.{token_bytes}
-use Rattle.noise_handshake.specs.Party.{Party, Reader, Fits, BeginsAs, Listens, Stops, remote_after, tokens_now}
+use Rattle.noise_handshake.specs.Party.{Party, Reader, Fits, BeginsAs, Listens, Refuses, Stops, remote_after, tokens_now}
+use Rattle.noise_handshake.specs.Calls.{ReadingWants}
 use Rattle.noise_handshake.specs.Wanting.{StopsFor}
 
 -- no text of token t fits here
@@ -36,6 +38,11 @@ pub record BeginsBefore (v : Reader) (known : Remote) (psks : List (List ℕ)) (
   pub rest : List ℕ
   pub leads : BeginsAs v known psks r (take k ts) carried m rest
   pub remote_is : remote ≡ (remote_after known (take k ts) carried).s
+
+-- The party would refuse the message at a token before token k, and this says which DH result it lacks there, if any.
+abbrev pub StopsBefore : Party → List ℕ → ℕ → Stop → Type 0
+StopsBefore v message k stop = (stop.token < k) × Refuses v message stop.token stop.cause
+    × ReadingWants v message stop.want
 
 -- how many bytes a static key takes
 abbrev pub width_of_key : History → ℕ

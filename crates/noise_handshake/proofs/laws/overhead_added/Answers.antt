@@ -7,5 +7,5 @@ returns-clause-first c = start-keyed
 pub returns-clause-next : goal.returns-clause-next
 returns-clause-next c = next-keyed
 
-pub returns-clause-line : goal.returns-clause-line
-returns-clause-line c = line-overhead
+pub returns-clause-len : goal.returns-clause-len
+returns-clause-len c = line-overhead

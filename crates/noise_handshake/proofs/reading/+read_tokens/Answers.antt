@@ -1,4 +1,4 @@
-use Rattle.noise_handshake.specs.Calls.{reader_of}
+use Rattle.noise_handshake.specs.inner.Means.{reader_of}
 use Rattle.std.proofs.Common.{◌≡◌, suc, ap, ℕ, ◌+◌, ◌-◌, ◌≤◌, List, ◌∷◌, ◌++◌, length, drop, sym, subst, ◌∙◌, arith, length-drop, drop-drop}
 use Rattle.std.specs.Prelude.{Bool, is_some}
 use Rattle.noise_names.specs.declared.token.Token.{Token}
@@ -14,7 +14,7 @@ use Rattle.noise_handshake.specs.Nonces.{nonce_after_tokens}
 use Rattle.noise_handshake.specs.inner.Known.{e_after_tokens, s_after_tokens}
 use Rattle.noise_handshake.proofs.DhTokens.{none_taken}
 use Rattle.noise_handshake.proofs.Layouts.{first-placed, later-placed, rest-first}
-use Rattle.noise_handshake.proofs.Stepwise.{keyed-on, e-on, s-on, nonce-on, bound-on, bound-first, some-token, one-later, place-fits, nonce-left, psk-due, known-first, none-added, none-after, known-later, psks-later, nonces-later}
+use Rattle.noise_handshake.proofs.Stepwise.{keyed-on, e-on, s-on, nonce-on, bound-on, bound-first, some-token, one-later, place-fits, nonce-left, psk-due, none-added, none-after, psks-later, nonces-later}
 use Rattle.noise_handshake.proofs.Steps.{led-none, stopped, led, learned-on, stopped-later}
 use Rattle.noise_handshake.proofs.reading.+read_tokens.Goals as goal
 use Rattle.std.proofs.lemmas.List.{nil_from_length}
@@ -49,7 +49,7 @@ returns-in-Ok-read_tokens-clause-range g t c place within are =
 
 pub returns-in-Err-clause-read : goal.returns-in-Err-clause-read
 returns-in-Err-clause-read g t c r place s within are =
-    let v : Reader = reader_of g.K.Keys.agreement c.args.means.now.role c.args.means.now.has_psks c.args.means.now.keys in
+    let v : Reader = reader_of g.K.Keys.agreement c.args.means.now in
     let first : PlacedToken = c.in-Some.first.now in
     let token : Token = first.token in
     let later : List Token = tokens_of c.in-Some.later.now in
@@ -63,7 +63,7 @@ returns-in-Err-clause-read g t c r place s within are =
 
 pub returns-in-Ok-read_tokens-clause-read : goal.returns-in-Ok-read_tokens-clause-read
 returns-in-Ok-read_tokens-clause-read g t c r place s within are =
-    let v : Reader = reader_of g.K.Keys.agreement c.args.means.now.role c.args.means.now.has_psks c.args.means.now.keys in
+    let v : Reader = reader_of g.K.Keys.agreement c.args.means.now in
     let has_psks : Bool = c.args.means.now.has_psks in
     let first : PlacedToken = c.in-Some.first.now in
     let token : Token = first.token in
@@ -97,7 +97,7 @@ returns-in-Ok-read_tokens-clause-read g t c r place s within are =
 
 pub returns-in-Err-read_tokens-clause-read : goal.returns-in-Err-read_tokens-clause-read
 returns-in-Err-read_tokens-clause-read g t c r place s within are =
-    let v : Reader = reader_of g.K.Keys.agreement c.args.means.now.role c.args.means.now.has_psks c.args.means.now.keys in
+    let v : Reader = reader_of g.K.Keys.agreement c.args.means.now in
     let first : PlacedToken = c.in-Some.first.now in
     let token : Token = first.token in
     let later : List Token = tokens_of c.in-Some.later.now in
@@ -119,7 +119,7 @@ returns-in-Err-read_tokens-clause-read g t c r place s within are =
 
 pub returns-in_default-clause-read : goal.returns-in_default-clause-read
 returns-in_default-clause-read g t c r place s within are =
-    let v : Reader = reader_of g.K.Keys.agreement c.args.means.now.role c.args.means.now.has_psks c.args.means.now.keys in
+    let v : Reader = reader_of g.K.Keys.agreement c.args.means.now in
     let m : List ℕ = c.args.message.now in
     let d = led-none v c.args.known.now c.args.psks.now r (tokens_of c.args.placed.now) (drop place m) c.args.state.now
     (ap tokens_of (nil_from_length c.args.placed.now c.in_default.ensures.cases)) s in
@@ -190,9 +190,6 @@ read_token-requires-clause-psk g t c = psk-due (tokens_of c.args.placed.now) (to
 pub read_token-requires-clause-nonces : goal.read_token-requires-clause-nonces
 read_token-requires-clause-nonces g t c = nonce-left (tokens_of c.args.placed.now) (tokens_of c.in-Some.later.now) c.in-Some.first.now.token (ap tokens_of c.in-Some.ensures.cases.0) (nonce_now c.args.state.now) c.requires.nonces
 
-pub read_token-requires-clause-known : goal.read_token-requires-clause-known
-read_token-requires-clause-known g t c = known-first (tokens_of c.args.placed.now) (tokens_of c.in-Some.later.now) c.in-Some.first.now.token (ap tokens_of c.in-Some.ensures.cases.0) c.args.means.now.role (is_some c.args.known.now.e) (is_some c.args.known.now.s) c.requires.known
-
 pub psks_after-others-requires : goal.psks_after-others-requires
 psks_after-others-requires g t c = psk-due (tokens_of c.args.placed.now) (tokens_of c.in-Some.later.now) c.in-Some.first.now.token (ap tokens_of c.in-Some.ensures.cases.0) (length c.args.psks.now) c.requires.psks
 
@@ -220,11 +217,7 @@ read_tokens-requires g t c κs k =
           (c.requires.placed.0 + c.in-Some.first.now.width, u.1, u.2),
           (
             psks-later all later token split c.args.psks.now c.psks_after-others.result.now c.psks_after-others.ensures c.requires.psks,
-            (
-              nonces-later all later token split (nonce_now c.args.state.now) (nonce_now c.read_token.new.state) c.in-Ok.ensures.nonce c.requires.nonces,
-              known-later all later token split c.args.means.now.role (is_some c.args.known.now.e) (is_some c.args.known.now.s)
-                  (is_some c.read_token.new.known.e) (is_some c.read_token.new.known.s) c.in-Ok.ensures.e c.in-Ok.ensures.s c.requires.known,
-            ),
+            nonces-later all later token split (nonce_now c.args.state.now) (nonce_now c.read_token.new.state) c.in-Ok.ensures.nonce c.requires.nonces,
           ),
         ),
       ),

@@ -1,4 +1,4 @@
-use Rattle.noise_handshake.specs.Calls.{reader_of}
+use Rattle.noise_handshake.specs.inner.Means.{reader_of}
 use Rattle.std.proofs.Common.{◌≡◌, ◌<◌, ◌≤◌, ◌+◌, ℕ, List, length, take, drop, true, sym, ap, subst, refl, ◌∙◌, arith, length-take}
 use Rattle.std.specs.Prelude.{Option, Bool, count_by, is_some}
 use Rattle.noise_names.specs.declared.token.Token.{Token}
@@ -7,10 +7,9 @@ use Rattle.noise_state.specs.Standing.{StateMatches, keyed, nonce_now}
 use Rattle.noise_state.specs.declared.symmetric.SymmetricState.{SymmetricState}
 use Rattle.noise_handshake.specs.declared.remote.Remote.{Remote}
 use Rattle.noise_handshake.specs.Party.{Reader, BeginsAs, remote_after}
-use Rattle.noise_handshake.specs.inner.Known.{are_known}
 use Rattle.noise_handshake.specs.inner.Layout.{tokens_of, ArePlaced}
 use Rattle.noise_handshake.specs.inner.Listening.{StopsKnowing}
-use Rattle.noise_handshake.proofs.Fronts.{tokens-take, placed-take, known-take, stops-all}
+use Rattle.noise_handshake.proofs.Fronts.{tokens-take, placed-take, stops-all}
 use Rattle.noise_handshake.proofs.Later.{count-take}
 use Rattle.noise_handshake.proofs.Layouts.{length-tokens_of}
 use Rattle.noise_handshake.proofs.reading.read_before.Goals as goal
@@ -37,12 +36,6 @@ read_tokens-requires-clause-nonces g c =
       length-take c.args.k (tokens_of c.args.placed.now),
     )
 
-pub read_tokens-requires-clause-known : goal.read_tokens-requires-clause-known
-read_tokens-requires-clause-known g c =
-    subst (λ (us : List Token). are_known c.args.means.now.role (is_some c.args.known.now.e) (is_some c.args.known.now.s) us ≡ true)
-    (sym (tokens-take c.args.placed.now c.args.k))
-    (known-take c.args.means.now.role (is_some c.args.known.now.e) (is_some c.args.known.now.s) (tokens_of c.args.placed.now) c.args.k c.requires.known)
-
 pub overflow_cast-result : goal.overflow_cast-result
 overflow_cast-result g c =
     omega (
@@ -56,7 +49,7 @@ overflow_cast-result g c =
 
 pub returns-in-Ok : goal.returns-in-Ok
 returns-in-Ok g c r s =
-    let v : Reader = reader_of g.K.Keys.agreement c.args.means.now.role c.args.means.now.has_psks c.args.means.now.keys in
+    let v : Reader = reader_of g.K.Keys.agreement c.args.means.now in
     let trial : StateMatches c.for_trial-trial.result r = subst (λ (z : SymmetricState). StateMatches z r) (sym c.for_trial-trial.ensures) s in
     let placed : ArePlaced c.args.means.now.has_psks (keyed c.for_trial-trial.result) 0 (take c.args.k c.args.placed.now) =
     subst (λ (z : SymmetricState). ArePlaced c.args.means.now.has_psks (keyed z) 0 (take c.args.k c.args.placed.now)) (sym c.for_trial-trial.ensures)
@@ -73,7 +66,7 @@ returns-in-Ok g c r s =
 
 pub returns-in-Err : goal.returns-in-Err
 returns-in-Err g c r s =
-    let v : Reader = reader_of g.K.Keys.agreement c.args.means.now.role c.args.means.now.has_psks c.args.means.now.keys in
+    let v : Reader = reader_of g.K.Keys.agreement c.args.means.now in
     let trial : StateMatches c.for_trial-trial.result r = subst (λ (z : SymmetricState). StateMatches z r) (sym c.for_trial-trial.ensures) s in
     let placed : ArePlaced c.args.means.now.has_psks (keyed c.for_trial-trial.result) 0 (take c.args.k c.args.placed.now) =
     subst (λ (z : SymmetricState). ArePlaced c.args.means.now.has_psks (keyed z) 0 (take c.args.k c.args.placed.now)) (sym c.for_trial-trial.ensures)

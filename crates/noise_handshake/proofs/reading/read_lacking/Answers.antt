@@ -1,4 +1,4 @@
-use Rattle.noise_handshake.specs.Calls.{reader_of}
+use Rattle.noise_handshake.specs.inner.Means.{reader_of}
 use Rattle.std.proofs.Common.{arith, refl, sym, subst}
 use Rattle.noise_state.specs.Standing.{StateMatches, keyed}
 use Rattle.noise_state.specs.declared.symmetric.SymmetricState.{SymmetricState}
@@ -16,7 +16,7 @@ read_tokens-requires-clause-placed g c = (
 
 pub returns-in-Ok : goal.returns-in-Ok
 returns-in-Ok g c r s k stops =
-    let v : Reader = reader_of g.K.Keys.agreement c.args.means.now.role c.args.means.now.has_psks c.args.means.now.keys in
+    let v : Reader = reader_of g.K.Keys.agreement c.args.means.now in
     let trial : StateMatches c.for_trial-trial.result r = subst (λ (z : SymmetricState). StateMatches z r) (sym c.for_trial-trial.ensures) s in
     let placed : ArePlaced c.args.means.now.has_psks (keyed c.for_trial-trial.result) 0 c.args.placed.now =
     subst (λ (z : SymmetricState). ArePlaced c.args.means.now.has_psks (keyed z) 0 c.args.placed.now) (sym c.for_trial-trial.ensures) c.requires.placed in
@@ -25,7 +25,7 @@ returns-in-Ok g c r s k stops =
 
 pub returns-in-Err : goal.returns-in-Err
 returns-in-Err g c r s =
-    let v : Reader = reader_of g.K.Keys.agreement c.args.means.now.role c.args.means.now.has_psks c.args.means.now.keys in
+    let v : Reader = reader_of g.K.Keys.agreement c.args.means.now in
     let trial : StateMatches c.for_trial-trial.result r = subst (λ (z : SymmetricState). StateMatches z r) (sym c.for_trial-trial.ensures) s in
     let placed : ArePlaced c.args.means.now.has_psks (keyed c.for_trial-trial.result) 0 c.args.placed.now =
     subst (λ (z : SymmetricState). ArePlaced c.args.means.now.has_psks (keyed z) 0 c.args.placed.now) (sym c.for_trial-trial.ensures) c.requires.placed in

@@ -1,4 +1,4 @@
-use Rattle.noise_handshake.specs.Calls.{reader_of}
+use Rattle.noise_handshake.specs.inner.Means.{reader_of}
 use Rattle.std.proofs.Common.{◌≡◌, ◌<◌, ◌≤◌, ◌^◌, ℕ, ◌+◌, ◌-◌, List, length, take, drop, slice_range, ap, sym, subst, ◌∙◌, arith, length-drop}
 use Rattle.std.proofs.Common.{length-take, take_all, nat_lt, if◌then◌else◌}
 use Rattle.std.proofs.lemmas.List.{take_rest}
@@ -35,7 +35,7 @@ returns-in-Ok-decrypt_and_hash-clause-beyond g c =
 
 pub returns-in-Ok-decrypt_and_hash-clause-read : goal.returns-in-Ok-decrypt_and_hash-clause-read
 returns-in-Ok-decrypt_and_hash-clause-read g c r s =
-    let v : Reader = reader_of g.K.Keys.agreement c.args.means.now.role c.args.means.now.has_psks c.args.means.now.keys in
+    let v : Reader = reader_of g.K.Keys.agreement c.args.means.now in
     let m : List ℕ = c.args.message.now in
     let n : ℕ = c.in-Ok.from in
     let len : ℕ = c.in-Ok-decrypt_and_hash.len in
@@ -62,7 +62,7 @@ returns-in-Err-Short-clause-stop g c = omega (arith, length-tokens_of c.args.pla
 
 pub returns-in-Err-Short-clause-read : goal.returns-in-Err-Short-clause-read
 returns-in-Err-Short-clause-read g c r s =
-    let v : Reader = reader_of g.K.Keys.agreement c.args.means.now.role c.args.means.now.has_psks c.args.means.now.keys in
+    let v : Reader = reader_of g.K.Keys.agreement c.args.means.now in
     let m : List ℕ = c.args.message.now in
     let n : ℕ = c.in-Ok.from in
     let start = c.in-Ok.ensures.read r 0 s (omega arith) c.requires.placed in

@@ -1,4 +1,4 @@
-use Rattle.noise_handshake.specs.Calls.{reader_of}
+use Rattle.noise_handshake.specs.inner.Means.{reader_of}
 use Rattle.noise_state.specs.Standing.{StateMatches, keyed, nonce_now}
 use Rattle.noise_state.specs.History.{cipher_key}
 use Rattle.std.proofs.Common.{◌≡◌, [], get_or, length, refl, sym, ap, subst, ◌∙◌}
@@ -10,21 +10,15 @@ use Rattle.noise_handshake.specs.Length.{keyed_after, token_width}
 use Rattle.noise_handshake.specs.Nonces.{nonce_after}
 use Rattle.noise_handshake.specs.inner.Known.{e_after, s_after}
 use Rattle.noise_handshake.proofs.DhTokens.{dh-width, dh-keyed, dh-nonce, dh-e, dh-s, dh-read, dh-fails, from_zero, less_one, no_more, none_taken}
-use Rattle.noise_handshake.proofs.Knowing.{known-dh}
 use Rattle.noise_handshake.proofs.Psks.{first_psk-read, psk-read, read-as, on_ok, of_width}
 use Rattle.noise_handshake.proofs.reading.read_token.Goals as goal
 
 pub returns-in-Psk-clause-read : goal.returns-in-Psk-clause-read
 returns-in-Psk-clause-read g c r s =
     psk-read StateMatches c.mix_key_and_hash.new.self
-    (reader_of g.K.Keys.agreement c.args.means.now.role c.args.means.now.has_psks c.args.means.now.keys)
+    (reader_of g.K.Keys.agreement c.args.means.now)
     c.args.known.now c.args.psks.now r c.args.placed.token c.args.message.now (get_or c.args.psks.now 0 [])
     c.in-Psk.is (first_psk-read c.args.psks.now) (c.mix_key_and_hash.ensures.matches r s)
-
-pub dh_result_at-requires : goal.dh_result_at-requires
-dh_result_at-requires g c =
-    let d = c.in_default in
-    known-dh c.args.means.now.role (is_some c.args.known.now.e) (is_some c.args.known.now.s) c.args.placed.token d.not-E d.not-S d.not-Psk c.requires.known
 
 pub returns-in-Some-clause-width : goal.returns-in-Some-clause-width
 returns-in-Some-clause-width g c =
@@ -58,7 +52,7 @@ pub returns-in-Some-clause-read : goal.returns-in-Some-clause-read
 returns-in-Some-clause-read g c r s =
     let d = c.in_default in
     dh-read c.args.placed.token d.not-E d.not-S d.not-Psk StateMatches c.mix_key.new.self
-    (reader_of g.K.Keys.agreement c.args.means.now.role c.args.means.now.has_psks c.args.means.now.keys)
+    (reader_of g.K.Keys.agreement c.args.means.now)
     c.args.known.now c.args.psks.now r c.args.message.now c.in-Some.dh_result c.dh_result_at.result c.dh_result_at.ensures c.in-Some.is (c.mix_key.ensures.matches r s)
 
 pub returns-in-None-clause-unchanged : goal.returns-in-None-clause-unchanged
@@ -68,7 +62,7 @@ pub returns-in-None-clause-read : goal.returns-in-None-clause-read
 returns-in-None-clause-read g c r s =
     let d = c.in_default in
     dh-fails c.args.placed.token d.not-E d.not-S d.not-Psk
-    (reader_of g.K.Keys.agreement c.args.means.now.role c.args.means.now.has_psks c.args.means.now.keys)
+    (reader_of g.K.Keys.agreement c.args.means.now)
     c.args.known.now c.args.psks.now r c.args.message.now (is_some (cipher_key r)) c.dh_result_at.result c.dh_result_at.ensures c.in-None.is
 
 pub returns-in-E-clause-width : goal.returns-in-E-clause-width
@@ -102,7 +96,7 @@ returns-in-E-clause-counted g c = subst (λ (t : Token). OnOk c.read_e.result (n
 pub returns-in-E-clause-read : goal.returns-in-E-clause-read
 returns-in-E-clause-read g c r s =
     read-as StateMatches c.read_e.new.state
-    (reader_of g.K.Keys.agreement c.args.means.now.role c.args.means.now.has_psks c.args.means.now.keys)
+    (reader_of g.K.Keys.agreement c.args.means.now)
     c.args.known.now c.read_e.new.known c.args.psks.now r c.args.message.now c.read_e.result E c.args.placed.token c.in-E.is (c.read_e.ensures.read r s)
 
 pub returns-in-S-clause-width : goal.returns-in-S-clause-width
@@ -138,7 +132,7 @@ returns-in-S-clause-counted g c = subst (λ (t : Token). OnOk c.read_s.result (n
 pub returns-in-S-clause-read : goal.returns-in-S-clause-read
 returns-in-S-clause-read g c r s =
     read-as StateMatches c.read_s.new.state
-    (reader_of g.K.Keys.agreement c.args.means.now.role c.args.means.now.has_psks c.args.means.now.keys)
+    (reader_of g.K.Keys.agreement c.args.means.now)
     c.args.known.now c.read_s.new.known c.args.psks.now r c.args.message.now c.read_s.result S c.args.placed.token c.in-S.is (c.read_s.ensures.read r s)
 
 pub returns-in-Psk-clause-width : goal.returns-in-Psk-clause-width

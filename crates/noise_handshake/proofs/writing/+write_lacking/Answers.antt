@@ -1,4 +1,4 @@
-use Rattle.noise_handshake.specs.Calls.{writer_of}
+use Rattle.noise_handshake.specs.inner.Means.{writer_of}
 use Rattle.std.proofs.Common.{◌≡◌, suc, ap, refl, length, arith}
 use Rattle.std.specs.Prelude.{is_some}
 use Rattle.noise_handshake.specs.inner.Known.{is_known}
@@ -11,14 +11,14 @@ use Rattle.noise_handshake.proofs.writing.+write_lacking.Goals as goal
 
 pub returns-in-Some : goal.returns-in-Some
 returns-in-Some g t c =
-    let w : Writer = writer_of g.K.Keys.public_of g.K.Keys.agreement c.args.means.now.role c.args.means.now.has_psks c.args.means.now.keys in
+    let w : Writer = writer_of g.K.Keys.public_of g.K.Keys.agreement c.args.means.now in
     asked-later w c.args.known.now c.args.psks.now c.psks_after-others.result.now (tokens_of c.args.placed.now) (tokens_of c.in_ok-first.later.now)
     c.in_ok-first.first.now.token _ (ap tokens_of c.in_ok-first.ensures.cases.0) c.psks_after-others.ensures c.in-Some.ensures.text
     c.write_lacking.result c.write_lacking.ensures
 
 pub returns-in-None : goal.returns-in-None
 returns-in-None g t c =
-    let w : Writer = writer_of g.K.Keys.public_of g.K.Keys.agreement c.args.means.now.role c.args.means.now.has_psks c.args.means.now.keys in
+    let w : Writer = writer_of g.K.Keys.public_of g.K.Keys.agreement c.args.means.now in
     asked-first w c.args.known.now c.args.psks.now (tokens_of c.args.placed.now) (tokens_of c.in_ok-first.later.now) c.in_ok-first.first.now.token
     (ap tokens_of c.in_ok-first.ensures.cases.0) c.in-None.ensures.text (c.in-None.ensures.dh refl) c.asked_at.result c.asked_at.ensures
 

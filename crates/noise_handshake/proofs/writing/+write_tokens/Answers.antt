@@ -1,7 +1,7 @@
-use Rattle.noise_handshake.specs.Calls.{writer_of}
+use Rattle.noise_handshake.specs.inner.Means.{writer_of}
 use Rattle.noise_state.specs.Standing.{StateMatches, keyed, nonce_now}
 use Rattle.std.proofs.Common.{◌≡◌, suc, ap, ℕ, ◌+◌, ◌-◌, ◌≤◌, List, ◌∷◌, length, take, drop, sym, ◌∙◌, arith, length-take, length-drop}
-use Rattle.std.specs.Prelude.{Bool, is_some}
+use Rattle.std.specs.Prelude.{Bool}
 use Rattle.noise_names.specs.declared.token.Token.{Token}
 use Rattle.noise_state.specs.History.{History}
 use Rattle.noise_handshake.specs.Message.{after_token}
@@ -12,7 +12,6 @@ use Rattle.noise_handshake.specs.Length.{keyed_after_tokens, tokens_width}
 use Rattle.noise_handshake.specs.Nonces.{nonce_after_tokens}
 use Rattle.std.proofs.lemmas.List.{nil_from_length}
 use Rattle.noise_handshake.proofs.Stepwise.{keyed-on, nonce-on, bound-on, bound-first, some-token, one-later, nonce-left, psk-due, none-added, place-fits, width-on, room-first, room-later, lacks-first, all-first, all-later, psks-later, nonces-later}
-use Rattle.noise_handshake.specs.inner.Known.{is_known}
 use Rattle.noise_handshake.specs.inner.Speaking.{has_own}
 use Rattle.noise_handshake.proofs.Written.{joined, rest-after}
 use Rattle.noise_handshake.proofs.writing.+write_tokens.Goals as goal
@@ -35,7 +34,7 @@ returns-in-Ok-clause-beyond g t c =
 
 pub returns-in-Ok-clause-written : goal.returns-in-Ok-clause-written
 returns-in-Ok-clause-written g t c r s =
-    let w : Writer = writer_of g.K.Keys.public_of g.K.Keys.agreement c.args.means.now.role c.args.means.now.has_psks c.args.means.now.keys in
+    let w : Writer = writer_of g.K.Keys.public_of g.K.Keys.agreement c.args.means.now in
     let n : ℕ = c.in-Some-write_token.n in
     let k : ℕ = c.in-Ok.more in
     let token : Token = c.in-Some.first.now.token in
@@ -65,7 +64,7 @@ returns-in-Ok-clause-written g t c r s =
 
 pub returns-in-Err-clause-written : goal.returns-in-Err-clause-written
 returns-in-Err-clause-written g t c r s =
-    let w : Writer = writer_of g.K.Keys.public_of g.K.Keys.agreement c.args.means.now.role c.args.means.now.has_psks c.args.means.now.keys in
+    let w : Writer = writer_of g.K.Keys.public_of g.K.Keys.agreement c.args.means.now in
     let token : Token = c.in-Some.first.now.token in
     let a = c.in-Some-write_token.ensures.written r s in
     let next : History = after_token c.args.means.now.has_psks r token a.0 in
@@ -92,7 +91,7 @@ returns-in_default-write_token-clause-used g t c = bound-first (tokens_of c.args
 
 pub returns-in_default-write_token-clause-written : goal.returns-in_default-write_token-clause-written
 returns-in_default-write_token-clause-written g t c r s =
-    let w : Writer = writer_of g.K.Keys.public_of g.K.Keys.agreement c.args.means.now.role c.args.means.now.has_psks c.args.means.now.keys in
+    let w : Writer = writer_of g.K.Keys.public_of g.K.Keys.agreement c.args.means.now in
     lacks-first (tokens_of c.args.placed.now) (tokens_of c.in-Some.later.now) c.in-Some.first.now.token (ap tokens_of c.in-Some.ensures.cases.0) w c.args.known.now c.args.psks.now (c.in_default-write_token.ensures.written r s)
 
 pub returns-in-Ok-clause-width : goal.returns-in-Ok-clause-width
@@ -141,11 +140,6 @@ write_token-requires-clause-own g t c =
     all-first (tokens_of c.args.placed.now) (tokens_of c.in-Some.later.now) c.in-Some.first.now.token (ap tokens_of c.in-Some.ensures.cases.0)
     (has_own (g.K.Keys.public_of c.args.means.now.keys)) c.requires.own
 
-pub write_token-requires-clause-known : goal.write_token-requires-clause-known
-write_token-requires-clause-known g t c =
-    all-first (tokens_of c.args.placed.now) (tokens_of c.in-Some.later.now) c.in-Some.first.now.token (ap tokens_of c.in-Some.ensures.cases.0)
-    (is_known c.args.means.now.role (is_some c.args.known.now.e) (is_some c.args.known.now.s)) c.requires.known
-
 pub write_tokens-requires : goal.write_tokens-requires
 write_tokens-requires g t c κs k =
     let all : List Token = tokens_of c.args.placed.now in
@@ -166,11 +160,8 @@ write_tokens-requires g t c κs k =
           (
             all-later all later token split (has_own (g.K.Keys.public_of c.args.means.now.keys)) c.requires.own,
             (
-              all-later all later token split (is_known c.args.means.now.role (is_some c.args.known.now.e) (is_some c.args.known.now.s)) c.requires.known,
-              (
-                omega (arith, room, length-take (length out - n) (drop n out), length-drop n out),
-                nonces-later all later token split (nonce_now c.args.state.now) (nonce_now c.write_token.new.state) c.in-Some-write_token.ensures.used c.requires.nonces,
-              ),
+              omega (arith, room, length-take (length out - n) (drop n out), length-drop n out),
+              nonces-later all later token split (nonce_now c.args.state.now) (nonce_now c.write_token.new.state) c.in-Some-write_token.ensures.used c.requires.nonces,
             ),
           ),
         ),

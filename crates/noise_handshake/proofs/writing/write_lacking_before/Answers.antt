@@ -1,4 +1,4 @@
-use Rattle.noise_handshake.specs.Calls.{writer_of}
+use Rattle.noise_handshake.specs.inner.Means.{writer_of}
 use Rattle.std.proofs.Common.{◌≡◌, ◌<◌, ◌≤◌, ℕ, List, length, take, true, sym, ap, subst, arith}
 use Rattle.std.specs.Prelude.{Option, None, Some, MatchOption, count_by, is_some}
 use Rattle.std.specs.List.{list_all}
@@ -33,6 +33,6 @@ write_lacking-requires-clause-known g c =
 
 pub returns : goal.returns
 returns g c =
-    let w : Writer = writer_of g.K.Keys.public_of g.K.Keys.agreement c.args.means.now.role c.args.means.now.has_psks c.args.means.now.keys in
+    let w : Writer = writer_of g.K.Keys.public_of g.K.Keys.agreement c.args.means.now in
     subst (λ (us : List Token). MatchOption c.write_lacking.result ((j : ℕ) → LacksDhResultAt w c.args.known.now c.args.psks.now us j → ⊥)
     (λ want. LacksDhResultFor w c.args.known.now c.args.psks.now us want.0 want.1)) (tokens-take c.args.placed.now c.args.k) c.write_lacking.ensures

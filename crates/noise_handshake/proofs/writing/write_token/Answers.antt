@@ -1,4 +1,4 @@
-use Rattle.noise_handshake.specs.Calls.{writer_of}
+use Rattle.noise_handshake.specs.inner.Means.{writer_of}
 use Rattle.noise_state.specs.Standing.{StateMatches, keyed, nonce_now}
 use Rattle.std.proofs.Common.{◌≡◌, ℕ, List, [], length, take, get_or, refl, sym, ap, ◌∙◌, arith}
 use Rattle.std.specs.Prelude.{is_some}
@@ -8,13 +8,7 @@ use Rattle.noise_handshake.specs.Writing.{Writer}
 use Rattle.noise_handshake.proofs.DhTokens.{from_zero, less_one}
 use Rattle.noise_names.specs.declared.token.Token.TheVariants.{E, S, Psk}
 use Rattle.noise_handshake.proofs.Psks.{first_psk-read, written-as}
-use Rattle.noise_handshake.proofs.Knowing.{known-dh}
 use Rattle.noise_handshake.proofs.writing.write_token.Goals as goal
-
-pub dh_result_at-requires : goal.dh_result_at-requires
-dh_result_at-requires g c =
-    let d = c.in_default in
-    known-dh c.args.means.now.role (is_some c.args.known.now.e) (is_some c.args.known.now.s) c.args.token d.not-E d.not-S d.not-Psk c.requires.known
 
 pub returns-in-Some-clause-width : goal.returns-in-Some-clause-width
 returns-in-Some-clause-width g c = c.write_e.ensures.width ∙ ap (token_width (keyed c.args.state.now)) (sym c.in-E.is)
@@ -57,7 +51,7 @@ returns-in-Psk-clause-counted g c = c.mix_key_and_hash.ensures.nonce ∙ ap (non
 
 pub returns-in-Some-clause-written : goal.returns-in-Some-clause-written
 returns-in-Some-clause-written g c r s =
-    let w : Writer = writer_of g.K.Keys.public_of g.K.Keys.agreement c.args.means.now.role c.args.means.now.has_psks c.args.means.now.keys in
+    let w : Writer = writer_of g.K.Keys.public_of g.K.Keys.agreement c.args.means.now in
     let key : List ℕ = c.in-Some.key in
     let long : length key ≡ 32 = omega arith in
     let d = c.write_e.ensures.written r s in
@@ -66,7 +60,7 @@ returns-in-Some-clause-written g c r s =
 
 pub returns-in-Some-public-clause-written : goal.returns-in-Some-public-clause-written
 returns-in-Some-public-clause-written g c r s =
-    let w : Writer = writer_of g.K.Keys.public_of g.K.Keys.agreement c.args.means.now.role c.args.means.now.has_psks c.args.means.now.keys in
+    let w : Writer = writer_of g.K.Keys.public_of g.K.Keys.agreement c.args.means.now in
     let key : List ℕ = c.in-Some-public.key in
     let long : length key ≡ 32 = omega arith in
     let d = c.write_part.ensures.written r s in
@@ -75,6 +69,6 @@ returns-in-Some-public-clause-written g c r s =
 
 pub returns-in-Psk-clause-written : goal.returns-in-Psk-clause-written
 returns-in-Psk-clause-written g c r s =
-    let w : Writer = writer_of g.K.Keys.public_of g.K.Keys.agreement c.args.means.now.role c.args.means.now.has_psks c.args.means.now.keys in
+    let w : Writer = writer_of g.K.Keys.public_of g.K.Keys.agreement c.args.means.now in
     written-as StateMatches c.mix_key_and_hash.new.self w c.args.known.now c.args.psks.now r [] Psk c.args.token c.in-Psk.is
     (get_or c.args.psks.now 0 [], first_psk-read c.args.psks.now, refl, c.mix_key_and_hash.ensures.matches r s)

@@ -16,7 +16,7 @@ returns-in_err-first-clause-fault c =
     let file = c.args.file in
     let plan = c.in_ok-pattern.pattern in
     let known : c.shown_before-of_responder.result ≡ shown_before plan Responder (public_of file.responder) =
-    c.shown_before-of_responder.ensures ∙ ap (λ (z : Plan). shown_before z Responder (public_of file.responder)) c.pattern-2.ensures.value in
+    c.shown_before-of_responder.ensures in
     let psks : c.deref-2.result.now ≡ file.psks.items = search rules in
     let setup = setup-same Initiator file.initiator plan plan c.shown_before-of_responder.result (shown_before plan Responder (public_of file.responder))
     c.deref-2.result.now file.psks.items refl known psks in
@@ -30,9 +30,9 @@ returns-in_err-second-clause-fault c =
     let plan = c.in_ok-pattern.pattern in
     let copy : c.in_ok-same.same ≡ plan = search (rules, same_from_all_zip, c.in_ok-same.ensures.cases) in
     let known : c.shown_before-of_responder.result ≡ shown_before plan Responder (public_of file.responder) =
-    c.shown_before-of_responder.ensures ∙ ap (λ (z : Plan). shown_before z Responder (public_of file.responder)) c.pattern-2.ensures.value in
+    c.shown_before-of_responder.ensures in
     let known-2 : c.shown_before-of_initiator.result ≡ shown_before plan Initiator (public_of file.initiator) =
-    c.shown_before-of_initiator.ensures ∙ ap (λ (z : Plan). shown_before z Initiator (public_of file.initiator)) c.pattern.ensures.value in
+    c.shown_before-of_initiator.ensures in
     let psks : c.deref-2.result.now ≡ file.psks.items = search rules in
     let psks-2 : c.deref-4.result.now ≡ file.psks.items = search rules in
     let setup = setup-same Initiator file.initiator plan plan c.shown_before-of_responder.result (shown_before plan Responder (public_of file.responder))
@@ -50,9 +50,9 @@ returns-clause-handshakes c =
     let plan = c.in_ok-pattern.pattern in
     let copy : c.in_ok-same.same ≡ plan = search (rules, same_from_all_zip, c.in_ok-same.ensures.cases) in
     let known : c.shown_before-of_responder.result ≡ shown_before plan Responder (public_of file.responder) =
-    c.shown_before-of_responder.ensures ∙ ap (λ (z : Plan). shown_before z Responder (public_of file.responder)) c.pattern-2.ensures.value in
+    c.shown_before-of_responder.ensures in
     let known-2 : c.shown_before-of_initiator.result ≡ shown_before plan Initiator (public_of file.initiator) =
-    c.shown_before-of_initiator.ensures ∙ ap (λ (z : Plan). shown_before z Initiator (public_of file.initiator)) c.pattern.ensures.value in
+    c.shown_before-of_initiator.ensures in
     let text : c.deref.result.now ≡ file.prologue.items = search rules in
     let text-2 : c.deref-3.result.now ≡ file.prologue.items = search rules in
     let psks : c.deref-2.result.now ≡ file.psks.items = search rules in

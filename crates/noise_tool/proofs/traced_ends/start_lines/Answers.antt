@@ -13,9 +13,9 @@ returns c = λ set_up.
     let file = c.args.file.now in
     let plan = c.args.pattern.now in
     let known : c.shown_before-of_responder.result ≡ shown_before plan Responder (public_of file.responder) =
-    c.shown_before-of_responder.ensures ∙ ap (λ (z : Plan). shown_before z Responder (public_of file.responder)) c.pattern-2.ensures.value in
+    c.shown_before-of_responder.ensures in
     let known-2 : c.shown_before-of_initiator.result ≡ shown_before plan Initiator (public_of file.initiator) =
-    c.shown_before-of_initiator.ensures ∙ ap (λ (z : Plan). shown_before z Initiator (public_of file.initiator)) c.pattern.ensures.value in
+    c.shown_before-of_initiator.ensures in
     let text : c.deref.result.now ≡ file.prologue.items = search rules in
     let text-2 : c.deref-2.result.now ≡ file.prologue.items = search rules in
     let head = rw c.new-lines.ensures.items at c.in_ok-push_heading.ensures in

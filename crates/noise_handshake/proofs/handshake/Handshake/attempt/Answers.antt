@@ -22,11 +22,6 @@ read_message-requires-clause-nonces g c =
     nonces-next g.K.Keys.public_of c.self.inside c.self.invariant less c.deref-2.result.now c.deref-2.ensures.0 c.for_trial-state.result c.for_trial-state.ensures
     (omega (arith, c.deref-2.ensures.1))
 
-pub read_message-requires-clause-known : goal.read_message-requires-clause-known
-read_message-requires-clause-known g c =
-    let less = reads-next g.K.Keys.public_of c.self.inside c.self.invariant c.args.self.now c.self.view_is c.requires.due in
-    known-next g.K.Keys.public_of c.self.inside c.self.invariant less c.deref-2.result.now c.deref-2.ensures.0
-
 pub overflow_add-self : goal.overflow_add-self
 overflow_add-self g c =
     let less = reads-next g.K.Keys.public_of c.self.inside c.self.invariant c.args.self.now c.self.view_is c.requires.due in
@@ -86,6 +81,7 @@ returns-in-Err-clause-reads g c v s =
 
 pub returns-in-Ok-clause-state : goal.returns-in-Ok-clause-state
 returns-in-Ok-clause-state g c =
-    advances-next c.self.inside c.args.self.now c.self.view_is
+    advances-next g.K.Keys.public_of c.self.inside c.self.invariant
+    (reads-next g.K.Keys.public_of c.self.inside c.self.invariant c.args.self.now c.self.view_is c.requires.due) c.args.self.now c.self.view_is
     (reads-unended g.K.Keys.public_of c.self.inside c.self.invariant c.args.self.now c.self.view_is c.requires.due)
     c.read_message.new.known c.read_message.new.state c.lay_next-self-inside.result

@@ -8,7 +8,7 @@ use Rattle.noise_handshake.specs.Party.{Party}
 use Rattle.noise_handshake.specs.inner.Kept.{held_in}
 use Rattle.noise_handshake.proofs.LateParties.{fault-no-agreement, withheld-view}
 use Rattle.noise_handshake.proofs.Layouts.{length-tokens_of}
-use Rattle.noise_handshake.proofs.Next.{writes-next, writes-ours, writes-unended, writes-long, writes-wide, writes-room, writes-most, psks-next, nonces-next, known-ours, own-ours}
+use Rattle.noise_handshake.proofs.Next.{writes-next, writes-ours, writes-unended, writes-long, writes-wide, writes-room, writes-most, psks-next, nonces-next, own-ours}
 use Rattle.noise_handshake.proofs.Next.{used-next, key-next, unchanged-wrote, advances-next, trial-next, speaking-next, after-wrote, short-next}
 use Rattle.noise_handshake.proofs.Standing.{ends}
 use Rattle.noise_handshake.proofs.Withheld.{withholds-of}
@@ -33,14 +33,6 @@ write_message-requires-clause-own g c =
     let less = writes-next g.K.Keys.public_of c.self.inside c.self.invariant c.args.self.now c.self.view_is
     (length c.args.payload.now) (sym c.write_fault.ensures.value ∙ c.in_default.is) in
     own-ours g.K.Keys.public_of c.self.inside c.self.invariant less c.deref-2.result.now c.deref-2.ensures.0
-    (writes-ours g.K.Keys.public_of c.self.inside c.self.invariant c.args.self.now c.self.view_is
-    (length c.args.payload.now) (sym c.write_fault.ensures.value ∙ c.in_default.is))
-
-pub write_message-requires-clause-known : goal.write_message-requires-clause-known
-write_message-requires-clause-known g c =
-    let less = writes-next g.K.Keys.public_of c.self.inside c.self.invariant c.args.self.now c.self.view_is
-    (length c.args.payload.now) (sym c.write_fault.ensures.value ∙ c.in_default.is) in
-    known-ours g.K.Keys.public_of c.self.inside c.self.invariant less c.deref-2.result.now c.deref-2.ensures.0
     (writes-ours g.K.Keys.public_of c.self.inside c.self.invariant c.args.self.now c.self.view_is
     (length c.args.payload.now) (sym c.write_fault.ensures.value ∙ c.in_default.is))
 
@@ -139,7 +131,9 @@ returns-in-Err-clause-writes g c v s =
 
 pub returns-in-Ok-clause-state : goal.returns-in-Ok-clause-state
 returns-in-Ok-clause-state g c =
-    advances-next c.self.inside c.args.self.now c.self.view_is
+    advances-next g.K.Keys.public_of c.self.inside c.self.invariant
+    (writes-next g.K.Keys.public_of c.self.inside c.self.invariant c.args.self.now c.self.view_is
+    (length c.args.payload.now) (sym c.write_fault.ensures.value ∙ c.in_default.is)) c.args.self.now c.self.view_is
     (writes-unended g.K.Keys.public_of c.self.inside c.self.invariant c.args.self.now c.self.view_is
     (length c.args.payload.now) (sym c.write_fault.ensures.value ∙ c.in_default.is))
     c.self.inside.remote c.write_message.new.state c.lay_next-self-inside.result

@@ -10,7 +10,6 @@ use Rattle.noise_handshake.specs.declared.faults.Unread.{Unread}
 use Rattle.noise_handshake.specs.declared.late_faults.LateUnread.TheVariants as unread
 use Rattle.noise_handshake.specs.declared.late_faults.Want.TheVariants.{Psk}
 use Rattle.noise_handshake.specs.inner.Late.{without_last}
-use Rattle.noise_handshake.proofs.Standing.{due}
 use Rattle.noise_handshake.proofs.LateParties.{holding, matches-filled, few-now, left-after, advances-after, after-read}
 use Rattle.noise_handshake.proofs.LateParties.{matches-same, matches-declined, matches-ended, read-accepts, read-dh-result, read-declines, read-none}
 use Rattle.noise_handshake.proofs.LateParties.{before-psk, before-one, before-refused, before-not, before-declined, before-dh-result}
@@ -20,13 +19,11 @@ pub invariant_of-self-in-None : goal.invariant_of-self-in-None
 invariant_of-self-in-None g c =
     left-after c.self.inside.filled c.self.inside.lacking c.self.invariant c.args.self.now c.self.view_is
     (omega (arith, c.in-None.ensures.found, c.given.ensures.count)) c.read_or_ask.new.self c.in-Ok.ensures.state
-    (due c.self.inside.filled c.read_fault.ensures.within (sym c.read_fault.ensures.value ∙ c.in_default.is)) c.in-None.ensures.due c.left.ensures.due
 
 pub returns-in-Ok-clause-state : goal.returns-in-Ok-clause-state
 returns-in-Ok-clause-state g c =
     advances-after c.self.inside.filled c.self.inside.lacking c.self.invariant c.args.self.now c.self.view_is
     (omega (arith, c.in-None.ensures.found, c.given.ensures.count)) c.read_or_ask.new.self c.in-Ok.ensures.state
-    (due c.self.inside.filled c.read_fault.ensures.within (sym c.read_fault.ensures.value ∙ c.in_default.is)) c.in-None.ensures.due c.left.ensures.due
 
 pub returns-in-Ok-clause-reads : goal.returns-in-Ok-clause-reads
 returns-in-Ok-clause-reads g c v later s =

@@ -30,7 +30,7 @@ invariant_of-self-2 g c =
     taken-within c.self.inside.filled c.self.inside.lacking c.self.invariant c.args.self.now c.self.view_is (length c.args.payload.now)
     (sym c.withheld.ensures.value ∙ c.in_default.is) c.wants_to_write.result c.in_default-wants_to_write.is c.wants_to_write.ensures.few in
     left-after c.self.inside.filled c.self.inside.lacking c.self.invariant c.args.self.now c.self.view_is
-    few c.write.new.self c.in-Ok.ensures.state (c.withheld.ensures.due c.in_default.is) c.left.ensures.due c.left-2.ensures.due
+    few c.write.new.self c.in-Ok.ensures.state
 
 pub returns-clause-state : goal.returns-clause-state
 returns-clause-state g c =
@@ -38,7 +38,7 @@ returns-clause-state g c =
     taken-within c.self.inside.filled c.self.inside.lacking c.self.invariant c.args.self.now c.self.view_is (length c.args.payload.now)
     (sym c.withheld.ensures.value ∙ c.in_default.is) c.wants_to_write.result c.in_default-wants_to_write.is c.wants_to_write.ensures.few in
     advances-after c.self.inside.filled c.self.inside.lacking c.self.invariant c.args.self.now c.self.view_is
-    few c.write.new.self c.in-Ok.ensures.state (c.withheld.ensures.due c.in_default.is) c.left.ensures.due c.left-2.ensures.due
+    few c.write.new.self c.in-Ok.ensures.state
 
 pub returns-clause-writes : goal.returns-clause-writes
 returns-clause-writes g c v later s =

@@ -10,7 +10,7 @@ returns-in-Err c = λ s h same.
     let r = c.loop-rest.invariant in
     line-fault c.args.places.now s c.args.lines.now c.loop-rest.rest.now c.first_line-line.result.bytes.now c.loop-rest.number c.loop-rest.judged c.in-Err.kind
     c.fault.result h same r (differ_from_test _ _ 0 c.is_empty.ensures c.loop-rest-test.true) c.first_line-line.ensures.bytes
-    (c.in-Err.ensures r.passed _ r.stands r.are) c.fault.ensures
+    (c.in-Err.ensures r.passed _ r.matches r.are) c.fault.ensures
 
 pub returns-then-not-line : goal.returns-then-not-line
 returns-then-not-line c = λ s h same.
@@ -18,14 +18,14 @@ returns-then-not-line c = λ s h same.
     cut-fault c.args.places.now s c.args.lines.now c.loop-rest.rest.now c.first_line-line.result.bytes.now c.first_line-line.result.after.now
     c.first_line-line.result.ended c.loop-rest.number c.loop-rest.judged c.in-Ok.judged c.fault-then-not-line.result h same r
     (differ_from_test _ _ 0 c.is_empty.ensures c.loop-rest-test.true) c.first_line-line.ensures.bytes c.first_line-line.ensures.whole c.if-not-line.true
-    (c.in-Ok.ensures r.passed _ r.stands r.are) c.fault-then-not-line.ensures
+    (c.in-Ok.ensures r.passed _ r.matches r.are) c.fault-then-not-line.ensures
 
 pub loop-rest-preserved : goal.loop-rest-preserved
 loop-rest-preserved c =
     let r = c.loop-rest.invariant in
     next-right c.args.places.now c.args.lines.now c.loop-rest.rest.now c.first_line-line.result.bytes.now c.first_line-line.result.after.now
     c.first_line-line.result.ended c.loop-rest.number c.loop-rest.judged c.in-Ok.judged r c.first_line-line.ensures.bytes c.first_line-line.ensures.whole
-    c.if-not-line.false (c.in-Ok.ensures r.passed _ r.stands r.are)
+    c.if-not-line.false (c.in-Ok.ensures r.passed _ r.matches r.are)
 
 pub returns : goal.returns
 returns c = λ s h same.

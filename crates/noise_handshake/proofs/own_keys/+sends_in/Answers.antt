@@ -1,4 +1,4 @@
-use Rattle.noise_handshake.specs.Setup.{has_token, token_of}
+use Rattle.noise_handshake.specs.Setup.{has_token}
 use Rattle.noise_handshake.proofs.Uses.{found-here, found-later}
 use Rattle.std.proofs.Common.{ap, ◌∙◌, List, ◌+◌}
 use Rattle.noise_names.specs.declared.token.Token.{Token}
@@ -7,19 +7,19 @@ use Rattle.noise_names.specs.Tokens.{same_role}
 use Rattle.noise_names.specs.Plan.{message_places}
 use Rattle.noise_names.specs.Validity.{is_among}
 use Rattle.std.specs.Prelude.{◌&&◌}
-use Rattle.noise_handshake.proofs.setup.+sends_in.Goals as goal
+use Rattle.noise_handshake.proofs.own_keys.+sends_in.Goals as goal
 
 pub returns-then-sends_as : goal.returns-then-sends_as
 returns-then-sends_as t c n =
-    found-here c.args.party c.args.role (token_of c.args.own) n c.in-Some.message.now c.in-Some.later.now c.args.messages.now c.sends_as.result
+    found-here c.args.party c.args.role c.args.token n c.in-Some.message.now c.in-Some.later.now c.args.messages.now c.sends_as.result
     c.in-Some.ensures.cases.0
     (c.sends_as.ensures ∙ ap (λ (ts : List Token). same_role c.args.party c.args.role && has_token
-    (token_of c.args.own) ts) c.tokens.ensures.value) c.if-sends_as.true
+    c.args.token ts) c.tokens.ensures.value) c.if-sends_as.true
 
 pub returns : goal.returns
 returns t c n =
-    found-later c.args.party c.args.role (token_of c.args.own) n c.in-Some.message.now c.in-Some.later.now c.args.messages.now c.sends_as.result
+    found-later c.args.party c.args.role c.args.token n c.in-Some.message.now c.in-Some.later.now c.args.messages.now c.sends_as.result
     c.sends_in.result c.in-Some.ensures.cases.0
     (c.sends_as.ensures ∙ ap (λ (ts : List Token). same_role c.args.party c.args.role && has_token
-    (token_of c.args.own) ts) c.tokens.ensures.value) c.if-sends_as.false
-    (c.sends_in.ensures (n + 1) ∙ ap (λ (r : Role). is_among c.args.role (token_of c.args.own) (message_places r (n + 1) c.in-Some.later.now)) c.other.ensures)
+    c.args.token ts) c.tokens.ensures.value) c.if-sends_as.false
+    (c.sends_in.ensures (n + 1) ∙ ap (λ (r : Role). is_among c.args.role c.args.token (message_places r (n + 1) c.in-Some.later.now)) c.other.ensures)

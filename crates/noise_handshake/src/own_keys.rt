@@ -1,0 +1,124 @@
+//! Which tokens a party has in a pattern (Noise, 7.1), and its public keys.
+#![tactic(auto)]
+
+ghost use Rattle.std.specs.Prelude.{◌≡◌, ◌≤◌, ◌&&◌, ℕ, length};
+ghost use Rattle.std.specs.List.{list_any};
+ghost use Rattle.noise_names.specs.Tokens.{same_role, same_token};
+ghost use Rattle.noise_names.specs.Plan.{places_of, message_places};
+ghost use Rattle.noise_names.specs.Validity.{is_among};
+ghost use Rattle.noise_handshake.specs.Counterparts.{shown_before};
+ghost use Rattle.noise_handshake.specs.Passed.{passed_places};
+ghost use Rattle.noise_handshake.specs.Setup.{keys_of, public_keys, token_of};
+
+use crate::{Keys, Own, Remote};
+use noise_names::{Message, Pattern, Role, Token, ValidPattern};
+
+/// The token that sends such a key.
+pub fn token_of(own: Own) -> Token
+    ensures { result ≡ token_of own }
+{
+    match own {
+        Own::Ephemeral => Token::E,
+        Own::Static => Token::S,
+    }
+}
+
+// Whether they are one token.
+fn is_token(token: Token, other: Token) -> bool
+    ensures { result ≡ same_token token other }
+{
+    token == other
+}
+
+/// Whether a token is among these.
+pub fn has_token(tokens: &[Token], token: Token) -> bool
+    ensures { result ≡ list_any (λ t. same_token t token) tokens.now }
+{
+    tokens.iter().any(|t| is_token(*t, token))
+}
+
+// Whether they are one role.
+fn is_same(party: Role, role: Role) -> bool
+    ensures { result ≡ same_role party role }
+{
+    party == role
+}
+
+// Whether the party is this role, and has the token.
+fn sends_as(tokens: &[Token], party: Role, role: Role, token: Token) -> bool
+    ensures { result ≡ (same_role party role && list_any (λ t. same_token t token) tokens.now) }
+{
+    is_same(party, role) && has_token(tokens, token)
+}
+
+// Whether a role has the token in one of these messages, the first of which the party writes.
+fn sends_in(messages: &[Message], party: Role, role: Role, token: Token) -> bool
+    ensures { (n : ℕ) → result ≡ is_among role token (message_places party n messages.now) }
+{
+    let Some((message, later)) = messages.split_first() else {
+        return false;
+    };
+    if sends_as(message.tokens(), party, role, token) {
+        return true;
+    }
+    sends_in(later, party.other(), role, token)
+}
+
+/// Whether a role has the token in its pre-message or a message.
+pub fn sends(pattern: &Pattern, role: Role, token: Token) -> bool
+    ensures { result ≡ is_among role token (places_of pattern.now) }
+{
+    let before = has_token(pattern.pre(role), token);
+    if before {
+        return true;
+    }
+    sends_in(pattern.messages(), Role::Initiator, role, token)
+}
+
+// Whether a role has the token in its pre-message or one of so many messages.
+pub(crate) fn was_sent(pattern: &Pattern, passed: usize, role: Role, token: Token) -> bool
+    requires { passed ≤ length pattern.now.messages }
+    ensures { result ≡ is_among role token (passed_places pattern.now passed) }
+{
+    let before = has_token(pattern.pre(role), token);
+    if before {
+        return true;
+    }
+    sends_in(&pattern.messages()[..passed], Role::Initiator, role, token)
+}
+
+/// The public keys of a party's own.
+pub fn public_keys<K: Keys>(keys: &K) -> Remote
+    ensures { result ≡ public_keys (K.public_of keys.now) }
+{
+    Remote {
+        e: keys.public(Own::Ephemeral),
+        s: keys.public(Own::Static),
+    }
+}
+
+/// The public keys of a party, for a role with these keys of its own and these of the other party.
+pub fn keys_of(party: Role, role: Role, own: &Remote, remote: &Remote) -> Remote
+    ensures { result ≡ keys_of party role own.now remote.now }
+{
+    if is_same(party, role) { *own } else { *remote }
+}
+
+/// Of a party's public keys those of its pre-message, which the other party knows before the first message.
+pub fn shown_before<K: Keys>(pattern: &ValidPattern, party: Role, keys: &K) -> Remote
+    ensures { result ≡ shown_before pattern.now party (K.public_of keys.now) }
+{
+    let pre = pattern.pattern().pre(party);
+    Remote {
+        e: if pre.contains(&Token::E) {
+            keys.public(Own::Ephemeral)
+        } else {
+            None
+        },
+        s: if pre.contains(&Token::S) {
+            keys.public(Own::Static)
+        } else {
+            None
+        },
+    }
+}
