@@ -13,10 +13,9 @@ use Rattle.noise_state.specs.History.{History}
 use Rattle.noise_session.specs.declared.faults.SendFault.{SendFault}
 use Rattle.noise_session.specs.declared.faults.SendFault.TheVariants as send
 use Rattle.noise_session.specs.declared.datagram_fault.DatagramFault.{DatagramFault}
-use Rattle.noise_session.specs.declared.datagram_fault.DatagramFault.TheVariants as fault
 use Rattle.noise_session.specs.Transport.{transport_message, split_key, last_nonce}
-use Rattle.noise_session.specs.Windows.{is_among, is_old, window_fault}
-use Rattle.noise_session.specs.Datagrams.{DatagramState, Opens, accepting, datagram, datagram_fault, nonce_named, unsealed}
+use Rattle.noise_session.specs.Windows.{is_among}
+use Rattle.noise_session.specs.Datagrams.{DatagramState, Opens, accepting, datagram, nonce_named, unsealed}
 use Rattle.noise_session.specs.Datagrams.Opens.{opened}
 use Rattle.noise_events.specs.DatagramEvents.{DatagramEvent, Seal, Open, Raw}
 use Rattle.noise_session.specs.DatagramFaults.{fault-free, no-fault}

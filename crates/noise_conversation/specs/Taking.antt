@@ -1,4 +1,4 @@
--- What bytes make of an end, and a message of a handshake, where it is asked whether they come as a payload.
+-- What an end makes of bytes, and a handshake of a message, and whether that gives a certain payload.
 use Rattle.std.specs.Prelude.{◌≡◌, ◌≤◌, ◌↔◌, ℕ, List, ◌++◌, length, Bool, true, Option, None, Result, Ok, MatchResult}
 use Rattle.noise_keys.specs.declared.keys.Own.{Own}
 use Rattle.noise_handshake.specs.declared.faults.ReadFault.{ReadFault}

@@ -1,19 +1,16 @@
 -- Two parties of one handshake agree on their datagrams.
 use Rattle.std.proofs.Common.{◌≡◌, ◌≢◌, ℕ, zero, suc, ◌+◌, List, [], ◌∷◌, ◌++◌, length, length-append, Option, Some, None, Ok, slice_get}
 use Rattle.std.proofs.Common.{refl, sym, ◌∙◌, ap, subst, arith, inl, inr, ◌⊎◌}
-use Rattle.std.specs.Prelude.{Bool, true, false, ◌&&◌, ◌==◌, nat_lt, if◌then◌else◌}
 use Rattle.std.proofs.lemmas.Bool.{ne_eqb}
 use Rattle.std.proofs.Common.{eq-eqb}
 use Rattle.std.proofs.lemmas.Bool.Decides.{eqb_tells}
 use Rattle.noise_names.specs.declared.token.Role.{Role}
 use Rattle.noise_names.specs.declared.token.Role.TheVariants.{Initiator, Responder}
-use Rattle.noise_names.specs.Tokens.{other, same_role}
+use Rattle.noise_names.specs.Tokens.{other}
 use Rattle.noise_state.specs.History.{History}
 use Rattle.noise_handshake.specs.Party.{Party}
-use Rattle.noise_session.specs.declared.datagram_fault.DatagramFault.{DatagramFault}
-use Rattle.noise_session.specs.declared.datagram_fault.DatagramFault.TheVariants as fault
-use Rattle.noise_session.specs.Transport.{transport_message, last_nonce}
-use Rattle.noise_session.specs.Windows.{is_among, is_old, window_fault}
+use Rattle.noise_session.specs.Transport.{transport_message}
+use Rattle.noise_session.specs.Windows.{is_among}
 use Rattle.noise_session.specs.Datagrams.{AreOnce, DatagramState, IsSealed, Opens, datagram_fault, nonce_named}
 use Rattle.noise_session.specs.Datagrams.Opens.{opened}
 use Rattle.noise_session.specs.DatagramFaults.{fault-free}

@@ -1,4 +1,4 @@
--- With the same psks and returns the same bytes are the same conversation, from the first message on.
+-- With the same psks and DH results the same bytes are the same conversation, from the first message on.
 use Rattle.std.proofs.Common.{◌≡◌, ℕ, ◌+◌, List, [], ◌∷◌, ◌++◌, drop, count_by, refl, ap, sym, subst, ◌∙◌, inl, inr}
 use Rattle.std.specs.Prelude.{Bool, unwrap_or}
 use Rattle.noise_names.specs.declared.token.Role.TheVariants.{Initiator, Responder}

@@ -1,4 +1,4 @@
--- The lines of code, without their buffers.
+-- The lines of a conversation, without the buffers that code has them in.
 use Rattle.std.specs.Prelude.{ℕ, List, Vec, map}
 use Rattle.std.specs.Global.{Global}
 use Rattle.noise_names.specs.declared.token.Role.{Role}

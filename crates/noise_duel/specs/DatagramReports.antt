@@ -14,7 +14,7 @@ use Rattle.noise_duel.specs.DatagramRuns.{DatagramRun}
 use Rattle.noise_duel.specs.DatagramSides.{DatagramSides, datagram_sides}
 use Rattle.noise_duel.specs.DuelValue.{DuelValue}
 
--- the entries of code
+-- the entries that code has, as notes
 abbrev pub datagram_note_of : DatagramEntry → DatagramNote
 datagram_note_of (entry.Sealed number datagram) = Sealed number datagram.items
 datagram_note_of (entry.SealFault why) = SealFault why

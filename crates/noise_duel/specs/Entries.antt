@@ -1,4 +1,4 @@
--- The entries and frames of code as notes and bytes.
+-- The entries and frames that code has, as notes and bytes.
 use Rattle.std.specs.Prelude.{ℕ, List, Vec, Result, Ok, Err, map}
 use Rattle.std.specs.Global.{Global}
 use Rattle.noise_names.specs.declared.token.Role.{Role}

@@ -36,8 +36,8 @@ HasDhResults p a b = (t : Token) → is_dh t ≡ true → occurs t (places_of p)
     × (is_some (dh_result_of b.agree (own_at Responder t) (remote_at Responder (public_keys a.own) t)) ≡ true)
 
 -- The key material of two parties: both parties' public keys, the initiator's DH result at each DH token, and the psks.
--- 32 zeros are a key that there isn't, and no bytes for a DH result: no message of a pattern that the parties are set
--- up for has them.
+-- A key that is missing is 32 zeros here, and a DH result that is missing no bytes: no message of a pattern that the
+-- parties are set up for has them.
 abbrev pub absent_key : List ℕ
 absent_key = replicate 32 0
 

@@ -1,5 +1,5 @@
 -- A datagram is a message of a half whose key is never renewed, after its nonce.
-use Rattle.std.proofs.Common.{◌≡◌, ◌≤◌, ◌<◌, ℕ, ◌+◌, ◌-◌, List, [], ◌++◌, length, take, drop, Option, Some, None, Ok, Err, refl, sym, ◌∙◌, ap, subst, arith}
+use Rattle.std.proofs.Common.{◌≡◌, ◌≤◌, ℕ, ◌+◌, ◌-◌, List, [], ◌++◌, length, take, drop, Option, Some, None, Ok, Err, refl, sym, ◌∙◌, ap, subst, arith}
 use Rattle.std.proofs.lemmas.Bool.Decides.{nat_tests}
 use Rattle.std.specs.Int.{w64, to_be_bytes}
 use borrow.Rule.Slice.PartMut.{put_mid}
@@ -9,7 +9,7 @@ use Rattle.noise_session.specs.Transport.{transport_message, last_nonce}
 use Rattle.noise_session.specs.Halves.{HalfValue, sender_fault}
 use Rattle.noise_session.specs.HalfCalls.{SenderSeals, SucceedsUnless}
 use Rattle.noise_session.specs.TransportValue.{renewed_key}
-use Rattle.noise_session.specs.Datagrams.{DatagramSenderValue, DatagramState, DatagramSenderMatches, unsealed}
+use Rattle.noise_session.specs.Datagrams.{DatagramSenderValue, DatagramSenderMatches, unsealed}
 use Rattle.noise_session.specs.DatagramCalls.{DatagramSenderSeals, datagram_under}
 use Rattle.noise_session.specs.inner.Halves.{datagram_sender_value}
 use Rattle.noise_session.proofs.Places.{after-front, rest-after}

@@ -1,13 +1,9 @@
 -- What the calls of datagrams are, by those of their two halves; and the bytes after a datagram.
-use Rattle.std.proofs.Common.{◌≡◌, ◌≤◌, ℕ, ◌+◌, ◌-◌, ◌∙◌, ◌++◌, List, length, take, drop, Bool, Option, Result, Ok, Err, refl, sym, ap, subst, arith}
+use Rattle.std.proofs.Common.{◌≡◌, ℕ, ◌+◌, ◌-◌, ◌∙◌, List, Bool, Option, Result, Ok, Err, sym, ap, subst}
 use Rattle.std.specs.Prelude.{IfOk, OnOk, OnErr, MatchResult}
-use Rattle.std.proofs.lemmas.List.{drop_at, take_at, length-take-le}
-use Rattle.std.proofs.lemmas.Slice.{drop-put_mid}
-use borrow.Rule.Slice.PartMut.{put_mid}
 use Rattle.noise_names.specs.declared.token.Role.{Role}
 use Rattle.noise_session.specs.declared.faults.SendFault.{SendFault}
 use Rattle.noise_session.specs.declared.datagram_fault.DatagramFault.{DatagramFault}
-use Rattle.noise_session.specs.declared.window.Ring.{Ring}
 use Rattle.noise_session.specs.Datagrams.{DatagramsValue, DatagramSenderValue, DatagramReceiverValue, datagram_sending_half, datagram_receiving_half}
 use Rattle.noise_session.specs.Datagrams.{DatagramState, DatagramsMatch, DatagramSenderMatches, DatagramReceiverMatches, accepting, nonce_named}
 use Rattle.noise_session.specs.DatagramCalls.{DatagramSenderSeals, DatagramReceiverOpens, DatagramsSeal, DatagramsOpen}

@@ -1,27 +1,23 @@
 -- What sealing and opening make of the bytes of a datagram, and of a state.
 use Rattle.std.proofs.Common.{◌≡◌, ◌≢◌, ℕ, ◌+◌, ◌-◌, ◌≤◌, ◌<◌, Bool, true, false, List, [], ◌∷◌, ◌++◌, length, take, drop, Option, Some, None}
-use Rattle.std.proofs.Common.{refl, sym, ◌∙◌, ap, subst, arith, length-drop}
-use Rattle.std.specs.Prelude.{◌&&◌, ◌==◌, nat_lt, if◌then◌else◌}
+use Rattle.std.proofs.Common.{refl, sym, ◌∙◌, ap, subst, arith}
+use Rattle.std.specs.Prelude.{◌&&◌, if◌then◌else◌}
 use Rattle.std.proofs.lemmas.Bool.{ne_eqb}
 use Rattle.noise_session.specs.Halves.{HalfValue, receiver_fault}
 use Rattle.noise_session.specs.DatagramFaults.{fault-free}
-use Rattle.noise_session.proofs.Places.{after-front}
 use Rattle.std.specs.Int.{w64, to_be_bytes}
-use Rattle.std.proofs.lemmas.List.{drop_at, take_at, drop-drop, length-take-le, nil_from_length, append-nil}
+use Rattle.std.proofs.lemmas.List.{drop_at, take_at}
 use Rattle.std.proofs.Math.Seq.{take-add}
-use borrow.Rule.Slice.PartMut.{put_mid}
 use Rattle.noise_names.specs.declared.token.Role.{Role}
 use Rattle.noise_names.specs.declared.token.Role.TheVariants.{Initiator}
 use Rattle.noise_names.specs.Tokens.{same_role}
 use Rattle.noise_state.specs.History.{History, ciphertext_under}
-use Rattle.noise_session.specs.declared.datagram_fault.DatagramFault.{DatagramFault}
-use Rattle.noise_session.specs.declared.datagram_fault.DatagramFault.TheVariants as fault
 use Rattle.noise_session.specs.declared.window.Ring.{Ring}
 use Rattle.noise_session.specs.Transport.{split_key, transport_message, last_nonce}
 use Rattle.noise_events.specs.Windows.{width_of}
-use Rattle.noise_session.specs.Windows.{is_among, is_old, window_fault, Recalls}
+use Rattle.noise_session.specs.Windows.{is_old, Recalls}
 use Rattle.noise_session.specs.Datagrams.{DatagramState, nonce_named, accepting, datagram_fault}
-use Rattle.noise_session.specs.Datagrams.{DatagramSenderValue, DatagramReceiverValue, DatagramSenderMatches, DatagramReceiverMatches}
+use Rattle.noise_session.specs.Datagrams.{DatagramReceiverValue, DatagramReceiverMatches}
 
 -- ---- bytes
 take-after : (p q : List ℕ) (n : ℕ) → length p ≡ 8 → take (8 + n) (p ++ q) ≡ p ++ take n q

@@ -8,7 +8,7 @@ use crate::HalfParts;
 use noise_names::Role;
 use noise_state::CipherState;
 
-// One direction of a party's transport, or of its datagrams, whose key is never renewed.
+// One direction of a party's transport; of its datagrams where the interval is 0.
 #[derive(Drop)]
 pub(crate) struct Half {
     pub(crate) role: Role,

@@ -1,16 +1,10 @@
 -- Keys whose DH is the xor of bytes: those of two parties agree, and have a DH result wherever a setup without a fault needs one.
 use Rattle.std.proofs.Common.{◌≡◌, ◌∙◌, refl, ap, sym, ℕ, List, length, Option, Some, None}
 use Rattle.std.specs.Prelude.{true, is_some, IfSome}
-use Rattle.noise_names.specs.declared.token.Role.{Role}
-use Rattle.noise_names.specs.declared.token.Role.TheVariants.{Initiator, Responder}
-use Rattle.noise_names.specs.Tokens.{other}
-use Rattle.noise_names.specs.declared.token.Token.{Token}
-use Rattle.noise_names.specs.declared.token.Token.TheVariants.{E, S, Ee, Es, Se, Ss, Psk}
 use Rattle.noise_keys.specs.declared.keys.Own.{Own}
 use Rattle.noise_keys.specs.declared.keys.Own.TheVariants.{Ephemeral, Static}
 use Rattle.noise_keys.specs.Keys.{key_of, xor_dh_result, xor_dh_result-same}
-use Rattle.noise_handshake.specs.Setup.{public_keys}
-use Rattle.noise_handshake.specs.Party.{dh_result_of, own_at, remote_at}
+use Rattle.noise_handshake.specs.Party.{dh_result_of}
 use Rattle.noise_vectors.specs.FileKeys.{agreement_of, public_of}
 use Rattle.noise_vectors.specs.VectorFile.{AreKeys}
 use Rattle.noise_vectors.specs.Words.{IsKey}

@@ -1,5 +1,4 @@
-use Rattle.std.proofs.Common.{◌∙◌, ap, drop}
-use Rattle.std.proofs.lemmas.List.{drop_at}
+use Rattle.std.proofs.Common.{◌∙◌, drop}
 use Rattle.noise_session.proofs.DatagramStates.{sealed-front}
 use Rattle.std.proofs.Common.{refl}
 use Rattle.noise_session.proofs.datagram_sender.put_nonce.Goals as goal

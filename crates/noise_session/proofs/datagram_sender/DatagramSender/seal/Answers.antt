@@ -1,5 +1,4 @@
 use Rattle.std.proofs.Common.{◌≡◌, ◌≤◌, ◌+◌, ◌-◌, ◌++◌, ℕ, length, take, drop, None, refl, sym, ◌∙◌, ap, subst, arith}
-use Rattle.std.proofs.lemmas.List.{take_rest}
 use Rattle.std.specs.Int.{w64, to_be_bytes}
 use borrow.Rule.Slice.PartMut.{put_mid}
 use Rattle.noise_session.specs.Halves.{sender_fault}

@@ -3,8 +3,8 @@ use Rattle.std.specs.Prelude.{slice_range}
 use Rattle.noise_handshake.specs.Matching.{after_message}
 use Rattle.noise_session.specs.declared.phase.Phase.{Phase}
 use Rattle.noise_session.specs.declared.phase.Phase.TheVariants as phase
-use Rattle.noise_session.specs.TransportValue.{TransportValue, TransportMatches}
-use Rattle.noise_session.specs.Ends.{EndState, PhaseMatches, HandshakeMatches, OpenMatches, EndedMatches, transport_in, ended_session}
+use Rattle.noise_session.specs.TransportValue.{TransportValue}
+use Rattle.noise_session.specs.Ends.{EndState, PhaseMatches, OpenMatches, EndedMatches, transport_in, ended_session}
 use Rattle.noise_session.specs.Taking.Judges.{accepted, refused}
 use Rattle.noise_session.proofs.Parties.{no-hash, as-handshake, as-open, phase-partial}
 use Rattle.noise_session.proofs.Judging.{opened-as, dropped-short, dropped-tag, exhausted-as, ended-open}
