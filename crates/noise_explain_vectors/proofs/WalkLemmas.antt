@@ -1,13 +1,12 @@
 -- The words of a line that were gone over, and where the next one begins.
-use Rattle.std.proofs.Common.{rules, arith, refl, subst, sym, ap, ◌∙◌, inl, inr, ◌≡◌, ◌≢◌, ◌⊎◌, ℕ, zero, suc, ◌+◌, ◌-◌, ◌<◌, ◌≤◌, ◌==◌, ◌&&◌, Bool, true, false, not, List, [], ◌∷◌, ◌++◌, length, take, drop, get_or, codes}
-use Rattle.std.specs.Prelude.{IsTrue, take_while}
-use Rattle.std.specs.List.{list_all}
-use Rattle.std.proofs.Math.Seq.{drop-cons, take-add, take-length}
+use Rattle.std.proofs.Common.{arith, refl, subst, sym, ap, ◌∙◌, ◌≡◌, ℕ, suc, ◌+◌, ◌-◌, ◌<◌, ◌≤◌, ◌==◌, ◌&&◌, Bool, true, false, not, List, [], ◌∷◌, ◌++◌, length, take, drop, get_or, codes}
+use Rattle.std.specs.Prelude.{IsTrue}
+use Rattle.std.proofs.Math.Seq.{drop-cons, take-add}
 use Rattle.std.proofs.lemmas.List.{append-nil, append_assoc, drop-append-le, length-append, length-take-le, take-append-drop, take-append-le}
 use Rattle.std.proofs.lemmas.Bool.{cond-false, cond-true, eqb-true}
 use Rattle.std.proofs.lemmas.List.Sums.{take_while-cons}
 use Rattle.noise_vectors.specs.Words.{lacks}
-use Rattle.noise_explain_vectors.specs.VectorColumns.{HasShape, HaveShapes, IsShortLine, IsWholeLine, IsWrongWord, first_word, spaced, word_at}
+use Rattle.noise_explain_vectors.specs.VectorColumns.{HasShape, HaveShapes, IsWrongWord, first_word, spaced, word_at}
 use Rattle.noise_explain_vectors.specs.declared.shapes.Shape.{Shape}
 use Rattle.noise_explain_vectors.specs.declared.shapes.Shape.TheVariants.{First}
 
