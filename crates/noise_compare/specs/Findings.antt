@@ -2,8 +2,8 @@
 use Rattle.std.specs.Prelude.{◌≡◌, ℕ, ◌-◌, List, Option, Some, None, length, option_and_then, slice_get, slice_index_or}
 use Rattle.noise_compare.specs.Differences.{Agrees as AllAgree, IsFirstDifference, next_step}
 use Rattle.noise_compare.specs.Report.{agreement_text, difference_text, ending_text}
-use Rattle.noise_compare.specs.declared.comparing.Finding.{Finding}
-use Rattle.noise_compare.specs.declared.comparing.Finding.TheVariants.{Agrees, Ends, Differs}
+use Rattle.noise_compare.specs.declared.comparison.Finding.{Finding}
+use Rattle.noise_compare.specs.declared.comparison.Finding.TheVariants.{Agrees, Ends, Differs}
 use Rattle.noise_compare.specs.declared.line.Line.{Line}
 
 -- the next step of the handshake after the last line of a log

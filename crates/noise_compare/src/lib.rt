@@ -1,14 +1,14 @@
 //! Compares a key schedule that another implementation logged with that of a vector file, line by line.
 #![tactic(auto)]
 
-mod comparing;
+mod comparison;
 mod difference;
 mod line;
 mod reading;
 mod report;
 mod sentences;
 
-pub use comparing::{Finding, LogReport, compare_lines};
+pub use comparison::{Finding, LogReport, compare_lines};
 pub use difference::{Difference, first_difference};
 pub use line::Line;
 pub use reading::{LogFault, push_schedule, read_log};

@@ -13,7 +13,7 @@ use Rattle.noise_explain.specs.Explained.{Begins, IsExplained, SaysWrong}
 use Rattle.noise_explain.specs.Places.{IsColumn, line_at}
 use Rattle.noise_explain.specs.RulePlaces.{IsRulePlace}
 use Rattle.noise_explain.specs.Shown.{right_head, wrong_head}
-use Rattle.noise_explain.specs.declared.explaining.Explained.{Explained}
+use Rattle.noise_explain.specs.declared.explanation.Explained.{Explained}
 use Rattle.noise_explain.specs.declared.place.Place.{Place}
 
 -- a valid pattern is reported

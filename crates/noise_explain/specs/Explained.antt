@@ -10,7 +10,7 @@ use Rattle.noise_lines.specs.declared.faults.Fault.TheVariants.{Rule, Text, TooL
 use Rattle.noise_explain.specs.Places.{IsColumn, line_at}
 use Rattle.noise_explain.specs.RulePlaces.{IsRulePlace}
 use Rattle.noise_explain.specs.Shown.{right_head, unread_head, wrong_head}
-use Rattle.noise_explain.specs.declared.explaining.Explained.{Explained}
+use Rattle.noise_explain.specs.declared.explanation.Explained.{Explained}
 use Rattle.noise_explain.specs.declared.place.Place.{Place}
 
 -- its text begins with these bytes

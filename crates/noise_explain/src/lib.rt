@@ -3,7 +3,7 @@
 
 mod advice;
 mod column;
-mod explaining;
+mod explanation;
 mod facts;
 mod frame_piece;
 mod known;
@@ -17,7 +17,7 @@ mod text_advice;
 
 pub use advice::Advice;
 pub use column::column_of;
-pub use explaining::{Explained, explain, explain_long, rule_lines};
+pub use explanation::{Explained, explain, explain_long, rule_lines};
 pub use facts::{fact_lines, push_fact};
 pub use frame_piece::{Piece, difference_line};
 pub use known::{Spot, token_at};

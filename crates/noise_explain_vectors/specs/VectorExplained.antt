@@ -13,7 +13,7 @@ use Rattle.noise_explain.specs.Explained.{Begins}
 use Rattle.noise_explain.specs.Shown.{unread_head, wrong_head}
 use Rattle.noise_lines.specs.Shown.{shown_text}
 use Rattle.noise_explain_vectors.specs.VectorColumns.{IsLineColumn}
-use Rattle.noise_explain.specs.declared.explaining.Explained.{Explained}
+use Rattle.noise_explain.specs.declared.explanation.Explained.{Explained}
 use Rattle.noise_explain.specs.declared.place.Place.{Place}
 
 -- the text without the byte-order mark at its front, if one is there: the bytes 239, 187 and 191

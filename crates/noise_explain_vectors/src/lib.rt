@@ -12,9 +12,9 @@ mod run_sentences;
 mod sentences;
 mod setup_sentences;
 mod shapes;
-mod vector_explaining;
+mod vector_explanation;
 mod word_sentences;
 
-pub use vector_explaining::{
+pub use vector_explanation::{
     explain_line, explain_start, explain_vector, is_vector_text, pattern_in,
 };

@@ -3,7 +3,7 @@
 #![tactic(auto)]
 
 mod checking;
-mod converting;
+mod conversion;
 mod fault_report;
 mod faults;
 mod input;
@@ -19,7 +19,7 @@ mod valid;
 mod verdict;
 
 pub use checking::check;
-pub use converting::convert;
+pub use conversion::convert;
 pub use fault_report::{fault_line, report_fault};
 pub use faults::Fault;
 pub use input::read_file;

@@ -1,10 +1,10 @@
 //! The vector file that a handshake of a pattern needs, with a placeholder for each key.
 #![tactic(auto)]
 
-mod choosing;
+mod choice;
 mod keys;
 mod needs;
 mod text;
 
-pub use choosing::{named_template, names_protocol, spelled_template};
+pub use choice::{named_template, names_protocol, spelled_template};
 pub use text::template;

@@ -5,7 +5,7 @@ use Rattle.noise_lines.specs.Faults.{status_of}
 use Rattle.noise_lines.specs.Prefixes.{AppendsPrefix}
 use Rattle.noise_lines.specs.Reported.{LeavesOutput}
 use Rattle.noise_lines.specs.declared.faults.Fault.{Fault}
-use Rattle.noise_compare.specs.declared.comparing.LogReport.{LogReport}
+use Rattle.noise_compare.specs.declared.comparison.LogReport.{LogReport}
 use Rattle.noise_tool.specs.Comparing.{Compares, ComparesPrefix}
 use Rattle.noise_tool.proofs.ExplainLemmas.{left-at-three}
 

@@ -8,7 +8,7 @@ use Rattle.std.proofs.lemmas.List.{flat_map_more, map-append, map_push, take_all
 use Rattle.std.specs.List.{Contains}
 use Rattle.std.proofs.lemmas.List.Elements.{All-nil, All-push, Contains-append_right}
 use Rattle.std.proofs.lemmas.List.Sums.{fold-append}
-use Rattle.noise_explain.specs.declared.explaining.Explained.{Explained}
+use Rattle.noise_explain.specs.declared.explanation.Explained.{Explained}
 use Rattle.noise_lines.specs.Faults.{status_of}
 use Rattle.noise_lines.specs.Prefixes.{AppendsPrefix}
 use Rattle.noise_lines.specs.Reported.{IsReportedOf, LeavesOutput, error_text}

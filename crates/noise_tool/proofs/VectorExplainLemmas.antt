@@ -2,7 +2,7 @@
 use Rattle.std.proofs.Common.{◌≡◌, ◌∙◌, subst, true, inl, ℕ, List, Option, Some, None}
 use Rattle.std.specs.Prelude.{IfOk, IfSome, Result, Ok, Err}
 use Rattle.noise_explain_vectors.specs.VectorExplained.{is_vector_text}
-use Rattle.noise_explain.specs.declared.explaining.Explained.{Explained}
+use Rattle.noise_explain.specs.declared.explanation.Explained.{Explained}
 use Rattle.noise_lines.specs.declared.faults.Fault.{Fault}
 use Rattle.noise_vectors.specs.VectorFile.{IsVectorFile}
 use Rattle.noise_vectors.specs.VectorText.{text_of}

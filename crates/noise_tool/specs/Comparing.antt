@@ -4,8 +4,8 @@ use Rattle.std.specs.Io.KnownBytes.{Appends}
 use Rattle.noise_compare.specs.Findings.{IsReport}
 use Rattle.noise_compare.specs.Lines.{words_in, words_of}
 use Rattle.noise_compare.specs.Reading.{first_wrong, lines_of, views}
-use Rattle.noise_compare.specs.declared.comparing.Finding.{Finding}
-use Rattle.noise_compare.specs.declared.comparing.Finding.TheVariants.{Agrees, Ends, Differs}
+use Rattle.noise_compare.specs.declared.comparison.Finding.{Finding}
+use Rattle.noise_compare.specs.declared.comparison.Finding.TheVariants.{Agrees, Ends, Differs}
 use Rattle.noise_compare.specs.declared.line.Line.{Line}
 use Rattle.noise_lines.specs.Faults.{status_of}
 use Rattle.noise_lines.specs.Prefixes.{AppendsPrefix}
@@ -21,11 +21,11 @@ use Rattle.noise_tool.specs.Selection.{all_lines}
 use Rattle.noise_tool.specs.Performing.{IsRunFault}
 use Rattle.noise_tool.specs.Testing.{is_input}
 use Rattle.noise_tool.specs.Tracing.{HasTraces}
-use Rattle.noise_tool.specs.declared.comparing.Comparison.{Comparison}
-use Rattle.noise_tool.specs.declared.comparing.Comparison.TheVariants.{Made, Wrong}
-use Rattle.noise_tool.specs.declared.comparing.Uncompared.{Uncompared}
-use Rattle.noise_tool.specs.declared.comparing.Uncompared.TheVariants.{NamedTwice, LongLog, WrongFile, NoLine, WrongLine}
-use Rattle.noise_compare.specs.declared.comparing.LogReport.{LogReport}
+use Rattle.noise_tool.specs.declared.comparison.Comparison.{Comparison}
+use Rattle.noise_tool.specs.declared.comparison.Comparison.TheVariants.{Made, Wrong}
+use Rattle.noise_tool.specs.declared.comparison.Uncompared.{Uncompared}
+use Rattle.noise_tool.specs.declared.comparison.Uncompared.TheVariants.{NamedTwice, LongLog, WrongFile, NoLine, WrongLine}
+use Rattle.noise_compare.specs.declared.comparison.LogReport.{LogReport}
 
 -- the lines of a key schedule: those of the start, and those that follow each line of the run
 abbrev pub schedule_of : List (List ℕ) → List (List (List ℕ)) → List (List ℕ)

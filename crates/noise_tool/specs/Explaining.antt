@@ -4,7 +4,7 @@ use Rattle.std.specs.List.{All, Contains}
 use Rattle.std.specs.Io.KnownBytes.{Appends}
 use Rattle.noise_explain.specs.Explained.{IsExplained, SaysLong}
 use Rattle.noise_explain.specs.Shown.{unread_head}
-use Rattle.noise_explain.specs.declared.explaining.Explained.{Explained}
+use Rattle.noise_explain.specs.declared.explanation.Explained.{Explained}
 use Rattle.noise_explain_vectors.specs.VectorExplained.{ReportsFault, ReportsLine, ReportsVector, is_vector_text}
 use Rattle.noise_lines.specs.Prefixes.{AppendsPrefix}
 use Rattle.noise_lines.specs.Reported.{error_text}

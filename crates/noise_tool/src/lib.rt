@@ -1,10 +1,10 @@
 //! What the command `noise` does: it does what the command line asks for, and writes lines or reports a fault.
 #![tactic(auto)]
 
-mod comparing;
+mod comparison;
 mod datagram_report;
 mod ends;
-mod explaining;
+mod explanation;
 mod key_use_lines;
 mod laws;
 mod performing;

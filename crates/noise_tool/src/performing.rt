@@ -21,8 +21,8 @@ ghost use Rattle.noise_lines.specs.Reported.{error_text};
 ghost use Rattle.noise_lines.specs.Verdicts.{IsMet};
 ghost use Rattle.noise_lines.specs.declared.faults.Fault.{Fault};
 
-use crate::comparing::compare_log;
-use crate::explaining::explain_files;
+use crate::comparison::compare_log;
+use crate::explanation::explain_files;
 use crate::laws::conversions_meet_themselves;
 use crate::running::{Outcome, replay, run_vector};
 use crate::testing::{FilesByName, test};

@@ -1,6 +1,0 @@
-use Rattle.std.proofs.Common.{sym}
-use Rattle.noise_compare.proofs.comparing.agreeing.Goals as goal
-
-pub returns-in_ok-ending_text-in-Some : goal.returns-in_ok-ending_text-in-Some
-returns-in_ok-ending_text-in-Some c =
-    (c.requires, c.in-Some.next.now, sym c.in-Some.ensures, c.ending_advice.result.now, c.in_ok-ending_text-in-Some.ensures)

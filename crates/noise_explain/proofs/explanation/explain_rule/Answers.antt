@@ -1,0 +1,12 @@
+use Rattle.std.proofs.Common.{◌∙◌, ◌++◌, ap, refl, ℕ, List}
+use Rattle.noise_explain.proofs.ExplainedLemmas.{rule-wrong}
+use Rattle.noise_explain.proofs.explanation.explain_rule.Goals as goal
+
+pub returns-clause-said : goal.returns-clause-said
+returns-clause-said c =
+    let lines : List ℕ = c.deref.result.now in
+    let words : List ℕ = c.deref-2.result.now in
+    rule-wrong c.args.name.now c.args.text.now c.args.pattern.now c.args.fault c.rule_place-place.result _ lines words c.requires.spells c.requires.fault
+    c.rule_place-place.ensures refl
+    (c.in_ok-extend_from_slice-2.ensures.items
+    ∙ ap (λ (t : List ℕ). t ++ words) (c.in_ok-extend_from_slice.ensures.items ∙ ap (λ (t : List ℕ). t ++ lines) c.in_ok-reported.ensures))

@@ -1,0 +1,11 @@
+use Rattle.std.proofs.Common.{◌≡◌, map, take}
+use Rattle.noise_compare.specs.Lines.{words_in, words_of}
+use Rattle.noise_lines.specs.TracedLines.{traces_of}
+use Rattle.noise_vectors.specs.Expectations.{bytes_of}
+use Rattle.noise_tool.specs.Comparing.{schedule_of}
+use Rattle.noise_tool.proofs.comparison.schedule.Given as goal
+
+-- the lines of the start, and those of the run so far
+abbrev pub invariant-loop-trace : goal.invariant-loop-trace
+invariant-loop-trace l = map words_in l.lines.items
+    ≡ map words_of (schedule_of (bytes_of l.traced.start.items) (traces_of (take l.trace-index l.traced.traces.items)))

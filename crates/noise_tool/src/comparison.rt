@@ -1,0 +1,197 @@
+//! The command `compare`: a key schedule that was logged is compared with that of a vector file.
+
+ghost use Rattle.std.specs.Prelude.{◌≡◌, ◌⊎◌, ◌++◌, ◌≤◌, ℕ, List, true, IfErr, IfOk, IfSome, MatchResult, OnOk, map, string_bytes};
+ghost use Rattle.std.specs.Io.KnownBytes.{Appends};
+ghost use Rattle.noise_compare.specs.Lines.{words_in, words_of};
+ghost use Rattle.noise_lines.specs.Faults.{status_of};
+ghost use Rattle.noise_lines.specs.Prefixes.{AppendsPrefix};
+ghost use Rattle.noise_lines.specs.Reported.{error_text};
+ghost use Rattle.noise_lines.specs.declared.faults.Fault.{Fault};
+ghost use Rattle.noise_lines.specs.TracedLines.{traces_of};
+ghost use Rattle.noise_vectors.specs.Expectations.{bytes_of};
+ghost use Rattle.noise_tool.specs.Comparing.{Compares, ComparesPrefix, IfMade, IfWrong, IsCompared, IsNotCompared, IsRefusedTwice, IsUncompared, IsWrongLog};
+ghost use Rattle.noise_tool.specs.Comparing.{NamesInputTwice, finding_status, schedule_of, uncompared_line};
+ghost use Rattle.noise_tool.specs.Testing.{RunsTo};
+ghost use Rattle.noise_tool.specs.declared.comparison.Comparison.TheVariants.{Wrong};
+ghost use Rattle.noise_tool.specs.declared.comparison.Uncompared.TheVariants.{NamedTwice, WrongFile};
+
+use crate::testing::{FilesByName, is_input, trace_named};
+use crate::tracing::Traced;
+use noise_compare::{Finding, Line, LogFault, LogReport, compare_lines, push_schedule, read_log};
+use noise_lines::{Fault, Verdict, flush, named_fault, report_fault, verdict_lines, write};
+use noise_words::Compared;
+use std::alloc::{AllocError, Global};
+use std::io::Write;
+
+/// What comes of a log and a vector file.
+#[derive(Drop)]
+pub enum Comparison {
+    /// They are compared.
+    Made(LogReport),
+    /// One of them is wrong.
+    Wrong(Uncompared),
+}
+
+/// Why a log isn't compared with a vector file.
+#[derive(Clone, Copy)]
+pub enum Uncompared {
+    /// Both are standard input, which is read once.
+    NamedTwice,
+    /// The log has more bytes than are read.
+    LongLog,
+    /// The vector file isn't run.
+    WrongFile(Fault),
+    /// The log has no line of a key schedule.
+    NoLine,
+    /// The line of this number of the log, from 1 on, is the first that begins as one of a key schedule and has more or
+    /// fewer than twelve words.
+    WrongLine(usize),
+}
+
+/// Compares the log of a key schedule with the key schedule of a vector file, as `trace` prints it, and writes the
+/// first difference, and what it says of the cause. What it writes are secrets. The exit status is 0 where all lines
+/// of the log agree; 1 where one differs, or the log ends before a step of its party's handshake; 2 where the log or
+/// the file is wrong, which is written to `err`; 3 where a file can't be read, the output can't be written, or memory
+/// runs out.
+pub fn compare_log<F: FilesByName, O: Write, E: Write>(
+    alloc: Global,
+    names: &Compared,
+    files: &F,
+    out: &mut O,
+    err: &mut E,
+) -> u8
+    ensures status { result ≤ 3 }
+    ensures compared { (2 ≤ result) ⊎ IsCompared (F.bytes_at files.now (string_bytes names.now.log))
+        (F.bytes_at files.now (string_bytes names.now.file)) (O.contents out.old) (O.contents out.new) result }
+    ensures quiet { (2 ≤ result) ⊎ (err.new ≡ err.old) }
+    ensures fault { result ≡ 2 → IsNotCompared names.now (F.bytes_at files.now (string_bytes names.now.log))
+        (F.bytes_at files.now (string_bytes names.now.file)) (E.contents err.old) (E.contents err.new) }
+    ensures twice { NamesInputTwice names.now
+        → IsRefusedTwice names.now (E.contents err.old) (E.contents err.new) result }
+    ensures unwritten { result ≡ 2 → out.new ≡ out.old }
+    ensures outside { result ≡ 3 → (fault : Fault) × (status_of fault ≡ 3)
+        × AppendsPrefix (E.contents err.old) (E.contents err.new) (error_text fault) }
+    ensures prefix { (out.new ≡ out.old) ⊎ ComparesPrefix (F.bytes_at files.now (string_bytes names.now.log))
+        (F.bytes_at files.now (string_bytes names.now.file)) (O.contents out.old) (O.contents out.new) }
+{
+    match compare_named(alloc, names, files) {
+        Ok(Comparison::Made(report)) => match print_report(&report, out) {
+            Ok(status) => status,
+            Err(fault) => report_fault(alloc, fault, out, err),
+        },
+        Ok(Comparison::Wrong(why)) => match uncompared_line(alloc, names, why) {
+            Ok(line) => {
+                let _ = write(&line, err);
+                2
+            }
+            Err(_) => report_fault(alloc, Fault::Memory, out, err),
+        },
+        Err(fault) => report_fault(alloc, fault, out, err),
+    }
+}
+
+// Writes a report, and gives the status.
+fn print_report<O: Write>(report: &LogReport, out: &mut O) -> Result<u8, Fault>
+    ensures printed { IfOk result (λ status. Appends (O.contents out.old) (O.contents out.new) report.now.text.items
+        × (status ≡ finding_status report.now.finding)) }
+    ensures prefix { AppendsPrefix (O.contents out.old) (O.contents out.new) report.now.text.items }
+    ensures fault { IfErr result (λ fault. status_of fault ≡ 3) }
+{
+    write(&report.text, out)?;
+    flush(out)?;
+    Ok(match report.finding {
+        Finding::Agrees => 0,
+        Finding::Ends | Finding::Differs => 1,
+    })
+}
+
+// What comes of the log and the vector file of these names.
+fn compare_named<F: FilesByName>(
+    alloc: Global,
+    names: &Compared,
+    files: &F,
+) -> Result<Comparison, Fault>
+    ensures made { IfOk result (λ made. IfMade made
+        (λ report. IfSome (F.bytes_at files.now (string_bytes names.now.log))
+        (λ log. IfSome (F.bytes_at files.now (string_bytes names.now.file)) (λ file. Compares log file report)))) }
+    ensures wrong { IfOk result (λ made. IfWrong made
+        (IsUncompared names.now (F.bytes_at files.now (string_bytes names.now.log)) (F.bytes_at files.now
+        (string_bytes names.now.file)))) }
+    ensures twice { IfOk result (λ made. NamesInputTwice names.now → made ≡ Wrong NamedTwice) }
+    ensures fault { IfErr result (λ fault. status_of fault ≡ 3) }
+{
+    let (log_name, file_name) = (names.log.as_str(), names.file.as_str());
+    if is_input(log_name) && is_input(file_name) {
+        return Ok(Comparison::Wrong(Uncompared::NamedTwice));
+    }
+    let log = match files.read(alloc, log_name) {
+        Ok(log) => log,
+        Err(Fault::TooLong) => return Ok(Comparison::Wrong(Uncompared::LongLog)),
+        Err(fault) => return Err(fault),
+    };
+    match trace_named(alloc, file_name, files) {
+        Ok(traced) => compare_traced(alloc, &log, &traced),
+        Err(fault) => wrong_file(fault),
+    }
+}
+
+// What comes of the log of this text and a run that is traced.
+fn compare_traced(alloc: Global, log: &[u8], traced: &Traced) -> Result<Comparison, Fault>
+    ensures made { (file : List ℕ) → RunsTo true file traced.now
+        → IfOk result (λ made. IfMade made (Compares log.now file)) }
+    ensures wrong { IfOk result (λ made. IfWrong made (IsWrongLog log.now)) }
+    ensures fault { IfErr result (λ fault. status_of fault ≡ 3) }
+{
+    let right = schedule(alloc, traced)?;
+    match read_log(alloc, log) {
+        Ok(lines) => {
+            if lines.is_empty() {
+                return Ok(Comparison::Wrong(Uncompared::NoLine));
+            }
+            Ok(Comparison::Made(compare_lines(alloc, &lines, &right)?))
+        }
+        Err(LogFault::Line(number)) => Ok(Comparison::Wrong(Uncompared::WrongLine(number))),
+        Err(LogFault::Memory) => Err(Fault::Memory),
+    }
+}
+
+// The lines of the key schedule of a run.
+fn schedule(alloc: Global, traced: &Traced) -> Result<Vec<Line<'_>>, AllocError>
+    ensures { IfOk result (λ lines. map words_in lines.items
+        ≡ map words_of (schedule_of (bytes_of traced.now.start.items) (traces_of traced.now.traces.items))) }
+{
+    let mut lines = Vec::new(alloc);
+    push_schedule(alloc, &traced.start, &mut lines)?;
+    for trace in &traced.traces {
+        push_schedule(alloc, trace, &mut lines)?;
+    }
+    Ok(lines)
+}
+
+// That a vector file isn't run; a fault from outside is handed on.
+fn wrong_file(fault: Fault) -> Result<Comparison, Fault>
+    ensures wrong { IfOk result (λ made. (made ≡ Wrong (WrongFile fault)) × (status_of fault ≤ 2)) }
+    ensures fault { IfErr result (λ other. status_of other ≡ 3) }
+{
+    if fault.status() == 3 {
+        return Err(fault);
+    }
+    Ok(Comparison::Wrong(Uncompared::WrongFile(fault)))
+}
+
+// The line that says why a log isn't compared.
+fn uncompared_line(alloc: Global, names: &Compared, why: Uncompared) -> Result<Vec<u8>, AllocError>
+    ensures { IfOk result (λ line. line.items ≡ uncompared_line names.now why) }
+{
+    let (log, file) = (names.log.as_str(), names.file.as_str());
+    match why {
+        Uncompared::NamedTwice => verdict_lines(alloc, "-", &Verdict::NamedTwice),
+        Uncompared::LongLog => verdict_lines(alloc, log, &Verdict::CannotRun(Fault::TooLong)),
+        Uncompared::WrongFile(fault) => verdict_lines(alloc, file, &Verdict::CannotRun(fault)),
+        Uncompared::NoLine => named_fault(alloc, log, "no line of a key schedule"),
+        Uncompared::WrongLine(number) => {
+            let why = format!(in alloc; "line {number} trace")?;
+            named_fault(alloc, log, why.as_str())
+        }
+    }
+}
