@@ -16,8 +16,8 @@ use Rattle.noise_names.specs.declared.token.Role.{Role}
 use Rattle.noise_names.specs.declared.token.Token.{Token}
 use Rattle.noise_names.specs.declared.token.Token.TheVariants.{E, S, Ee, Es, Se, Ss, Psk}
 use Rattle.noise_vectors.specs.HexWord.{IsHexWord, hex_of}
-use Rattle.noise_explain.specs.FramePieces.{HasNoFrame, MatchesAt, bytes_before, makes_key, piece_len, sender_of}
-use Rattle.noise_explain.specs.FramePieces.MatchesAt.{in_key, in_payload}
+use Rattle.noise_explain.specs.FramePieces.{HasNoFrame, IsPieceAt, bytes_before, makes_key, piece_len, sender_of}
+use Rattle.noise_explain.specs.FramePieces.IsPieceAt.{in_key, in_payload}
 use Rattle.noise_explain.specs.declared.frame_piece.Piece.TheVariants as pieces
 use Rattle.noise_explain.specs.RulePlaces.{message_at}
 use Rattle.noise_explain.specs.Shown.{shown_start}
@@ -225,17 +225,17 @@ or-else has makes x h e = rw (h, e) refl
 pub key-at : (p : Plan) (n : ℕ) (tokens : List Token) (i end next at : ℕ) → tokens ≡ message_at p n → i < length tokens
     → end ≡ 2 + overhead_from p (first_places p (n - 1)) (front_places n tokens i) → end ≤ at
     → next ≡ 2 + overhead_from p (first_places p (n - 1)) (front_places n tokens (i + 1)) → at < next
-    → MatchesAt p n at (pieces.Key (get_or tokens i E))
+    → IsPieceAt p n at (pieces.Key (get_or tokens i E))
 key-at p n tokens i end next at here less end_is past next_is under = subst
     (λ (ts : List Token). i < length ts → end ≡ 2 + overhead_from p (first_places p (n - 1)) (front_places n ts i)
     → next ≡ 2 + overhead_from p (first_places p (n - 1)) (front_places n ts (i + 1))
-    → MatchesAt p n at (pieces.Key (get_or ts i E)))
+    → IsPieceAt p n at (pieces.Key (get_or ts i E)))
     (sym here)
     (λ l e f. in_key i _ (slice_get-get_or (message_at p n) i E l) (omega (arith, e, past)) (omega (arith, f, under)))
     less end_is next_is
 
 pub payload-at : (p : Plan) (n : ℕ) (tokens : List Token) (i end at : ℕ) → tokens ≡ message_at p n → i ≡ length tokens
-    → end ≡ 2 + overhead_from p (first_places p (n - 1)) (front_places n tokens i) → end ≤ at → MatchesAt p n at pieces.Payload
+    → end ≡ 2 + overhead_from p (first_places p (n - 1)) (front_places n tokens i) → end ≤ at → IsPieceAt p n at pieces.Payload
 payload-at p n tokens i end at here all end_is past =
     let end_at : end ≡ bytes_before p n (length (message_at p n)) =
     end_is ∙ ap₂ (λ (k : ℕ) (ts : List Token). 2 + overhead_from p (first_places p (n - 1)) (front_places n ts k))

@@ -27,11 +27,11 @@ bytes_before p n i =
     2 + overhead_from p (first_places p (n - 1)) (token_places (sender_of n) n 0 (take i (message_at p n)))
 
 -- the piece that stands at a byte of the frame of message n, from 0
-pub data MatchesAt (p : Plan) (n at : ℕ) : Piece → Type 0 where
-  in_length : at < 2 → MatchesAt p n at pieces.Length
+pub data IsPieceAt (p : Plan) (n at : ℕ) : Piece → Type 0 where
+  in_length : at < 2 → IsPieceAt p n at pieces.Length
   in_key : (i : ℕ) (t : Token) → slice_get (message_at p n) i ≡ Some t
-      → bytes_before p n i ≤ at → at < bytes_before p n (i + 1) → MatchesAt p n at (pieces.Key t)
-  in_payload : bytes_before p n (length (message_at p n)) ≤ at → MatchesAt p n at pieces.Payload
+      → bytes_before p n i ≤ at → at < bytes_before p n (i + 1) → IsPieceAt p n at (pieces.Key t)
+  in_payload : bytes_before p n (length (message_at p n)) ≤ at → IsPieceAt p n at pieces.Payload
 
 -- what a token adds, where there is a key or none, and whether there is one after it in any case (5.2, 9.2)
 abbrev pub piece_len : Token → Bool → ℕ
@@ -90,5 +90,5 @@ pub record SaysPiece (p : Plan) (n : ℕ) (expected printed line : List ℕ) : T
   pub at : ℕ
   pub differ : IsFirstDifferent yours right at
   pub piece : Piece
-  pub stands : MatchesAt p n at piece
+  pub stands : IsPieceAt p n at piece
   pub line_is : line ≡ piece_line at piece n

@@ -3,7 +3,7 @@
 ghost use Rattle.std.specs.Prelude.{◌≡◌, ◌≢◌, ◌<◌, ◌≤◌, ◌++◌, ℕ, List, IfNone, IfOk, IfSome, MatchOption, length, slice_get, string_bytes};
 ghost use Rattle.std.specs.List.{All};
 ghost use Rattle.noise_vectors.specs.HexWord.{hex_of};
-ghost use Rattle.noise_explain.specs.FramePieces.{HasNoFrame, HaveNoFrame, IsFirstDifferent, SaysPiece, MatchesAt};
+ghost use Rattle.noise_explain.specs.FramePieces.{HasNoFrame, HaveNoFrame, IsFirstDifferent, SaysPiece, IsPieceAt};
 ghost use Rattle.noise_explain.specs.FramePieces.{frame_front, makes_key, piece_len, piece_line, piece_word};
 
 use crate::known::sender_of;
@@ -134,7 +134,7 @@ fn same_bytes(yours: &[u8], right: &[u8]) -> usize
 fn piece_at(pattern: &ValidPattern, message: u8, at: usize) -> Piece
     requires first { 1 ≤ message }
     requires last { message ≤ length pattern.now.messages }
-    ensures { MatchesAt pattern.now message at result }
+    ensures { IsPieceAt pattern.now message at result }
 {
     if at < 2 {
         return Piece::Length;
