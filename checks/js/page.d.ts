@@ -1,7 +1,7 @@
 // What the short listings of docs/JAVASCRIPT.md and README.md take as given.
 declare const [message, payload, prologue, received, remoteStatic]: Uint8Array[];
 declare const psks: Uint8Array[];
-declare const psks: Map<string, Uint8Array>;
+declare const pskOf: Map<string, Uint8Array>;
 declare const [pattern, responder]: [string, boolean];
 declare const [staticKey, key]: import('yulimosar').KeyPair[];
 declare const other: Buffer;
