@@ -1,19 +1,13 @@
 -- What a party finds before a psk token without a psk.
 use Rattle.std.proofs.Common.{◌≡◌, ℕ, ◌<◌, List}
-use Rattle.std.specs.Prelude.{Option, Some, None, Result, Ok, Err, MatchOption, MatchResult}
+use Rattle.std.specs.Prelude.{Option, Result, Ok, Err, MatchOption, MatchResult}
 use Rattle.noise_keys.specs.declared.keys.Own.{Own}
 use Rattle.noise_handshake.specs.declared.stop.Stop.{Stop}
 use Rattle.noise_handshake.specs.declared.faults.Cause.TheVariants.{Agreement}
 use Rattle.noise_handshake.specs.Party.{Party, Listens, Refuses, Stops, reader, tokens_now}
 use Rattle.noise_handshake.specs.Wanting.{StopsFor, WantsToRead}
 use Rattle.noise_handshake.specs.inner.Listening.{BeginsBefore}
-
-wanted : (v : Party) (m : List ℕ) (o : Option (Own × List ℕ)) → Listens v
-    → MatchOption o ((j : ℕ) → Stops (reader v) v.remote v.psks v.history (tokens_now v) m j Agreement → ⊥)
-    (λ want. StopsFor (reader v) v.remote v.psks v.history (tokens_now v) m want.0 want.1)
-    → MatchOption o ((j : ℕ) → Refuses v m j Agreement → ⊥) (λ want. WantsToRead v m want.0 want.1)
-wanted v m None l h = λ j refuses. h j refuses.stops
-wanted v m (Some want) l h = record { listens = l; stops = h }
+use Rattle.noise_handshake.proofs.Wanted.{wants-of}
 
 -- for a party that listens
 pub before-of : (v : Party) (m : List ℕ) (k : ℕ) (o : Result (Option (List ℕ)) Stop) → Listens v
@@ -25,4 +19,4 @@ pub before-of : (v : Party) (m : List ℕ) (k : ℕ) (o : Result (Option (List �
     (λ stop. (stop.token < k) × Refuses v m stop.token stop.cause × MatchOption stop.want
     ((j : ℕ) → Refuses v m j Agreement → ⊥) (λ want. WantsToRead v m want.0 want.1))
 before-of v m k (Ok remote) l h = h
-before-of v m k (Err stop) l h = (h.0, record { listens = l; stops = h.1 }, wanted v m stop.want l h.2)
+before-of v m k (Err stop) l h = (h.0, record { listens = l; stops = h.1 }, wants-of v m stop.want l h.2)

@@ -1,11 +1,13 @@
 -- The nonce counts the texts under a key, one message after another.
 use Rattle.std.proofs.Common.{◌≡◌, ◌≤◌, ◌<◌, ℕ, zero, suc, ◌+◌, ◌*◌, List, [], ◌∷◌, length, take, refl, ap, sym, ◌∙◌, arith}
-use Rattle.std.specs.Prelude.{Bool}
+use Rattle.std.specs.Prelude.{Bool, true, false, if◌then◌else◌}
 use Rattle.noise_names.specs.declared.token.Token.{Token}
+use Rattle.noise_names.specs.declared.token.Token.TheVariants.{E, S, Ee, Es, Se, Ss, Psk}
+use Rattle.noise_state.specs.Cipher.{next_nonce}
 use Rattle.noise_names.specs.Plan.{Plan, has_psk}
 use Rattle.noise_names.specs.Overhead.{has_key}
-use Rattle.noise_handshake.specs.Length.{keyed_after_tokens}
-use Rattle.noise_handshake.specs.Nonces.{nonce_after_message, nonce_after_messages, nonce_due}
+use Rattle.noise_handshake.specs.Length.{keyed_after, keyed_after_tokens}
+use Rattle.noise_handshake.specs.Nonces.{nonce_after, nonce_after_tokens, nonce_after_message, nonce_after_messages, nonce_due}
 use Rattle.noise_handshake.specs.Passed.{passed_places}
 use Rattle.noise_handshake.specs.inner.Keyed.{keyed_after_messages}
 use Rattle.noise_handshake.specs.Party.{tokens_at}
@@ -47,3 +49,34 @@ module _ (p : Plan) where
 -- the bound after one message more
 pub bound-after : (passed n more length : ℕ) → n ≤ 11 * passed → more ≤ n + length + 1 → length ≤ 10 → more ≤ 11 * (passed + 1)
 bound-after passed n more length h e short = omega (arith, h, e, short)
+
+-- a token encrypts at most one text, and a message at most one more than it has tokens
+next-most : (keyed : Bool) (n : ℕ) → next_nonce keyed n ≤ n + 1
+next-most true n = omega arith
+next-most false n = omega arith
+
+begun-most : (has_psks : Bool) (n : ℕ) → (if has_psks then 0 else n) ≤ n + 1
+begun-most true n = omega arith
+begun-most false n = omega arith
+
+pub nonce-most : (has_psks keyed : Bool) (n : ℕ) (t : Token) → nonce_after has_psks keyed n t ≤ n + 1
+nonce-most has_psks keyed n E = begun-most has_psks n
+nonce-most has_psks keyed n S = next-most keyed n
+nonce-most has_psks keyed n Ee = omega arith
+nonce-most has_psks keyed n Es = omega arith
+nonce-most has_psks keyed n Se = omega arith
+nonce-most has_psks keyed n Ss = omega arith
+nonce-most has_psks keyed n Psk = omega arith
+
+pub nonces-most : (has_psks keyed : Bool) (n : ℕ) (ts : List Token) → nonce_after_tokens has_psks keyed n ts ≤ n + length ts
+nonces-most has_psks keyed n [] = omega arith
+nonces-most has_psks keyed n (t ∷ ts) =
+    omega (arith, nonces-most has_psks (keyed_after has_psks keyed t) (nonce_after has_psks keyed n t) ts, nonce-most has_psks keyed n t)
+
+pub message-most : (has_psks keyed : Bool) (n : ℕ) (ts : List Token) → nonce_after_message has_psks keyed n ts ≤ n + length ts + 1
+message-most has_psks keyed n ts =
+    omega (
+      arith,
+      nonces-most has_psks keyed n ts,
+      next-most (keyed_after_tokens has_psks keyed ts) (nonce_after_tokens has_psks keyed n ts),
+    )

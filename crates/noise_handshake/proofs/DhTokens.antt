@@ -1,16 +1,15 @@
 -- What the definitions by the token come to at a DH token.
-use Rattle.std.proofs.Common.{◌≡◌, ℕ, ◌+◌, ◌≤◌, List, ◌++◌, refl, arith}
+use Rattle.std.proofs.Common.{◌≡◌, ℕ, ◌≤◌, List, ◌++◌, refl, ap, ◌∙◌, arith}
 use Rattle.std.specs.Prelude.{Bool, true, Some, None, Option}
 use Rattle.noise_names.specs.declared.token.Token.{Token}
 use Rattle.noise_names.specs.declared.token.Token.TheVariants.{E, S, Ee, Es, Se, Ss, Psk}
 use Rattle.noise_state.specs.History.{History, MixKey, and_then}
 use Rattle.noise_handshake.specs.declared.faults.Cause.TheVariants.{Agreement}
 use Rattle.noise_handshake.specs.declared.remote.Remote.{Remote}
-use Rattle.noise_handshake.specs.Length.{keyed_after, token_width}
+use Rattle.noise_handshake.specs.Length.{token_width}
 use Rattle.noise_handshake.specs.Message.{token_bytes, after_token}
-use Rattle.noise_handshake.specs.Nonces.{nonce_after}
 use Rattle.noise_handshake.specs.Party.{Reader, Fits, known_after, dh_result_of, own_at, remote_at, cause_of}
-use Rattle.noise_handshake.specs.inner.Known.{e_after, s_after}
+use Rattle.noise_handshake.specs.inner.Keying.{Keying, keying_after}
 use Rattle.noise_handshake.specs.inner.Listening.{Fails}
 
 -- what holds of the four DH tokens holds of a token that is neither a key nor a psk
@@ -33,17 +32,8 @@ module _ (t : Token) (no_e : t ≡ E → ⊥) (no_s : t ≡ S → ⊥) (no_psk :
   pub dh-width : (key : Bool) → 0 ≡ token_width key t
   dh-width key = at-dh (λ u. 0 ≡ token_width key u) refl refl refl refl t no_e no_s no_psk
 
-  pub dh-keyed : (has_psks key : Bool) → true ≡ keyed_after has_psks key t
-  dh-keyed has_psks key = at-dh (λ u. true ≡ keyed_after has_psks key u) refl refl refl refl t no_e no_s no_psk
-
-  pub dh-nonce : (has_psks key : Bool) (n : ℕ) → 0 ≡ nonce_after has_psks key n t
-  dh-nonce has_psks key n = at-dh (λ u. 0 ≡ nonce_after has_psks key n u) refl refl refl refl t no_e no_s no_psk
-
-  pub dh-e : (e : Bool) → e ≡ e_after e t
-  dh-e e = at-dh (λ u. e ≡ e_after e u) refl refl refl refl t no_e no_s no_psk
-
-  pub dh-s : (s : Bool) → s ≡ s_after s t
-  dh-s s = at-dh (λ u. s ≡ s_after s u) refl refl refl refl t no_e no_s no_psk
+  pub dh-keying : (has_psks : Bool) (k : Keying) → record k { keyed = true; nonce = 0 } ≡ keying_after has_psks k t
+  dh-keying has_psks k = at-dh (λ u. record k { keyed = true; nonce = 0 } ≡ keying_after has_psks k u) refl refl refl refl t no_e no_s no_psk
 
   -- what it is read as, with its DH result
   pub dh-read : {St : Type 0} (matches : St → History → Type 0) (state : St) (v : Reader) (known : Remote) (psks : List (List ℕ)) (r : History)
@@ -66,15 +56,10 @@ module _ (t : Token) (no_e : t ≡ E → ⊥) (no_s : t ≡ S → ⊥) (no_psk :
       (λ f. (λ x rest g _. none-some o _ x is f g, refl)) (λ f. (λ x rest g _. none-some o _ x is f g, refl))
       t no_e no_s no_psk e
 
--- a nonce that starts anew, one that grows no more, one that stays, and a token that takes no bytes
-pub from_zero : (n m : ℕ) → n ≡ 0 → n ≤ m + 1
-from_zero n m e = omega (arith, e)
+-- a key and a nonce that are others
+pub keying-is : (k : Keying) (b c : Bool) (n m : ℕ) → b ≡ c → n ≡ m → record k { keyed = b; nonce = n } ≡ record k { keyed = c; nonce = m }
+keying-is k b c n m e f = ap (λ (x : Bool). record k { keyed = x; nonce = n }) e ∙ ap (λ (x : ℕ). record k { keyed = c; nonce = x }) f
 
-pub less_one : (n m : ℕ) → n ≤ m → n ≤ m + 1
-less_one n m h = omega (arith, h)
-
-pub no_more : (n : ℕ) → n ≤ n + 1
-no_more n = omega arith
-
+-- a token that takes no bytes
 pub none_taken : (n : ℕ) → 0 ≤ n
 none_taken n = omega arith

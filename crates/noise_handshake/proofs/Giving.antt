@@ -10,6 +10,7 @@ use Rattle.noise_handshake.specs.Message.{token_bytes, after_token, before_paylo
 use Rattle.noise_handshake.specs.Length.{keyed_after, keyed_after_tokens, tag_width, token_width, tokens_width, added_width}
 use Rattle.noise_handshake.specs.Party.{Party, psks_after, tokens_now}
 use Rattle.noise_handshake.specs.Writing.{Writer, writer, Gives, Given, LacksDhResultAt, Writes, LacksDhResult}
+use Rattle.noise_handshake.proofs.Once.{same-place}
 
 -- one token more in front
 pub lacks-later : (w : Writer) (known : Remote) (psks : List (List ℕ)) (t : Token) (ts : List Token) (x : List ℕ) (k : ℕ)
@@ -96,9 +97,6 @@ not-before w known psks ts k j a b h =
     a.none (take (suc k) b.before)
     (subst (λ (us : List Token). Given w known psks us (take (suc k) b.before)) (take-take (suc k) j ts (omega arith))
     (given-front w known psks (take j ts) b.before (suc k) b.given))
-
-same-place : (k j : ℕ) → (k < j → ⊥) → (j < k → ⊥) → k ≡ j
-same-place k j f g = grind arith
 
 -- a party writes a payload as one message
 pub writes-one : (v : Party) (payload m n : List ℕ) (xs ys : List (List ℕ)) → Writes v payload xs m → Writes v payload ys n → (xs ≡ ys) × (m ≡ n)

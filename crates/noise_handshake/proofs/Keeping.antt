@@ -16,7 +16,7 @@ use Rattle.noise_handshake.specs.Nonces.{nonce_after_message, nonce_due}
 use Rattle.noise_handshake.specs.Setup.{psks_of}
 use Rattle.noise_handshake.specs.inner.Sound.{IsSound}
 use Rattle.noise_handshake.specs.Passed.{passed_places}
-use Rattle.noise_handshake.proofs.Counting.{bound-after, due-next}
+use Rattle.noise_handshake.proofs.Counting.{bound-after, due-next, message-most}
 use Rattle.noise_handshake.proofs.Places.{has_key-passed}
 
 -- the psks of the messages from one on
@@ -56,10 +56,10 @@ module _ {K : Type 0} (public_of : K → Own → Option (List ℕ)) (h : Handsha
 
   pub sound-after : (remote : Remote) (state : SymmetricState) (psks : List (List ℕ)) (passed : ℕ) → passed ≡ h.passed + 1
       → psks ≡ drop (count_by is_psk tokens) h.psks
-      → keyed state ≡ keyed_after_tokens (has_psk h.pattern) (keyed h.state) tokens → nonce_now state ≤ nonce_now h.state + length tokens + 1
-      → length tokens ≤ 10 → nonce_now state ≡ nonce_after_message (has_psk h.pattern) (keyed h.state) (nonce_now h.state) tokens
+      → keyed state ≡ keyed_after_tokens (has_psk h.pattern) (keyed h.state) tokens → length tokens ≤ 10
+      → nonce_now state ≡ nonce_after_message (has_psk h.pattern) (keyed h.state) (nonce_now h.state) tokens
       → IsSound public_of (record h { remote = remote; state = state; psks = psks; passed = passed })
-  sound-after remote state psks passed p d k n short u = record {
+  sound-after remote state psks passed p d k short u = record {
     within = omega (arith, due, p);
     few = s.few;
     psks = ap length d ∙ length-drop (count_by is_psk tokens) h.psks ∙ left _ _ _ counted
@@ -68,7 +68,8 @@ module _ {K : Type 0} (public_of : K → Own → Option (List ℕ)) (h : Handsha
     has_s = s.has_s;
     keyed = key-after state passed p k;
     nonce = nonce-after state passed p u;
-    bound = subst (λ (i : ℕ). nonce_now state ≤ 11 * i) (sym p) (bound-after h.passed (nonce_now h.state) (nonce_now state) (length tokens) s.bound n short);
+    bound = subst (λ (i : ℕ). nonce_now state ≤ 11 * i) (sym p) (bound-after h.passed (nonce_now h.state) (nonce_now state) (length tokens) s.bound
+        (omega (arith, u, message-most (has_psk h.pattern) (keyed h.state) (nonce_now h.state) tokens)) short);
   } where
     left : (a b c : ℕ) → a ≡ b + c → a - b ≡ c
     left a b c h = omega arith

@@ -20,6 +20,8 @@ use Rattle.noise_handshake.proofs.Giving.{lacks-later}
 use Rattle.noise_handshake.proofs.Knowing.{is_some-remote}
 use Rattle.noise_handshake.proofs.Wrote.{for-view}
 use Rattle.noise_names.specs.Roles.{same-same_role, same_role-true}
+use Rattle.noise_handshake.proofs.Stepwise.{lacks-first}
+use Rattle.noise_handshake.proofs.Wanted.{none-some}
 
 lacks-tail : (w : Writer) (known : Remote) (psks : List (List ℕ)) (t : Token) (ts : List Token) (x : List ℕ) (k : ℕ) (xs : List (List ℕ))
     → k < length ts → Gives w known psks t x → Given w known psks (take (suc k) (t ∷ ts)) xs
@@ -64,18 +66,6 @@ asked-later w known psks others tokens ts t x e f g o h =
     subst (λ (us : List Token). MatchOption o ((k : ℕ) → LacksDhResultAt w known psks us k → ⊥) (λ want. LacksDhResultFor w known psks us want.0 want.1)) (sym e)
     (later-one w known psks t ts x g o h1)
 
-first-lacks : (w : Writer) (known : Remote) (psks : List (List ℕ)) (t : Token) (ts : List Token)
-    → ((x : List ℕ) → Gives w known psks t x → ⊥) → LacksDhResultAt w known psks (t ∷ ts) 0
-first-lacks w known psks t ts bad = record { within = omega arith; before = []; given = tt; none = no-text }
-  where
-    no-text : (xs : List (List ℕ)) → Given w known psks (take 1 (t ∷ ts)) xs → ⊥
-    no-text [] h = h
-    no-text (x ∷ xs) h = bad x h.0
-
-none-some : (o : Option (List ℕ)) → is_some o ≡ true → o ≡ None → ⊥
-none-some (Some x) h e = cc
-none-some None h e = cc
-
 first-one : (w : Writer) (known : Remote) (psks : List (List ℕ)) (t : Token) (ts : List Token) → ((x : List ℕ) → Gives w known psks t x → ⊥)
     → IsTrue (remote_known w.role (is_some known.e) (is_some known.s) t) → (o : Option (Own × List ℕ))
     → MatchOption o (remote_at w.role known t ≡ None) (λ want. (want.0 ≡ own_at w.role t) × (remote_at w.role known t ≡ Some want.1))
@@ -86,7 +76,7 @@ first-one w known psks t ts bad dh (Some want) h = record {
   token = t;
   later = ts;
   tokens = refl;
-  lacks = first-lacks w known psks t ts bad;
+  lacks = lacks-first (t ∷ ts) ts t refl w known psks bad;
   own_is = h.0;
   key_is = h.1;
 }

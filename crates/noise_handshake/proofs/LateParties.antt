@@ -29,7 +29,7 @@ use Rattle.noise_handshake.specs.inner.Listening.{BeginsBefore}
 use Rattle.noise_handshake.proofs.Apart.{front-apart, reads-leads}
 use Rattle.noise_handshake.specs.declared.late_faults.Want.{Want}
 use Rattle.noise_handshake.specs.declared.stop.Stop.{Stop}
-use Rattle.noise_handshake.proofs.Standing.{ends, listens, with-psks}
+use Rattle.noise_handshake.proofs.Standing.{ends, listens, tokens-are, with-psks}
 use Rattle.noise_handshake.proofs.Later.{count-take, count-less, given-same, leads-same, reads-same, stops-same, stops-for-same, lacks-same, lacks-for-same}
 use Rattle.noise_handshake.proofs.Once.{refuses-one}
 use Rattle.noise_handshake.specs.Setup.{psks_of, setup_fault}
@@ -298,7 +298,7 @@ module _ {K : Type 0} (public_of : K → Own → Option (List ℕ)) (agreement :
   filled = matches-filled public_of agreement h lacking w g seen v later s
 
   pub same-tokens : tokens_at h.pattern.messages h.passed ≡ tokens_now v
-  same-tokens = ap (λ (p : Plan). tokens_at p.messages h.passed) filled.pattern ∙ ap (λ (k : ℕ). tokens_at v.pattern.messages k) filled.passed
+  same-tokens = tokens-are public_of agreement h (holding v h.psks) filled
 
   pub few-now : count_by is_psk (tokens_at h.pattern.messages h.passed) ≤ n → count_by is_psk (tokens_now v) ≤ n
   few-now c = subst (λ (us : List Token). count_by is_psk us ≤ n) same-tokens c

@@ -163,15 +163,12 @@ module _ {K : Type 0} (public_of : K → Own → Option (List ℕ)) (a : Inside 
         ∙ ap (λ (z : Plan). has_key z (passed_places z (a.passed + 1))) (sym same)
 
     module _ (counted : nonce_now new ≡ nonce_after_message a.means.has_psks (keyed state) (nonce_now state) (tokens_of placed))
-        (used : nonce_now new ≤ nonce_now state + length (tokens_of placed) + 1) (few : length placed ≤ 10)
+        (few : length placed ≤ 10)
         (plan : Plan) (same : plan ≡ a.pattern) (laid : MessageLayout) (lays : LaysNext plan (a.passed + 1) laid) where
       counted-in : nonce_now new ≡ nonce_after_message (has_psk a.pattern) (keyed a.state) (nonce_now a.state) (tokens_of placed)
       counted-in =
           counted ∙ ap (λ (z : SymmetricState). nonce_after_message a.means.has_psks (keyed z) (nonce_now z) (tokens_of placed)) e
           ∙ ap (λ (b : Bool). nonce_after_message b (keyed a.state) (nonce_now a.state) (tokens_of placed)) i.0
-
-      used-in : nonce_now new ≤ nonce_now a.state + length (tokens_of placed) + 1
-      used-in = subst (λ (z : SymmetricState). nonce_now new ≤ nonce_now z + length (tokens_of placed) + 1) e used
 
       unchanged-next : (known : Remote)
           → KnowsRemote (held_in (record a { used = a.used + a.next.psks; passed = a.passed + 1; next = laid; state = new; remote = known }))
@@ -180,10 +177,11 @@ module _ {K : Type 0} (public_of : K → Own → Option (List ℕ)) (a : Inside 
         i.0,
         used-within,
         sound-after public_of (held_in a) i.2 (tokens_of placed) tokens-next less known new (drop (a.used + a.next.psks) a.psks.items)
-            (a.passed + 1) refl left-next key-in used-in (omega (arith, length-tokens_of placed, few)) counted-in,
+            (a.passed + 1) refl left-next key-in (omega (arith, length-tokens_of placed, few)) counted-in,
         knows,
         subst (λ (z : Plan). LaysNext z (a.passed + 1) laid) same lays,
         i.5,
+        i.6,
       )
 
       pub unchanged-read : turn_from Initiator a.passed ≡ other a.means.role → (known : Remote) → is_some known.e ≡ e_after_tokens (is_some a.remote.e) (tokens_of placed)

@@ -16,7 +16,7 @@ not-earlier v known psks r ts m k j c d a b h =
     (subst (λ (us : List Token). CanBegin v known psks r us m) (take-take (suc k) j ts (omega (arith, h)))
     (reads-leads v known psks r (take j ts) b.carried m b.rest (suc k) b.leads))
 
-same-place : (k j : ℕ) → (k < j → ⊥) → (j < k → ⊥) → k ≡ j
+pub same-place : (k j : ℕ) → (k < j → ⊥) → (j < k → ⊥) → k ≡ j
 same-place k j f g = grind arith
 
 same-cause : (v : Reader) (known : Remote) (psks : List (List ℕ)) (r : History) (ts : List Token) (m : List ℕ) (k : ℕ) (c d : Cause)

@@ -8,6 +8,7 @@ use Rattle.noise_names.specs.Tokens.{is_psk}
 use Rattle.noise_handshake.specs.inner.Late.{IsPskAfter}
 use Rattle.noise_handshake.proofs.Later.{one-more, count-take, count-less}
 use Rattle.noise_handshake.proofs.Wanted.{take-through}
+use Rattle.noise_handshake.proofs.Once.{same-place}
 
 count-one : (before : List Token) → count_by is_psk (before ++ Psk ∷ []) ≡ suc (count_by is_psk before)
 count-one [] = refl
@@ -28,9 +29,6 @@ count-through ts before later e =
 pub no-psk : (ts before later : List Token) (n : ℕ) → count_by is_psk ts ≤ n → ts ≡ before ++ Psk ∷ later → count_by is_psk before ≡ n → ⊥
 no-psk ts before later n few e c = omega (arith, few, c, count-through ts before later e, count-take ts (suc (length before)))
 
-same-length : (a b : ℕ) → (a < b → ⊥) → (b < a → ⊥) → a ≡ b
-same-length a b f g = grind arith
-
 -- one alone comes after so many others
 pub psk-place : (ts before later : List Token) (n k : ℕ) → IsPskAfter ts n k → ts ≡ before ++ Psk ∷ later → count_by is_psk before ≡ n
     → before ≡ take k ts
@@ -41,7 +39,7 @@ psk-place ts before later n k a e c =
     let theirs : count_by is_psk (take (suc (length before)) ts) ≡ suc n = count-through ts before later e ∙ ap suc c in
     let seam : take (length before) ts ≡ before = ap (take (length before)) e ∙ take-append_seam before (Psk ∷ later) in
     let count : count_by is_psk (take (length before) ts) ≡ n = ap (count_by is_psk) seam ∙ c in
-    let same : length before ≡ k = same-length (length before) k
+    let same : length before ≡ k = same-place (length before) k
     (λ h. omega (arith, theirs, a.count, count-less ts (suc (length before)) k (omega (arith, h))))
     (λ h. omega (arith, mine, count, count-less ts (suc k) (length before) (omega (arith, h)))) in
     sym seam ∙ ap (λ (j : ℕ). take j ts) same

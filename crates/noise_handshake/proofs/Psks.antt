@@ -42,10 +42,6 @@ read-as matches state v known known2 psks r m result t u e h =
     × (known2 ≡ known_after known w x))
     (λ cause. Fails v known psks r w m × (cause ≡ cause_of (is_some (cipher_key r)) w m))) (sym e) h
 
-pub on_ok : {P : Type 0} (result : Result ℕ Cause) → P → OnOk result P
-on_ok (Ok n) p = p
-on_ok (Err cause) p = tt
-
 pub of_width : (result : Result ℕ Cause) (n m : ℕ) → n ≡ m → IfOk result (λ k. k ≡ n) → IfOk result (λ k. k ≡ m)
 of_width result n m e h = subst (λ (i : ℕ). IfOk result (λ k. k ≡ i)) e h
 

@@ -24,7 +24,7 @@ flips true x e = sym (e.0 refl)
 flips false true e = refl
 flips false false e = absurd (let h : false ≡ true = e.1 refl in cc)
 
-implied : (a : Bool) (o : Option (List ℕ)) → (a && is_none o) ≡ false → a ≡ true → is_some o ≡ true
+pub implied : (a : Bool) (o : Option (List ℕ)) → (a && is_none o) ≡ false → a ≡ true → is_some o ≡ true
 implied true None e h = absurd (cc)
 implied true (Some x) e h = refl
 implied false o e h = absurd (cc)
@@ -34,10 +34,6 @@ exactly true None e h = absurd (cc)
 exactly true (Some x) e h = refl
 exactly false None e h = refl
 exactly false (Some x) e h = absurd (cc)
-
-left-false : (a b : Bool) → (a || b) ≡ false → a ≡ false
-left-false true b e = absurd (cc)
-left-false false b e = refl
 
 same-count : (n m : ℕ) → not (n == m) ≡ false → n ≡ m
 same-count n m e = by (n == m) refl e where
@@ -94,8 +90,8 @@ module _ (p : Plan) (role : Role) (own : Own → Option (List ℕ)) (remote : Re
 
   pub remote-exactly : (is_some remote.e ≡ has_before p (other role) E) × (is_some remote.s ≡ has_before p (other role) S)
   remote-exactly = (
-    exactly (before E) remote.e (left-false (before E && is_none remote.e) (before S && is_none remote.s) tests.third)
-        (left-false (is_some remote.e && not (before E)) (is_some remote.s && not (before S)) tests.fourth),
+    exactly (before E) remote.e (or_parts (before E && is_none remote.e) (before S && is_none remote.s) tests.third).0
+        (or_parts (is_some remote.e && not (before E)) (is_some remote.s && not (before S)) tests.fourth).0,
     exactly (before S) remote.s (or_parts (before E && is_none remote.e) (before S && is_none remote.s) tests.third).1
         (or_parts (is_some remote.e && not (before E)) (is_some remote.s && not (before S)) tests.fourth).1,
   )

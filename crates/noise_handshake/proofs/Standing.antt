@@ -71,14 +71,19 @@ module _ {K : Type 0} (public_of : K → Own → Option (List ℕ)) (agreement :
   going : h.ended ≡ false → v.ended ≡ false
   going e = sym s.ended ∙ e
 
-  few : h.passed ≤ length h.pattern.messages → (h.passed == length h.pattern.messages) ≡ false → v.passed < length v.pattern.messages
+  pub few : h.passed ≤ length h.pattern.messages → (h.passed == length h.pattern.messages) ≡ false → v.passed < length v.pattern.messages
   few w e =
       let less : h.passed < length h.pattern.messages = grind (arith, nat_tests) in
       subst (λ (k : ℕ). k < length v.pattern.messages) s.passed (subst (λ (p : Plan). h.passed < length p.messages) s.pattern less)
 
-  turn : (b : Bool) → is_turn h.role h.passed ≡ b → same_role (turn_from Initiator v.passed) v.role ≡ b
+  pub turn : (b : Bool) → is_turn h.role h.passed ≡ b → same_role (turn_from Initiator v.passed) v.role ≡ b
   turn b e = ap (λ (k : ℕ). same_role (turn_from Initiator k) v.role) (sym s.passed)
       ∙ ap (λ (r : Role). same_role (turn_from Initiator h.passed) r) (sym s.role) ∙ e
+
+  pub whole : (h.passed == length h.pattern.messages) ≡ true → v.passed ≡ length v.pattern.messages
+  whole e =
+      let same : h.passed ≡ length h.pattern.messages = grind (arith, nat_tests) in
+      sym s.passed ∙ same ∙ ap (λ (p : Plan). length p.messages) s.pattern
 
   -- a message of the other party is due
   pub listens : h.passed ≤ length h.pattern.messages → read_fault h ≡ None → Listens v
@@ -112,10 +117,7 @@ module _ {K : Type 0} (public_of : K → Own → Option (List ℕ)) (agreement :
       declined read.Ended m w t = (going-to t, s) where
         going-to : h.ended ≡ true → v.ended ≡ true
         going-to e = sym s.ended ∙ e
-      declined read.Done m w t = ((going t.0, all t.1), s) where
-        all : (h.passed == length h.pattern.messages) ≡ true → v.passed ≡ length v.pattern.messages
-        all e = let same : h.passed ≡ length h.pattern.messages = grind (arith, nat_tests) in
-            sym s.passed ∙ same ∙ ap (λ (p : Plan). length p.messages) s.pattern
+      declined read.Done m w t = ((going t.0, whole t.1), s)
       declined read.NotYourTurn m w t =
           (record { going = going t.0; more = few w t.1; turn = same_role-true (turn_from Initiator v.passed) v.role (turn true t.2) }, s)
       declined (read.Refused token cause) m w t = absurd t

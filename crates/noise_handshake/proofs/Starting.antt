@@ -3,7 +3,7 @@ use Rattle.std.proofs.Common.{◌≡◌, ℕ, zero, suc, ◌+◌, ◌<◌, ◌�
 use Rattle.std.specs.Prelude.{Bool, true, false, ◌||◌, ◌&&◌, IsTrue, nat_le, count_by}
 use Rattle.std.specs.List.{list_any}
 use Rattle.std.proofs.lemmas.Bool.Decides.{nat_tests}
-use Rattle.std.proofs.lemmas.Bool.{leb-true}
+use Rattle.std.proofs.lemmas.Bool.{and_parts, leb-true}
 use Rattle.std.proofs.lemmas.List.Sums.{sum_by-append}
 use Rattle.noise_names.specs.declared.token.Token.{Token}
 use Rattle.noise_names.specs.declared.token.Token.TheVariants.{E, S, Ee, Es, Se, Ss, Psk}
@@ -57,13 +57,9 @@ all-few : (places : List ℕ) (ms : List (List Token)) → HavePsksAt places 1 m
 all-few places [] k = omega arith
 all-few places (ts ∷ ms) k = omega (arith, few_in places 1 ts true 1 refl refl k.0, later-few places 2 ms (omega arith) k.1)
 
-second : (a b : Bool) → IsTrue (a && b) → IsTrue b
-second true b h = h
-second false b h = cc
-
 -- a pattern takes at most 9 psks
 pub few-messages : (p : Plan) → IsPattern p → length p.messages ≤ 8
-few-messages p h = leb-true (length p.messages) 8 (second (nat_le 1 (length p.messages)) (nat_le (length p.messages) 8) h.count)
+few-messages p h = leb-true (length p.messages) 8 (and_parts (nat_le 1 (length p.messages)) (nat_le (length p.messages) 8) h.count).1
 
 pub few-psks : (p : Plan) → IsPattern p → psks_of p.messages ≤ 9
 few-psks p h = omega (arith, all-few p.places p.messages h.psks.tokens, few-messages p h)

@@ -1,6 +1,7 @@
 -- What a message's tokens ask and leave, reported of its first token and of those after it.
 use Rattle.std.proofs.Common.{◌≡◌, ℕ, suc, ◌+◌, ◌-◌, ◌^◌, ◌<◌, ◌≤◌, List, [], ◌∷◌, length, take, refl, sym, ap, subst, ◌∙◌, arith}
-use Rattle.std.specs.Prelude.{Bool, true, false, ◌&&◌, IsTrue, count_by}
+use Rattle.std.proofs.lemmas.Bool.{and_parts}
+use Rattle.std.specs.Prelude.{Bool, IsTrue, count_by}
 use Rattle.noise_names.specs.declared.token.Token.{Token}
 use Rattle.noise_names.specs.declared.token.Token.TheVariants.{E, S, Ee, Es, Se, Ss, Psk}
 use Rattle.noise_names.specs.declared.token.Role.{Role}
@@ -9,18 +10,11 @@ use Rattle.noise_handshake.specs.Length.{keyed_after, keyed_after_tokens, token_
 use Rattle.noise_handshake.specs.declared.remote.Remote.{Remote}
 use Rattle.noise_handshake.specs.Writing.{Writer, Gives, Given, LacksDhResultAt}
 use Rattle.noise_handshake.specs.Nonces.{nonce_after, nonce_after_tokens}
-use Rattle.noise_handshake.specs.inner.Known.{e_after, s_after, e_after_tokens, s_after_tokens}
+use Rattle.noise_handshake.specs.inner.Keying.{Keying, keying_after, keying_after_tokens}
 use Rattle.std.specs.List.{list_all}
 use Rattle.noise_handshake.specs.Party.{psks_after, other_psks}
+use Rattle.noise_handshake.proofs.Counting.{nonce-most}
 use Rattle.noise_handshake.proofs.Later.{one-more}
-
-first-true : (a b : Bool) → IsTrue (a && b) → IsTrue a
-first-true true b h = refl
-first-true false b h = h
-
-second-true : (a b : Bool) → IsTrue (a && b) → IsTrue b
-second-true true b h = h
-second-true false b h = absurd (cc)
 
 left-psk : (ts : List Token) (psks : List (List ℕ)) → count_by is_psk (Psk ∷ ts) ≤ length psks → count_by is_psk ts ≤ length (other_psks psks)
 left-psk ts [] h = absurd (omega (arith, h, one-more ts))
@@ -42,23 +36,16 @@ module _ (tokens ts : List Token) (t : Token) (split : tokens ≡ t ∷ ts) wher
   keyed-on has_psks key key2 key3 e f =
       f ∙ ap (λ (b : Bool). keyed_after_tokens has_psks b ts) e ∙ ap (λ (us : List Token). keyed_after_tokens has_psks key us) (sym split)
 
-  pub e-on : (e e2 e3 : Bool) → e2 ≡ e_after e t → e3 ≡ e_after_tokens e2 ts → e3 ≡ e_after_tokens e tokens
-  e-on e e2 e3 f g = g ∙ ap (λ (b : Bool). e_after_tokens b ts) f ∙ ap (λ (us : List Token). e_after_tokens e us) (sym split)
-
-  pub s-on : (s s2 s3 : Bool) → s2 ≡ s_after s t → s3 ≡ s_after_tokens s2 ts → s3 ≡ s_after_tokens s tokens
-  s-on s s2 s3 f g = g ∙ ap (λ (b : Bool). s_after_tokens b ts) f ∙ ap (λ (us : List Token). s_after_tokens s us) (sym split)
+  pub keying-on : (has_psks : Bool) (k k2 k3 : Keying) → k2 ≡ keying_after has_psks k t → k3 ≡ keying_after_tokens has_psks k2 ts
+      → k3 ≡ keying_after_tokens has_psks k tokens
+  keying-on has_psks k k2 k3 e f =
+      f ∙ ap (λ (z : Keying). keying_after_tokens has_psks z ts) e ∙ ap (λ (us : List Token). keying_after_tokens has_psks k us) (sym split)
 
   pub nonce-on : (has_psks key key2 : Bool) (n n2 n3 : ℕ) → key2 ≡ keyed_after has_psks key t → n2 ≡ nonce_after has_psks key n t
       → n3 ≡ nonce_after_tokens has_psks key2 n2 ts → n3 ≡ nonce_after_tokens has_psks key n tokens
   nonce-on has_psks key key2 n n2 n3 e f g =
       g ∙ ap (λ (b : Bool). nonce_after_tokens has_psks b n2 ts) e ∙ ap (λ (i : ℕ). nonce_after_tokens has_psks (keyed_after has_psks key t) i ts) f
       ∙ ap (λ (us : List Token). nonce_after_tokens has_psks key n us) (sym split)
-
-  pub bound-on : (n n2 n3 : ℕ) → n2 ≤ n + 1 → n3 ≤ n2 + length ts → n3 ≤ n + length tokens
-  bound-on n n2 n3 h k = omega (arith, h, k, ap length split)
-
-  pub bound-first : (n n2 : ℕ) → n2 ≤ n + 1 → n2 ≤ n + length tokens
-  bound-first n n2 h = omega (arith, h, ap length split)
 
   pub some-token : 0 < length tokens
   some-token = omega (arith, ap length split)
@@ -117,11 +104,11 @@ module _ (tokens ts : List Token) (t : Token) (split : tokens ≡ t ∷ ts) wher
       none (x ∷ xs) g = h x g.0
 
   pub all-first : (test : Token → Bool) → IsTrue (list_all test tokens) → IsTrue (test t)
-  all-first test h = first-true (test t) (list_all test ts) (subst (λ (us : List Token). IsTrue (list_all test us)) split h)
+  all-first test h = (and_parts (test t) (list_all test ts) (subst (λ (us : List Token). IsTrue (list_all test us)) split h)).0
 
   -- what those after it ask
   pub all-later : (test : Token → Bool) → IsTrue (list_all test tokens) → IsTrue (list_all test ts)
-  all-later test h = second-true (test t) (list_all test ts) (subst (λ (us : List Token). IsTrue (list_all test us)) split h)
+  all-later test h = (and_parts (test t) (list_all test ts) (subst (λ (us : List Token). IsTrue (list_all test us)) split h)).1
 
   pub psks-later : (psks others : List (List ℕ)) → others ≡ psks_after psks t → count_by is_psk tokens ≤ length psks
       → count_by is_psk ts ≤ length others
@@ -129,12 +116,10 @@ module _ (tokens ts : List Token) (t : Token) (split : tokens ≡ t ∷ ts) wher
       subst (λ (z : List (List ℕ)). count_by is_psk ts ≤ length z) (sym e)
       (left-after t ts psks (subst (λ (us : List Token). count_by is_psk us ≤ length psks) split h))
 
-  pub nonces-later : (n n2 : ℕ) → n2 ≤ n + 1 → n + length tokens < 2 ^ 64 - 1 → n2 + length ts < 2 ^ 64 - 1
-  nonces-later n n2 e h = omega (arith, e, h, ap length split)
+  pub nonces-later : (has_psks key : Bool) (n n2 : ℕ) → n2 ≡ nonce_after has_psks key n t → n + length tokens < 2 ^ 64 - 1
+      → n2 + length ts < 2 ^ 64 - 1
+  nonces-later has_psks key n n2 e h = omega (arith, e, nonce-most has_psks key n t, h, ap length split)
 
 -- with no tokens
-pub none-added : (n k : ℕ) → n ≤ n + k
-none-added n k = omega arith
-
 pub none-after : (n m : ℕ) → n ≤ m → n + 0 ≤ m
 none-after n m h = omega (arith, h)

@@ -137,7 +137,7 @@ psk-goes v known psks r (t ∷ before) (x ∷ xs) m rest l =
       leads = leads-more v known psks r t x (before ++ Psk ∷ []) i.carried m more i.rest l.fit.0 e i.leads;
     }
 
-none-some : (o : Option (List ℕ)) → is_some o ≡ true → o ≡ None → ⊥
+pub none-some : (o : Option (List ℕ)) → is_some o ≡ true → o ≡ None → ⊥
 none-some (Some x) h e = cc
 none-some None h e = cc
 
@@ -217,7 +217,7 @@ asked v known here psks r ts m k t less is knows s o h =
     (asked-there v known psks r m before later t knows1 s2.0 o h1)
 
 -- for a party that listens
-wants-of : (v : Party) (m : List ℕ) (o : Option (Own × List ℕ)) → Listens v
+pub wants-of : (v : Party) (m : List ℕ) (o : Option (Own × List ℕ)) → Listens v
     → MatchOption o ((j : ℕ) → Stops (reader v) v.remote v.psks v.history (tokens_now v) m j Agreement → ⊥)
     (λ want. StopsFor (reader v) v.remote v.psks v.history (tokens_now v) m want.0 want.1)
     → MatchOption o ((j : ℕ) → Refuses v m j Agreement → ⊥) (λ want. WantsToRead v m want.0 want.1)

@@ -1,5 +1,6 @@
 -- What holds of every handshake, and what a caller's parts are tested for.
 use Rattle.std.proofs.Common.{◌≡◌, ℕ, ◌≤◌, ◌*◌, List, Bool, true, false, length, drop, refl, arith}
+use Rattle.std.proofs.lemmas.Bool.{and_from, and_parts, not-true, not_from_false}
 use Rattle.std.specs.Prelude.{not, ◌&&◌, Option, is_some, is_none}
 use Rattle.noise_names.specs.declared.token.Token.TheVariants.{E, S}
 use Rattle.noise_names.specs.Tokens.{other}
@@ -16,24 +17,16 @@ use Rattle.noise_handshake.specs.Passed.{passed_places}
 use Rattle.noise_handshake.specs.Setup.{lacks_own, psks_of}
 use Rattle.noise_handshake.specs.inner.Known.{KnowsRemote}
 use Rattle.noise_handshake.specs.inner.Sound.{IsSound}
+use Rattle.noise_handshake.proofs.Setting.{implied}
 
 left : (a b : Bool) → (not a && not b) ≡ true → a ≡ false
-left false b e = refl
-left true b e = cc
+left a b e = not-true a (and_parts (not a) (not b) e).0
 
 right : (a b : Bool) → (not a && not b) ≡ true → b ≡ false
-right false false e = refl
-right false true e = cc
-right true b e = cc
+right a b e = not-true b (and_parts (not a) (not b) e).1
 
 both : (a b : Bool) → a ≡ false → b ≡ false → (not a && not b) ≡ true
-both false false e f = refl
-both false true e f = cc
-both true b e f = cc
-
-absent : (a : Bool) (key : Option (List ℕ)) → (a && is_none key) ≡ false → a ≡ true → is_some key ≡ true
-absent true key e f = grind arith
-absent false key e f = cc
+both a b e f = and_from (not a) (not b) (not_from_false a e) (not_from_false b f)
 
 present : (a : Bool) (key : Option (List ℕ)) → (a ≡ true → is_some key ≡ true) → (a && is_none key) ≡ false
 present true key f = let h = f refl in grind arith
@@ -84,8 +77,8 @@ module _ {K : Type 0} (public_of : K → Own → Option (List ℕ)) (h : Handsha
     within = w.within;
     few = few;
     psks = w.psks;
-    has_e = absent (is_among h.role E (places_of h.pattern)) (public_of h.keys Ephemeral) w.own_e;
-    has_s = absent (is_among h.role S (places_of h.pattern)) (public_of h.keys Static) w.own_s;
+    has_e = implied (is_among h.role E (places_of h.pattern)) (public_of h.keys Ephemeral) w.own_e;
+    has_s = implied (is_among h.role S (places_of h.pattern)) (public_of h.keys Static) w.own_s;
     keyed = w.key;
     nonce = w.nonce;
     bound = bound;

@@ -14,6 +14,7 @@ use Rattle.noise_handshake.specs.HandshakeValue.{HandshakeValue, is_turn, length
 use Rattle.noise_handshake.specs.Matching.{Matches, DoesNotWrite}
 use Rattle.noise_handshake.specs.Party.{Party}
 use Rattle.noise_names.specs.Roles.{same_role-true, same_role-false}
+use Rattle.noise_handshake.proofs.Standing.{few, turn, whole}
 
 -- what a fault says of the tests, and none
 abbrev Said : (ended all ours long : Bool) → Option WriteFault → Type 0
@@ -35,21 +36,6 @@ said false false true false = tt
 
 module _ {K : Type 0} (public_of : K → Own → Option (List ℕ)) (agreement : K → Own → List ℕ → Option (List ℕ)) (h : HandshakeValue K) (v : Party)
     (s : Matches public_of agreement h v) (within : h.passed ≤ length h.pattern.messages) (payload : ℕ) where
-  more : (h.passed == length h.pattern.messages) ≡ false → v.passed < length v.pattern.messages
-  more e =
-      let less : h.passed < length h.pattern.messages = grind (arith, nat_tests) in
-      subst (λ (k : ℕ). k < length v.pattern.messages) s.passed (subst (λ (p : Plan). h.passed < length p.messages) s.pattern less)
-
-  whole : (h.passed == length h.pattern.messages) ≡ true → v.passed ≡ length v.pattern.messages
-  whole e =
-      let same : h.passed ≡ length h.pattern.messages = grind (arith, nat_tests) in
-      sym s.passed ∙ same ∙ ap (λ (p : Plan). length p.messages) s.pattern
-
-  turn : (b : Bool) → is_turn h.role h.passed ≡ b → same_role (turn_from Initiator v.passed) v.role ≡ b
-  turn b e =
-      ap (λ (k : ℕ). same_role (turn_from Initiator k) v.role) (sym s.passed)
-      ∙ ap (λ (r : Role). same_role (turn_from Initiator h.passed) r) (sym s.role) ∙ e
-
   long : nat_lt 65535 (length_now h payload) ≡ true → 65535 < overhead_of v.pattern (v.passed + 1) + payload
   long e =
       let here : 65535 < overhead_of h.pattern (h.passed + 1) + payload = grind (arith, nat_tests) in
@@ -60,11 +46,11 @@ module _ {K : Type 0} (public_of : K → Own → Option (List ℕ)) (agreement :
       → Said h.ended (h.passed == length h.pattern.messages) (is_turn h.role h.passed) (nat_lt 65535 (length_now h payload)) (Some f)
       → DoesNotWrite v payload f
   withheld-by write.Ended t = sym s.ended ∙ t
-  withheld-by write.Done t = (sym s.ended ∙ t.0, whole t.1)
+  withheld-by write.Done t = (sym s.ended ∙ t.0, whole public_of agreement h v s t.1)
   withheld-by write.NotYourTurn t =
-      record { going = sym s.ended ∙ t.0; more = more t.1; turn = same_role-false (turn_from Initiator v.passed) v.role (turn false t.2) }
+      record { going = sym s.ended ∙ t.0; more = few public_of agreement h v s within t.1; turn = same_role-false (turn_from Initiator v.passed) v.role (turn public_of agreement h v s false t.2) }
   withheld-by write.TooLong t = (
-    record { going = sym s.ended ∙ t.0; more = more t.1; turn = same_role-true (turn_from Initiator v.passed) v.role (turn true t.2) },
+    record { going = sym s.ended ∙ t.0; more = few public_of agreement h v s within t.1; turn = same_role-true (turn_from Initiator v.passed) v.role (turn public_of agreement h v s true t.2) },
     long t.3,
   )
   withheld-by (write.Agreement token) t = absurd t

@@ -1,6 +1,7 @@
 -- What only private functions and proofs of this crate need: no public clause names any of it.
 pub mod Kept
 pub mod Keyed
+pub mod Keying
 pub mod Known
 pub mod Late
 pub mod Layout

@@ -97,7 +97,6 @@ impl<K: Keys> Handshake<K> {
         ensures valid { IsPattern pattern × IsValid pattern }
     {
         let plan = pattern.pattern();
-        let _ = plan.messages();
         if let Some(fault) = setup_fault(plan, role, &keys, &remote, psks.len()) {
             return Err(fault);
         }
@@ -123,7 +122,6 @@ impl<K: Keys> Handshake<K> {
         ensures psks { result.psks ≡ psks.items }
     {
         let plan = pattern.pattern();
-        let _ = plan.messages();
         let has_psks = !plan.is_plain();
         let state = start(plan, role, prologue, &public_keys(&keys), &remote);
         let next = lay_next(plan, has_psks, state.has_key(), 0);
@@ -241,7 +239,6 @@ impl<K: Keys> Handshake<K> {
         ensures valid { IsValid self.now.pattern }
         ensures limits { IsPattern self.now.pattern }
     {
-        let _ = self.pattern.pattern().messages();
         &self.pattern
     }
 

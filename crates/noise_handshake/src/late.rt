@@ -162,8 +162,7 @@ impl<K: Keys> LateHandshake<K> {
         ensures when { IsOk result ↔ (length self.psks ≡ psks_of (drop self.passed self.pattern.messages)) }
         ensures value { MatchResult result (λ h. h ≡ self) (λ h. h ≡ self) }
     {
-        let _ = self.filled.left();
-        if self.lacking == 0 {
+        if self.given() == self.filled.left() {
             Ok(self.filled)
         } else {
             Err(self)

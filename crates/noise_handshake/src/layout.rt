@@ -2,6 +2,7 @@
 #![tactic(auto)]
 
 ghost use Rattle.std.specs.Prelude.{◌≡◌, ◌≤◌, ◌+◌, ◌*◌, ◌++◌, length, count_by, MatchOption};
+ghost use Rattle.noise_names.specs.Limits.{IsPattern};
 ghost use Rattle.noise_names.specs.Tokens.{is_psk};
 ghost use Rattle.noise_names.specs.Plan.{has_psk};
 ghost use Rattle.noise_names.specs.Overhead.{has_key};
@@ -102,7 +103,8 @@ fn lay_message(tokens: &[Token], has_psks: bool, keyed: bool) -> MessageLayout
 pub(crate) fn lay_next(pattern: &Pattern, has_psks: bool, keyed: bool, passed: u8) -> MessageLayout
     requires has_psks { has_psks ≡ has_psk pattern.now }
     requires key { keyed ≡ has_key pattern.now (passed_places pattern.now passed) }
-    ensures { LaysNext pattern.now passed result }
+    ensures laid { LaysNext pattern.now passed result }
+    ensures limits { IsPattern pattern.now }
 {
     match pattern.messages().get(passed as usize) {
         Some(message) => lay_message(message.tokens(), has_psks, keyed),

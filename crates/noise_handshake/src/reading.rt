@@ -1,14 +1,14 @@
 //! Reading the tokens of a message.
 #![tactic(auto)]
 
-ghost use Rattle.std.specs.Prelude.{◌≡◌, ◌≤◌, ◌<◌, ◌+◌, ◌-◌, ◌*◌, ◌^◌, ℕ, length, take, drop, count_by, is_some, Option, Some, None};
+ghost use Rattle.std.specs.Prelude.{◌≡◌, ◌≤◌, ◌<◌, ◌+◌, ◌-◌, ◌*◌, ◌^◌, ℕ, length, take, drop, count_by, is_some, Bool, Option, Some, None};
 ghost use Rattle.std.specs.Prelude.{IfOk, IfSome, IfErr, OnOk, OnErr, slice_index_or, nat_lt, if◌then◌else◌, IsTrue, true};
 ghost use Rattle.noise_state.specs.Cipher.{next_nonce};
 ghost use Rattle.noise_state.specs.Standing.{StateMatches, keyed, nonce_now};
-ghost use Rattle.noise_handshake.specs.Nonces.{nonce_after, nonce_after_message, nonce_after_tokens};
 ghost use Rattle.noise_state.specs.History.{History, nonce};
-ghost use Rattle.noise_handshake.specs.inner.Known.{are_known, e_after, s_after, e_after_tokens, s_after_tokens};
-ghost use Rattle.noise_handshake.specs.Length.{keyed_after, keyed_after_tokens, token_width};
+ghost use Rattle.noise_handshake.specs.inner.Keying.{keying_of, keying_after, keying_after_tokens, keying_after_message};
+ghost use Rattle.noise_handshake.specs.inner.Known.{are_known};
+ghost use Rattle.noise_handshake.specs.Length.{token_width};
 ghost use Rattle.noise_handshake.specs.Party.{Reader, remote_after, Reads};
 ghost use Rattle.noise_handshake.specs.Party.{psks_after};
 ghost use Rattle.noise_handshake.specs.Calls.{IsPlaceIn, IsSameAround};
@@ -36,11 +36,8 @@ fn read_e(
 ) -> Result<usize, Cause>
     ensures width { IfOk result (λ n. n ≡ 32) }
     ensures range { IfOk result (λ n. n ≤ length message.now) }
-    ensures key { OnOk result (keyed state.new ≡ keyed_after has_psks (keyed state.old) Token.E) }
-    ensures known { OnOk result ((is_some known.new.e ≡ true) × (known.new.s ≡ known.old.s)) }
-    ensures nonce { nonce_now state.new ≤ nonce_now state.old }
-    ensures counted { OnOk result (nonce_now state.new
-        ≡ nonce_after has_psks (keyed state.old) (nonce_now state.old) Token.E) }
+    ensures keying { OnOk result (keying_of state.new known.new
+        ≡ keying_after has_psks (keying_of state.old known.old) Token.E) }
     ensures unchanged { OnErr result (known.new ≡ known.old) }
     ensures read { (r : History) → StateMatches state.old r
         → ReadsE has_psks r state.new known.old known.new message.now result }
@@ -59,7 +56,6 @@ fn open_key(state: &mut SymmetricState, buffer: &mut [u8]) -> Option<[u8; 32]>
     requires high { length buffer.old ≤ 65535 }
     requires nonces { nonce_now state.old < 2 ^ 64 - 1 }
     ensures key { keyed state.new ≡ keyed state.old }
-    ensures nonce { nonce_now state.new ≤ nonce_now state.old + 1 }
     ensures counted { IfSome result (λ _. nonce_now state.new ≡ next_nonce (keyed state.old) (nonce_now state.old)) }
     ensures opened { (r : History) → StateMatches state.old r → length buffer.old ≡ width_of_key r
         → OpensKey r state.new buffer.old result }
@@ -91,10 +87,8 @@ fn read_s(
     requires width { width ≡ token_width (keyed state.old) Token.S }
     ensures width { IfOk result (λ n. n ≡ width) }
     ensures range { IfOk result (λ n. n ≤ length message.now) }
-    ensures key { keyed state.new ≡ keyed state.old }
-    ensures known { OnOk result ((known.new.e ≡ known.old.e) × (is_some known.new.s ≡ true)) }
-    ensures nonce { nonce_now state.new ≤ nonce_now state.old + 1 }
-    ensures counted { OnOk result (nonce_now state.new ≡ next_nonce (keyed state.old) (nonce_now state.old)) }
+    ensures keying { (has_psks : Bool) → OnOk result (keying_of state.new known.new
+        ≡ keying_after has_psks (keying_of state.old known.old) Token.S) }
     ensures unchanged { OnErr result (known.new ≡ known.old) }
     ensures read { (r : History) → StateMatches state.old r
         → ReadsS r state.new known.old known.new message.now result }
@@ -128,12 +122,8 @@ fn read_token<K: Keys>(
     requires nonces { nonce_now state.old < 2 ^ 64 - 1 }
     ensures width { IfOk result (λ n. n ≡ token_width (keyed state.old) placed.token) }
     ensures range { IfOk result (λ n. n ≤ length message.now) }
-    ensures key { OnOk result (keyed state.new ≡ keyed_after means.now.has_psks (keyed state.old) placed.token) }
-    ensures e { OnOk result (is_some known.new.e ≡ e_after (is_some known.old.e) placed.token) }
-    ensures s { OnOk result (is_some known.new.s ≡ s_after (is_some known.old.s) placed.token) }
-    ensures nonce { nonce_now state.new ≤ nonce_now state.old + 1 }
-    ensures counted { OnOk result (nonce_now state.new
-        ≡ nonce_after means.now.has_psks (keyed state.old) (nonce_now state.old) placed.token) }
+    ensures keying { OnOk result (keying_of state.new known.new
+        ≡ keying_after means.now.has_psks (keying_of state.old known.old) placed.token) }
     ensures unchanged { OnErr result (known.new ≡ known.old) }
     ensures read { (r : History) → StateMatches state.old r
         → ReadsToken (reader_of K.agreement means.now) r state.new known.old known.new psks.now placed.token
@@ -182,13 +172,8 @@ fn read_tokens<K: Keys>(
         → ArePlaced means.now.has_psks (keyed state.old) place placed.now
         → IfOk result (λ n. place + n ≤ length message.now) }
     ensures stop { IfErr result (λ stop. stop.0 < length (tokens_of placed.now)) }
-    ensures key { OnOk result (keyed state.new ≡ keyed_after_tokens means.now.has_psks (keyed state.old)
-        (tokens_of placed.now)) }
-    ensures e { OnOk result (is_some known.new.e ≡ e_after_tokens (is_some known.old.e) (tokens_of placed.now)) }
-    ensures s { OnOk result (is_some known.new.s ≡ s_after_tokens (is_some known.old.s) (tokens_of placed.now)) }
-    ensures nonce { nonce_now state.new ≤ nonce_now state.old + length (tokens_of placed.now) }
-    ensures counted { OnOk result (nonce_now state.new
-        ≡ nonce_after_tokens means.now.has_psks (keyed state.old) (nonce_now state.old) (tokens_of placed.now)) }
+    ensures keying { OnOk result (keying_of state.new known.new
+        ≡ keying_after_tokens means.now.has_psks (keying_of state.old known.old) (tokens_of placed.now)) }
     ensures read { (r : History) (place : ℕ) → StateMatches state.old r → place ≤ length message.now →
         ArePlaced means.now.has_psks (keyed state.old) place placed.now → ReadsTokens (reader_of K.agreement means.now)
         r state.new known.old known.new psks.now (tokens_of placed.now) message.now place result }
@@ -323,13 +308,8 @@ pub(crate) fn read_message<K: Keys>(
     ensures range { IfOk result (IsPlaceIn message.new) }
     ensures beyond { IfOk result (IsSameAround message.old message.new) }
     ensures stop { IfErr result (λ stop. stop.0 ≤ length (tokens_of placed.now)) }
-    ensures key { OnOk result (keyed state.new ≡ keyed_after_tokens means.now.has_psks (keyed state.old)
-        (tokens_of placed.now)) }
-    ensures e { OnOk result (is_some known.new.e ≡ e_after_tokens (is_some known.old.e) (tokens_of placed.now)) }
-    ensures s { OnOk result (is_some known.new.s ≡ s_after_tokens (is_some known.old.s) (tokens_of placed.now)) }
-    ensures nonce { nonce_now state.new ≤ nonce_now state.old + length (tokens_of placed.now) + 1 }
-    ensures counted { OnOk result (nonce_now state.new
-        ≡ nonce_after_message means.now.has_psks (keyed state.old) (nonce_now state.old) (tokens_of placed.now)) }
+    ensures keying { OnOk result (keying_of state.new known.new
+        ≡ keying_after_message means.now.has_psks (keying_of state.old known.old) (tokens_of placed.now)) }
     ensures read { (r : History) → StateMatches state.old r
         → ReadsMessage (reader_of K.agreement means.now) r
         state.new known.old known.new psks.now (tokens_of placed.now) message.old message.new result }

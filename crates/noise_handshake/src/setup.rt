@@ -3,6 +3,7 @@
 
 ghost use Rattle.std.specs.Prelude.{◌≡◌, ◌≤◌, ◌*◌, ◌||◌, ◌&&◌, true, not, length, is_some, is_none, None};
 ghost use Rattle.std.specs.List.{list_any};
+ghost use Rattle.noise_names.specs.Limits.{IsPattern};
 ghost use Rattle.noise_names.specs.Tokens.{same_role, same_token};
 ghost use Rattle.noise_names.specs.Overhead.{has_key};
 ghost use Rattle.noise_names.specs.declared.token.Token.TheVariants.{E, S};
@@ -66,7 +67,7 @@ pub(crate) fn setup_fault<K: Keys>(
 ) -> Option<SetupFault>
     ensures fault { result ≡ setup_fault pattern.now role (K.public_of keys.now) remote.now psks }
     ensures few { result ≡ None → psks ≤ 9 }
-    ensures short { length pattern.now.messages ≤ 8 }
+    ensures limits { IsPattern pattern.now }
 {
     let pre = pattern.pre(role.other());
     let total = psk_total(pattern.messages());

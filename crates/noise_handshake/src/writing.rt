@@ -52,7 +52,6 @@ fn write_part(state: &mut SymmetricState, text: &[u8], out: &mut [u8]) -> usize
     ensures width { result ≡ length text.now + tag_width (keyed state.old) }
     ensures beyond { drop result out.new ≡ drop result out.old }
     ensures keyed { keyed state.new ≡ keyed state.old }
-    ensures used { nonce_now state.new ≤ nonce_now state.old + 1 }
     ensures counted { nonce_now state.new ≡ next_nonce (keyed state.old) (nonce_now state.old) }
     ensures written { (r : History) → StateMatches state.old r → (take result out.new ≡ ciphertext r text.now)
         × StateMatches state.new (and_then r (Ciphertext (ciphertext r text.now))) }
@@ -71,7 +70,6 @@ fn write_e(state: &mut SymmetricState, has_psks: bool, key: &[u8; 32], out: &mut
     ensures width { result ≡ 32 }
     ensures beyond { drop result out.new ≡ drop result out.old }
     ensures keyed { keyed state.new ≡ keyed_after has_psks (keyed state.old) Token.E }
-    ensures used { nonce_now state.new ≤ nonce_now state.old }
     ensures counted { nonce_now state.new ≡ nonce_after has_psks (keyed state.old) (nonce_now state.old) Token.E }
     ensures written { (r : History) → StateMatches state.old r → (take result out.new ≡ key.now)
         × StateMatches state.new (with_ephemeral has_psks r key.now) }
@@ -96,7 +94,6 @@ fn write_token<K: Keys>(
     ensures width { IfSome result (λ n. n ≡ token_width (keyed state.old) token) }
     ensures beyond { IfSome result (λ n. drop n out.new ≡ drop n out.old) }
     ensures keyed { IfSome result (λ _. keyed state.new ≡ keyed_after means.now.has_psks (keyed state.old) token) }
-    ensures used { nonce_now state.new ≤ nonce_now state.old + 1 }
     ensures counted { IfSome result
         (λ _. nonce_now state.new ≡ nonce_after means.now.has_psks (keyed state.old) (nonce_now state.old) token) }
     ensures written { (r : History) → StateMatches state.old r
@@ -143,7 +140,6 @@ fn write_tokens<K: Keys>(
     ensures beyond { IfOk result (λ n. drop n out.new ≡ drop n out.old) }
     ensures keyed { IfOk result
         (λ _. keyed state.new ≡ keyed_after_tokens means.now.has_psks (keyed state.old) (tokens_of placed.now)) }
-    ensures used { nonce_now state.new ≤ nonce_now state.old + length (tokens_of placed.now) }
     ensures counted { IfOk result
         (λ _. nonce_now state.new ≡ nonce_after_tokens means.now.has_psks (keyed state.old) (nonce_now state.old)
         (tokens_of placed.now)) }
@@ -253,7 +249,6 @@ pub(crate) fn write_message<K: Keys>(
     ensures beyond { IfOk result (λ n. drop n out.new ≡ drop n out.old) }
     ensures keyed { IfOk result
         (λ _. keyed state.new ≡ keyed_after_tokens means.now.has_psks (keyed state.old) (tokens_of placed.now)) }
-    ensures used { nonce_now state.new ≤ nonce_now state.old + length (tokens_of placed.now) + 1 }
     ensures counted { IfOk result
         (λ _. nonce_now state.new ≡ nonce_after_message means.now.has_psks (keyed state.old) (nonce_now state.old)
         (tokens_of placed.now)) }

@@ -2,6 +2,7 @@
 use Rattle.std.specs.Prelude.{◌≡◌, ◌≤◌, ℕ, List, Option, length, drop}
 use Rattle.noise_names.specs.Plan.{has_psk}
 use Rattle.noise_names.specs.Validity.{IsValid}
+use Rattle.noise_names.specs.Limits.{IsPattern}
 use Rattle.noise_keys.specs.declared.keys.Own.{Own}
 use Rattle.noise_handshake.specs.declared.handshake.Handshake.TheInside.{Inside}
 use Rattle.noise_handshake.specs.HandshakeValue.{HandshakeValue}
@@ -26,3 +27,4 @@ held_in a = record {
 abbrev pub IsKept : {K : Type 0} → (K → Own → Option (List ℕ)) → Inside K → Type 0
 IsKept public_of a = (a.means.has_psks ≡ has_psk a.pattern) × (a.used ≤ length a.psks.items)
     × IsSound public_of (held_in a) × KnowsRemote (held_in a) × LaysNext a.pattern a.passed a.next × IsValid a.pattern
+    × IsPattern a.pattern

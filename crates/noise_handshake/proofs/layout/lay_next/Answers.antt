@@ -10,8 +10,8 @@ use Rattle.noise_handshake.specs.inner.Layout.{IsLaid}
 use Rattle.noise_handshake.proofs.Parties.{tokens_at-index}
 use Rattle.noise_handshake.proofs.layout.lay_next.Goals as goal
 
-pub returns-in-Some : goal.returns-in-Some
-returns-in-Some c less =
+pub returns-in-Some-clause-laid : goal.returns-in-Some-clause-laid
+returns-in-Some-clause-laid c less =
     let p : Plan = c.args.pattern.now in
     let n : ℕ = c.args.passed in
     let laid : MessageLayout = c.lay_message.result in

@@ -9,12 +9,10 @@ use Rattle.noise_handshake.specs.Message.{token_bytes, after_token, after_tokens
 use Rattle.noise_handshake.specs.Party.{Reader, BeginsAs, cause_of}
 use Rattle.noise_handshake.specs.inner.Layout.{tokens_of, ArePlaced}
 use Rattle.noise_handshake.specs.inner.Listening.{Fails}
-use Rattle.noise_handshake.specs.Length.{keyed_after_tokens}
-use Rattle.noise_handshake.specs.Nonces.{nonce_after_tokens}
-use Rattle.noise_handshake.specs.inner.Known.{e_after_tokens, s_after_tokens}
+use Rattle.noise_handshake.specs.inner.Keying.{Keying, keying_of, keying_after_tokens}
 use Rattle.noise_handshake.proofs.DhTokens.{none_taken}
 use Rattle.noise_handshake.proofs.Layouts.{first-placed, later-placed, rest-first}
-use Rattle.noise_handshake.proofs.Stepwise.{keyed-on, e-on, s-on, nonce-on, bound-on, bound-first, some-token, one-later, place-fits, nonce-left, psk-due, none-added, none-after, psks-later, nonces-later}
+use Rattle.noise_handshake.proofs.Stepwise.{keying-on, some-token, one-later, place-fits, nonce-left, psk-due, none-after, psks-later, nonces-later}
 use Rattle.noise_handshake.proofs.Steps.{led-none, stopped, led, learned-on, stopped-later}
 use Rattle.noise_handshake.proofs.reading.+read_tokens.Goals as goal
 use Rattle.std.proofs.lemmas.List.{nil_from_length}
@@ -32,19 +30,19 @@ read_token-requires-clause-width g t c =
 pub overflow_add-result : goal.overflow_add-result
 overflow_add-result g t c =
     let u = later-placed c.args.means.now.has_psks (keyed c.args.state.now) c.requires.placed.0 c.args.placed.now c.in-Some.first.now c.in-Some.later.now c.in-Some.ensures.cases.0 c.requires.placed.2
-    c.args.message.now c.bytes_from-rest.result.now c.bytes_from-rest.ensures c.requires.placed.1 c.in-Ok.n (keyed c.read_token.new.state) c.in-Ok.ensures.width c.in-Ok.ensures.range c.in-Ok.ensures.key in
+    c.args.message.now c.bytes_from-rest.result.now c.bytes_from-rest.ensures c.requires.placed.1 c.in-Ok.n (keyed c.read_token.new.state) c.in-Ok.ensures.width c.in-Ok.ensures.range (ap (λ (k : Keying). k.keyed) c.in-Ok.ensures.keying) in
     omega (arith, u.0, c.in-Ok-read_tokens.ensures.range (c.requires.placed.0 + c.in-Some.first.now.width) u.1 u.2)
 
 pub returns-in-Ok-read_tokens-clause-within : goal.returns-in-Ok-read_tokens-clause-within
 returns-in-Ok-read_tokens-clause-within g t c =
     let u = later-placed c.args.means.now.has_psks (keyed c.args.state.now) c.requires.placed.0 c.args.placed.now c.in-Some.first.now c.in-Some.later.now c.in-Some.ensures.cases.0 c.requires.placed.2
-    c.args.message.now c.bytes_from-rest.result.now c.bytes_from-rest.ensures c.requires.placed.1 c.in-Ok.n (keyed c.read_token.new.state) c.in-Ok.ensures.width c.in-Ok.ensures.range c.in-Ok.ensures.key in
+    c.args.message.now c.bytes_from-rest.result.now c.bytes_from-rest.ensures c.requires.placed.1 c.in-Ok.n (keyed c.read_token.new.state) c.in-Ok.ensures.width c.in-Ok.ensures.range (ap (λ (k : Keying). k.keyed) c.in-Ok.ensures.keying) in
     omega (arith, u.0, c.in-Ok-read_tokens.ensures.range (c.requires.placed.0 + c.in-Some.first.now.width) u.1 u.2)
 
 pub returns-in-Ok-read_tokens-clause-range : goal.returns-in-Ok-read_tokens-clause-range
 returns-in-Ok-read_tokens-clause-range g t c place within are =
     let u = later-placed c.args.means.now.has_psks (keyed c.args.state.now) place c.args.placed.now c.in-Some.first.now c.in-Some.later.now c.in-Some.ensures.cases.0 are
-    c.args.message.now c.bytes_from-rest.result.now c.bytes_from-rest.ensures within c.in-Ok.n (keyed c.read_token.new.state) c.in-Ok.ensures.width c.in-Ok.ensures.range c.in-Ok.ensures.key in
+    c.args.message.now c.bytes_from-rest.result.now c.bytes_from-rest.ensures within c.in-Ok.n (keyed c.read_token.new.state) c.in-Ok.ensures.width c.in-Ok.ensures.range (ap (λ (k : Keying). k.keyed) c.in-Ok.ensures.keying) in
     omega (arith, u.0, c.in-Ok-read_tokens.ensures.range (place + c.in-Some.first.now.width) u.1 u.2)
 
 pub returns-in-Err-clause-read : goal.returns-in-Err-clause-read
@@ -72,7 +70,7 @@ returns-in-Ok-read_tokens-clause-read g t c r place s within are =
     let here = rest-first c.args.means.now.has_psks (keyed c.args.state.now) place c.args.placed.now c.in-Some.first.now c.in-Some.later.now c.in-Some.ensures.cases.0 are
     c.args.message.now c.bytes_from-rest.result.now c.bytes_from-rest.ensures in
     let u = later-placed c.args.means.now.has_psks (keyed c.args.state.now) place c.args.placed.now c.in-Some.first.now c.in-Some.later.now c.in-Some.ensures.cases.0 are
-    c.args.message.now c.bytes_from-rest.result.now c.bytes_from-rest.ensures within c.in-Ok.n (keyed c.read_token.new.state) c.in-Ok.ensures.width c.in-Ok.ensures.range c.in-Ok.ensures.key in
+    c.args.message.now c.bytes_from-rest.result.now c.bytes_from-rest.ensures within c.in-Ok.n (keyed c.read_token.new.state) c.in-Ok.ensures.width c.in-Ok.ensures.range (ap (λ (k : Keying). k.keyed) c.in-Ok.ensures.keying) in
     let m : List ℕ = c.args.message.now in
     let n : ℕ = c.in-Ok.n in
     let rest : List ℕ = drop place m in
@@ -105,7 +103,7 @@ returns-in-Err-read_tokens-clause-read g t c r place s within are =
     let here = rest-first c.args.means.now.has_psks (keyed c.args.state.now) place c.args.placed.now c.in-Some.first.now c.in-Some.later.now c.in-Some.ensures.cases.0 are
     c.args.message.now c.bytes_from-rest.result.now c.bytes_from-rest.ensures in
     let u = later-placed c.args.means.now.has_psks (keyed c.args.state.now) place c.args.placed.now c.in-Some.first.now c.in-Some.later.now c.in-Some.ensures.cases.0 are
-    c.args.message.now c.bytes_from-rest.result.now c.bytes_from-rest.ensures within c.in-Ok.n (keyed c.read_token.new.state) c.in-Ok.ensures.width c.in-Ok.ensures.range c.in-Ok.ensures.key in
+    c.args.message.now c.bytes_from-rest.result.now c.bytes_from-rest.ensures within c.in-Ok.n (keyed c.read_token.new.state) c.in-Ok.ensures.width c.in-Ok.ensures.range (ap (λ (k : Keying). k.keyed) c.in-Ok.ensures.keying) in
     let m : List ℕ = c.args.message.now in
     let n : ℕ = c.in-Ok.n in
     let rest : List ℕ = drop place m in
@@ -136,53 +134,22 @@ returns-in_default-clause-within g t c = none_taken (length c.args.message.now)
 pub returns-in_default-clause-range : goal.returns-in_default-clause-range
 returns-in_default-clause-range g t c place within are = none-after place (length c.args.message.now) within
 
-pub returns-in_default-clause-key : goal.returns-in_default-clause-key
-returns-in_default-clause-key g t c = ap (λ (us : List Token). keyed_after_tokens c.args.means.now.has_psks (keyed c.args.state.now) us) (sym (ap tokens_of (nil_from_length c.args.placed.now c.in_default.ensures.cases)))
-
-pub returns-in_default-clause-e : goal.returns-in_default-clause-e
-returns-in_default-clause-e g t c = ap (λ (us : List Token). e_after_tokens (is_some c.args.known.now.e) us) (sym (ap tokens_of (nil_from_length c.args.placed.now c.in_default.ensures.cases)))
-
-pub returns-in_default-clause-s : goal.returns-in_default-clause-s
-returns-in_default-clause-s g t c = ap (λ (us : List Token). s_after_tokens (is_some c.args.known.now.s) us) (sym (ap tokens_of (nil_from_length c.args.placed.now c.in_default.ensures.cases)))
-
-pub returns-in_default-clause-nonce : goal.returns-in_default-clause-nonce
-returns-in_default-clause-nonce g t c = none-added (nonce_now c.args.state.now) (length (tokens_of c.args.placed.now))
-
-pub returns-in_default-clause-counted : goal.returns-in_default-clause-counted
-returns-in_default-clause-counted g t c = ap (λ (us : List Token). nonce_after_tokens c.args.means.now.has_psks (keyed c.args.state.now) (nonce_now c.args.state.now) us) (sym (ap tokens_of (nil_from_length c.args.placed.now c.in_default.ensures.cases)))
+pub returns-in_default-clause-keying : goal.returns-in_default-clause-keying
+returns-in_default-clause-keying g t c =
+    ap (λ (us : List Token). keying_after_tokens c.args.means.now.has_psks (keying_of c.args.state.now c.args.known.now) us)
+    (sym (ap tokens_of (nil_from_length c.args.placed.now c.in_default.ensures.cases)))
 
 pub returns-in-Err-clause-stop : goal.returns-in-Err-clause-stop
 returns-in-Err-clause-stop g t c = some-token (tokens_of c.args.placed.now) (tokens_of c.in-Some.later.now) c.in-Some.first.now.token (ap tokens_of c.in-Some.ensures.cases.0)
 
-pub returns-in-Err-clause-nonce : goal.returns-in-Err-clause-nonce
-returns-in-Err-clause-nonce g t c = bound-first (tokens_of c.args.placed.now) (tokens_of c.in-Some.later.now) c.in-Some.first.now.token (ap tokens_of c.in-Some.ensures.cases.0) (nonce_now c.args.state.now) (nonce_now c.read_token.new.state) c.in-Err.ensures.nonce
-
-pub returns-in-Ok-read_tokens-clause-key : goal.returns-in-Ok-read_tokens-clause-key
-returns-in-Ok-read_tokens-clause-key g t c = keyed-on (tokens_of c.args.placed.now) (tokens_of c.in-Some.later.now) c.in-Some.first.now.token (ap tokens_of c.in-Some.ensures.cases.0) c.args.means.now.has_psks (keyed c.args.state.now) (keyed c.read_token.new.state) (keyed c.read_tokens.new.state) c.in-Ok.ensures.key c.in-Ok-read_tokens.ensures.key
-
-pub returns-in-Ok-read_tokens-clause-e : goal.returns-in-Ok-read_tokens-clause-e
-returns-in-Ok-read_tokens-clause-e g t c = e-on (tokens_of c.args.placed.now) (tokens_of c.in-Some.later.now) c.in-Some.first.now.token (ap tokens_of c.in-Some.ensures.cases.0) (is_some c.args.known.now.e) (is_some c.read_token.new.known.e) (is_some c.read_tokens.new.known.e) c.in-Ok.ensures.e c.in-Ok-read_tokens.ensures.e
-
-pub returns-in-Ok-read_tokens-clause-s : goal.returns-in-Ok-read_tokens-clause-s
-returns-in-Ok-read_tokens-clause-s g t c = s-on (tokens_of c.args.placed.now) (tokens_of c.in-Some.later.now) c.in-Some.first.now.token (ap tokens_of c.in-Some.ensures.cases.0) (is_some c.args.known.now.s) (is_some c.read_token.new.known.s) (is_some c.read_tokens.new.known.s) c.in-Ok.ensures.s c.in-Ok-read_tokens.ensures.s
-
-pub returns-in-Ok-read_tokens-clause-nonce : goal.returns-in-Ok-read_tokens-clause-nonce
-returns-in-Ok-read_tokens-clause-nonce g t c =
-    bound-on (tokens_of c.args.placed.now) (tokens_of c.in-Some.later.now) c.in-Some.first.now.token (ap tokens_of c.in-Some.ensures.cases.0) (nonce_now c.args.state.now) (nonce_now c.read_token.new.state) (nonce_now c.read_tokens.new.state)
-    c.in-Ok.ensures.nonce c.in-Ok-read_tokens.ensures.nonce
-
-pub returns-in-Ok-read_tokens-clause-counted : goal.returns-in-Ok-read_tokens-clause-counted
-returns-in-Ok-read_tokens-clause-counted g t c =
-    nonce-on (tokens_of c.args.placed.now) (tokens_of c.in-Some.later.now) c.in-Some.first.now.token (ap tokens_of c.in-Some.ensures.cases.0) c.args.means.now.has_psks (keyed c.args.state.now) (keyed c.read_token.new.state)
-    (nonce_now c.args.state.now) (nonce_now c.read_token.new.state) (nonce_now c.read_tokens.new.state) c.in-Ok.ensures.key c.in-Ok.ensures.counted c.in-Ok-read_tokens.ensures.counted
+pub returns-in-Ok-read_tokens-clause-keying : goal.returns-in-Ok-read_tokens-clause-keying
+returns-in-Ok-read_tokens-clause-keying g t c =
+    keying-on (tokens_of c.args.placed.now) (tokens_of c.in-Some.later.now) c.in-Some.first.now.token (ap tokens_of c.in-Some.ensures.cases.0) c.args.means.now.has_psks
+    (keying_of c.args.state.now c.args.known.now) (keying_of c.read_token.new.state c.read_token.new.known)
+    (keying_of c.read_tokens.new.state c.read_tokens.new.known) c.in-Ok.ensures.keying c.in-Ok-read_tokens.ensures.keying
 
 pub returns-in-Err-read_tokens-clause-stop : goal.returns-in-Err-read_tokens-clause-stop
 returns-in-Err-read_tokens-clause-stop g t c = one-later (tokens_of c.args.placed.now) (tokens_of c.in-Some.later.now) c.in-Some.first.now.token (ap tokens_of c.in-Some.ensures.cases.0) c.in-Err-read_tokens.k c.in-Err-read_tokens.ensures.stop
-
-pub returns-in-Err-read_tokens-clause-nonce : goal.returns-in-Err-read_tokens-clause-nonce
-returns-in-Err-read_tokens-clause-nonce g t c =
-    bound-on (tokens_of c.args.placed.now) (tokens_of c.in-Some.later.now) c.in-Some.first.now.token (ap tokens_of c.in-Some.ensures.cases.0) (nonce_now c.args.state.now) (nonce_now c.read_token.new.state) (nonce_now c.read_tokens.new.state)
-    c.in-Ok.ensures.nonce c.in-Err-read_tokens.ensures.nonce
 
 pub read_token-requires-clause-psk : goal.read_token-requires-clause-psk
 read_token-requires-clause-psk g t c = psk-due (tokens_of c.args.placed.now) (tokens_of c.in-Some.later.now) c.in-Some.first.now.token (ap tokens_of c.in-Some.ensures.cases.0) (length c.args.psks.now) c.requires.psks
@@ -209,7 +176,7 @@ read_tokens-requires g t c κs k =
     let split : all ≡ token ∷ later = ap tokens_of c.in-Some.ensures.cases.0 in
     let fewer : length c.args.placed.now ≡ suc (length c.in-Some.later.now) = ap length c.in-Some.ensures.cases.0 in
     let u = later-placed c.args.means.now.has_psks (keyed c.args.state.now) c.requires.placed.0 c.args.placed.now c.in-Some.first.now c.in-Some.later.now c.in-Some.ensures.cases.0 c.requires.placed.2
-    c.args.message.now c.bytes_from-rest.result.now c.bytes_from-rest.ensures c.requires.placed.1 c.in-Ok.n (keyed c.read_token.new.state) c.in-Ok.ensures.width c.in-Ok.ensures.range c.in-Ok.ensures.key in (
+    c.args.message.now c.bytes_from-rest.result.now c.bytes_from-rest.ensures c.requires.placed.1 c.in-Ok.n (keyed c.read_token.new.state) c.in-Ok.ensures.width c.in-Ok.ensures.range (ap (λ (k : Keying). k.keyed) c.in-Ok.ensures.keying) in (
       omega (arith, fewer, c.decreases),
       (
         k,
@@ -217,7 +184,8 @@ read_tokens-requires g t c κs k =
           (c.requires.placed.0 + c.in-Some.first.now.width, u.1, u.2),
           (
             psks-later all later token split c.args.psks.now c.psks_after-others.result.now c.psks_after-others.ensures c.requires.psks,
-            nonces-later all later token split (nonce_now c.args.state.now) (nonce_now c.read_token.new.state) c.in-Ok.ensures.nonce c.requires.nonces,
+            nonces-later all later token split c.args.means.now.has_psks (keyed c.args.state.now) (nonce_now c.args.state.now) (nonce_now c.read_token.new.state)
+                (ap (λ (k : Keying). k.nonce) c.in-Ok.ensures.keying) c.requires.nonces,
           ),
         ),
       ),

@@ -1,10 +1,10 @@
 use Rattle.noise_handshake.specs.inner.Means.{reader_of}
 use Rattle.std.proofs.Common.{◌≡◌, ◌<◌, ◌≤◌, ◌^◌, ℕ, ◌+◌, ◌-◌, List, length, take, drop, slice_range, ap, sym, subst, ◌∙◌, arith, length-drop}
-use Rattle.std.proofs.Common.{length-take, take_all, nat_lt, if◌then◌else◌}
+use Rattle.std.proofs.Common.{rules, length-take, take_all, nat_lt, if◌then◌else◌}
 use Rattle.std.proofs.lemmas.List.{take_rest}
 use Rattle.std.proofs.lemmas.Slice.{take-put_mid_below}
 use borrow.Rule.Slice.PartMut.{put_mid}
-use Rattle.noise_state.specs.Standing.{StateMatches, keyed}
+use Rattle.noise_state.specs.Standing.{StateMatches, keyed, nonce_now}
 use Rattle.noise_state.specs.Standing.{nonce_now-is}
 use Rattle.noise_state.specs.History.{History, Ciphertext, and_then, ciphertext, nonce}
 use Rattle.noise_handshake.specs.Message.{after_tokens}
@@ -13,6 +13,8 @@ use Rattle.noise_handshake.specs.Party.{Reader, BeginsAs}
 use Rattle.noise_handshake.specs.inner.Listening.{StopsKnowing}
 use Rattle.noise_handshake.specs.inner.Layout.{tokens_of}
 use Rattle.noise_handshake.specs.declared.faults.Cause.TheVariants.{Short, Tag}
+use Rattle.noise_handshake.specs.inner.Keying.{Keying}
+use Rattle.noise_handshake.proofs.Counting.{nonces-most}
 use Rattle.noise_handshake.proofs.Tags.{sealed_len-tag}
 use Rattle.noise_handshake.proofs.Layouts.{length-tokens_of}
 use Rattle.noise_handshake.proofs.Apart.{reads-whole, knows-last}
@@ -21,6 +23,17 @@ use Rattle.noise_handshake.proofs.reading.read_message.Goals as goal
 
 pub read_tokens-requires-clause-placed : goal.read_tokens-requires-clause-placed
 read_tokens-requires-clause-placed g c = (0, omega arith, c.requires.placed)
+
+pub unreachable-requires : goal.unreachable-requires
+unreachable-requires g c =
+    let left : nonce_now c.read_tokens.new.state < 2 ^ 64 - 1 =
+    omega (
+      arith,
+      ap (λ (k : Keying). k.nonce) c.in-Ok.ensures.keying,
+      nonces-most c.args.means.now.has_psks (keyed c.args.state.now) (nonce_now c.args.state.now) (tokens_of c.args.placed.now),
+      c.requires.nonces,
+    ) in
+    search rules
 
 pub returns-in-Ok-decrypt_and_hash-clause-beyond : goal.returns-in-Ok-decrypt_and_hash-clause-beyond
 returns-in-Ok-decrypt_and_hash-clause-beyond g c =
@@ -70,7 +83,13 @@ returns-in-Err-Short-clause-read g c r s =
     let i1 : BeginsAs v c.args.known.now c.args.psks.now r (tokens_of c.args.placed.now) start.0 m (drop n m) =
     subst (λ (k : ℕ). BeginsAs v c.args.known.now c.args.psks.now r (tokens_of c.args.placed.now) start.0 m (drop k m)) none start.1 in
     let after : History = after_tokens c.args.means.now.has_psks r (tokens_of c.args.placed.now) start.0 in
-    let nonces : nonce after < 2 ^ 64 - 1 = omega (arith, nonce_now-is c.read_tokens.new.state after start.2, c.read_tokens.ensures.nonce) in
+    let nonces : nonce after < 2 ^ 64 - 1 = 
+    omega (
+      arith,
+      nonce_now-is c.read_tokens.new.state after start.2,
+      ap (λ (k : Keying). k.nonce) c.in-Ok.ensures.keying,
+      nonces-most c.args.means.now.has_psks (keyed c.args.state.now) (nonce_now c.args.state.now) (tokens_of c.args.placed.now),
+    ) in
     let fits : length (take (length m - n) (drop n m)) ≤ 65535 = omega (arith, length-drop n m, length-take (length m - n) (drop n m)) in
     let goes : take (length m - n) (drop n m) ≡ drop n m = take_all (length m - n) (drop n m) (omega (arith, length-drop n m)) in
     let ts : List Token = tokens_of c.args.placed.now in

@@ -11,7 +11,7 @@ use Rattle.noise_handshake.proofs.Giving.{widths, given-on, front-on, after-on, 
 use Rattle.noise_handshake.specs.Length.{keyed_after_tokens, tokens_width}
 use Rattle.noise_handshake.specs.Nonces.{nonce_after_tokens}
 use Rattle.std.proofs.lemmas.List.{nil_from_length}
-use Rattle.noise_handshake.proofs.Stepwise.{keyed-on, nonce-on, bound-on, bound-first, some-token, one-later, nonce-left, psk-due, none-added, place-fits, width-on, room-first, room-later, lacks-first, all-first, all-later, psks-later, nonces-later}
+use Rattle.noise_handshake.proofs.Stepwise.{keyed-on, nonce-on, some-token, one-later, nonce-left, psk-due, place-fits, width-on, room-first, room-later, lacks-first, all-first, all-later, psks-later, nonces-later}
 use Rattle.noise_handshake.specs.inner.Speaking.{has_own}
 use Rattle.noise_handshake.proofs.Written.{joined, rest-after}
 use Rattle.noise_handshake.proofs.writing.+write_tokens.Goals as goal
@@ -77,17 +77,11 @@ returns-in_default-clause-width g t c = ap (λ (us : List Token). tokens_width c
 pub returns-in_default-clause-keyed : goal.returns-in_default-clause-keyed
 returns-in_default-clause-keyed g t c = ap (λ (us : List Token). keyed_after_tokens c.args.means.now.has_psks (keyed c.args.state.now) us) (sym (ap tokens_of (nil_from_length c.args.placed.now c.in_default.ensures.cases)))
 
-pub returns-in_default-clause-used : goal.returns-in_default-clause-used
-returns-in_default-clause-used g t c = none-added (nonce_now c.args.state.now) (length (tokens_of c.args.placed.now))
-
 pub returns-in_default-clause-counted : goal.returns-in_default-clause-counted
 returns-in_default-clause-counted g t c = ap (λ (us : List Token). nonce_after_tokens c.args.means.now.has_psks (keyed c.args.state.now) (nonce_now c.args.state.now) us) (sym (ap tokens_of (nil_from_length c.args.placed.now c.in_default.ensures.cases)))
 
 pub returns-in_default-write_token-clause-width : goal.returns-in_default-write_token-clause-width
 returns-in_default-write_token-clause-width g t c = some-token (tokens_of c.args.placed.now) (tokens_of c.in-Some.later.now) c.in-Some.first.now.token (ap tokens_of c.in-Some.ensures.cases.0)
-
-pub returns-in_default-write_token-clause-used : goal.returns-in_default-write_token-clause-used
-returns-in_default-write_token-clause-used g t c = bound-first (tokens_of c.args.placed.now) (tokens_of c.in-Some.later.now) c.in-Some.first.now.token (ap tokens_of c.in-Some.ensures.cases.0) (nonce_now c.args.state.now) (nonce_now c.write_token.new.state) c.write_token.ensures.used
 
 pub returns-in_default-write_token-clause-written : goal.returns-in_default-write_token-clause-written
 returns-in_default-write_token-clause-written g t c r s =
@@ -102,11 +96,6 @@ returns-in-Ok-clause-width g t c =
 pub returns-in-Ok-clause-keyed : goal.returns-in-Ok-clause-keyed
 returns-in-Ok-clause-keyed g t c = keyed-on (tokens_of c.args.placed.now) (tokens_of c.in-Some.later.now) c.in-Some.first.now.token (ap tokens_of c.in-Some.ensures.cases.0) c.args.means.now.has_psks (keyed c.args.state.now) (keyed c.write_token.new.state) (keyed c.write_tokens.new.state) c.in-Some-write_token.ensures.keyed c.in-Ok.ensures.keyed
 
-pub returns-in-Ok-clause-used : goal.returns-in-Ok-clause-used
-returns-in-Ok-clause-used g t c =
-    bound-on (tokens_of c.args.placed.now) (tokens_of c.in-Some.later.now) c.in-Some.first.now.token (ap tokens_of c.in-Some.ensures.cases.0) (nonce_now c.args.state.now) (nonce_now c.write_token.new.state) (nonce_now c.write_tokens.new.state)
-    c.in-Some-write_token.ensures.used c.in-Ok.ensures.used
-
 pub returns-in-Ok-clause-counted : goal.returns-in-Ok-clause-counted
 returns-in-Ok-clause-counted g t c =
     nonce-on (tokens_of c.args.placed.now) (tokens_of c.in-Some.later.now) c.in-Some.first.now.token (ap tokens_of c.in-Some.ensures.cases.0) c.args.means.now.has_psks (keyed c.args.state.now) (keyed c.write_token.new.state)
@@ -114,11 +103,6 @@ returns-in-Ok-clause-counted g t c =
 
 pub returns-in-Err-clause-width : goal.returns-in-Err-clause-width
 returns-in-Err-clause-width g t c = one-later (tokens_of c.args.placed.now) (tokens_of c.in-Some.later.now) c.in-Some.first.now.token (ap tokens_of c.in-Some.ensures.cases.0) c.in-Err.k c.in-Err.ensures.width
-
-pub returns-in-Err-clause-used : goal.returns-in-Err-clause-used
-returns-in-Err-clause-used g t c =
-    bound-on (tokens_of c.args.placed.now) (tokens_of c.in-Some.later.now) c.in-Some.first.now.token (ap tokens_of c.in-Some.ensures.cases.0) (nonce_now c.args.state.now) (nonce_now c.write_token.new.state) (nonce_now c.write_tokens.new.state)
-    c.in-Some-write_token.ensures.used c.in-Err.ensures.used
 
 pub write_token-requires-clause-psk : goal.write_token-requires-clause-psk
 write_token-requires-clause-psk g t c = psk-due (tokens_of c.args.placed.now) (tokens_of c.in-Some.later.now) c.in-Some.first.now.token (ap tokens_of c.in-Some.ensures.cases.0) (length c.args.psks.now) c.requires.psks
@@ -161,7 +145,8 @@ write_tokens-requires g t c κs k =
             all-later all later token split (has_own (g.K.Keys.public_of c.args.means.now.keys)) c.requires.own,
             (
               omega (arith, room, length-take (length out - n) (drop n out), length-drop n out),
-              nonces-later all later token split (nonce_now c.args.state.now) (nonce_now c.write_token.new.state) c.in-Some-write_token.ensures.used c.requires.nonces,
+              nonces-later all later token split c.args.means.now.has_psks (keyed c.args.state.now) (nonce_now c.args.state.now) (nonce_now c.write_token.new.state)
+                  c.in-Some-write_token.ensures.counted c.requires.nonces,
             ),
           ),
         ),

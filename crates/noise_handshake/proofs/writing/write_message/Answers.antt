@@ -1,10 +1,20 @@
-use Rattle.noise_state.specs.Standing.{keyed}
+use Rattle.noise_state.specs.Standing.{keyed, nonce_now}
 use Rattle.std.proofs.Common.{ℕ, ◌+◌, ◌-◌, ◌≤◌, List, ◌++◌, length, take, drop, ap, ◌∙◌, arith, length-take, length-drop}
 use Rattle.noise_handshake.specs.Message.{before_payload, after_tokens}
 use Rattle.noise_handshake.specs.inner.Layout.{tokens_of}
+use Rattle.noise_handshake.proofs.Counting.{nonces-most}
 use Rattle.noise_handshake.proofs.Giving.{widths-last}
 use Rattle.noise_handshake.proofs.Written.{joined, rest-after}
 use Rattle.noise_handshake.proofs.writing.write_message.Goals as goal
+
+pub write_part-requires-clause-nonces : goal.write_part-requires-clause-nonces
+write_part-requires-clause-nonces g c =
+    omega (
+      arith,
+      c.in-Ok.ensures.counted,
+      nonces-most c.args.means.now.has_psks (keyed c.args.state.now) (nonce_now c.args.state.now) (tokens_of c.args.placed.now),
+      c.requires.nonces,
+    )
 
 pub returns-clause-beyond : goal.returns-clause-beyond
 returns-clause-beyond g c =

@@ -5,7 +5,6 @@ use Rattle.std.specs.Prelude.{is_some}
 use Rattle.noise_handshake.specs.Length.{keyed_after, token_width}
 use Rattle.noise_handshake.specs.Nonces.{nonce_after}
 use Rattle.noise_handshake.specs.Writing.{Writer}
-use Rattle.noise_handshake.proofs.DhTokens.{from_zero, less_one}
 use Rattle.noise_names.specs.declared.token.Token.TheVariants.{E, S, Psk}
 use Rattle.noise_handshake.proofs.Psks.{first_psk-read, written-as}
 use Rattle.noise_handshake.proofs.writing.write_token.Goals as goal
@@ -19,9 +18,6 @@ returns-in-Some-clause-beyond g c = c.write_e.ensures.beyond
 pub returns-in-Some-clause-keyed : goal.returns-in-Some-clause-keyed
 returns-in-Some-clause-keyed g c = c.write_e.ensures.keyed ∙ ap (keyed_after c.args.means.now.has_psks (keyed c.args.state.now)) (sym c.in-E.is)
 
-pub returns-in-Some-clause-used : goal.returns-in-Some-clause-used
-returns-in-Some-clause-used g c = less_one (nonce_now c.write_e.new.state) (nonce_now c.args.state.now) c.write_e.ensures.used
-
 pub returns-in-Some-clause-counted : goal.returns-in-Some-clause-counted
 returns-in-Some-clause-counted g c = c.write_e.ensures.counted ∙ ap (nonce_after c.args.means.now.has_psks (keyed c.args.state.now) (nonce_now c.args.state.now)) (sym c.in-E.is)
 
@@ -31,9 +27,6 @@ returns-in-Some-public-clause-beyond g c = c.write_part.ensures.beyond
 pub returns-in-Some-public-clause-keyed : goal.returns-in-Some-public-clause-keyed
 returns-in-Some-public-clause-keyed g c = c.write_part.ensures.keyed ∙ ap (keyed_after c.args.means.now.has_psks (keyed c.args.state.now)) (sym c.in-S.is)
 
-pub returns-in-Some-public-clause-used : goal.returns-in-Some-public-clause-used
-returns-in-Some-public-clause-used g c = c.write_part.ensures.used
-
 pub returns-in-Some-public-clause-counted : goal.returns-in-Some-public-clause-counted
 returns-in-Some-public-clause-counted g c = c.write_part.ensures.counted ∙ ap (nonce_after c.args.means.now.has_psks (keyed c.args.state.now) (nonce_now c.args.state.now)) (sym c.in-S.is)
 
@@ -42,9 +35,6 @@ returns-in-Psk-clause-width g c = ap (token_width (keyed c.args.state.now)) (sym
 
 pub returns-in-Psk-clause-keyed : goal.returns-in-Psk-clause-keyed
 returns-in-Psk-clause-keyed g c = c.mix_key_and_hash.ensures.key ∙ ap (keyed_after c.args.means.now.has_psks (keyed c.args.state.now)) (sym c.in-Psk.is)
-
-pub returns-in-Psk-clause-used : goal.returns-in-Psk-clause-used
-returns-in-Psk-clause-used g c = from_zero (nonce_now c.mix_key_and_hash.new.self) (nonce_now c.args.state.now) c.mix_key_and_hash.ensures.nonce
 
 pub returns-in-Psk-clause-counted : goal.returns-in-Psk-clause-counted
 returns-in-Psk-clause-counted g c = c.mix_key_and_hash.ensures.nonce ∙ ap (nonce_after c.args.means.now.has_psks (keyed c.args.state.now) (nonce_now c.args.state.now)) (sym c.in-Psk.is)

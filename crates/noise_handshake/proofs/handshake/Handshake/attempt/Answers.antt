@@ -1,4 +1,5 @@
 use Rattle.std.proofs.Common.{ℕ, ◌≤◌, ◌∙◌, List, length, refl, ap, arith}
+use Rattle.noise_handshake.specs.inner.Keying.{Keying}
 use Rattle.noise_handshake.proofs.Layouts.{length-tokens_of}
 use Rattle.noise_handshake.proofs.Next.{reads-next, reads-theirs, reads-unended, places-next, psks-next, nonces-next, known-next, used-next, key-next, unchanged-read, advances-next}
 use Rattle.noise_handshake.proofs.Next.{trial-next, listening-next, after-read}
@@ -38,16 +39,17 @@ pub lay_next-self-inside-requires-clause-key : goal.lay_next-self-inside-require
 lay_next-self-inside-requires-clause-key g c =
     let less = reads-next g.K.Keys.public_of c.self.inside c.self.invariant c.args.self.now c.self.view_is c.requires.due in
     c.has_key.ensures.key ∙ key-next g.K.Keys.public_of c.self.inside c.self.invariant less c.deref-2.result.now c.deref-2.ensures.0
-    c.for_trial-state.result c.read_message.new.state c.for_trial-state.ensures c.in-Ok.ensures.key c.pattern-plan.result.now c.pattern-plan.ensures.value
+    c.for_trial-state.result c.read_message.new.state c.for_trial-state.ensures (ap (λ (k : Keying). k.keyed) c.in-Ok.ensures.keying) c.pattern-plan.result.now c.pattern-plan.ensures.value
 
 pub invariant_of-self : goal.invariant_of-self
 invariant_of-self g c =
     let less = reads-next g.K.Keys.public_of c.self.inside c.self.invariant c.args.self.now c.self.view_is c.requires.due in
     unchanged-read g.K.Keys.public_of c.self.inside c.self.invariant less c.deref-2.result.now c.deref-2.ensures.0
-    c.for_trial-state.result c.read_message.new.state c.for_trial-state.ensures c.in-Ok.ensures.key c.in-Ok.ensures.counted c.read_message.ensures.nonce
-    (omega (arith, c.deref-2.ensures.1)) c.pattern-plan.result.now c.pattern-plan.ensures.value c.lay_next-self-inside.result c.lay_next-self-inside.ensures
+    c.for_trial-state.result c.read_message.new.state c.for_trial-state.ensures (ap (λ (k : Keying). k.keyed) c.in-Ok.ensures.keying)
+    (ap (λ (k : Keying). k.nonce) c.in-Ok.ensures.keying)
+    (omega (arith, c.deref-2.ensures.1)) c.pattern-plan.result.now c.pattern-plan.ensures.value c.lay_next-self-inside.result c.lay_next-self-inside.ensures.laid
     (reads-theirs g.K.Keys.public_of c.self.inside c.self.invariant c.args.self.now c.self.view_is c.requires.due) c.read_message.new.known
-    c.in-Ok.ensures.e c.in-Ok.ensures.s
+    (ap (λ (k : Keying). k.e) c.in-Ok.ensures.keying) (ap (λ (k : Keying). k.s) c.in-Ok.ensures.keying)
 
 pub returns-in-Ok-clause-reads : goal.returns-in-Ok-clause-reads
 returns-in-Ok-clause-reads g c v s =

@@ -2,6 +2,7 @@ use Rattle.std.proofs.Common.{◌≡◌, ℕ, length, ap, sym, subst, ◌∙◌,
 use Rattle.std.specs.Prelude.{Bool, not, false, None}
 use Rattle.noise_names.specs.declared.token.Role.TheVariants.{Initiator, Responder}
 use Rattle.noise_names.specs.Plan.{Plan, has_psk}
+use Rattle.noise_names.specs.Limits.{IsPattern}
 use Rattle.noise_handshake.specs.declared.remote.Remote.{Remote}
 use Rattle.noise_handshake.specs.HandshakeValue.{HandshakeValue}
 use Rattle.noise_handshake.specs.Setup.{keys_of, setup_fault, psks_of}
@@ -60,7 +61,7 @@ invariant_of-result g c =
     } in
     let sound : IsSound P (at plan) = record {
       within = omega arith;
-      few = few-messages plan c.messages.ensures.limits;
+      few = few-messages plan c.lay_next-next.ensures.limits;
       psks = count;
       has_e = own-e plan c.args.role own c.args.remote n none;
       has_s = own-s plan c.args.role own c.args.remote n none;
@@ -77,6 +78,7 @@ invariant_of-result g c =
       omega arith,
       subst (λ (z : Plan). IsSound P (at z)) q sound,
       subst (λ (z : Plan). KnowsRemote (at z)) q knows,
-      subst (λ (z : Plan). LaysNext z 0 c.lay_next-next.result) q c.lay_next-next.ensures,
+      subst (λ (z : Plan). LaysNext z 0 c.lay_next-next.result) q c.lay_next-next.ensures.laid,
       c.pattern-plan.ensures.valid,
+      subst (λ (z : Plan). IsPattern z) q c.lay_next-next.ensures.limits,
     )

@@ -72,8 +72,8 @@ invariant_of-self g c =
     let less = writes-next g.K.Keys.public_of c.self.inside c.self.invariant c.args.self.now c.self.view_is
     (length c.args.payload.now) (sym c.write_fault.ensures.value ∙ c.in_default.is) in
     unchanged-wrote g.K.Keys.public_of c.self.inside c.self.invariant less c.deref-2.result.now c.deref-2.ensures.0
-    c.for_trial-state.result c.write_message.new.state c.for_trial-state.ensures c.in-Ok.ensures.keyed c.in-Ok.ensures.counted c.write_message.ensures.used
-    (omega (arith, c.deref-2.ensures.1)) c.pattern-plan.result.now c.pattern-plan.ensures.value c.lay_next-self-inside.result c.lay_next-self-inside.ensures
+    c.for_trial-state.result c.write_message.new.state c.for_trial-state.ensures c.in-Ok.ensures.keyed c.in-Ok.ensures.counted
+    (omega (arith, c.deref-2.ensures.1)) c.pattern-plan.result.now c.pattern-plan.ensures.value c.lay_next-self-inside.result c.lay_next-self-inside.ensures.laid
     (writes-ours g.K.Keys.public_of c.self.inside c.self.invariant c.args.self.now c.self.view_is
     (length c.args.payload.now) (sym c.write_fault.ensures.value ∙ c.in_default.is))
 
