@@ -1,7 +1,6 @@
 -- What a party finds before a psk token without a psk.
-use Rattle.std.proofs.Common.{◌≡◌, ℕ, ◌<◌, List}
+use Rattle.std.proofs.Common.{ℕ, ◌<◌, List}
 use Rattle.std.specs.Prelude.{Option, Result, Ok, Err, MatchOption, MatchResult}
-use Rattle.noise_keys.specs.declared.keys.Own.{Own}
 use Rattle.noise_handshake.specs.declared.stop.Stop.{Stop}
 use Rattle.noise_handshake.specs.declared.faults.Cause.TheVariants.{Agreement}
 use Rattle.noise_handshake.specs.Party.{Party, Listens, Refuses, Stops, reader, tokens_now}

@@ -5,7 +5,6 @@ use Rattle.std.proofs.Common.{append_assoc}
 use Rattle.std.specs.Prelude.{Bool, true, is_some}
 use Rattle.std.specs.List.{list_all}
 use Rattle.noise_names.specs.declared.token.Token.{Token}
-use Rattle.noise_names.specs.declared.token.Role.{Role}
 use Rattle.noise_state.specs.History.{History, cipher_key}
 use Rattle.noise_keys.specs.declared.keys.Own.{Own}
 use Rattle.noise_handshake.specs.declared.remote.Remote.{Remote}
@@ -16,7 +15,6 @@ use Rattle.noise_handshake.specs.Message.{after_tokens}
 use Rattle.noise_handshake.specs.Party.{Reader, BeginsAs, CanBegin, cause_at, remote_after}
 use Rattle.noise_handshake.specs.Wanting.{LacksDhResultFor}
 use Rattle.noise_handshake.specs.Writing.{Writer, Given, LacksDhResultAt}
-use Rattle.noise_handshake.specs.inner.Known.{e_after, s_after}
 use Rattle.noise_handshake.specs.inner.Layout.{tokens_of, ArePlaced}
 use Rattle.noise_handshake.specs.inner.Listening.{StopsKnowing}
 use Rattle.std.proofs.lemmas.Bool.{and_parts, and_from}

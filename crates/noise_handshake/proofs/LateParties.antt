@@ -1,11 +1,10 @@
 -- A handshake that was filled up, for the parties whose psks begin with those that were handed in.
-use Rattle.std.proofs.Common.{◌≡◌, ℕ, zero, suc, ◌+◌, ◌-◌, ◌<◌, ◌≤◌, List, [], ◌∷◌, ◌++◌, length, take, drop, set, refl, ap, sym, subst, ◌∙◌, arith, take-take, length-take, length-drop}
+use Rattle.std.proofs.Common.{◌≡◌, ℕ, suc, ◌+◌, ◌-◌, ◌<◌, ◌≤◌, List, [], ◌∷◌, ◌++◌, length, take, drop, set, refl, ap, sym, subst, ◌∙◌, arith, take-take, length-take, length-drop}
 use Rattle.std.proofs.Common.{append-nil, take_all}
 use Rattle.std.proofs.lemmas.List.{take-append-le, drop-append-le, drop-take, drop_all, length-set}
 use Rattle.std.specs.List.{refill}
 use Rattle.std.specs.Prelude.{Bool, true, false, not, ◌&&◌, ◌==◌, nat_lt, if◌then◌else◌, Option, Some, None, Result, Ok, Err, MatchOption, count_by}
 use Rattle.noise_names.specs.declared.token.Token.{Token}
-use Rattle.noise_names.specs.declared.token.Token.TheVariants.{Psk}
 use Rattle.noise_names.specs.Tokens.{is_psk}
 use Rattle.noise_keys.specs.declared.keys.Own.{Own}
 use Rattle.noise_handshake.specs.declared.faults.Cause.{Cause}
@@ -32,7 +31,7 @@ use Rattle.noise_handshake.specs.declared.stop.Stop.{Stop}
 use Rattle.noise_handshake.proofs.Standing.{ends, listens, tokens-are, with-psks}
 use Rattle.noise_handshake.proofs.Later.{count-take, count-less, given-same, leads-same, reads-same, stops-same, stops-for-same, lacks-same, lacks-for-same}
 use Rattle.noise_handshake.proofs.Once.{refuses-one}
-use Rattle.noise_handshake.specs.Setup.{psks_of, setup_fault}
+use Rattle.noise_handshake.specs.Setup.{setup_fault}
 use Rattle.noise_handshake.specs.declared.remote.Remote.{Remote}
 use Rattle.noise_names.specs.declared.token.Role.{Role}
 use Rattle.noise_names.specs.Plan.{Plan}
@@ -492,6 +491,18 @@ module _ {K : Type 0} (public_of : K → Own → Option (List ℕ)) (agreement :
           let one = refuses-one (holding v h.psks) m (length a.stops.before) stop.token Agreement stop.cause
           (record { listens = a.listens; stops = a.stops.stops }) stops.1 in
           wants-partial v h.psks given-now alike m want.0 want.1 k (few-before k (omega arith)) a (omega (arith, one.0, stops.0))
+
+-- the psk token that lacks its psk, as both see it
+module _ {K : Type 0} (h : HandshakeValue K) (lacking : ℕ) (g : HandshakeValue K) (seen : without_last lacking h ≡ g) where
+  pub psk-here : (count k : ℕ) → count ≡ length g.psks → IsPskAfter (tokens_at h.pattern.messages h.passed) count k
+      → IsPskAfter (tokens_at g.pattern.messages g.passed) (length g.psks) k
+  psk-here count k e at =
+      subst (λ (n : ℕ). IsPskAfter (tokens_at g.pattern.messages g.passed) n k) e
+      (subst (λ (z : HandshakeValue K). IsPskAfter (tokens_at z.pattern.messages z.passed) count k) seen at)
+
+  pub psk-there : (k : ℕ) → IsPskAfter (tokens_at g.pattern.messages g.passed) (length g.psks) k
+      → IsPskAfter (tokens_at h.pattern.messages h.passed) (length g.psks) k
+  psk-there k at = subst (λ (z : HandshakeValue K). IsPskAfter (tokens_at z.pattern.messages z.passed) (length g.psks) k) (sym seen) at
 
 -- ---- faults
 

@@ -2,7 +2,7 @@
 use Rattle.std.proofs.Common.{◌≡◌, ℕ, ◌+◌, ◌-◌, ◌<◌, ◌≤◌, ◌^◌, List, Bool, true, false, length, take, drop, sym, ap, subst, refl, ◌∙◌, arith}
 use Rattle.std.proofs.Common.{length-drop, drop-drop}
 use Rattle.std.proofs.lemmas.List.{length-take-le}
-use Rattle.std.specs.Prelude.{None, Option, Some, count_by, is_some, IsTrue, not, ◌&&◌, ◌==◌}
+use Rattle.std.specs.Prelude.{None, Option, Some, count_by, is_some, not, ◌&&◌, ◌==◌}
 use Rattle.std.specs.List.{list_all}
 use Rattle.noise_names.specs.declared.token.Token.{Token}
 use Rattle.noise_names.specs.declared.token.Role.TheVariants.{Initiator}
@@ -16,7 +16,7 @@ use Rattle.noise_handshake.specs.declared.handshake.Handshake.TheInside.{Inside}
 use Rattle.noise_handshake.specs.declared.layout.MessageLayout.{MessageLayout}
 use Rattle.noise_handshake.specs.declared.layout.PlacedToken.{PlacedToken}
 use Rattle.noise_handshake.specs.declared.remote.Remote.{Remote}
-use Rattle.noise_handshake.specs.HandshakeValue.{HandshakeValue, Advances, is_turn, length_now, message_len_of, read_fault, write_fault}
+use Rattle.noise_handshake.specs.HandshakeValue.{HandshakeValue, Advances, is_turn, message_len_of, read_fault, write_fault}
 use Rattle.noise_handshake.specs.Length.{added_width, keyed_after_tokens}
 use Rattle.noise_handshake.specs.Message.{after_payload}
 use Rattle.noise_handshake.specs.Nonces.{nonce_after_message}

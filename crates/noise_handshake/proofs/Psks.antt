@@ -1,6 +1,6 @@
 -- Tokens and psks.
 use Rattle.std.proofs.Common.{◌≡◌, ℕ, List, [], ◌∷◌, ◌++◌, drop, get_or, refl, sym, subst}
-use Rattle.std.specs.Prelude.{Result, Ok, Err, MatchResult, IfOk, OnOk, is_some}
+use Rattle.std.specs.Prelude.{Result, MatchResult, IfOk, is_some}
 use Rattle.noise_names.specs.declared.token.Token.{Token}
 use Rattle.noise_names.specs.declared.token.Token.TheVariants.{Psk}
 use Rattle.noise_state.specs.History.{History, MixKeyAndHash, and_then, cipher_key}

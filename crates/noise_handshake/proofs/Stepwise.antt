@@ -4,7 +4,6 @@ use Rattle.std.proofs.lemmas.Bool.{and_parts}
 use Rattle.std.specs.Prelude.{Bool, IsTrue, count_by}
 use Rattle.noise_names.specs.declared.token.Token.{Token}
 use Rattle.noise_names.specs.declared.token.Token.TheVariants.{E, S, Ee, Es, Se, Ss, Psk}
-use Rattle.noise_names.specs.declared.token.Role.{Role}
 use Rattle.noise_names.specs.Tokens.{is_psk}
 use Rattle.noise_handshake.specs.Length.{keyed_after, keyed_after_tokens, token_width, tokens_width}
 use Rattle.noise_handshake.specs.declared.remote.Remote.{Remote}

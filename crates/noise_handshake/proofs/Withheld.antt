@@ -1,10 +1,9 @@
 -- Why a payload isn't written, whatever the keys agree on.
-use Rattle.std.proofs.Common.{◌≡◌, ℕ, ◌+◌, ◌<◌, ◌≤◌, List, Bool, true, false, length, refl, ap, sym, subst, ◌∙◌, arith, not}
+use Rattle.std.proofs.Common.{◌≡◌, ℕ, ◌+◌, ◌<◌, ◌≤◌, List, Bool, true, false, length, refl, sym, subst, ◌∙◌, arith, not}
 use Rattle.std.proofs.lemmas.Bool.Decides.{nat_tests}
 use Rattle.std.specs.Prelude.{Option, None, Some, IfSome, nat_lt, ◌==◌, if◌then◌else◌}
-use Rattle.noise_names.specs.declared.token.Role.{Role}
 use Rattle.noise_names.specs.declared.token.Role.TheVariants.{Initiator}
-use Rattle.noise_names.specs.Tokens.{same_role, turn_from}
+use Rattle.noise_names.specs.Tokens.{turn_from}
 use Rattle.noise_names.specs.Plan.{Plan}
 use Rattle.noise_names.specs.Overhead.{overhead_of}
 use Rattle.noise_keys.specs.declared.keys.Own.{Own}

@@ -1,5 +1,5 @@
 -- What a handshake holds, and why it doesn't read or write now.
-use Rattle.std.specs.Prelude.{◌≡◌, ℕ, ◌+◌, ◌*◌, ◌++◌, ◌==◌, nat_lt, List, length, Bool, true, false, not, Option, count_by, Some, None, if◌then◌else◌}
+use Rattle.std.specs.Prelude.{◌≡◌, ℕ, ◌+◌, ◌++◌, ◌==◌, nat_lt, List, length, Bool, true, false, not, Option, count_by, Some, None, if◌then◌else◌}
 use Rattle.noise_names.specs.declared.token.Role.{Role}
 use Rattle.noise_names.specs.declared.token.Role.TheVariants.{Initiator}
 use Rattle.noise_names.specs.Tokens.{is_psk, same_role, turn_from}

@@ -602,9 +602,8 @@ impl<K: Keys> Handshake<K> {
     // The first token of the next message, if there is one, that is a psk token after so many others.
     pub(crate) fn psk_after(&self, count: usize) -> Option<usize>
         requires { self.now.passed < length self.now.pattern.messages }
-        ensures found { let tokens = tokens_at self.now.pattern.messages self.now.passed in
+        ensures { let tokens = tokens_at self.now.pattern.messages self.now.passed in
             MatchOption result (count_by is_psk tokens ≤ count) (λ k. IsPskAfter tokens count k) }
-        ensures due { length self.now.psks ≡ psks_of (drop self.now.passed self.now.pattern.messages) }
     {
         psk_after(&self.next.tokens, count)
     }

@@ -6,6 +6,7 @@ ghost use Rattle.std.specs.Prelude.{IsOk, IfOk, IfErr, OnErr, MatchResult, Match
 ghost use Rattle.std.specs.Option.{ForSome};
 
 use crate::setup::{psk_total, setup_fault};
+use crate::stop::Stop;
 use crate::{
     Handshake, Keys, LateUnread, LateUnwritten, Opened, Parts, Progress, Remote, SetupFault,
     Unread, Want,
@@ -61,6 +62,8 @@ impl<K: Keys> LateHandshake<K> {
     ghost use Rattle.noise_names.specs.Tokens.{is_psk};
     ghost use Rattle.noise_handshake.specs.Party.{Party, Refuses, tokens_at};
     ghost use Rattle.noise_handshake.specs.declared.faults.Cause.TheVariants.{Agreement};
+    ghost use Rattle.noise_handshake.specs.declared.faults.ReadFault.TheVariants.{Refused};
+    ghost use Rattle.noise_handshake.specs.inner.Late.{IsPskAfter};
     ghost use Rattle.noise_handshake.specs.HandshakeValue.{is_turn, read_fault, write_fault, message_len_of, Advances};
     ghost use Rattle.noise_handshake.specs.Opening.{Opens};
     ghost use Rattle.noise_handshake.specs.Parts.{held_of, HasProgress};
@@ -231,6 +234,32 @@ impl<K: Keys> LateHandshake<K> {
         self.filled.left() - self.lacking
     }
 
+    // What reading a due message lacks at or before token k, its first psk token without a psk; or where it is refused
+    // before.
+    fn read_to_psk(&self, k: usize, message: &[u8]) -> Result<Want, Stop>
+        requires due { read_fault self.now ≡ None }
+        requires within { self.now.passed ≤ length self.now.pattern.messages }
+        requires psk { IsPskAfter (tokens_at self.now.pattern.messages self.now.passed) (length self.now.psks) k }
+        ensures wants { (v : Party) (later : List (List ℕ)) → MatchesWith K.public_of K.agreement self.now later v
+            → MatchResult result (λ want. LeavesLateUnread v (length self.now.psks) message.now (LateUnread.Wants want))
+            (λ stop. LeavesLateUnread v (length self.now.psks) message.now
+            (LateUnread.Declined (Refused stop.token stop.cause))) }
+        ensures asked { (v : Party) (later : List (List ℕ)) → MatchesWith K.public_of K.agreement self.now later v
+            → (remote : Option (List ℕ)) → WantsPskToRead v (length self.now.psks) message.now remote
+            → result ≡ Ok (Want.Psk remote) }
+    {
+        match self.filled.read_before(k, message) {
+            Ok(remote) => Ok(Want::Psk { remote }),
+            Err(stop) => match stop.want {
+                Some(want) => {
+                    let (own, key) = want;
+                    Ok(Want::DhResult { own, key })
+                }
+                None => Err(stop),
+            },
+        }
+    }
+
     /// Reads a message in place, and returns from where to where its payload then is in it, as `Handshake::read_within`
     /// does; but where reading lacks a DH result or a psk, this returns which, and changes nothing.
     ///
@@ -266,18 +295,12 @@ impl<K: Keys> LateHandshake<K> {
                 };
                 Ok(place)
             }
-            Some(k) => match self.filled.read_before(k, message) {
-                Ok(remote) => Err(LateUnread::Wants(Want::Psk { remote })),
-                Err(stop) => match stop.want {
-                    Some(want) => {
-                        let (own, key) = want;
-                        Err(LateUnread::Wants(Want::DhResult { own, key }))
-                    }
-                    None => {
-                        self.filled.end();
-                        Err(LateUnread::Declined(stop.fault()))
-                    }
-                },
+            Some(k) => match self.read_to_psk(k, message) {
+                Ok(want) => Err(LateUnread::Wants(want)),
+                Err(stop) => {
+                    self.filled.end();
+                    Err(LateUnread::Declined(stop.fault()))
+                }
             },
         }
     }
@@ -303,15 +326,9 @@ impl<K: Keys> LateHandshake<K> {
                 }
                 None => None,
             },
-            Some(k) => match self.filled.read_before(k, message) {
-                Ok(remote) => Some(Want::Psk { remote }),
-                Err(stop) => match stop.want {
-                    Some(want) => {
-                        let (own, key) = want;
-                        Some(Want::DhResult { own, key })
-                    }
-                    None => None,
-                },
+            Some(k) => match self.read_to_psk(k, message) {
+                Ok(want) => Some(want),
+                Err(_) => None,
             },
         }
     }

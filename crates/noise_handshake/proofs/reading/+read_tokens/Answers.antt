@@ -1,5 +1,5 @@
 use Rattle.noise_handshake.specs.inner.Means.{reader_of}
-use Rattle.std.proofs.Common.{◌≡◌, suc, ap, ℕ, ◌+◌, ◌-◌, ◌≤◌, List, ◌∷◌, ◌++◌, length, drop, sym, subst, ◌∙◌, arith, length-drop, drop-drop}
+use Rattle.std.proofs.Common.{◌≡◌, suc, ap, ℕ, ◌+◌, List, ◌∷◌, ◌++◌, length, drop, sym, subst, arith, drop-drop}
 use Rattle.std.specs.Prelude.{Bool, is_some}
 use Rattle.noise_names.specs.declared.token.Token.{Token}
 use Rattle.noise_state.specs.Standing.{StateMatches, keyed, nonce_now}
@@ -7,7 +7,7 @@ use Rattle.noise_state.specs.History.{cipher_key}
 use Rattle.noise_handshake.specs.declared.layout.PlacedToken.{PlacedToken}
 use Rattle.noise_handshake.specs.Message.{token_bytes, after_token, after_tokens}
 use Rattle.noise_handshake.specs.Party.{Reader, BeginsAs, cause_of}
-use Rattle.noise_handshake.specs.inner.Layout.{tokens_of, ArePlaced}
+use Rattle.noise_handshake.specs.inner.Layout.{tokens_of}
 use Rattle.noise_handshake.specs.inner.Listening.{Fails}
 use Rattle.noise_handshake.specs.inner.Keying.{Keying, keying_of, keying_after_tokens}
 use Rattle.noise_handshake.proofs.DhTokens.{none_taken}

@@ -1,6 +1,6 @@
 use Rattle.noise_handshake.specs.inner.Means.{reader_of}
-use Rattle.std.proofs.Common.{◌≡◌, ◌<◌, ◌≤◌, ◌+◌, ℕ, List, length, take, drop, true, sym, ap, subst, refl, ◌∙◌, arith, length-take}
-use Rattle.std.specs.Prelude.{Option, Bool, count_by, is_some}
+use Rattle.std.proofs.Common.{◌<◌, ◌+◌, List, length, take, drop, sym, ap, subst, refl, ◌∙◌, arith, length-take}
+use Rattle.std.specs.Prelude.{count_by}
 use Rattle.noise_names.specs.declared.token.Token.{Token}
 use Rattle.noise_names.specs.Tokens.{is_psk}
 use Rattle.noise_state.specs.Standing.{StateMatches, keyed, nonce_now}

@@ -83,7 +83,7 @@ returns-in-Err-Short-clause-read g c r s =
     let i1 : BeginsAs v c.args.known.now c.args.psks.now r (tokens_of c.args.placed.now) start.0 m (drop n m) =
     subst (λ (k : ℕ). BeginsAs v c.args.known.now c.args.psks.now r (tokens_of c.args.placed.now) start.0 m (drop k m)) none start.1 in
     let after : History = after_tokens c.args.means.now.has_psks r (tokens_of c.args.placed.now) start.0 in
-    let nonces : nonce after < 2 ^ 64 - 1 = 
+    let nonces : nonce after < 2 ^ 64 - 1 =
     omega (
       arith,
       nonce_now-is c.read_tokens.new.state after start.2,

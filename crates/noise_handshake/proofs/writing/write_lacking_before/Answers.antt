@@ -1,11 +1,9 @@
 use Rattle.noise_handshake.specs.inner.Means.{writer_of}
-use Rattle.std.proofs.Common.{◌≡◌, ◌<◌, ◌≤◌, ℕ, List, length, take, true, sym, ap, subst, arith}
-use Rattle.std.specs.Prelude.{Option, None, Some, MatchOption, count_by, is_some}
+use Rattle.std.proofs.Common.{◌≡◌, ℕ, List, true, sym, ap, subst, arith}
+use Rattle.std.specs.Prelude.{MatchOption, count_by, is_some}
 use Rattle.std.specs.List.{list_all}
 use Rattle.noise_names.specs.declared.token.Token.{Token}
 use Rattle.noise_names.specs.Tokens.{is_psk}
-use Rattle.noise_keys.specs.declared.keys.Own.{Own}
-use Rattle.noise_handshake.specs.declared.remote.Remote.{Remote}
 use Rattle.noise_handshake.specs.Wanting.{LacksDhResultFor}
 use Rattle.noise_handshake.specs.Writing.{Writer, LacksDhResultAt}
 use Rattle.noise_handshake.specs.inner.Known.{is_known}

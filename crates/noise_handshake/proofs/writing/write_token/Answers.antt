@@ -1,7 +1,6 @@
 use Rattle.noise_handshake.specs.inner.Means.{writer_of}
 use Rattle.noise_state.specs.Standing.{StateMatches, keyed, nonce_now}
 use Rattle.std.proofs.Common.{◌≡◌, ℕ, List, [], length, take, get_or, refl, sym, ap, ◌∙◌, arith}
-use Rattle.std.specs.Prelude.{is_some}
 use Rattle.noise_handshake.specs.Length.{keyed_after, token_width}
 use Rattle.noise_handshake.specs.Nonces.{nonce_after}
 use Rattle.noise_handshake.specs.Writing.{Writer}

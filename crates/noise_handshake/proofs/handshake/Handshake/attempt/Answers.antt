@@ -1,4 +1,4 @@
-use Rattle.std.proofs.Common.{ℕ, ◌≤◌, ◌∙◌, List, length, refl, ap, arith}
+use Rattle.std.proofs.Common.{◌∙◌, length, refl, ap, arith}
 use Rattle.noise_handshake.specs.inner.Keying.{Keying}
 use Rattle.noise_handshake.proofs.Layouts.{length-tokens_of}
 use Rattle.noise_handshake.proofs.Next.{reads-next, reads-theirs, reads-unended, places-next, psks-next, nonces-next, known-next, used-next, key-next, unchanged-read, advances-next}

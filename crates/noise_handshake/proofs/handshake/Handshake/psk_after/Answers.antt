@@ -1,4 +1,4 @@
-use Rattle.std.proofs.Common.{ℕ, List, length, subst, sym, ◌≡◌, ◌<◌, ◌≤◌}
+use Rattle.std.proofs.Common.{List, length, subst, sym, ◌<◌, ◌≤◌}
 use Rattle.std.specs.Prelude.{MatchOption, count_by}
 use Rattle.noise_names.specs.declared.token.Token.{Token}
 use Rattle.noise_names.specs.Tokens.{is_psk}
@@ -8,8 +8,8 @@ use Rattle.noise_handshake.specs.inner.Late.{IsPskAfter}
 use Rattle.noise_handshake.proofs.Next.{tokens-next}
 use Rattle.noise_handshake.proofs.handshake.Handshake.psk_after.Goals as goal
 
-pub returns-clause-found : goal.returns-clause-found
-returns-clause-found g c =
+pub returns : goal.returns
+returns g c =
     let a = c.self.inside in
     let less : a.passed < length a.pattern.messages =
     subst (λ (z : HandshakeValue g.row.K.Denot). z.passed < length z.pattern.messages) (sym c.self.view_is) c.requires in

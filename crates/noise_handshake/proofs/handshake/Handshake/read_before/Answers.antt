@@ -1,4 +1,4 @@
-use Rattle.std.proofs.Common.{ℕ, ◌<◌, ◌≤◌, List, length, refl, ap, sym, subst, arith}
+use Rattle.std.proofs.Common.{ℕ, ◌<◌, ◌≤◌, length, refl, ap, sym, subst, arith}
 use Rattle.std.specs.Prelude.{MatchOption, MatchResult}
 use Rattle.noise_handshake.specs.declared.faults.Cause.TheVariants.{Agreement}
 use Rattle.noise_handshake.specs.HandshakeValue.{HandshakeValue}

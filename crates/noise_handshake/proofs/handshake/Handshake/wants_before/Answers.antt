@@ -1,4 +1,4 @@
-use Rattle.std.proofs.Common.{ℕ, ◌≤◌, List, length, take, ap, sym, subst, arith}
+use Rattle.std.proofs.Common.{ℕ, ◌≤◌, length, take, ap, sym, subst, arith}
 use Rattle.std.specs.Prelude.{MatchOption}
 use Rattle.noise_handshake.specs.HandshakeValue.{HandshakeValue}
 use Rattle.noise_handshake.specs.Party.{tokens_at}

@@ -1,6 +1,5 @@
-use Rattle.std.proofs.Common.{◌≡◌, ℕ, ◌+◌, ◌≤◌, List, length, take, refl, ap, sym, subst, true, ◌∙◌, arith, length-take}
+use Rattle.std.proofs.Common.{◌≡◌, ℕ, ◌+◌, ◌≤◌, length, take, refl, ap, sym, subst, true, ◌∙◌, arith, length-take}
 use Rattle.std.specs.Prelude.{Some}
-use Rattle.noise_names.specs.Overhead.{overhead_of}
 use Rattle.noise_handshake.specs.declared.faults.WriteFault.{WriteFault}
 use Rattle.noise_handshake.specs.HandshakeValue.{HandshakeValue, write_fault}
 use Rattle.noise_handshake.specs.Matching.{Matches}

@@ -1,4 +1,4 @@
-use Rattle.std.proofs.Common.{◌-◌, ◌++◌, ℕ, List, length, take, drop, ap, sym, subst}
+use Rattle.std.proofs.Common.{◌-◌, ◌++◌, ℕ, List, length, take, drop, ap, subst}
 use Rattle.std.proofs.lemmas.List.{take-append-drop}
 use Rattle.noise_handshake.specs.HandshakeValue.{HandshakeValue}
 use Rattle.noise_handshake.specs.Late.{IsLateWhole}
