@@ -1,6 +1,6 @@
 -- What is judged of one more line.
 use Rattle.std.proofs.Common.{◌≡◌, ◌≢◌, ◌⊎◌, ℕ, suc, zero, ◌+◌, ◌<◌, ◌%◌, Bool, true, false, ◌&&◌, leb, List, [], ◌∷◌, ◌++◌, refl, ap, sym, ◌∙◌, cond}
-use Rattle.std.proofs.Common.{append_assoc, append-nil, length, length-append, arith, inl, inr, subst, Result}
+use Rattle.std.proofs.Common.{add-one, append_assoc, append-nil, length, length-append, arith, inl, inr, subst, Result}
 use Rattle.std.specs.Prelude.{MatchResult}
 use Rattle.std.specs.List.{list_all}
 use Rattle.std.proofs.lemmas.List.Folds.{list_all-append}
@@ -29,11 +29,8 @@ turns-odd zero h = absurd (h refl)
 turns-odd (suc zero) h = (refl, refl)
 turns-odd (suc (suc n)) h = turns-odd n (λ e. h (omega arith))
 
-one_on : (n : ℕ) → n + 1 ≡ suc n
-one_on n = omega arith
-
 pub turn-more : (n : ℕ) (party : Role) → turn_from (other party) n ≡ turn_from party (n + 1)
-turn-more n party = ap (turn_from party) (sym (one_on n))
+turn-more n party = ap (turn_from party) (sym (add-one n))
 
 -- the parts of what was passed
 pub some-is : {A : Type 0} (xs : List A) → is_some xs ≡ true → xs ≢ []

@@ -9,7 +9,7 @@ use Rattle.noise_names.specs.declared.faults.NameFault.TheVariants.{ModifierOrde
 use Rattle.noise_names.specs.Names.{modifier, pieces_of, is_modifier, digit_of, rises, are_places}
 use Rattle.noise_names.proofs.Numbers.{places_from-few, are_places-from}
 use Rattle.noise_names.specs.Sections.{number_in, modifiers_read}
-use Rattle.std.proofs.lemmas.Bool.{and_parts, leb-true, eqb-true, le-leb}
+use Rattle.std.proofs.lemmas.Bool.{and_from, and_parts, leb-true, eqb-true, le-leb}
 use Rattle.noise_names.specs.Lists.{cons-same}
 
 -- these numbers have a digit
@@ -102,10 +102,7 @@ all_modifiers (piece ∷ pieces) h =
     let one = modifier_is piece a.0 in
     let more = all_modifiers pieces a.1 in
     let small : leb (number_in piece) 8 ≡ true = le-leb (number_in piece) 8 one.1 in
-    (cons-same one.0 more.0, and_true small more.1)
-  where
-    and_true : {x y : Bool} → x ≡ true → y ≡ true → x && y ≡ true
-    and_true e f = rw (e, f) refl
+    (cons-same one.0 more.0, and_from _ _ small more.1)
 
 -- where no numbers spell the modifiers, some piece is none
 pub refused : (modifiers : List ℕ) → ((n : ℕ) (ns : List ℕ) → are_numbers (n ∷ ns) ≡ true → modifiers ≡ join_with_byte 43 (map modifier (n ∷ ns)) → ⊥)

@@ -3,7 +3,6 @@ use Rattle.std.proofs.Common.{◌≡◌, ℕ, ◌+◌, ◌*◌, ◌<◌, ◌≤�
 use Rattle.std.proofs.Common.{subst, map, length, length-append, take, drop, take_while, arith}
 use Rattle.std.specs.Prelude.{codes, bytes_eq}
 use Rattle.std.specs.List.{join_with_byte}
-use Rattle.std.proofs.lemmas.Bool.Decides.{nat_tests}
 use Rattle.std.proofs.lemmas.List.{take-append-drop, drop_at, drop-drop}
 use Rattle.std.proofs.lemmas.Slice.Eq.{bytes_eq-Decides}
 use Rattle.noise_names.specs.declared.faults.NameFault.{NameFault}
@@ -15,7 +14,7 @@ use Rattle.noise_names.proofs.Numbers.{places_from-few, are_places-from}
 use Rattle.noise_names.specs.Facts.{section_bytes-all}
 use Rattle.noise_names.proofs.Sections.{base_few, front_is, front_split, section_keeps, section_in-spelled, unless_section_ok, unless_section_err}
 use Rattle.noise_names.proofs.Sections.{unless_section_kept, take-front, kept_section, all_weaker}
-use Rattle.std.proofs.lemmas.Bool.{eqb-true, not-false}
+use Rattle.std.proofs.lemmas.Bool.{eqb-true, le-ltb, not-false}
 
 -- the faults of a lower number than n do not hold
 lowers : (bytes : List ℕ) (n : ℕ)
@@ -142,15 +141,13 @@ after_of s h =
 pub name_every : (bytes : List ℕ) (s : Section) → Names bytes s → name_read bytes ≡ Ok s
 name_every bytes s h = ap name_read h.spelled ∙ read where
   short : ltb 255 (length (name_bytes s)) ≡ false
-  short = not_less (length (name_bytes s))
+  short = le-ltb 255 (length (name_bytes s))
       (omega (
         arith,
         length-append (prefix ++ section_bytes s.base s.places) suffix,
         length-append prefix (section_bytes s.base s.places),
         section_few s h.is_section,
-      )) where
-        not_less : (n : ℕ) → n ≤ 255 → ltb 255 n ≡ false
-        not_less n k = grind (arith, nat_tests)
+      ))
 
   suffix_is : bytes_eq (algorithm_part (name_bytes s)) suffix ≡ true
   suffix_is = (bytes_eq-Decides (algorithm_part (name_bytes s)) suffix).1 (after_of s h.is_section)
@@ -174,9 +171,7 @@ algorithm_is bytes after algorithm n here e f =
 
 within : (bytes : List ℕ) (rest : Result Section NameFault) → length bytes ≤ 255 → bytes_eq (take 6 bytes) prefix ≡ true
     → cond (ltb 255 (length bytes)) (Err Length) (cond (not (bytes_eq (take 6 bytes) prefix)) (Err Prefix) rest) ≡ rest
-within bytes rest short front = rw (not_less (length bytes) short, front) refl where
-  not_less : (n : ℕ) → n ≤ 255 → ltb 255 n ≡ false
-  not_less n k = grind (arith, nat_tests)
+within bytes rest short front = rw (le-ltb 255 (length bytes) short, front) refl
 
 pub name_section_err : (bytes section : List ℕ) (fault : NameFault) → length bytes ≤ 255 → bytes_eq (take 6 bytes) prefix ≡ true
     → section ≡ section_part bytes → section_read section ≡ Err fault → name_read bytes ≡ Err fault

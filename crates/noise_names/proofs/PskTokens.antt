@@ -11,7 +11,7 @@ use Rattle.noise_names.specs.Plan.{Plan, plan_of, plain_of, has_psk}
 use Rattle.noise_names.specs.Names.{are_places}
 use Rattle.noise_names.specs.Fundamental.{fundamental_of}
 use Rattle.noise_names.specs.Limits.{psk_if, with_psk_tokens, with_psks_from, HavePsksAt, HavePsks, Placed, has_few_tokens, IsPattern}
-use Rattle.std.proofs.lemmas.Bool.{and_parts, leb-true, or_right, or_left, or_parts}
+use Rattle.std.proofs.lemmas.Bool.{and_from, and_parts, leb-true, or_right, or_left, or_parts}
 use Rattle.noise_names.specs.Lists.{cons-same}
 
 pub own-append : (xs ys : List Token) → own_tokens (xs ++ ys) ≡ own_tokens xs ++ own_tokens ys
@@ -78,10 +78,7 @@ few_psks places n (m ∷ ms) h few =
     let b = and_parts (has_few_tokens m) (list_all has_few_tokens ms) few in
     let own : own_tokens (with_psk_tokens places n m) ≡ own_tokens m = own_tokens-with places n m (no_psk_own m a.0) ∙ sym (no_psk_own m a.0) in
     let here : has_few_tokens (with_psk_tokens places n m) ≡ true = ap (λ (ts : List Token). leb 1 (length ts) && leb (length ts) 8) own ∙ b.0 in
-    and_true here (few_psks places (n + 1) ms a.1 b.1)
-  where
-    and_true : {x y : Bool} → x ≡ true → y ≡ true → x && y ≡ true
-    and_true e f = rw (e, f) refl
+    and_from _ _ here (few_psks places (n + 1) ms a.1 b.1)
 
 -- a message of a plain pattern has at most 8 tokens
 pub few_plain : (messages : List (List Token)) (i : ℕ) → any_psk messages ≡ false → list_all has_few_tokens messages ≡ true → length (get_or messages i []) ≤ 8
@@ -121,20 +118,16 @@ shows : (places : List ℕ) (k d : ℕ) (messages : List (List Token)) → d < l
     → HavePsksAt places k messages → any_psk messages ≡ true
 shows places k d [] less there h = absurd (omega arith)
 shows places k zero (m ∷ ms) less there h =
-    let there_now : list_any (λ p. eqb p k) places ≡ true = subst (λ (n : ℕ). list_any (λ p. eqb p n) places ≡ true) (no_more k) there in
+    let none : k + 0 ≡ k = omega arith in
+    let there_now : list_any (λ p. eqb p k) places ≡ true = subst (λ (n : ℕ). list_any (λ p. eqb p n) places ≡ true) none there in
     let psk : psk_if k places ≡ Psk ∷ [] = ap (λ (b : Bool). cond b (Psk ∷ []) []) there_now in
     let ends : m ≡ (cond (eqb k 1) (psk_if 0 places) [] ++ own_tokens m) ++ Psk ∷ [] = h.0
     ∙ ap (λ (ts : List Token). (cond (eqb k 1) (psk_if 0 places) [] ++ own_tokens m) ++ ts) psk in
     or_left (list_any is_psk m) (any_psk ms) (ap (list_any is_psk) ends ∙ any-snoc (cond (eqb k 1) (psk_if 0 places) [] ++ own_tokens m))
-  where
-    no_more : (k : ℕ) → k + 0 ≡ k
-    no_more k = omega arith
 shows places k (suc d) (m ∷ ms) less there h =
-    let later : list_any (λ p. eqb p ((k + 1) + d)) places ≡ true = subst (λ (n : ℕ). list_any (λ p. eqb p n) places ≡ true) (one_on k d) there in
+    let next : k + suc d ≡ (k + 1) + d = omega arith in
+    let later : list_any (λ p. eqb p ((k + 1) + d)) places ≡ true = subst (λ (n : ℕ). list_any (λ p. eqb p n) places ≡ true) next there in
     or_right (list_any is_psk m) (any_psk ms) (shows places (k + 1) d ms (omega arith) later h.1)
-  where
-    one_on : (k d : ℕ) → k + suc d ≡ (k + 1) + d
-    one_on k d = omega arith
 
 pub plain_places : (places : List ℕ) (messages : List (List Token)) → any_psk messages ≡ false → HavePsks places messages → 1 ≤ length messages → places ≡ []
 plain_places [] messages none h some = refl
@@ -200,12 +193,8 @@ psks_pattern plain places none limits rising range =
 -- one message more
 pub psks-push : (places : List ℕ) (n : ℕ) (messages : List (List Token)) (m : List Token)
     → with_psks_from places n (messages ++ m ∷ []) ≡ with_psks_from places n messages ++ with_psk_tokens places (n + length messages) m ∷ []
-psks-push places n [] m = ap (λ (k : ℕ). with_psk_tokens places k m ∷ []) (no_more n) where
-  no_more : (n : ℕ) → n ≡ n + 0
-  no_more n = omega arith
+psks-push places n [] m = let e : n ≡ n + 0 = omega arith in ap (λ (k : ℕ). with_psk_tokens places k m ∷ []) e
 psks-push places n (x ∷ xs) m =
+    let e : (n + 1) + length xs ≡ n + suc (length xs) = omega arith in
     ap (λ (ms : List (List Token)). with_psk_tokens places n x ∷ ms)
-    (psks-push places (n + 1) xs m ∙ ap (λ (k : ℕ). with_psks_from places (n + 1) xs ++ with_psk_tokens places k m ∷ []) (one_on n (length xs)))
-  where
-    one_on : (n k : ℕ) → (n + 1) + k ≡ n + suc k
-    one_on n k = omega arith
+    (psks-push places (n + 1) xs m ∙ ap (λ (k : ℕ). with_psks_from places (n + 1) xs ++ with_psk_tokens places k m ∷ []) e)

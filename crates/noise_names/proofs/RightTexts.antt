@@ -1,9 +1,8 @@
 -- Lines that were judged right begin the text of a right pattern, and are its whole text where no psk place is beyond the messages.
-use Rattle.std.proofs.Common.{◌≡◌, ◌≢◌, ◌⊎◌, ◌↔◌, inl, inr, ℕ, suc, zero, ◌+◌, ◌-◌, ◌≤◌, Bool, true, false, ◌&&◌, leb, List, [], ◌∷◌, ◌++◌, None}
+use Rattle.std.proofs.Common.{◌≡◌, ◌≢◌, ◌⊎◌, ◌↔◌, inl, inr, ℕ, suc, zero, ◌+◌, ◌-◌, ◌≤◌, Bool, true, false, leb, List, [], ◌∷◌, ◌++◌, None}
 use Rattle.std.proofs.Common.{refl, ap, sym, ◌∙◌, subst, append_assoc, length, length-append, arith, replicate}
 use Rattle.std.specs.Prelude.{IsTrue, IsFalse}
 use Rattle.std.specs.List.{list_all, list_any}
-use Rattle.std.proofs.lemmas.Bool.Decides.{nat_tests}
 use Rattle.std.proofs.lemmas.List.{length-replicate}
 use Rattle.std.proofs.lemmas.List.Folds.{list_all-append}
 use Rattle.noise_names.specs.declared.token.Role.{Role}
@@ -35,14 +34,10 @@ message_lines-append party (x ∷ xs) ys =
 -- their psk tokens
 pub have_psks-append : (places : List ℕ) (n : ℕ) (xs ys : List (List Token)) → HavePsksAt places n xs → HavePsksAt places (n + length xs) ys
     → HavePsksAt places n (xs ++ ys)
-have_psks-append places n [] ys h k = subst (λ (m : ℕ). HavePsksAt places m ys) (no_more n) k where
-  no_more : (n : ℕ) → n + 0 ≡ n
-  no_more n = omega arith
+have_psks-append places n [] ys h k = let e : n + 0 ≡ n = omega arith in subst (λ (m : ℕ). HavePsksAt places m ys) e k
 have_psks-append places n (x ∷ xs) ys h k =
-    (h.0, have_psks-append places (n + 1) xs ys h.1 (subst (λ (m : ℕ). HavePsksAt places m ys) (one_on n (length xs)) k))
-  where
-    one_on : (n k : ℕ) → n + suc k ≡ (n + 1) + k
-    one_on n k = omega arith
+    let e : n + suc (length xs) ≡ (n + 1) + length xs = omega arith in
+    (h.0, have_psks-append places (n + 1) xs ys h.1 (subst (λ (m : ℕ). HavePsksAt places m ys) e k))
 
 -- ---- messages of one own token
 

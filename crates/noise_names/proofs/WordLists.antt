@@ -1,9 +1,8 @@
 -- Lists of words of which some were read.
 use Rattle.std.proofs.Common.{◌≡◌, ◌≢◌, ℕ, ◌<◌, suc, zero, Bool, true, false, not, cond, List, [], ◌∷◌, ◌++◌, refl, ap, sym, ◌∙◌, append_assoc, append-nil}
-use Rattle.std.proofs.Common.{length, arith, take, Some, None, eqb, leb, ◌≤◌, ◌&&◌, ◌⊎◌, inl, inr, min}
-use Rattle.std.specs.Prelude.{codes, bytes_eq}
-use Rattle.std.proofs.lemmas.Bool.Decides.{Decides-eqb, nat_tests}
-use Rattle.std.proofs.lemmas.Slice.Eq.{slice_eq-Decides}
+use Rattle.std.proofs.Common.{length, arith, take, eqb, leb, ◌≤◌, ◌&&◌, ◌⊎◌, inl, inr, min}
+use Rattle.std.specs.Prelude.{codes}
+use Rattle.std.proofs.lemmas.Bool.Decides.{nat_tests}
 use Rattle.noise_names.specs.declared.token.Token.{Token}
 use Rattle.noise_names.specs.declared.token.Token.TheVariants.{E, S, Ee, Es, Se, Ss, Psk}
 use Rattle.noise_names.specs.declared.text.fault.Words.{Words}
@@ -12,7 +11,7 @@ use Rattle.noise_names.specs.Limits.{has_few_tokens, is_pre_message}
 use Rattle.std.proofs.lemmas.List.{length-take, nil_from_length}
 use Rattle.noise_names.specs.Tokens.{is_psk, own_tokens}
 use Rattle.noise_names.specs.Text.{word_of, words}
-use Rattle.noise_names.specs.Reading.{is_lower, token_named}
+use Rattle.noise_names.specs.Reading.{is_lower}
 use Rattle.noise_names.proofs.PskTokens.{own-append}
 use Rattle.noise_names.proofs.TokenLines.{first_word_same}
 

@@ -1,7 +1,7 @@
 -- A line that is wrong after right lines is in no right text after those.
 use Rattle.std.specs.Prelude.{◌==◌}
 use Rattle.std.proofs.Common.{◌≡◌, ◌≢◌, ◌⊎◌, ◌↔◌, ℕ, suc, zero, ◌+◌, Bool, true, false, ◌&&◌, not, leb, List, [], ◌∷◌, ◌++◌, refl, ap, sym, ◌∙◌}
-use Rattle.std.proofs.Common.{IsTrue, length, length-append, inl, inr, subst, arith}
+use Rattle.std.proofs.Common.{IsTrue, add-one, length, length-append, inl, inr, subst, arith}
 use Rattle.std.specs.List.{list_all}
 use Rattle.std.proofs.lemmas.Bool.Decides.{nat_tests}
 use Rattle.std.proofs.lemmas.List.Folds.{list_all-append}
@@ -69,9 +69,7 @@ turn_apart zero Responder e = absurd (cc)
 turn_apart (suc n) party e = turn_apart n (other party) e
 
 pub next_turn : (n : ℕ) → turn_from Initiator n ≢ turn_from Initiator (n + 1)
-next_turn n e = turn_apart n Initiator (sym (e ∙ ap (λ (k : ℕ). turn_from Initiator k) (one_more n))) where
-  one_more : (n : ℕ) → n + 1 ≡ suc n
-  one_more n = omega arith
+next_turn n e = turn_apart n Initiator (sym (e ∙ ap (λ (k : ℕ). turn_from Initiator k) (add-one n)))
 
 -- what is right in a message of a pattern
 within : (q : Plan) (before more : List (List Token)) (m : List Token) → IsPattern q → q.messages ≡ before ++ m ∷ more → is_within before m ≡ true
@@ -90,14 +88,10 @@ within q before more m h e =
 
 psks_at : (places : List ℕ) (n : ℕ) (before more : List (List Token)) (m : List Token) → HavePsksAt places n (before ++ m ∷ more)
     → m ≡ with_psk_tokens places (length before + n) (own_tokens m)
-psks_at places n [] more m h = h.0 ∙ ap (λ (k : ℕ). with_psk_tokens places k (own_tokens m)) (none_more n) where
-  none_more : (n : ℕ) → n ≡ 0 + n
-  none_more n = omega arith
+psks_at places n [] more m h = let e : n ≡ 0 + n = omega arith in h.0 ∙ ap (λ (k : ℕ). with_psk_tokens places k (own_tokens m)) e
 psks_at places n (x ∷ before) more m h =
-    psks_at places (n + 1) before more m h.1 ∙ ap (λ (k : ℕ). with_psk_tokens places k (own_tokens m)) (moved (length before) n)
-  where
-    moved : (k n : ℕ) → k + (n + 1) ≡ suc k + n
-    moved k n = omega arith
+    let e : length before + (n + 1) ≡ suc (length before) + n = omega arith in
+    psks_at places (n + 1) before more m h.1 ∙ ap (λ (k : ℕ). with_psk_tokens places k (own_tokens m)) e
 
 -- ---- each kind of wrong line, where the next line of a right text is this
 

@@ -1,4 +1,4 @@
-use Rattle.std.proofs.Common.{◌≡◌, ◌<◌, ◌↔◌, ℕ, List, [], ◌∷◌, ◌++◌, Bool, true, false, ◌&&◌, cond, MatchBool, length, length-append, map, take, drop, refl}
+use Rattle.std.proofs.Common.{◌≡◌, ◌↔◌, ℕ, List, [], ◌∷◌, ◌++◌, Bool, true, false, ◌&&◌, cond, length, map, take, drop, refl}
 use Rattle.std.proofs.Common.{sym, ap, ◌∙◌, subst, append_assoc, arith, Option, Some, None, Result, Err, Ok, eqb, inl, inr}
 use Rattle.std.specs.Prelude.{IsSome, IfSome, IsTrue}
 use Rattle.std.specs.Option.{ok_or}
