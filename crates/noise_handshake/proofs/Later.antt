@@ -1,6 +1,6 @@
 -- What a message's tokens carry doesn't depend on the psks that are handed in for later psk tokens.
 use Rattle.std.proofs.Common.{◌≡◌, ℕ, zero, suc, ◌+◌, ◌≤◌, List, [], ◌∷◌, length, take, refl, ap, sym, subst, ◌∙◌, arith, take-take, take_all}
-use Rattle.std.proofs.lemmas.List.Sums.{sum_by-cons}
+use Rattle.std.proofs.lemmas.List.Sums.{sum_by-cons, sum_by-take-le}
 use Rattle.std.specs.Prelude.{cond, count_by}
 use Rattle.noise_names.specs.declared.token.Token.{Token}
 use Rattle.noise_names.specs.declared.token.Token.TheVariants.{E, S, Ee, Es, Se, Ss, Psk}
@@ -21,17 +21,7 @@ one-more ts =
     omega (arith, h)
 
 pub count-take : (ts : List Token) (k : ℕ) → count_by is_psk (take k ts) ≤ count_by is_psk ts
-count-take ts zero = omega arith
-count-take [] (suc k) = omega arith
-count-take (E ∷ ts) (suc k) = count-take ts k
-count-take (S ∷ ts) (suc k) = count-take ts k
-count-take (Ee ∷ ts) (suc k) = count-take ts k
-count-take (Es ∷ ts) (suc k) = count-take ts k
-count-take (Se ∷ ts) (suc k) = count-take ts k
-count-take (Ss ∷ ts) (suc k) = count-take ts k
-count-take (Psk ∷ ts) (suc k) =
-    let g : count_by is_psk (Psk ∷ take k ts) ≤ count_by is_psk (Psk ∷ ts) = omega (arith, one-more (take k ts), one-more ts, count-take ts k) in
-    g
+count-take ts k = sum_by-take-le (λ (t : Token). cond (is_psk t) 1 0) ts k
 
 pub count-less : (ts : List Token) (j k : ℕ) → j ≤ k → count_by is_psk (take j ts) ≤ count_by is_psk (take k ts)
 count-less ts j k h =

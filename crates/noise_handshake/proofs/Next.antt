@@ -5,6 +5,7 @@ use Rattle.std.proofs.lemmas.List.{length-take-le}
 use Rattle.std.specs.Prelude.{None, Option, Some, count_by, is_some, not, ◌&&◌, ◌==◌}
 use Rattle.std.specs.List.{list_all}
 use Rattle.noise_names.specs.declared.token.Token.{Token}
+use Rattle.noise_names.specs.declared.token.Token.TheVariants.{E, S}
 use Rattle.noise_names.specs.declared.token.Role.TheVariants.{Initiator}
 use Rattle.noise_names.specs.Tokens.{is_psk, other, turn_from}
 use Rattle.noise_names.specs.Plan.{Plan, has_psk}
@@ -24,7 +25,7 @@ use Rattle.noise_handshake.specs.Matching.{Matches, after_message, after_own}
 use Rattle.noise_handshake.specs.Passed.{passed_places}
 use Rattle.noise_handshake.specs.Party.{Party, remote_after, tokens_at, tokens_now}
 use Rattle.noise_handshake.specs.inner.Kept.{held_in, IsKept}
-use Rattle.noise_handshake.specs.inner.Known.{KnowsRemote, are_known, is_known, e_after_tokens, s_after_tokens}
+use Rattle.noise_handshake.specs.inner.Known.{KnowsRemote, are_known, is_known, has_after_tokens}
 use Rattle.noise_handshake.specs.inner.Layout.{tokens_of, ArePlaced, LaysNext}
 use Rattle.noise_handshake.specs.inner.Listening.{Listening}
 use Rattle.noise_handshake.specs.inner.Speaking.{Speaking, has_own}
@@ -184,8 +185,8 @@ module _ {K : Type 0} (public_of : K → Own → Option (List ℕ)) (a : Inside 
         i.6,
       )
 
-      pub unchanged-read : turn_from Initiator a.passed ≡ other a.means.role → (known : Remote) → is_some known.e ≡ e_after_tokens (is_some a.remote.e) (tokens_of placed)
-          → is_some known.s ≡ s_after_tokens (is_some a.remote.s) (tokens_of placed)
+      pub unchanged-read : turn_from Initiator a.passed ≡ other a.means.role → (known : Remote) → is_some known.e ≡ has_after_tokens E (is_some a.remote.e) (tokens_of placed)
+          → is_some known.s ≡ has_after_tokens S (is_some a.remote.s) (tokens_of placed)
           → IsKept public_of (record a { used = a.used + a.next.psks; passed = a.passed + 1; next = laid; state = new; remote = known })
       unchanged-read turn known fe fs =
           unchanged-next known

@@ -1,24 +1,20 @@
 -- The place of a psk token among tokens.
-use Rattle.std.proofs.Common.{◌≡◌, ℕ, suc, ◌≤◌, List, [], ◌∷◌, ◌++◌, length, take, drop, refl, ap, sym, ◌∙◌, arith, length-take}
+use Rattle.std.proofs.Common.{◌≡◌, ℕ, suc, ◌+◌, ◌≤◌, List, [], ◌∷◌, ◌++◌, length, take, drop, ap, sym, ◌∙◌, arith, length-take}
 use Rattle.std.proofs.Math.Seq.{take-append_seam}
-use Rattle.std.specs.Prelude.{count_by}
+use Rattle.std.proofs.lemmas.List.Sums.{sum_by-append}
+use Rattle.std.specs.Prelude.{cond, count_by}
 use Rattle.noise_names.specs.declared.token.Token.{Token}
-use Rattle.noise_names.specs.declared.token.Token.TheVariants.{E, S, Ee, Es, Se, Ss, Psk}
+use Rattle.noise_names.specs.declared.token.Token.TheVariants.{Psk}
 use Rattle.noise_names.specs.Tokens.{is_psk}
 use Rattle.noise_handshake.specs.inner.Late.{IsPskAfter}
-use Rattle.noise_handshake.proofs.Later.{one-more, count-take, count-less}
+use Rattle.noise_handshake.proofs.Later.{count-take, count-less}
 use Rattle.noise_handshake.proofs.Wanted.{take-through}
 use Rattle.noise_handshake.proofs.Once.{same-place}
 
 count-one : (before : List Token) → count_by is_psk (before ++ Psk ∷ []) ≡ suc (count_by is_psk before)
-count-one [] = refl
-count-one (E ∷ before) = count-one before
-count-one (S ∷ before) = count-one before
-count-one (Ee ∷ before) = count-one before
-count-one (Es ∷ before) = count-one before
-count-one (Se ∷ before) = count-one before
-count-one (Ss ∷ before) = count-one before
-count-one (Psk ∷ before) = one-more (before ++ Psk ∷ []) ∙ ap suc (count-one before ∙ sym (one-more before))
+count-one before =
+    let h : count_by is_psk (before ++ Psk ∷ []) ≡ count_by is_psk before + 1 = sum_by-append (λ (t : Token). cond (is_psk t) 1 0) before (Psk ∷ []) in
+    omega (arith, h)
 
 -- as far as a psk token there is one more
 pub count-through : (ts before later : List Token) → ts ≡ before ++ Psk ∷ later → count_by is_psk (take (suc (length before)) ts) ≡ suc (count_by is_psk before)

@@ -1,7 +1,6 @@
 -- Which DH result the next message lacks: reading.
 use Rattle.std.proofs.Common.{◌≡◌, ℕ, zero, suc, ◌+◌, ◌<◌, ◌≤◌, List, [], ◌∷◌, ◌++◌, length, take, drop, get_or, refl, ap, sym, subst, ◌∙◌, arith}
-use Rattle.std.proofs.Common.{append_assoc, drop-cons, add-one, length-take}
-use Rattle.std.proofs.lemmas.List.{take-append-drop}
+use Rattle.std.proofs.Common.{append_assoc, length-take}
 use Rattle.std.proofs.Math.Seq.{take-append_seam}
 use Rattle.std.specs.Prelude.{Bool, true, false, Option, Some, None, is_some, nat_lt, if◌then◌else◌, MatchOption}
 use Rattle.noise_names.specs.declared.token.Token.{Token}
@@ -16,18 +15,15 @@ use Rattle.noise_handshake.specs.Message.{token_bytes, after_token, before_paylo
 use Rattle.noise_handshake.specs.Party.{Party, Reader, reader, Listens, Fit, BeginsAs, CanBegin, Stops, Refuses, known_after, psks_after, remote_after}
 use Rattle.noise_handshake.specs.Party.{first_psk, own_at, remote_at, cause_of, cause_at, tokens_now}
 use Rattle.noise_handshake.specs.Wanting.{StopsFor, WantsToRead}
-use Rattle.noise_handshake.specs.inner.Known.{is_known, are_known, e_after, s_after, e_after_tokens, s_after_tokens}
+use Rattle.noise_handshake.specs.inner.Known.{is_known, are_known, has_after, has_after_tokens}
 use Rattle.noise_handshake.specs.inner.Layout.{tokens_of}
 use Rattle.noise_handshake.specs.inner.Listening.{Listening, StopsKnowing}
 use Rattle.noise_handshake.proofs.Apart.{leads-none, leads-more, reads-leads}
-use Rattle.noise_handshake.proofs.Knowing.{is_some-remote, known-dh}
+use Rattle.noise_handshake.proofs.Knowing.{is_some-remote, known-dh, split-at}
 use Rattle.noise_handshake.proofs.Standing.{for-view}
 use Rattle.std.proofs.lemmas.Bool.{and_parts}
 
 -- ---- a token of a list
-
-pub split-at : {X : Type 0} (xs : List X) (k : ℕ) (x : X) → k < length xs → x ≡ get_or xs k x → xs ≡ take k xs ++ x ∷ drop (k + 1) xs
-split-at xs k x h is = sym (take-append-drop k xs) ∙ ap (λ (ys : List _). take k xs ++ ys) (drop-cons xs k x h ∙ rw (← is, add-one k) refl)
 
 pub take-through : (before later : List Token) (t : Token) → take (suc (length before)) (before ++ t ∷ later) ≡ before ++ t ∷ []
 take-through [] later t = refl
@@ -44,13 +40,13 @@ token-placed (p ∷ ps) (suc k) d h = token-placed ps k d (omega arith)
 
 -- the remote key of a DH among tokens
 known-there : (role : Role) (e s : Bool) (before later : List Token) (t : Token) → are_known role e s (before ++ t ∷ later) ≡ true
-    → is_known role (e_after_tokens e before) (s_after_tokens s before) t ≡ true
-known-there role e s [] later t h = (and_parts (is_known role e s t) (are_known role (e_after e t) (s_after s t) later) h).0
+    → is_known role (has_after_tokens E e before) (has_after_tokens S s before) t ≡ true
+known-there role e s [] later t h = (and_parts (is_known role e s t) (are_known role (has_after E e t) (has_after S s t) later) h).0
 known-there role e s (u ∷ before) later t h =
-    known-there role (e_after e u) (s_after s u) before later t
-    (and_parts (is_known role e s u) (are_known role (e_after e u) (s_after s u) (before ++ t ∷ later)) h).1
+    known-there role (has_after E e u) (has_after S s u) before later t
+    (and_parts (is_known role e s u) (are_known role (has_after E e u) (has_after S s u) (before ++ t ∷ later)) h).1
 
-e-one : (known : Remote) (t : Token) (x : List ℕ) → is_some (known_after known t x).e ≡ e_after (is_some known.e) t
+e-one : (known : Remote) (t : Token) (x : List ℕ) → is_some (known_after known t x).e ≡ has_after E (is_some known.e) t
 e-one known E x = refl
 e-one known S x = refl
 e-one known Ee x = refl
@@ -59,7 +55,7 @@ e-one known Se x = refl
 e-one known Ss x = refl
 e-one known Psk x = refl
 
-s-one : (known : Remote) (t : Token) (x : List ℕ) → is_some (known_after known t x).s ≡ s_after (is_some known.s) t
+s-one : (known : Remote) (t : Token) (x : List ℕ) → is_some (known_after known t x).s ≡ has_after S (is_some known.s) t
 s-one known E x = refl
 s-one known S x = refl
 s-one known Ee x = refl
@@ -69,18 +65,18 @@ s-one known Ss x = refl
 s-one known Psk x = refl
 
 e-many : (v : Reader) (known : Remote) (psks : List (List ℕ)) (ts : List Token) (xs : List (List ℕ)) → Fit v known psks ts xs
-    → is_some (remote_after known ts xs).e ≡ e_after_tokens (is_some known.e) ts
+    → is_some (remote_after known ts xs).e ≡ has_after_tokens E (is_some known.e) ts
 e-many v known psks [] xs f = refl
 e-many v known psks (t ∷ ts) [] f = absurd f
 e-many v known psks (t ∷ ts) (x ∷ xs) f =
-    e-many v (known_after known t x) (psks_after psks t) ts xs f.1 ∙ ap (λ (b : Bool). e_after_tokens b ts) (e-one known t x)
+    e-many v (known_after known t x) (psks_after psks t) ts xs f.1 ∙ ap (λ (b : Bool). has_after_tokens E b ts) (e-one known t x)
 
 s-many : (v : Reader) (known : Remote) (psks : List (List ℕ)) (ts : List Token) (xs : List (List ℕ)) → Fit v known psks ts xs
-    → is_some (remote_after known ts xs).s ≡ s_after_tokens (is_some known.s) ts
+    → is_some (remote_after known ts xs).s ≡ has_after_tokens S (is_some known.s) ts
 s-many v known psks [] xs f = refl
 s-many v known psks (t ∷ ts) [] f = absurd f
 s-many v known psks (t ∷ ts) (x ∷ xs) f =
-    s-many v (known_after known t x) (psks_after psks t) ts xs f.1 ∙ ap (λ (b : Bool). s_after_tokens b ts) (s-one known t x)
+    s-many v (known_after known t x) (psks_after psks t) ts xs f.1 ∙ ap (λ (b : Bool). has_after_tokens S b ts) (s-one known t x)
 
 -- ---- why reading stops at a token
 
@@ -164,7 +160,7 @@ module _ (v : Reader) (known : Remote) (psks : List (List ℕ)) (r : History) (m
       let h = known-there v.role (is_some known.e) (is_some known.s) before later t knows in
       subst (λ (b : Bool). is_known v.role b (is_some (remote_after known before s.carried).s) t ≡ true)
       (sym (e-many v known psks before s.carried leads.fit))
-      (subst (λ (b : Bool). is_known v.role (e_after_tokens (is_some known.e) before) b t ≡ true)
+      (subst (λ (b : Bool). is_known v.role (has_after_tokens E (is_some known.e) before) b t ≡ true)
       (sym (s-many v known psks before s.carried leads.fit)) h)
 
   -- the token is a DH, whose remote key is known there

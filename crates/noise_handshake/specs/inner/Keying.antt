@@ -1,12 +1,13 @@
 -- The keys that the tokens of a message go by (Noise, 5.1 to 5.3).
 use Rattle.std.specs.Prelude.{Bool, List, ℕ, is_some}
 use Rattle.noise_names.specs.declared.token.Token.{Token}
+use Rattle.noise_names.specs.declared.token.Token.TheVariants.{E, S}
 use Rattle.noise_state.specs.Standing.{keyed, nonce_now}
 use Rattle.noise_state.specs.declared.symmetric.SymmetricState.{SymmetricState}
 use Rattle.noise_handshake.specs.declared.remote.Remote.{Remote}
 use Rattle.noise_handshake.specs.Length.{keyed_after, keyed_after_tokens}
 use Rattle.noise_handshake.specs.Nonces.{nonce_after, nonce_after_tokens, nonce_after_message}
-use Rattle.noise_handshake.specs.inner.Known.{e_after, s_after, e_after_tokens, s_after_tokens}
+use Rattle.noise_handshake.specs.inner.Known.{has_after, has_after_tokens}
 
 -- whether there is a cipher key, its nonce, and whether an ephemeral and a static key of the other party are known
 pub record Keying : Type 0 where
@@ -24,8 +25,8 @@ abbrev pub keying_after : Bool → Keying → Token → Keying
 keying_after has_psks k t = record {
   keyed = keyed_after has_psks k.keyed t;
   nonce = nonce_after has_psks k.keyed k.nonce t;
-  e = e_after k.e t;
-  s = s_after k.s t;
+  e = has_after E k.e t;
+  s = has_after S k.s t;
 }
 
 -- after its tokens
@@ -33,8 +34,8 @@ abbrev pub keying_after_tokens : Bool → Keying → List Token → Keying
 keying_after_tokens has_psks k ts = record {
   keyed = keyed_after_tokens has_psks k.keyed ts;
   nonce = nonce_after_tokens has_psks k.keyed k.nonce ts;
-  e = e_after_tokens k.e ts;
-  s = s_after_tokens k.s ts;
+  e = has_after_tokens E k.e ts;
+  s = has_after_tokens S k.s ts;
 }
 
 -- after its message

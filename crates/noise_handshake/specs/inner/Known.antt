@@ -1,10 +1,10 @@
 -- Which public keys of the other party are known when a token comes (Noise, 5.3).
-use Rattle.std.specs.Prelude.{◌≡◌, Bool, true, ◌&&◌, List, [], ◌∷◌, is_some}
+use Rattle.std.specs.Prelude.{◌≡◌, Bool, true, ◌&&◌, ◌||◌, List, [], ◌∷◌, is_some}
 use Rattle.noise_names.specs.declared.token.Role.{Role}
 use Rattle.noise_names.specs.declared.token.Role.TheVariants.{Initiator, Responder}
 use Rattle.noise_names.specs.declared.token.Token.{Token}
 use Rattle.noise_names.specs.declared.token.Token.TheVariants.{E, S, Es, Se, Ss, Psk}
-use Rattle.noise_names.specs.Tokens.{other}
+use Rattle.noise_names.specs.Tokens.{other, same_token}
 use Rattle.noise_names.specs.Validity.{is_among}
 use Rattle.noise_handshake.specs.HandshakeValue.{HandshakeValue}
 use Rattle.noise_handshake.specs.Passed.{passed_places}
@@ -24,28 +24,19 @@ is_known role e s S = true
 is_known role e s Psk = true
 is_known role e s dh = remote_known role e s dh
 
--- whether an ephemeral key of the other party is known after a token of that party, and a static one
-abbrev pub e_after : Bool → Token → Bool
-e_after e E = true
-e_after e _ = e
-
-abbrev pub s_after : Bool → Token → Bool
-s_after s S = true
-s_after s _ = s
+-- whether the other party's key of token u is known after a token of that party
+abbrev pub has_after : Token → Bool → Token → Bool
+has_after u known t = same_token t u || known
 
 -- after its tokens
-abbrev pub e_after_tokens : Bool → List Token → Bool
-e_after_tokens e [] = e
-e_after_tokens e (t ∷ ts) = e_after_tokens (e_after e t) ts
-
-abbrev pub s_after_tokens : Bool → List Token → Bool
-s_after_tokens s [] = s
-s_after_tokens s (t ∷ ts) = s_after_tokens (s_after s t) ts
+abbrev pub has_after_tokens : Token → Bool → List Token → Bool
+has_after_tokens u known [] = known
+has_after_tokens u known (t ∷ ts) = has_after_tokens u (has_after u known t) ts
 
 -- each DH among the other party's tokens finds its remote key
 abbrev pub are_known : Role → Bool → Bool → List Token → Bool
 are_known role e s [] = true
-are_known role e s (t ∷ ts) = is_known role e s t && are_known role (e_after e t) (s_after s t) ts
+are_known role e s (t ∷ ts) = is_known role e s t && are_known role (has_after E e t) (has_after S s t) ts
 
 -- A key of the other party is known exactly if its token stands in its pre-message or in a message that has passed.
 pub record KnowsRemote {K : Type 0} (h : HandshakeValue K) : Type 0 where
