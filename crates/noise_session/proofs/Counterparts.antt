@@ -30,7 +30,7 @@ use Rattle.noise_session.specs.Sending.Sends.{refuses, lacks_dh_result, sends_ha
 use Rattle.noise_session.specs.Taking.{Takes}
 use Rattle.noise_session.specs.Taking.Takes.{judges}
 use Rattle.noise_session.specs.Taking.Judges.{accepted, opened}
-use Rattle.noise_session.proofs.Parties.{progress-handshaking, progress-open, open-passed}
+use Rattle.noise_session.proofs.Parties.{not-long, progress-handshaking, progress-open, open-passed}
 use Rattle.noise_names.specs.Roles.{same_role-other}
 
 -- ---- the other end listens
@@ -59,13 +59,10 @@ due-open one_way role sent received n e =
     record { heard = a.0; room = b.0; low = c.0 }
 
 -- the writer of a one-way session is the initiator, and so its other end listens
-heard-there : (one_way : Bool) (role : Role) → (one_way && same_role role Responder) ≡ false → (one_way && same_role (other role) Initiator) ≡ false
+pub heard-there : (one_way : Bool) (role : Role) → (one_way && same_role role Responder) ≡ false → (one_way && same_role (other role) Initiator) ≡ false
 heard-there true Initiator e = refl
 heard-there true Responder e = cc
 heard-there false role e = refl
-
-in-room : (n : ℕ) → nat_lt 65535 n ≡ false → n ≤ 65535
-in-room n h = grind (arith, nat_tests)
 
 not-last : (n : ℕ) → (n == last_nonce) ≡ false → n ≢ last_nonce
 not-last n h = λ same. grind (arith, nat_tests)
@@ -124,7 +121,7 @@ module _ (accepts : (v w : Party) (payload message : List ℕ) (xs : List (List 
       let m : List ℕ = transport_message v.party.history v.party.role v.interval v.sent payload in
       let size : length m ≡ length payload + 16 =
       length-sealed (transport_key v.party.history v.party.role v.interval v.sent) (nonce_of v.sent) [] payload in
-      let short : length payload + 16 ≤ 65535 = in-room (length payload + 16) is.room in
+      let short : length payload + 16 ≤ 65535 = not-long (length payload + 16) is.room in
       let q : progress_of w ≡ Open w.party.role (is_one_way w.party.pattern) w.sent w.received = progress-open w going_there all_there in
       let silent : (is_one_way w.party.pattern && same_role w.party.role Initiator) ≡ false =
       ap (λ (r : Role). is_one_way w.party.pattern && same_role r Initiator) role

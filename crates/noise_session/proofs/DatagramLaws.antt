@@ -22,6 +22,7 @@ use Rattle.noise_session.specs.Datagrams.Opens.{opened, refused, forged}
 use Rattle.noise_session.specs.Datagrams.Runs.{ends, seals, opens, refuses}
 use Rattle.noise_session.specs.DatagramFaults.{fault-free, no-fault}
 use Rattle.noise_names.specs.Roles.{other-other}
+use Rattle.noise_session.proofs.Counterparts.{heard-there}
 
 -- ---- once
 opened-as : (v : DatagramState) (bytes payload : List ℕ) (w : DatagramState) → Opens v bytes (Ok payload) w
@@ -69,12 +70,6 @@ due role one_way nonce n e =
     let b = no-fault (nat_lt 65543 (n + 24)) send.TooLong last a.1 in
     let c = no-fault (nat_le last_nonce nonce) send.Exhausted None b.1 in
     record { heard = a.0; room = ltb-false 65543 (n + 24) b.0; low = leb-false last_nonce nonce c.0 }
-
--- the writer of a one-way session is the initiator, and so its other party listens
-heard-there : (one_way : Bool) (role : Role) → (one_way && same_role role Responder) ≡ false → (one_way && same_role (other role) Initiator) ≡ false
-heard-there true Initiator e = refl
-heard-there true Responder e = cc
-heard-there false role e = refl
 
 past : {X : Type 0} (b : Bool) (x : X) (rest : Option X) → b ≡ false → (if b then Some x else rest) ≡ rest
 past true x rest e = cc

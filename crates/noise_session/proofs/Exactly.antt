@@ -1,21 +1,21 @@
 -- What is reported of a whole message, by what the message is.
-use Rattle.std.proofs.Common.{◌≡◌, ◌≢◌, ◌<◌, ℕ, List, length, refl, sym, ◌∙◌, ap, subst, arith}
+use Rattle.std.proofs.Common.{◌≡◌, ℕ, List, refl, ◌∙◌, ap, subst}
 use Rattle.std.specs.Prelude.{Bool, true, false, IsTrue, MatchBool}
 use Rattle.noise_names.specs.declared.token.Role.{Role}
 use Rattle.noise_names.specs.Tokens.{other}
 use Rattle.noise_state.specs.History.{History}
 use Rattle.noise_handshake.specs.declared.faults.Cause.{Cause}
 use Rattle.noise_handshake.specs.Party.{Party, Accepts, Refuses}
-use Rattle.noise_session.specs.Transport.{transport_message, last_nonce}
+use Rattle.noise_session.specs.Transport.{transport_message}
 use Rattle.noise_session.specs.Steps.{StepValue}
-use Rattle.noise_session.specs.Steps.StepValue.{Payload, Dropped, Refused, Exhausted}
+use Rattle.noise_session.specs.Steps.StepValue.{Payload, Refused}
 use Rattle.noise_session.specs.Progress.{is_open}
 use Rattle.noise_session.specs.Ends.{EndState, progress_of}
 use Rattle.noise_session.specs.Taking.{Judges}
 use Rattle.noise_session.specs.Taking.Judges.{accepted, refused, opened, dropped, exhausted}
-use Rattle.noise_session.specs.Exactly.{Encodes, IsReportedExactly, AcceptedExactly}
+use Rattle.noise_session.specs.Exactly.{Encodes, AcceptedExactly}
 use Rattle.noise_session.proofs.Once.{judged-once}
-use Rattle.noise_session.proofs.Parties.{open-passed}
+use Rattle.noise_session.proofs.Parties.{closed-yet}
 
 where-shut : (b : Bool) (P Q : Type 0) → (IsTrue b → ⊥) → Q → MatchBool b P Q
 where-shut true P Q f q = absurd (f refl)
@@ -29,19 +29,13 @@ either-way : (b : Bool) (P Q R : Type 0) → MatchBool b P Q → (IsTrue b → P
 either-way true P Q R m f g = f refl m
 either-way false P Q R m f g = g m
 
-accepts-shut : (v : EndState) (message payload : List ℕ) (xs : List (List ℕ)) → Accepts v.party message xs payload → IsTrue (is_open (progress_of v)) → ⊥
-accepts-shut v message payload xs a opens =
-    let more = a.listens.more in
-    let all = open-passed v opens in
-    omega arith
-
 payload-same : (p q : List ℕ) → Payload p ≡ Payload q → p ≡ q
 payload-same p q e = cc
 
 reported-encodes : (v next : EndState) (message payload : List ℕ) (reported : StepValue) → Judges v message reported next → reported ≡ Payload payload → Encodes v message payload
 reported-encodes v next message payload reported (accepted _ _ p xs a) e =
     let b : Accepts v.party message xs payload = subst (λ (q : List ℕ). Accepts v.party message xs q) (payload-same p payload e) a in
-    where-shut (is_open (progress_of v)) _ _ (accepts-shut v message p xs a) (xs, b)
+    where-shut (is_open (progress_of v)) _ _ (closed-yet v a.listens.more) (xs, b)
 reported-encodes v next message payload reported (refused _ _ k c a) e = absurd (cc)
 reported-encodes v next message payload reported (opened _ _ p opens low is) e =
     where-open (is_open (progress_of v)) _ _ opens

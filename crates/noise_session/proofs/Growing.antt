@@ -6,7 +6,7 @@ use Rattle.std.proofs.lemmas.List.{take-take, take-append-le, length-take-le, ta
 use Rattle.std.proofs.Math.Seq.{take-append-add}
 use Rattle.byteorder.specs.Endian.{big_bytes, big_number}
 use Rattle.byteorder.specs.Numbers.{big_from-take}
-use Rattle.noise_session.specs.Frames.{frame_length, IsPartial, IsWhole}
+use Rattle.noise_session.specs.Frames.{frame_length, IsPartial}
 use Rattle.std.proofs.lemmas.Bool.{eqb-true, ltb-true, ltb-false, eqb-false}
 
 -- fewer than two bytes report nothing
@@ -110,36 +110,6 @@ two-parts old mid new piece first second to_mid to_new =
     ∙ (ap (λ (xs : List ℕ). mid ++ take second xs) (take_rest piece first)
     ∙ (ap (λ (xs : List ℕ). xs ++ take second (drop first piece)) to_mid
     ∙ (append_assoc old (take first piece) (take second (drop first piece)) ∙ ap (λ (xs : List ℕ). old ++ xs) joined)))
-
--- ---- what a reader gives
-
-two-least : (xs : List ℕ) → 2 ≤ frame_length xs
-two-least xs = grind (arith, nat_tests)
-
-frame-grown : (xs ys : List ℕ) → 2 ≤ length xs → frame_length (xs ++ ys) ≡ frame_length xs
-frame-grown xs ys long = length-same (xs ++ ys) xs (omega (arith, length-append xs ys)) long (take-append-le 2 xs ys long)
-
-part-by : (b : Bool) (old piece : List ℕ) → nat_lt (length old) 2 ≡ b → length (old ++ piece) < frame_length old → IsPartial (old ++ piece)
-part-by true old piece e less =
-    let short = length-short old (ltb-true (length old) 2 e) in
-    let all = length-short (old ++ piece) (omega arith) in
-    omega arith
-part-by false old piece e less =
-    let same = frame-grown old piece (ltb-false (length old) 2 e) in
-    omega arith
-
--- fewer bytes than were asked for make no whole frame
-pub still-part : (old mid piece : List ℕ) → mid ≡ old ++ piece → length mid < frame_length old → IsPartial mid
-still-part old mid piece is less =
-    subst (λ (xs : List ℕ). IsPartial xs) (sym is)
-    (part-by (nat_lt (length old) 2) old piece refl (subst (λ (xs : List ℕ). length xs < frame_length old) is less))
-
--- those that are asked for after the length make it whole
-pub then-whole : (old mid new piece : List ℕ) → length mid ≡ frame_length old → new ≡ mid ++ piece → length new ≡ frame_length mid → IsWhole new
-then-whole old mid new piece two is all =
-    let least = two-least old in
-    let same : frame_length new ≡ frame_length mid = ap frame_length is ∙ frame-grown mid piece (omega arith) in
-    all ∙ sym same
 
 pub front-read : (old post read : List ℕ) (at n : ℕ) → at ≤ length old → n ≤ length read
     → take (at + n) (take at old ++ (read ++ post)) ≡ take at old ++ take n read

@@ -1,7 +1,7 @@
 -- A message is judged as an open transport judges it.
 use Rattle.std.proofs.Common.{◌≡◌, ◌≢◌, ℕ, ◌-◌, ◌==◌, ◌&&◌, nat_lt, ◌+◌, List, [], length, take, Bool, true, false, Option, Some, None, Result, Ok}
 use Rattle.std.proofs.Common.{Err, MatchOption, IfErr, if◌then◌else◌, refl, sym, ◌∙◌, ap, subst, arith}
-use Rattle.std.specs.Prelude.{slice_range}
+use Rattle.std.specs.Prelude.{⊤, slice_range}
 use Rattle.noise_names.specs.declared.token.Role.TheVariants.{Initiator}
 use Rattle.noise_names.specs.Tokens.{same_role}
 use Rattle.noise_handshake.specs.declared.faults.Cause.{Cause}
@@ -29,17 +29,26 @@ reported-ok true last n m h = cc
 reported-ok false true n m h = cc
 reported-ok false false n m h = refl
 
-reported-short : (silent last : Bool) (n : ℕ) → IsResult silent last n (Err unopened.Short) → (silent ≡ false) × (last ≡ false) × (unopened.Short ≡ unopened_fault n)
-reported-short true last n h = cc
-reported-short false true n h = cc
-reported-short false false n h = (refl, refl, h)
+-- a fault of a message's own, and the cause that is reported of it
+abbrev pub IsOwn : OpenFault → Type 0
+IsOwn unopened.Short = ⊤
+IsOwn unopened.Tag = ⊤
+IsOwn _ = ⊥
 
-reported-tag : (silent last : Bool) (n : ℕ) → IsResult silent last n (Err unopened.Tag) → (silent ≡ false) × (last ≡ false) × (unopened.Tag ≡ unopened_fault n)
-reported-tag true last n h = cc
-reported-tag false true n h = cc
-reported-tag false false n h = (refl, refl, h)
+abbrev pub cause_in : OpenFault → Cause
+cause_in unopened.Short = Short
+cause_in _ = Tag
 
--- a fault of a message's own isn't Exhausted
+reported-own : (silent last : Bool) (n : ℕ) (f : OpenFault) → IsOwn f → IsResult silent last n (Err f) → (silent ≡ false) × (last ≡ false) × (f ≡ unopened_fault n)
+reported-own true last n f own h = let is : f ≡ unopened.OneWay = cc in absurd (subst IsOwn is own)
+reported-own false true n f own h = let is : f ≡ unopened.Exhausted = cc in absurd (subst IsOwn is own)
+reported-own false false n f own h = (refl, refl, h)
+
+own-cause : (short : Bool) (f : OpenFault) → f ≡ (if short then unopened.Short else unopened.Tag) → (if short then Short else Tag) ≡ cause_in f
+own-cause true f e = sym (ap cause_in e)
+own-cause false f e = sym (ap cause_in e)
+
+-- it isn't Exhausted
 own-fault : (short : Bool) → unopened.Exhausted ≡ (if short then unopened.Short else unopened.Tag) → ⊥
 own-fault true e = cc
 own-fault false e = cc
@@ -48,14 +57,6 @@ reported-exhausted : (silent last : Bool) (n : ℕ) → IsResult silent last n (
 reported-exhausted true last n h = cc
 reported-exhausted false true n h = refl
 reported-exhausted false false n h = absurd (own-fault (nat_lt n 16) h)
-
-short-is : (short : Bool) → unopened.Short ≡ (if short then unopened.Short else unopened.Tag) → (if short then Short else Tag) ≡ Short
-short-is true e = refl
-short-is false e = cc
-
-tag-is : (short : Bool) → unopened.Tag ≡ (if short then unopened.Short else unopened.Tag) → (if short then Short else Tag) ≡ Tag
-tag-is true e = cc
-tag-is false e = refl
 
 module _ (t : TransportValue) (v : EndState) (s : OpenMatches t v) (message : List ℕ) where
   abbrev silent : Bool
@@ -75,28 +76,14 @@ module _ (t : TransportValue) (v : EndState) (s : OpenMatches t v) (message : Li
       subst (λ (k : ℕ). Judges v message (Payload (take k after)) (record v { received = v.received + 1; partial = [] })) all
       (opened v message (take n after) (is-open v t s) (not-last (reported-ok silent last (length message) n fault)) is)
 
-  never : IsResult silent last (length message) (Err unopened.Short) → (open_fault t ≡ None → (payload : List ℕ) → message ≢ due_message (transport_in v) payload)
-      → (payload : List ℕ) → message ≢ due_message (transport_in v) payload
-  never fault not =
-      let f = reported-short silent last (length message) fault in
-      not (rw (f.0, f.1) refl)
-
-  pub dropped-short : IsResult silent last (length message) (Err unopened.Short)
+  pub dropped-as : (f : OpenFault) → IsOwn f → IsResult silent last (length message) (Err f)
       → (open_fault t ≡ None → (payload : List ℕ) → message ≢ due_message (transport_in v) payload)
-      → Judges v message (Dropped Short) (record v { partial = [] })
-  dropped-short fault not =
-      let f = reported-short silent last (length message) fault in
-      subst (λ (c : Cause). Judges v message (Dropped c) (record v { partial = [] })) (short-is (nat_lt (length message) 16) f.2)
-      (dropped v message (is-open v t s) (not-last f.1) (never fault not))
-
-  pub dropped-tag : IsResult silent last (length message) (Err unopened.Tag)
-      → (open_fault t ≡ None → (payload : List ℕ) → message ≢ due_message (transport_in v) payload)
-      → Judges v message (Dropped Tag) (record v { partial = [] })
-  dropped-tag fault not =
-      let f = reported-tag silent last (length message) fault in
-      let free : open_fault t ≡ None = rw (f.0, f.1) refl in
-      subst (λ (c : Cause). Judges v message (Dropped c) (record v { partial = [] })) (tag-is (nat_lt (length message) 16) f.2)
-      (dropped v message (is-open v t s) (not-last f.1) (not free))
+      → Judges v message (Dropped (cause_in f)) (record v { partial = [] })
+  dropped-as f own fault not =
+      let r = reported-own silent last (length message) f own fault in
+      let free : open_fault t ≡ None = rw (r.0, r.1) refl in
+      subst (λ (c : Cause). Judges v message (Dropped c) (record v { partial = [] })) (own-cause (nat_lt (length message) 16) f r.2)
+      (dropped v message (is-open v t s) (not-last r.1) (not free))
 
   pub exhausted-as : IsResult silent last (length message) (Err unopened.Exhausted) → Judges v message Exhausted (ended_session v)
   exhausted-as fault =

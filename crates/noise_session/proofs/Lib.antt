@@ -1,8 +1,6 @@
 pub mod Places
-pub mod Unopened
 pub mod Splitting
 pub mod Streaming
-pub mod Facing
 pub mod Parties
 pub mod Judging
 pub mod Making

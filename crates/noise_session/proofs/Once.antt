@@ -1,29 +1,21 @@
 -- A piece gives one step at an end.
-use Rattle.std.proofs.Common.{◌≡◌, ℕ, List, [], length, IsTrue, refl, sym, ◌∙◌, ap, subst, arith}
+use Rattle.std.proofs.Common.{◌≡◌, ℕ, List, [], length, refl, sym, ◌∙◌, ap, subst, arith}
 use Rattle.noise_names.specs.declared.token.Role.{Role}
 use Rattle.noise_names.specs.Tokens.{other}
 use Rattle.noise_state.specs.History.{History}
 use Rattle.noise_handshake.specs.declared.faults.Cause.{Cause}
-use Rattle.noise_handshake.specs.Party.{Party, Accepts, Listens, Refuses}
+use Rattle.noise_handshake.specs.Party.{Party, Accepts, Refuses}
 use Rattle.noise_handshake.specs.Matching.{after_message}
 use Rattle.noise_session.specs.Frames.{IsPartial}
 use Rattle.noise_session.specs.Transport.{transport_message}
 use Rattle.noise_session.specs.Steps.{StepValue}
 use Rattle.noise_session.specs.Steps.StepValue.{Payload, Refused}
-use Rattle.noise_session.specs.Progress.{is_open}
-use Rattle.noise_session.specs.Ends.{EndState, progress_of}
+use Rattle.noise_session.specs.Ends.{EndState}
 use Rattle.noise_session.specs.Taking.{Judges, Takes}
 use Rattle.noise_session.specs.Taking.Judges.{accepted, refused, opened, dropped, exhausted}
 use Rattle.noise_session.specs.Taking.Takes.{idles, waits, judges}
 use Rattle.noise_session.specs.Framing.{frame-whole, frame-same}
-use Rattle.noise_session.proofs.Parties.{open-passed}
-
--- a party to which a handshake message is to come isn't open
-still-closed : (v : EndState) → Listens v.party → IsTrue (is_open (progress_of v)) → ⊥
-still-closed v listens opens =
-    let more = listens.more in
-    let all = open-passed v opens in
-    omega arith
+use Rattle.noise_session.proofs.Parties.{closed-yet}
 
 module _ (accepted-one : (v : Party) (message : List ℕ) (xs ys : List (List ℕ)) (p q : List ℕ) → Accepts v message xs p → Accepts v message ys q
     → (xs ≡ ys) × (p ≡ q))
@@ -38,29 +30,29 @@ module _ (accepted-one : (v : Party) (message : List ℕ) (xs ys : List (List �
             ∙ ap (λ (r : List ℕ). record v { party = after_message v.party ys r; partial = [] }) one.1,
       )
   judged-once v x y m s t (accepted _ _ p xs a) (refused _ _ k c b) = absurd (apart v.party m xs p k c a b)
-  judged-once v x y m s t (accepted _ _ p xs a) (opened _ _ q opens low is) = absurd (still-closed v a.listens opens)
-  judged-once v x y m s t (accepted _ _ p xs a) (dropped _ _ opens low never) = absurd (still-closed v a.listens opens)
-  judged-once v x y m s t (accepted _ _ p xs a) (exhausted _ _ opens last) = absurd (still-closed v a.listens opens)
+  judged-once v x y m s t (accepted _ _ p xs a) (opened _ _ q opens low is) = absurd (closed-yet v a.listens.more opens)
+  judged-once v x y m s t (accepted _ _ p xs a) (dropped _ _ opens low never) = absurd (closed-yet v a.listens.more opens)
+  judged-once v x y m s t (accepted _ _ p xs a) (exhausted _ _ opens last) = absurd (closed-yet v a.listens.more opens)
   judged-once v x y m s t (refused _ _ k c a) (accepted _ _ p xs b) = absurd (apart v.party m xs p k c b a)
   judged-once v x y m s t (refused _ _ k c a) (refused _ _ j d b) =
       let one = refused-one v.party m k j c d a b in
       (ap (λ (i : ℕ). Refused i c) one.0 ∙ ap (Refused j) one.1, refl)
-  judged-once v x y m s t (refused _ _ k c a) (opened _ _ q opens low is) = absurd (still-closed v a.listens opens)
-  judged-once v x y m s t (refused _ _ k c a) (dropped _ _ opens low never) = absurd (still-closed v a.listens opens)
-  judged-once v x y m s t (refused _ _ k c a) (exhausted _ _ opens last) = absurd (still-closed v a.listens opens)
-  judged-once v x y m s t (opened _ _ p opens low is) (accepted _ _ q xs a) = absurd (still-closed v a.listens opens)
-  judged-once v x y m s t (opened _ _ p opens low is) (refused _ _ k c a) = absurd (still-closed v a.listens opens)
+  judged-once v x y m s t (refused _ _ k c a) (opened _ _ q opens low is) = absurd (closed-yet v a.listens.more opens)
+  judged-once v x y m s t (refused _ _ k c a) (dropped _ _ opens low never) = absurd (closed-yet v a.listens.more opens)
+  judged-once v x y m s t (refused _ _ k c a) (exhausted _ _ opens last) = absurd (closed-yet v a.listens.more opens)
+  judged-once v x y m s t (opened _ _ p opens low is) (accepted _ _ q xs a) = absurd (closed-yet v a.listens.more opens)
+  judged-once v x y m s t (opened _ _ p opens low is) (refused _ _ k c a) = absurd (closed-yet v a.listens.more opens)
   judged-once v x y m s t (opened _ _ p opens low is) (opened _ _ q other_opens other_low be) =
       (ap Payload (transport_message-one v.party.history (other v.party.role) v.interval v.received p q (sym is ∙ be)), refl)
   judged-once v x y m s t (opened _ _ p opens low is) (dropped _ _ other_opens other_low never) = absurd (never p is)
   judged-once v x y m s t (opened _ _ p opens low is) (exhausted _ _ other_opens last) = absurd (low last)
-  judged-once v x y m s t (dropped _ _ opens low never) (accepted _ _ q xs a) = absurd (still-closed v a.listens opens)
-  judged-once v x y m s t (dropped _ _ opens low never) (refused _ _ k c a) = absurd (still-closed v a.listens opens)
+  judged-once v x y m s t (dropped _ _ opens low never) (accepted _ _ q xs a) = absurd (closed-yet v a.listens.more opens)
+  judged-once v x y m s t (dropped _ _ opens low never) (refused _ _ k c a) = absurd (closed-yet v a.listens.more opens)
   judged-once v x y m s t (dropped _ _ opens low never) (opened _ _ q other_opens other_low is) = absurd (never q is)
   judged-once v x y m s t (dropped _ _ opens low never) (dropped _ _ other_opens other_low other_never) = (refl, refl)
   judged-once v x y m s t (dropped _ _ opens low never) (exhausted _ _ other_opens last) = absurd (low last)
-  judged-once v x y m s t (exhausted _ _ opens last) (accepted _ _ q xs a) = absurd (still-closed v a.listens opens)
-  judged-once v x y m s t (exhausted _ _ opens last) (refused _ _ k c a) = absurd (still-closed v a.listens opens)
+  judged-once v x y m s t (exhausted _ _ opens last) (accepted _ _ q xs a) = absurd (closed-yet v a.listens.more opens)
+  judged-once v x y m s t (exhausted _ _ opens last) (refused _ _ k c a) = absurd (closed-yet v a.listens.more opens)
   judged-once v x y m s t (exhausted _ _ opens last) (opened _ _ q other_opens low is) = absurd (low last)
   judged-once v x y m s t (exhausted _ _ opens last) (dropped _ _ other_opens low never) = absurd (low last)
   judged-once v x y m s t (exhausted _ _ opens last) (exhausted _ _ other_opens other_last) = (refl, refl)

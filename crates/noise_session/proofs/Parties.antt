@@ -1,5 +1,5 @@
 -- How far an end has come, by the state that it matches.
-use Rattle.std.proofs.Common.{◌≡◌, ◌≢◌, ℕ, ◌+◌, ◌==◌, ◌≤◌, nat_lt, ◌&&◌, not, List, length, Bool, true, false, Option, Some, None, IsTrue}
+use Rattle.std.proofs.Common.{◌≡◌, ◌≢◌, ℕ, ◌==◌, ◌<◌, ◌≤◌, nat_lt, List, length, Bool, true, false, Option, Some, None, IsTrue}
 use Rattle.std.proofs.Common.{if◌then◌else◌, refl, sym, ◌∙◌, ap, subst, arith}
 use Rattle.std.proofs.lemmas.Bool.Decides.{nat_tests}
 use Rattle.noise_names.specs.declared.token.Role.{Role}
@@ -8,16 +8,10 @@ use Rattle.noise_state.specs.History.{hash}
 use Rattle.noise_keys.specs.declared.keys.Own.{Own}
 use Rattle.noise_session.specs.declared.phase.Phase.{Phase}
 use Rattle.noise_session.specs.declared.phase.Phase.TheVariants as phase
-use Rattle.noise_session.specs.Progress.{Progress, is_open, refusal, frame_len_of}
+use Rattle.noise_session.specs.Progress.{Progress, is_open, idle_step, refusal}
+use Rattle.noise_session.specs.Steps.{StepValue}
 use Rattle.noise_session.specs.declared.faults.SendFault.{SendFault}
-use Rattle.noise_session.specs.declared.faults.SendFault.TheVariants as fault
-use Rattle.noise_session.specs.Transport.{last_nonce}
-use Rattle.std.specs.Option.{ForSome}
-use Rattle.std.specs.Prelude.{is_none}
-use Rattle.noise_names.specs.declared.token.Role.TheVariants.{Responder}
-use Rattle.noise_names.specs.Tokens.{same_role}
-use Rattle.noise_names.specs.Overhead.{overhead_of}
-use Rattle.noise_handshake.specs.HandshakeValue.{HandshakeValue, is_turn}
+use Rattle.noise_handshake.specs.HandshakeValue.{HandshakeValue}
 use Rattle.noise_session.specs.Progress.Progress.{Handshaking, Open, HasEnded}
 use Rattle.noise_session.specs.Ends.{EndValue, EndState, EndMatches, IsReportedBy, PhaseMatches, HandshakeMatches, OpenMatches, hash_in, progress_in, progress_of}
 use Rattle.noise_session.specs.Ends.{remote_static_in, session_hash, session_remote_static, ended_session}
@@ -63,6 +57,10 @@ open-passed v opens =
     (open-by v.party.ended (v.party.passed == length v.party.pattern.messages) v.party.role
     (is_one_way v.party.pattern) v.sent v.received v.party.pattern v.party.passed opens)
 
+-- one to which messages of its handshake are to come isn't open
+pub closed-yet : (v : EndState) → v.party.passed < length v.party.pattern.messages → IsTrue (is_open (progress_of v)) → ⊥
+closed-yet v more opens = let all = open-passed v opens in omega arith
+
 open-fields : (a b : Role) (x y : Bool) (m n i j : ℕ) → a ≡ b → x ≡ y → m ≡ n → i ≡ j → Open a x m i ≡ Open b y n j
 open-fields a b x y m n i j e f g h = cc
 
@@ -77,6 +75,11 @@ module _ {K : Type 0} (public_of : K → Own → Option (List ℕ)) (agreement :
       s.transport.sender.one_way s.transport.sender.nonce s.transport.receiver.nonce
       ∙ sym (progress-open v s.going s.all)
   phase-progress (phase.Ended role reported) v s = ap HasEnded s.role ∙ sym (progress-ended_session v s.ended)
+
+  -- its step where it takes no bytes now
+  pub phase-idle : (p : Phase K) (v : EndState) (step : Option StepValue) → PhaseMatches public_of agreement p v → idle_step (progress_in p) ≡ step
+      → idle_step (progress_of v) ≡ step
+  phase-idle p v step s idle = ap idle_step (sym (phase-progress p v s)) ∙ idle
 
   -- the phase of a handshake, and of a transport
   pub as-handshake : (p : Phase K) (h : HandshakeValue K) (every : ℕ) (v : EndState) → p ≡ phase.Handshaking h every → PhaseMatches public_of agreement p v
@@ -126,28 +129,5 @@ module _ {K : Type 0} (public_of : K → Own → Option (List ℕ)) (agreement :
       record { ended = refl; role = s.transport.sender.role; hash = ap (λ (h : List ℕ). Some h) s.transport.hash ∙ sym (whole-hash v s.all) }
   phase-ended (phase.Ended role reported) v s = record { ended = refl; role = s.role; hash = s.hash }
 
--- a frame has at most 65537 bytes
-most-by : (n : ℕ) (turn long : Bool) → (long ≡ false → n ≤ 65535)
-    → ForSome (if is_none (if not turn then Some fault.NotYourTurn else if long then Some fault.TooLong else None) then Some (2 + n) else None) (λ k. k ≤ 65537)
-most-by n false long fits = λ x e. cc
-most-by n true true fits = λ x e. cc
-most-by n true false fits = λ x e. let low = fits refl in let is : 2 + n ≡ x = cc in omega arith
-
-most-open : (n : ℕ) (deaf long last : Bool) → (long ≡ false → n ≤ 65535)
-    → ForSome (if is_none (if deaf then Some fault.OneWay else if long then Some fault.TooLong else if last then Some fault.Exhausted else None)
-    then Some (2 + n) else None) (λ k. k ≤ 65537)
-most-open n true long last fits = λ x e. cc
-most-open n false true last fits = λ x e. cc
-most-open n false false true fits = λ x e. cc
-most-open n false false false fits = λ x e. let low = fits refl in let is : 2 + n ≡ x = cc in omega arith
-
-not-long : (n : ℕ) → nat_lt 65535 n ≡ false → n ≤ 65535
+pub not-long : (n : ℕ) → nat_lt 65535 n ≡ false → n ≤ 65535
 not-long n e = grind (arith, nat_tests)
-
-pub frame-most : (p : Progress) (n : ℕ) → ForSome (frame_len_of p n) (λ k. k ≤ 65537)
-frame-most (Handshaking pattern role passed) n =
-    let m = overhead_of pattern (passed + 1) + n in
-    most-by m (is_turn role passed) (nat_lt 65535 m) (not-long m)
-frame-most (Open role one_way sent received) n =
-    most-open (n + 16) (one_way && same_role role Responder) (nat_lt 65535 (n + 16)) (sent == last_nonce) (not-long (n + 16))
-frame-most (HasEnded role) n = λ x e. cc

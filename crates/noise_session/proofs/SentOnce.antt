@@ -1,5 +1,5 @@
 -- A payload comes to one thing at an end.
-use Rattle.std.proofs.Common.{◌≡◌, ℕ, List, length, Option, Some, Result, Ok, Err, refl, ap, arith}
+use Rattle.std.proofs.Common.{◌≡◌, ℕ, List, length, Option, Some, Result, Ok, Err, refl, ap}
 use Rattle.noise_handshake.specs.Party.{Party}
 use Rattle.noise_handshake.specs.Writing.{Writes, LacksDhResult}
 use Rattle.noise_handshake.specs.Matching.{after_own}
@@ -9,7 +9,7 @@ use Rattle.noise_session.specs.Frames.{frame}
 use Rattle.noise_session.specs.Progress.{refusal}
 use Rattle.noise_session.specs.Ends.{EndState, progress_of}
 use Rattle.noise_session.specs.Sending.{Sends, after_fault}
-use Rattle.noise_session.proofs.Parties.{open-passed}
+use Rattle.noise_session.proofs.Parties.{closed-yet}
 use Rattle.noise_session.specs.Sending.Sends.{refuses, lacks_dh_result, sends_handshake, sends_transport}
 
 module _ (written-one : (v : Party) (payload m n : List ℕ) (xs ys : List (List ℕ)) → Writes v payload xs m → Writes v payload ys n → (xs ≡ ys) × (m ≡ n))
@@ -28,26 +28,14 @@ module _ (written-one : (v : Party) (payload m n : List ℕ) (xs ys : List (List
   sends-once v x y payload r s (lacks_dh_result _ _ k e lacks) (lacks_dh_result _ _ j f other) =
       (ap (λ (i : ℕ). Err (fault.Agreement i)) (lacks-one v.party k j lacks other), refl)
   sends-once v x y payload r s (lacks_dh_result _ _ k e lacks) (sends_handshake _ _ m xs f writes) = absurd (apart v.party payload m xs k writes lacks)
-  sends-once v x y payload r s (lacks_dh_result _ _ k e lacks) (sends_transport _ _ f opens) =
-      let more = lacks.speaks.more in
-      let all = open-passed v opens in
-      absurd (omega arith)
+  sends-once v x y payload r s (lacks_dh_result _ _ k e lacks) (sends_transport _ _ f opens) = absurd (closed-yet v lacks.speaks.more opens)
   sends-once v x y payload r s (sends_handshake _ _ m xs e writes) (refuses _ _ b f) = cc
   sends-once v x y payload r s (sends_handshake _ _ m xs e writes) (lacks_dh_result _ _ k f lacks) = absurd (apart v.party payload m xs k writes lacks)
   sends-once v x y payload r s (sends_handshake _ _ m xs e writes) (sends_handshake _ _ n ys f other) =
       let one = written-one v.party payload m n xs ys writes other in
       (ap (λ (bytes : List ℕ). Ok (frame bytes)) one.1, ap (λ (zs : List (List ℕ)). record v { party = after_own v.party zs payload }) one.0)
-  sends-once v x y payload r s (sends_handshake _ _ m xs e writes) (sends_transport _ _ f opens) =
-      let more = writes.speaks.more in
-      let all = open-passed v opens in
-      absurd (omega arith)
+  sends-once v x y payload r s (sends_handshake _ _ m xs e writes) (sends_transport _ _ f opens) = absurd (closed-yet v writes.speaks.more opens)
   sends-once v x y payload r s (sends_transport _ _ e opens) (refuses _ _ b f) = cc
-  sends-once v x y payload r s (sends_transport _ _ e opens) (lacks_dh_result _ _ k f lacks) =
-      let more = lacks.speaks.more in
-      let all = open-passed v opens in
-      absurd (omega arith)
-  sends-once v x y payload r s (sends_transport _ _ e opens) (sends_handshake _ _ m xs f writes) =
-      let more = writes.speaks.more in
-      let all = open-passed v opens in
-      absurd (omega arith)
+  sends-once v x y payload r s (sends_transport _ _ e opens) (lacks_dh_result _ _ k f lacks) = absurd (closed-yet v lacks.speaks.more opens)
+  sends-once v x y payload r s (sends_transport _ _ e opens) (sends_handshake _ _ m xs f writes) = absurd (closed-yet v writes.speaks.more opens)
   sends-once v x y payload r s (sends_transport _ _ e opens) (sends_transport _ _ f other) = (refl, refl)

@@ -4,7 +4,7 @@ use Rattle.std.proofs.Common.{append-nil, length-take-le}
 use Rattle.std.proofs.lemmas.List.{take_rest, drop_at}
 use Rattle.std.proofs.lemmas.Slice.{take-put_mid_below}
 use Rattle.std.proofs.Math.Seq.{take-add, take-append-le}
-use Rattle.std.specs.Io.KnownBytes.{Appends, Consumes, Keeps}
+use Rattle.std.specs.Io.KnownBytes.{Appends, Consumes}
 use borrow.Rule.Slice.PartMut.{put_mid, post_of}
 
 pub consumed : (a b c : Option (List ℕ)) (x y : List ℕ) → Consumes a b x → Consumes b c y → Consumes a c (x ++ y)
@@ -12,12 +12,6 @@ consumed None b c x y p q = tt
 consumed (Some xs) None c x y p q = absurd p
 consumed (Some xs) (Some ys) None x y p q = absurd q
 consumed (Some xs) (Some ys) (Some zs) x y p q = p ∙ ap (λ (l : List ℕ). x ++ l) q ∙ sym (append_assoc x y zs)
-
-pub consumed_unchanged : (a b c : Option (List ℕ)) (x : List ℕ) → Consumes a b x → Keeps b c → Consumes a c x
-consumed_unchanged None b c x p q = tt
-consumed_unchanged (Some xs) None c x p q = absurd p
-consumed_unchanged (Some xs) (Some ys) None x p q = absurd q
-consumed_unchanged (Some xs) (Some ys) (Some zs) x p q = p ∙ ap (λ (l : List ℕ). x ++ l) (sym q)
 
 pub consumed_none : (a : Option (List ℕ)) → Consumes a a []
 consumed_none None = tt
@@ -28,12 +22,6 @@ appended None b c x y p q = tt
 appended (Some xs) None c x y p q = absurd p
 appended (Some xs) (Some ys) None x y p q = absurd q
 appended (Some xs) (Some ys) (Some zs) x y p q = q ∙ ap (λ (l : List ℕ). l ++ y) p ∙ append_assoc xs x y
-
-pub appended_unchanged : (a b c : Option (List ℕ)) (x : List ℕ) → Appends a b x → Keeps b c → Appends a c x
-appended_unchanged None b c x p q = tt
-appended_unchanged (Some xs) None c x p q = absurd p
-appended_unchanged (Some xs) (Some ys) None x p q = absurd q
-appended_unchanged (Some xs) (Some ys) (Some zs) x p q = q ∙ p
 
 pub appended_none : (a : Option (List ℕ)) → Appends a a []
 appended_none None = tt

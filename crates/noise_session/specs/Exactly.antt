@@ -1,12 +1,11 @@
 -- Which messages an end accepts, and which it refuses: each exactly one way.
-use Rattle.std.specs.Prelude.{◌≡◌, ◌≢◌, ◌↔◌, ℕ, List, length, IsTrue, MatchBool, nat_lt, if◌then◌else◌}
+use Rattle.std.specs.Prelude.{◌≡◌, ◌≢◌, ◌↔◌, ℕ, List, MatchBool}
 use Rattle.noise_names.specs.Tokens.{other}
 use Rattle.noise_handshake.specs.declared.faults.Cause.{Cause}
-use Rattle.noise_handshake.specs.declared.faults.Cause.TheVariants.{Short, Tag}
 use Rattle.noise_handshake.specs.Party.{Accepts, Refuses}
 use Rattle.noise_session.specs.Transport.{transport_message, last_nonce}
 use Rattle.noise_session.specs.Steps.{StepValue}
-use Rattle.noise_session.specs.Steps.StepValue.{Payload, Dropped, Refused}
+use Rattle.noise_session.specs.Steps.StepValue.{Payload, Refused}
 use Rattle.noise_session.specs.Progress.{is_open}
 use Rattle.noise_session.specs.Ends.{EndState, progress_of}
 use Rattle.noise_session.specs.Taking.{Judges}

@@ -46,14 +46,12 @@ impl DatagramReceiver {
     ghost use Rattle.noise_session.specs.inner.Halves.{datagram_receiver_value};
 
     // The half that opens by the key of this one, and never renews it.
-    pub(crate) fn new(receiver: Receiver, recent: Ring) -> DatagramReceiver
+    pub(crate) fn new(mut receiver: Receiver, recent: Ring) -> DatagramReceiver
         requires { is_ring recent ≡ true }
         ensures { result ≡ datagram_receiver_value receiver recent }
     {
-        DatagramReceiver {
-            receiver: receiver.without_renewal(),
-            recent,
-        }
+        receiver.half.interval = 0;
+        DatagramReceiver { receiver, recent }
     }
 
     /// What it holds, for a caller that keeps it itself until the next datagram.

@@ -37,12 +37,11 @@ impl DatagramSender {
     ghost use Rattle.noise_session.specs.inner.Halves.{datagram_sender_value};
 
     // The half that seals as this one does, and never renews its key.
-    pub(crate) fn new(sender: Sender) -> DatagramSender
+    pub(crate) fn new(mut sender: Sender) -> DatagramSender
         ensures { result ≡ datagram_sender_value sender }
     {
-        DatagramSender {
-            sender: sender.without_renewal(),
-        }
+        sender.half.interval = 0;
+        DatagramSender { sender }
     }
 
     /// What it holds, for a caller that keeps it itself until the next datagram.

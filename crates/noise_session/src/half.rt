@@ -43,13 +43,15 @@ impl Half {
     pub(crate) fn into_parts(self) -> HalfParts
         ensures { half_in result ≡ half_value self }
     {
-        let (key, nonce) = key_and_nonce(self.cipher);
-        HalfParts {
-            role: self.role,
-            one_way: self.one_way,
-            interval: self.interval,
-            key,
-            nonce,
+        match self.cipher.into_parts() {
+            (Some(key), nonce) => HalfParts {
+                role: self.role,
+                one_way: self.one_way,
+                interval: self.interval,
+                key,
+                nonce,
+            },
+            (None, _) => unreachable!(),
         }
     }
 
@@ -58,24 +60,5 @@ impl Half {
     {
         let cipher = CipherState::from_parts(Some(parts.key), parts.nonce);
         Half::new(parts.role, parts.one_way, parts.interval, cipher)
-    }
-
-    // The same half, whose key is never renewed.
-    pub(crate) fn without_renewal(self) -> Half
-        ensures { half_value result ≡ record (half_value self) { interval = 0 } }
-    {
-        Half::new(self.role, self.one_way, 0, self.cipher)
-    }
-}
-
-// The key and the nonce of a cipher state.
-fn key_and_nonce(cipher: CipherState) -> ([u8; 32], u64)
-    requires { IsSome (key_in cipher) }
-    ensures key { key_in cipher ≡ Some result.0 }
-    ensures nonce { nonce_in cipher ≡ result.1 }
-{
-    match cipher.into_parts() {
-        (Some(key), nonce) => (key, nonce),
-        (None, _) => unreachable!(),
     }
 }

@@ -1,8 +1,7 @@
 //! What an end goes through: its handshake, its transport, and the end of the session.
 #![tactic(auto)]
 
-ghost use Rattle.std.specs.Prelude.{◌≡◌, ◌≤◌, ◌+◌, ℕ, List, [], length, false, Some, None, IsTrue, MatchOption, is_none, if◌then◌else◌};
-ghost use Rattle.noise_session.specs.TransportValue.{seal_fault};
+ghost use Rattle.std.specs.Prelude.{◌≡◌, ◌≤◌, ℕ, List, [], length, false, Some, None, IsTrue, MatchOption};
 ghost use Rattle.noise_session.specs.inner.Phases.{is_due};
 
 use crate::step::Outcome;
@@ -165,7 +164,10 @@ impl<K: Keys> DuePhase<K> {
     {
         match &self.phase {
             Phase::Handshaking { handshake, .. } => Some(2 + handshake.message_len(payload_len)?),
-            Phase::Open(transport) => Some(2 + message_len(transport, payload_len)?),
+            Phase::Open(transport) => match transport.refusal(payload_len) {
+                Some(_) => None,
+                None => Some(payload_len + 18),
+            },
             Phase::Ended { .. } => None,
         }
     }
@@ -203,15 +205,5 @@ impl<K: Keys> DuePhase<K> {
             },
             Phase::Ended { .. } => unreachable!(),
         }
-    }
-}
-
-// The length of the message that a transport would seal now.
-fn message_len(transport: &Transport, payload_len: usize) -> Option<usize>
-    ensures { result ≡ (if is_none (seal_fault transport.now payload_len) then Some (payload_len + 16) else None) }
-{
-    match transport.refusal(payload_len) {
-        Some(_) => None,
-        None => Some(payload_len + 16),
     }
 }

@@ -20,7 +20,7 @@ use std::marker::Model;
 /// every message. No call takes memory, and a fault changes nothing.
 #[derive(Drop)]
 pub struct Receiver {
-    half: Half,
+    pub(crate) half: Half,
 }
 
 impl Model for Receiver {
@@ -52,13 +52,6 @@ impl Receiver {
         ensures { result ≡ half_in parts }
     {
         Receiver::new(Half::from_parts(parts))
-    }
-
-    // The same half, whose key is never renewed.
-    pub(crate) fn without_renewal(self) -> Receiver
-        ensures { result ≡ record self { interval = 0 } }
-    {
-        Receiver::new(self.half.without_renewal())
     }
 
     /// The role of this party.

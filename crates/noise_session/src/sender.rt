@@ -22,7 +22,7 @@ use std::marker::Model;
 /// every payload. No call takes memory, and a fault changes nothing.
 #[derive(Drop)]
 pub struct Sender {
-    half: Half,
+    pub(crate) half: Half,
 }
 
 impl Model for Sender {
@@ -58,13 +58,6 @@ impl Sender {
         Sender::new(Half::from_parts(parts))
     }
 
-    // The same half, whose key is never renewed.
-    pub(crate) fn without_renewal(self) -> Sender
-        ensures { result ≡ record self { interval = 0 } }
-    {
-        Sender::new(self.half.without_renewal())
-    }
-
     /// The role of this party.
     pub fn role(&self) -> Role
         ensures { result ≡ self.now.role }
@@ -77,12 +70,6 @@ impl Sender {
         ensures { result ≡ self.now.one_way }
     {
         self.half.one_way
-    }
-
-    pub(crate) fn interval(&self) -> u64
-        ensures { result ≡ self.now.interval }
-    {
-        self.half.interval
     }
 
     /// The nonce of the next message that is sealed.

@@ -167,7 +167,7 @@ impl Transport {
     pub fn interval(&self) -> u64
         ensures { result ≡ self.now.interval }
     {
-        self.sender.interval()
+        self.sender.half.interval
     }
 
     /// The nonce of the next message that is sealed.

@@ -1,5 +1,6 @@
-use Rattle.noise_session.proofs.Facing.{due_is_next}
+use Rattle.std.proofs.Common.{refl}
+use Rattle.noise_names.specs.Roles.{other-other}
 use Rattle.noise_session.proofs.laws.message_is_due.Goals as goal
 
 pub returns : goal.returns
-returns c v w payload f = due_is_next v w payload f
+returns c v w payload f = rw (f.history, f.interval, f.received, f.role, other-other v.role) refl

@@ -1,13 +1,14 @@
 use Rattle.std.proofs.Common.{◌+◌, [], None, Some, refl, sym, subst}
 use Rattle.std.specs.Prelude.{slice_range}
 use Rattle.noise_handshake.specs.Matching.{after_message}
+use Rattle.noise_session.specs.declared.faults.OpenFault.TheVariants as unopened
 use Rattle.noise_session.specs.declared.phase.Phase.{Phase}
 use Rattle.noise_session.specs.declared.phase.Phase.TheVariants as phase
 use Rattle.noise_session.specs.TransportValue.{TransportValue}
 use Rattle.noise_session.specs.Ends.{EndState, PhaseMatches, OpenMatches, EndedMatches, transport_in, ended_session}
 use Rattle.noise_session.specs.Taking.Judges.{accepted, refused}
 use Rattle.noise_session.proofs.Parties.{no-hash, as-handshake, as-open, phase-partial}
-use Rattle.noise_session.proofs.Judging.{opened-as, dropped-short, dropped-tag, exhausted-as, ended-open}
+use Rattle.noise_session.proofs.Judging.{opened-as, dropped-as, exhausted-as, ended-open}
 use Rattle.noise_session.proofs.phase.DuePhase.read.Goals as goal
 
 pub returns-in-Ok-clause-judges : goal.returns-in-Ok-clause-judges
@@ -47,7 +48,7 @@ returns-in-Err-Short-clause-judges g c v s =
     let fault = rw c.in-Err-Short.field-0-is at c.in-Err-Short.ensures.opens.half.fault in
     let next : EndState = record v { partial = [] } in (
       next,
-      dropped-short c.in-Open.transport v o c.args.message.now fault (c.in-Err-Short.ensures.opens.half.opens (transport_in v) o.transport.receiver),
+      dropped-as c.in-Open.transport v o c.args.message.now unopened.Short tt fault (c.in-Err-Short.ensures.opens.half.opens (transport_in v) o.transport.receiver),
       phase-partial g.K.Keys.public_of g.K.Keys.agreement (phase.Open c.open_within.new.self) v [] (subst (λ (t : TransportValue). OpenMatches t v) (sym c.in-Err-Short.ensures.opens.unchanged) o),
       refl,
     )
@@ -58,7 +59,7 @@ returns-in-Err-Tag-clause-judges g c v s =
     let fault = rw c.in-Err-Tag.field-0-is at c.in-Err-Tag.ensures.opens.half.fault in
     let next : EndState = record v { partial = [] } in (
       next,
-      dropped-tag c.in-Open.transport v o c.args.message.now fault (c.in-Err-Tag.ensures.opens.half.opens (transport_in v) o.transport.receiver),
+      dropped-as c.in-Open.transport v o c.args.message.now unopened.Tag tt fault (c.in-Err-Tag.ensures.opens.half.opens (transport_in v) o.transport.receiver),
       phase-partial g.K.Keys.public_of g.K.Keys.agreement (phase.Open c.open_within.new.self) v [] (subst (λ (t : TransportValue). OpenMatches t v) (sym c.in-Err-Tag.ensures.opens.unchanged) o),
       refl,
     )

@@ -1,4 +1,5 @@
-use Rattle.std.proofs.Common.{◌≡◌, ℕ, List, [], length, Err, rules, sym, subst}
+use Rattle.std.proofs.Common.{◌≡◌, ℕ, List, [], length, Err, IsOk, rules, sym, subst}
+use Rattle.std.proofs.lemmas.Bool.{false≢true}
 use Rattle.noise_state.specs.declared.cipher.CipherFault.{CipherFault}
 use Rattle.noise_state.specs.Cipher.{DecryptRefused, keyed_in, nonce_in}
 use Rattle.noise_state.specs.History.{ciphertext_under}
@@ -6,7 +7,6 @@ use Rattle.noise_session.specs.declared.faults.OpenFault.{OpenFault}
 use Rattle.noise_session.specs.Halves.{HalfValue, receiver_fault}
 use Rattle.noise_session.specs.HalfCalls.{OpensUnless, ReceiverOpens}
 use Rattle.noise_session.specs.inner.Halves.{half_value}
-use Rattle.noise_session.proofs.Unopened.{due_piece, not_ok}
 use Rattle.noise_session.proofs.receiver.Receiver.open_within.Goals as goal
 
 -- a message that is that of no payload under the half's key changes nothing
@@ -20,7 +20,7 @@ unopened t h next message why payload_in is same fault none = record {
   opened = λ listens payload e. none payload (subst (λ (z : HalfValue). message ≡ ciphertext_under z.key z.nonce [] payload) (sym is) e);
   renewed = tt;
   opens = λ v s listens payload e.
-      none payload (subst (λ (z : HalfValue). message ≡ ciphertext_under z.key z.nonce [] payload) (sym is) (due_piece h v message payload s e));
+      none payload (subst (λ (z : HalfValue). message ≡ ciphertext_under z.key z.nonce [] payload) (sym is) (rw (s.key, s.nonce) e));
 }
 
 pub returns-in-Err-Short-clause-opens : goal.returns-in-Err-Short-clause-opens
@@ -29,7 +29,7 @@ returns-in-Err-Short-clause-opens c =
     let refused = subst (λ (f : CipherFault). DecryptRefused (keyed_in cipher) (nonce_in cipher) (length c.args.message.now) f) c.in-Err-Short.field-0-is
     c.in-Err-Short.ensures.refused in
     unopened (half_value c.self.inside.half) c.args.self.now _ c.args.message.now _ _ c.self.view_is (search rules) (search rules)
-    (λ payload same. not_ok c.decrypt.result _ c.in-Err-Short.is (c.decrypt.ensures.accepts.1 (refused.0, refused.1, (payload, same))))
+    (λ payload same. false≢true (subst (λ r. IsOk r) c.in-Err-Short.is (c.decrypt.ensures.accepts.1 (refused.0, refused.1, (payload, same)))))
 
 pub returns-in-Err-Tag-clause-opens : goal.returns-in-Err-Tag-clause-opens
 returns-in-Err-Tag-clause-opens c =
@@ -37,4 +37,4 @@ returns-in-Err-Tag-clause-opens c =
     let refused = subst (λ (f : CipherFault). DecryptRefused (keyed_in cipher) (nonce_in cipher) (length c.args.message.now) f) c.in-Err-Tag.field-0-is
     c.in-Err-Tag.ensures.refused in
     unopened (half_value c.self.inside.half) c.args.self.now _ c.args.message.now _ _ c.self.view_is (search rules) (search rules)
-    (λ payload same. not_ok c.decrypt.result _ c.in-Err-Tag.is (c.decrypt.ensures.accepts.1 (refused.0, refused.1, (payload, same))))
+    (λ payload same. false≢true (subst (λ r. IsOk r) c.in-Err-Tag.is (c.decrypt.ensures.accepts.1 (refused.0, refused.1, (payload, same)))))

@@ -2,8 +2,7 @@ use Rattle.std.proofs.Common.{◌≡◌, ◌≢◌, ℕ, ◌+◌, ◌++◌, List
 use Rattle.std.proofs.lemmas.List.{nil_from_length}
 use Rattle.std.specs.Io.KnownBytes.{Consumes}
 use Rattle.noise_session.specs.Frames.{frame, IsPartial}
-use Rattle.noise_session.specs.Progress.{idle_step}
-use Rattle.noise_session.specs.Ends.{EndState, progress_of, progress_in}
+use Rattle.noise_session.specs.Ends.{EndState, progress_of}
 use Rattle.noise_session.specs.Taking.Takes.{idles, judges}
 use Rattle.noise_session.specs.Inputs.Receives.{takes, pauses, is_cut, fails}
 use Rattle.noise_session.specs.inner.Partial.{partial_of}
@@ -11,20 +10,18 @@ use Rattle.noise_session.specs.inner.Places.{reported_in}
 use Rattle.noise_session.specs.Steps.{StepValue, step_value}
 use Rattle.noise_session.proofs.Streaming.{consumed_none}
 use Rattle.noise_session.proofs.Cutting.{idles-not, judged-not}
-use Rattle.noise_session.proofs.Parties.{phase-progress, phase-partial}
+use Rattle.noise_session.proofs.Parties.{phase-idle, phase-partial}
 use Rattle.noise_session.proofs.state.State.receive.Goals as goal
 
 pub returns-in-Some-clause-receives : goal.returns-in-Some-clause-receives
 returns-in-Some-clause-receives g c v s =
     let step = step_value c.in-Some.step in
-    let idle : idle_step (progress_of v) ≡ Some step =
-    ap idle_step (sym (phase-progress g.K.Keys.public_of g.K.Keys.agreement c.args.self.now.party.phase v s.phase)) ∙ c.in-Some.ensures in
+    let idle = phase-idle g.K.Keys.public_of g.K.Keys.agreement c.args.self.now.party.phase v (Some step) s.phase c.in-Some.ensures in
     ([], v, takes v v [] step (λ same. idles-not (progress_of v) (idle ∙ ap (λ (t : StepValue). Some t) same)) (idles v [] step idle), consumed_none _, s)
 
 pub returns-in-Filled-clause-receives : goal.returns-in-Filled-clause-receives
 returns-in-Filled-clause-receives g c v s =
-    let idle : idle_step (progress_in c.args.self.now.party.phase) ≡ None = c.in_default.ensures in
-    let none : idle_step (progress_of v) ≡ None = ap idle_step (sym (phase-progress g.K.Keys.public_of g.K.Keys.agreement c.args.self.now.party.phase v s.phase)) ∙ idle in
+    let none = phase-idle g.K.Keys.public_of g.K.Keys.agreement c.args.self.now.party.phase v None s.phase c.in_default.ensures in
     let r = c.in-Filled.ensures.bytes in
     let piece = r.0 in
     let judged = c.read.ensures.judges v s.phase in
@@ -44,8 +41,7 @@ returns-in-Filled-clause-receives g c v s =
 
 pub returns-in-Failed-clause-receives : goal.returns-in-Failed-clause-receives
 returns-in-Failed-clause-receives g c v s =
-    let idle : idle_step (progress_in c.args.self.now.party.phase) ≡ None = c.in_default.ensures in
-    let none : idle_step (progress_of v) ≡ None = ap idle_step (sym (phase-progress g.K.Keys.public_of g.K.Keys.agreement c.args.self.now.party.phase v s.phase)) ∙ idle in
+    let none = phase-idle g.K.Keys.public_of g.K.Keys.agreement c.args.self.now.party.phase v None s.phase c.in_default.ensures in
     let r = c.in-Failed.ensures.bytes in
     let bytes : partial_of c.fill_from.new.self ≡ v.partial ++ r.0 = r.2 ∙ ap (λ (xs : List ℕ). xs ++ r.0) s.partial in
     let partial : IsPartial (v.partial ++ r.0) = subst (λ (xs : List ℕ). IsPartial xs) bytes c.in-Failed.ensures.leaves in
@@ -59,8 +55,7 @@ returns-in-Failed-clause-receives g c v s =
 
 pub returns-then-held-eq0-clause-receives : goal.returns-then-held-eq0-clause-receives
 returns-then-held-eq0-clause-receives g c v s =
-    let idle : idle_step (progress_in c.args.self.now.party.phase) ≡ None = c.in_default.ensures in
-    let none : idle_step (progress_of v) ≡ None = ap idle_step (sym (phase-progress g.K.Keys.public_of g.K.Keys.agreement c.args.self.now.party.phase v s.phase)) ∙ idle in
+    let none = phase-idle g.K.Keys.public_of g.K.Keys.agreement c.args.self.now.party.phase v None s.phase c.in_default.ensures in
     let r = c.in-End.ensures.bytes in
     let old = partial_of c.args.self.now.incoming in
     let count = c.held.ensures.count in
@@ -73,8 +68,7 @@ returns-then-held-eq0-clause-receives g c v s =
 
 pub returns-else-held-eq0-clause-receives : goal.returns-else-held-eq0-clause-receives
 returns-else-held-eq0-clause-receives g c v s =
-    let idle : idle_step (progress_in c.args.self.now.party.phase) ≡ None = c.in_default.ensures in
-    let none : idle_step (progress_of v) ≡ None = ap idle_step (sym (phase-progress g.K.Keys.public_of g.K.Keys.agreement c.args.self.now.party.phase v s.phase)) ∙ idle in
+    let none = phase-idle g.K.Keys.public_of g.K.Keys.agreement c.args.self.now.party.phase v None s.phase c.in_default.ensures in
     let r = c.in-End.ensures.bytes in
     let count = c.held.ensures.count in
     let some = c.if-held-eq0.false in

@@ -1,26 +1,24 @@
 use Rattle.std.proofs.Common.{◌≡◌, ℕ, ◌+◌, ◌++◌, List, length, take, drop, None, sym, ◌∙◌, ap, subst, arith, rules, append_assoc, length-drop}
 use Rattle.std.proofs.lemmas.List.{take-append-drop}
 use Rattle.noise_session.specs.Frames.{frame, IsPartial}
-use Rattle.noise_session.specs.Progress.{idle_step}
-use Rattle.noise_session.specs.Ends.{EndState, progress_of, progress_in}
+use Rattle.noise_session.specs.Ends.{EndState}
 use Rattle.noise_session.specs.Taking.Takes.{idles, waits, judges}
 use Rattle.noise_session.specs.inner.Partial.{partial_of}
 use Rattle.noise_session.specs.Steps.{step_value}
-use Rattle.noise_session.proofs.Parties.{phase-progress, phase-partial}
+use Rattle.noise_session.proofs.Parties.{phase-idle, phase-partial}
 use Rattle.noise_session.proofs.state.State.take.Goals as goal
 
 pub returns-in-Some-clause-takes : goal.returns-in-Some-clause-takes
 returns-in-Some-clause-takes g c v s = (
   v,
   idles v c.args.piece.now (step_value c.in-Some.step)
-      (ap idle_step (sym (phase-progress g.K.Keys.public_of g.K.Keys.agreement c.args.self.now.party.phase v s.phase)) ∙ c.in-Some.ensures),
+      (phase-idle g.K.Keys.public_of g.K.Keys.agreement c.args.self.now.party.phase v _ s.phase c.in-Some.ensures),
   s,
 )
 
 pub returns-in-None-clause-takes : goal.returns-in-None-clause-takes
 returns-in-None-clause-takes g c v s =
-    let idle : idle_step (progress_in c.args.self.now.party.phase) ≡ None = search rules in
-    let none : idle_step (progress_of v) ≡ None = ap idle_step (sym (phase-progress g.K.Keys.public_of g.K.Keys.agreement c.args.self.now.party.phase v s.phase)) ∙ idle in
+    let none = phase-idle g.K.Keys.public_of g.K.Keys.agreement c.args.self.now.party.phase v None s.phase (search rules) in
     let piece = c.args.piece.now in
     let part = c.in-None.ensures.part in
     let bytes : partial_of c.fill.new.self ≡ v.partial ++ piece = part.0 ∙ ap (λ (xs : List ℕ). xs ++ piece) s.partial in
@@ -33,8 +31,7 @@ returns-in-None-clause-takes g c v s =
 
 pub returns-in-Some-fill-clause-takes : goal.returns-in-Some-fill-clause-takes
 returns-in-Some-fill-clause-takes g c v s =
-    let idle : idle_step (progress_in c.args.self.now.party.phase) ≡ None = search rules in
-    let none : idle_step (progress_of v) ≡ None = ap idle_step (sym (phase-progress g.K.Keys.public_of g.K.Keys.agreement c.args.self.now.party.phase v s.phase)) ∙ idle in
+    let none = phase-idle g.K.Keys.public_of g.K.Keys.agreement c.args.self.now.party.phase v None s.phase (search rules) in
     let piece = c.args.piece.now in
     let count = c.in-Some-fill.count in
     let whole = c.in-Some-fill.ensures.whole in
