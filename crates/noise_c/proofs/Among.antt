@@ -3,7 +3,7 @@ use Rattle.std.proofs.Common.{◌≡◌, ℕ, zero, suc, ◌+◌, ◌<◌, List,
 use Rattle.std.proofs.Common.{append_assoc, take_all}
 use Rattle.std.specs.Prelude.{Bool, Option, Some, None, is_some, if◌then◌else◌}
 use Rattle.noise_names.specs.declared.token.Token.{Token}
-use Rattle.noise_names.specs.declared.token.Token.TheVariants.{E, S, Ee, Es, Se, Ss, Psk}
+use Rattle.noise_names.specs.declared.token.Token.TheVariants.{E, S, Psk}
 use Rattle.noise_names.specs.declared.token.Role.{Role}
 use Rattle.noise_state.specs.History.{History, cipher_key, ciphertext}
 use Rattle.noise_state.specs.Ciphertexts.{length-ciphertext, ciphertext-same}

@@ -4,7 +4,7 @@ use Rattle.std.proofs.Common.{take-take}
 use Rattle.std.proofs.Math.Seq.{take-append_seam}
 use Rattle.std.specs.Prelude.{true, Option, Some, None, count_by}
 use Rattle.noise_names.specs.declared.token.Token.{Token}
-use Rattle.noise_names.specs.declared.token.Token.TheVariants.{E, S, Ee, Es, Se, Ss, Psk}
+use Rattle.noise_names.specs.declared.token.Token.TheVariants.{E, S, Ee, Psk}
 use Rattle.noise_keys.specs.declared.keys.Own.{Own}
 use Rattle.noise_handshake.specs.declared.remote.Remote.{Remote}
 use Rattle.noise_handshake.specs.Counterparts.{is_dh}

@@ -1,5 +1,5 @@
 -- A message of a valid pattern has at most four DH tokens, one of each kind.
-use Rattle.std.proofs.Common.{◌≡◌, ◌⊎◌, inl, inr, ℕ, zero, suc, ◌+◌, ◌<◌, ◌≤◌, List, [], ◌∷◌, ◌++◌, length, take, drop, refl, ap, sym, ◌∙◌, arith, append_assoc}
+use Rattle.std.proofs.Common.{◌≡◌, inl, inr, ℕ, zero, suc, ◌+◌, ◌<◌, ◌≤◌, List, [], ◌∷◌, ◌++◌, length, take, drop, refl, ap, sym, ◌∙◌, arith, append_assoc}
 use Rattle.std.proofs.lemmas.List.Sums.{sum_by-cons}
 use Rattle.std.proofs.lemmas.List.Folds.{list_any-append}
 use Rattle.std.specs.Prelude.{Bool, true, false, ◌||◌, cond, count_by}
@@ -14,7 +14,7 @@ use Rattle.noise_names.specs.Rules.{tokens-keep-rules}
 use Rattle.noise_names.specs.Validity.{IsValid, KeepsRules, dh_is_first, is_at, occurs}
 use Rattle.noise_handshake.specs.Counterparts.{is_dh}
 use Rattle.noise_handshake.specs.Party.{tokens_at}
-use Rattle.std.proofs.lemmas.Bool.{or_right, or_left, not-true, or_parts}
+use Rattle.std.proofs.lemmas.Bool.{cases_lt, or_right, or_left, not-true, or_parts}
 
 -- whether a token is among others
 abbrev has : Token → List Token → Bool
@@ -122,10 +122,7 @@ module _ (p : Plan) (valid : IsValid p) where
 
   -- it has at most four DH tokens in a message
   pub at-most-four : (i : ℕ) → count_by is_dh (tokens_at p.messages i) ≤ 4
-  at-most-four i = elim (near i (length p.messages)) [ inl h ↦ inside h | inr h ↦ outside h ] where
-    near : (a b : ℕ) → (a < b) ⊎ (b ≤ a)
-    near a b = grind arith
-
+  at-most-four i = elim (cases_lt i (length p.messages)) [ inl h ↦ inside h | inr h ↦ outside h ] where
     inside : i < length p.messages → count_by is_dh (tokens_at p.messages i) ≤ 4
     inside h =
         let ts : List Token = tokens_at p.messages i in

@@ -1,6 +1,6 @@
 -- A psk that is stored after the others.
 use Rattle.std.proofs.Common.{◌≡◌, ◌≤◌, ◌<◌, ◌+◌, ◌-◌, ◌++◌, ◌∷◌, [], ℕ, List, length, drop, slice_set, drop-drop, length-drop, length-append, refl, ap, sym, subst, ◌∙◌, arith}
-use Rattle.std.proofs.lemmas.List.{drop-append-le, set-append_right}
+use Rattle.std.proofs.lemmas.List.{append_assoc, append_cancel_left, drop-append-le, set-append_right}
 use Rattle.std.proofs.lemmas.List.Edits.{paste_all}
 use Rattle.std.specs.List.{copy_within}
 use Rattle.noise_names.specs.Plan.{Plan}
@@ -36,24 +36,14 @@ moved-last xs y c e few =
     drop-append-le (9 - (c + 1)) (drop 1 xs) (y ∷ []) (omega (arith, eight))
     ∙ ap (λ (z : List (List ℕ)). z ++ y ∷ []) (drop-drop (9 - (c + 1)) 1 xs ∙ ap (λ (n : ℕ). drop n xs) i)
 
-append-assoc : (xs : List (List ℕ)) (y : List ℕ) (zs : List (List ℕ)) → (xs ++ y ∷ []) ++ zs ≡ xs ++ y ∷ zs
-append-assoc [] y zs = refl
-append-assoc (x ∷ xs) y zs = ap (λ (z : List (List ℕ)). x ∷ z) (append-assoc xs y zs)
-
-append-same : (xs ys zs : List (List ℕ)) → xs ++ ys ≡ xs ++ zs → ys ≡ zs
-append-same [] ys zs e = e
-append-same (x ∷ xs) ys zs e = append-same xs ys zs (cons-same x (xs ++ ys) (xs ++ zs) e) where
-  cons-same : (a : List ℕ) (us ws : List (List ℕ)) → (a ∷ us) ≡ (a ∷ ws) → us ≡ ws
-  cons-same a us ws h = cc
-
 -- a state whose psks go on with the one that is stored is stood for as before
 pub matches-later : (old new : NoiseHandshake) (psk : List ℕ) (p : Plan) (v : Party) (later : List (List ℕ)) → IsGiven old new psk
     → v.psks ≡ (handshake_from_c p old).psks ++ psk ∷ later → KeepsParty old p v → KeepsParty new p v
 matches-later old new psk p v later g e k =
-    let rest : k.later ≡ psk ∷ later = append-same (handshake_from_c p old).psks k.later (psk ∷ later) (k.matches.psks ∙ e) in
+    let rest : k.later ≡ psk ∷ later = append_cancel_left (handshake_from_c p old).psks k.later (psk ∷ later) (k.matches.psks ∙ e) in
     let same : with_later (handshake_from_c p old) k.later ≡ with_later (handshake_from_c p new) later =
     ap (λ (z : List (List ℕ)). with_later (handshake_from_c p old) z) rest
-    ∙ ap (λ (z : List (List ℕ)). record (handshake_from_c p old) { psks = z }) (sym (append-assoc (handshake_from_c p old).psks psk later))
+    ∙ ap (λ (z : List (List ℕ)). record (handshake_from_c p old) { psks = z }) (sym (append_assoc (handshake_from_c p old).psks (psk ∷ []) later))
     ∙ ap (λ (z : HandshakeValue Table). with_later z later) (sym (g.handshake p)) in
     record {
       pattern = subst (λ (z : List ℕ). IsPatternOf z p) (sym g.text) k.pattern;
@@ -69,7 +59,7 @@ whole-put h psk (y ∷ later) low w = (
   later,
   record {
     within = w.within;
-    psks = ap length (append-assoc h.psks psk later) ∙ length-append h.psks (psk ∷ later) ∙ sym (length-append h.psks (y ∷ later)) ∙ w.psks;
+    psks = ap length (append_assoc h.psks (psk ∷ []) later) ∙ length-append h.psks (psk ∷ later) ∙ sym (length-append h.psks (y ∷ later)) ∙ w.psks;
     own_e = w.own_e;
     own_s = w.own_s;
     remote_e = w.remote_e;

@@ -3,7 +3,7 @@ use Rattle.std.proofs.Common.{◌≡◌, ◌≤◌, ◌<◌, ◌⊎◌, inl, inr
 use Rattle.std.proofs.lemmas.Bool.{eqb-false}
 use borrow.Author.Tests.{ltb-true}
 use Rattle.noise_handshake.specs.declared.faults.Cause.{Cause}
-use Rattle.noise_handshake.specs.declared.faults.Cause.TheVariants.{Short, Tag, Agreement}
+use Rattle.noise_handshake.specs.declared.faults.Cause.TheVariants.{Agreement}
 use Rattle.noise_handshake.specs.declared.faults.ReadFault.{ReadFault}
 use Rattle.noise_handshake.specs.declared.faults.ReadFault.TheVariants as read
 use Rattle.noise_handshake.specs.declared.faults.WriteFault.{WriteFault}
@@ -44,12 +44,6 @@ pub too-long : {A : Type 0} (n limit : ℕ) → limit < n → n ≤ limit → A
 too-long n limit more less = absurd (omega (arith, more, less))
 
 -- ---- the numbers of a want: WANTED and WANTED_PSK
-
-pub wants-either : (want : Want) (results : NoiseResult) (code : ℕ) → ReportsWant want results code → (code ≡ 20) ⊎ (code ≡ 40)
-wants-either want results code t = want-code want results code (λ (n : ℕ). (n ≡ 20) ⊎ (n ≡ 40)) t (inl refl) (inr refl)
-
-pub wants-from : (want : Want) (results : NoiseResult) (code : ℕ) → ReportsWant want results code → 20 ≤ code
-wants-from want results code t = want-code want results code (λ (n : ℕ). 20 ≤ n) t (omega arith) (omega arith)
 
 pub wants-other : {A : Type 0} (want : Want) (results : NoiseResult) (code wanted : ℕ) → ReportsWant want results code → eqb 20 wanted ≡ false → eqb 40 wanted ≡ false
     → code ≡ wanted → A

@@ -42,10 +42,6 @@ pub fault-start : (code : ℕ) → (code ≡ 1) ⊎ (code ≡ 2) → IsStartCode
 fault-start code (inl a) = inr (inl a)
 fault-start code (inr a) = inr (inr (inl a))
 
-pub fault-not-zero : (code : ℕ) → (code ≡ 1) ⊎ (code ≡ 2) → code ≡ 0 → ⊥
-fault-not-zero code (inl a) e = omega (arith, a, e)
-fault-not-zero code (inr a) e = omega (arith, a, e)
-
 setup-codes : (fault : SetupFault) → (4 ≤ setup_code fault) × (setup_code fault ≤ 8)
 setup-codes setup.EphemeralMissing = (omega arith, omega arith)
 setup-codes _ = (omega arith, omega arith)

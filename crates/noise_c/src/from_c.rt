@@ -24,15 +24,6 @@ pub(crate) fn role_of(responder: u8) -> Role
     }
 }
 
-// The psks that were handed in and are left.
-fn psks_of(handshake: &NoiseHandshake) -> &[[u8; 32]]
-    requires { handshake.now.psk_count ≤ 9 }
-    ensures value { result.now ≡ drop (9 - handshake.now.psk_count) handshake.now.psks }
-    ensures count { length result.now ≡ handshake.now.psk_count }
-{
-    &handshake.psks[9 - handshake.psk_count as usize..]
-}
-
 // The handshake's parts, of this pattern.
 fn parts_of<'a>(handshake: &'a NoiseHandshake, pattern: ValidPattern) -> Parts<SuppliedKeys<'a>>
     requires { handshake.now.answer_count ≤ 8 }
@@ -77,7 +68,8 @@ fn restored<'a>(
     ensures value { IfSome result (λ h. h ≡ handshake_from_c pattern handshake.now) }
     ensures count { IfSome result (λ h. length h.psks ≡ handshake.now.psk_count) }
 {
-    LateHandshake::from_parts(parts_of(handshake, pattern), psks_of(handshake))
+    let psks = &handshake.psks[9 - handshake.psk_count as usize..];
+    LateHandshake::from_parts(parts_of(handshake, pattern), psks)
 }
 
 // The handshake of the struct, if a call has left it.

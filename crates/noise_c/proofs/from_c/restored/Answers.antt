@@ -1,4 +1,5 @@
-use Rattle.std.proofs.Common.{◌≡◌, List, ℕ, length, sym, ap, ◌∙◌, subst}
+use Rattle.std.proofs.Common.{◌≡◌, ◌-◌, List, ℕ, length, take, drop, length-drop, sym, ap, ◌∙◌, subst, arith, rules}
+use Rattle.std.proofs.lemmas.List.{take_rest}
 use Rattle.std.specs.Prelude.{Option, Some, None, IfSome}
 use Rattle.noise_handshake.specs.HandshakeValue.{HandshakeValue}
 use Rattle.noise_handshake.specs.Parts.{held_of}
@@ -14,18 +15,30 @@ count-in : (o : Option (HandshakeValue Table)) (n : ℕ) (h : HandshakeValue Tab
 count-in None n h e s = tt
 count-in (Some z) n h e s = ap (λ (y : HandshakeValue Table). length y.psks) s ∙ e
 
+-- the last of nine
+last-of : (xs : List (List ℕ)) (from : ℕ) → length xs ≡ 9 → take (9 - from) (drop from xs) ≡ drop from xs
+last-of xs from nine = ap (λ (n : ℕ). take (n - from) (drop from xs)) (sym nine) ∙ take_rest xs from
+
 pub returns-clause-whole : goal.returns-clause-whole
 returns-clause-whole c =
-    let partial : held_of c.parts_of.result c.psks_of.result.now ≡ handshake_from_c c.args.pattern c.args.handshake.now =
-    ap (λ (z : List (List ℕ)). held_of c.parts_of.result z) c.psks_of.ensures.value ∙ c.parts_of.ensures in (
+    let k = c.args.handshake.now in
+    let nine : length k.psks ≡ 9 = search rules in
+    let partial = ap (held_of c.parts_of.result) (last-of k.psks (9 - k.psk_count) nine) ∙ c.parts_of.ensures in (
       λ some. subst (λ (z : HandshakeValue Table). IsLateWhole public_in z) partial (c.from_parts.ensures.whole.0 some),
       λ w. c.from_parts.ensures.whole.1 (subst (λ (z : HandshakeValue Table). IsLateWhole public_in z) (sym partial) w),
     )
 
 pub returns-clause-value : goal.returns-clause-value
 returns-clause-value c =
-    same-as c.from_parts.result _ (handshake_from_c c.args.pattern c.args.handshake.now)
-    (ap (λ (z : List (List ℕ)). held_of c.parts_of.result z) c.psks_of.ensures.value ∙ c.parts_of.ensures) c.from_parts.ensures.value
+    let k = c.args.handshake.now in
+    let nine : length k.psks ≡ 9 = search rules in
+    same-as c.from_parts.result _ (handshake_from_c c.args.pattern k)
+    (ap (held_of c.parts_of.result) (last-of k.psks (9 - k.psk_count) nine) ∙ c.parts_of.ensures) c.from_parts.ensures.value
 
 pub returns-clause-count : goal.returns-clause-count
-returns-clause-count c = count-in c.from_parts.result c.args.handshake.now.psk_count _ c.psks_of.ensures.count c.from_parts.ensures.value
+returns-clause-count c =
+    let k = c.args.handshake.now in
+    let nine : length k.psks ≡ 9 = search rules in
+    let few = c.requires.psks in
+    let long = ap length (last-of k.psks (9 - k.psk_count) nine) in
+    count-in c.from_parts.result k.psk_count _ (omega (arith, long, length-drop (9 - k.psk_count) k.psks, nine, few)) c.from_parts.ensures.value
