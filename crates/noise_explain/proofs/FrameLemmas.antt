@@ -1,9 +1,8 @@
 -- The frames of a handshake and their pieces.
-use Rattle.std.proofs.Common.{arith, rules, if◌then◌else◌, ap₂, subst, ◌≡◌, ◌≢◌, ◌∙◌, ◌+◌, ◌-◌, ◌<◌, ◌≤◌, ◌⊎◌, inl, inr, ap, refl, sym, ℕ, suc, Bool, true, false, ◌||◌, ◌&&◌, not, Some, None, Option, Vec, List, [], ◌∷◌, ◌++◌, append_assoc, append-nil, length, min, nat_lt, take, get_or}
+use Rattle.std.proofs.Common.{arith, if◌then◌else◌, ap₂, subst, ◌≡◌, ◌≢◌, ◌∙◌, ◌+◌, ◌-◌, ◌<◌, ◌≤◌, ap, refl, sym, ℕ, Bool, true, false, ◌||◌, ◌&&◌, not, Some, None, Option, Vec, List, [], ◌∷◌, ◌++◌, append_assoc, append-nil, length, min, nat_lt, take, get_or}
 use Rattle.std.specs.Global.{Global}
-use Rattle.std.specs.Prelude.{IfNone, IfOk, IfSome, IsFalse, IsSome, IsTrue, Result, Ok, Err, ◌↔◌, slice_get, unwrap_or}
-use Rattle.std.specs.List.{All, list_any}
-use Rattle.std.proofs.Math.Nat.{eq-or-lt_of_le}
+use Rattle.std.specs.Prelude.{IfNone, IfOk, IfSome, IsFalse, IsSome, IsTrue, Result, Ok, Err, ◌↔◌}
+use Rattle.std.specs.List.{All}
 use Rattle.std.proofs.lemmas.Bool.{le-ltb}
 use Rattle.std.proofs.lemmas.List.{append_cancel_left, take_all, take_more}
 use Rattle.std.proofs.lemmas.List.Folds.{list_any-append}
@@ -16,35 +15,11 @@ use Rattle.noise_names.specs.declared.token.Role.{Role}
 use Rattle.noise_names.specs.declared.token.Token.{Token}
 use Rattle.noise_names.specs.declared.token.Token.TheVariants.{E, S, Ee, Es, Se, Ss, Psk}
 use Rattle.noise_vectors.specs.HexWord.{IsHexWord, hex_of}
-use Rattle.noise_explain.specs.FramePieces.{HasNoFrame, IsPieceAt, bytes_before, makes_key, piece_len, sender_of}
+use Rattle.noise_explain.specs.FramePieces.{IsPieceAt, bytes_before, makes_key, piece_len, sender_of}
 use Rattle.noise_explain.specs.FramePieces.IsPieceAt.{in_key, in_payload}
 use Rattle.noise_explain.specs.declared.frame_piece.Piece.TheVariants as pieces
 use Rattle.noise_explain.specs.RulePlaces.{message_at}
 use Rattle.noise_explain.specs.Shown.{shown_start}
-
--- ---- bytes that are alike
-
--- one byte more is alike
-pub same-more : (xs ys : List ℕ) (k : ℕ) → ((i : ℕ) → i < k → slice_get xs i ≡ slice_get ys i) → slice_get xs k ≡ slice_get ys k
-    → (i : ℕ) → i < k + 1 → slice_get xs i ≡ slice_get ys i
-same-more xs ys k before now i less = by (eq-or-lt_of_le (at_most less)) where
-  at_most : i < k + 1 → i ≤ k
-  at_most h = omega (arith, h)
-
-  by : (i ≡ k) ⊎ (i < k) → slice_get xs i ≡ slice_get ys i
-  by (inl e) = rw e now
-  by (inr h) = before i h
-
--- lists of one length that have the same everywhere are equal
-pub all-same : (xs ys : List ℕ) → length xs ≡ length ys → ((i : ℕ) → i < length xs → slice_get xs i ≡ slice_get ys i) → xs ≡ ys
-all-same [] [] len same = refl
-all-same [] (y ∷ ys) len same = absurd (cc len)
-all-same (x ∷ xs) [] len same = absurd (cc len)
-all-same (x ∷ xs) (y ∷ ys) len same =
-    let first : Some x ≡ Some y = same 0 (omega arith) in
-    let one : x ≡ y = cc first in
-    let rest : xs ≡ ys = all-same xs ys (omega (arith, len)) (λ i less. same (suc i) (omega (arith, less))) in
-    rw (one, rest) refl
 
 -- ---- what is shown of a line
 
@@ -241,18 +216,3 @@ payload-at p n tokens i end at here all end_is past =
     end_is ∙ ap₂ (λ (k : ℕ) (ts : List Token). 2 + overhead_from p (first_places p (n - 1)) (front_places n ts k))
     (all ∙ ap (λ (ts : List Token). length ts) here) here in
     in_payload (omega (arith, end_at, past))
-
--- ---- the messages
-
--- one message more has no frame
-pub none-more : (index : ℕ) (expected printed : List ℕ) → ((n : ℕ) → 1 ≤ n → n ≤ index → HasNoFrame n expected printed)
-    → HasNoFrame (index + 1) expected printed → (n : ℕ) → 1 ≤ n → n ≤ index + 1 → HasNoFrame n expected printed
-none-more index expected printed before now n first last = by (eq-or-lt_of_le last) where
-  by : (n ≡ index + 1) ⊎ (n < index + 1) → HasNoFrame n expected printed
-  by (inl e) = subst (λ (k : ℕ). HasNoFrame k expected printed) (sym e) now
-  by (inr h) = before n first (omega (arith, h))
-
--- lines of frames that are the same are equal
-pub frames-same : (expected printed front yours right : List ℕ) → expected ≡ front ++ hex_of yours → printed ≡ front ++ hex_of right
-    → yours ≡ right → expected ≡ printed
-frames-same expected printed front yours right e f same = e ∙ ap (λ (b : List ℕ). front ++ hex_of b) same ∙ sym f

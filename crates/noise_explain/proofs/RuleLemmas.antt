@@ -1,10 +1,10 @@
 -- Lines of a pattern's text, and lists of its tokens.
-use Rattle.std.proofs.Common.{◌≡◌, ◌∙◌, ◌<◌, ◌≤◌, ◌+◌, ◌-◌, ℕ, Bool, true, false, ◌==◌, nat_le, nat_lt, List, [], ◌∷◌, ◌++◌, ap, ap₂, sym, refl, arith, get_or, length, length-append, take}
+use Rattle.std.proofs.Common.{◌≡◌, ◌∙◌, ◌≤◌, ◌+◌, ◌-◌, ℕ, Bool, true, false, ◌==◌, nat_le, nat_lt, List, [], ◌∷◌, ◌++◌, ap, ap₂, sym, refl, arith, length, length-append, take}
 use Rattle.std.specs.Prelude.{IsTrue, codes, slice_get, unwrap_or, if◌then◌else◌}
 use Rattle.std.specs.List.{list_all}
 use Rattle.std.proofs.lemmas.Bool.{and_parts}
 use Rattle.std.proofs.lemmas.Bool.Decides.{nat_tests}
-use Rattle.std.proofs.lemmas.List.{flat_map_more, length-take-le, take_all, take_more}
+use Rattle.std.proofs.lemmas.List.{length-take-le, take_all}
 use Rattle.noise_names.specs.declared.faults.RuleFault.{RuleFault}
 use Rattle.noise_names.specs.declared.token.Role.{Role}
 use Rattle.noise_names.specs.declared.token.Role.TheVariants.{Initiator, Responder}
@@ -68,31 +68,6 @@ message_lines-feeds party (tokens ∷ more) =
     let whole = feeds-append (token_line party tokens) (message_lines (other party) more) in
     omega (arith, whole, token_line-feeds party tokens, message_lines-feeds (other party) more)
 
-dots-feeds : (first : List ℕ) → line_feeds (first ++ line (codes "  ...")) ≡ line_feeds first + 1
-dots-feeds first = feeds-append first (line (codes "  ..."))
-
--- how many lines the pre-messages have, with the one after them
-abbrev pub pre_count : List Token → List Token → ℕ
-pre_count [] [] = 0
-pre_count [] (u ∷ us) = 2
-pre_count (t ∷ ts) [] = 2
-pre_count (t ∷ ts) (u ∷ us) = 3
-
-pub pre-feeds : (i r : List Token) → line_feeds (pre_lines i r) ≡ pre_count i r
-pre-feeds [] [] = refl
-pre-feeds [] (u ∷ us) =
-    let last = dots-feeds (token_line Responder (u ∷ us)) in
-    omega (arith, last, token_line-feeds Responder (u ∷ us))
-pre-feeds (t ∷ ts) [] =
-    let first = feeds-append (token_line Initiator (t ∷ ts)) [] in
-    let last = dots-feeds (token_line Initiator (t ∷ ts) ++ []) in
-    let none : line_feeds [] ≡ 0 = refl in
-    omega (arith, first, last, none, token_line-feeds Initiator (t ∷ ts))
-pre-feeds (t ∷ ts) (u ∷ us) =
-    let first = feeds-append (token_line Initiator (t ∷ ts)) (token_line Responder (u ∷ us)) in
-    let last = dots-feeds (token_line Initiator (t ∷ ts) ++ token_line Responder (u ∷ us)) in
-    omega (arith, first, last, token_line-feeds Initiator (t ∷ ts), token_line-feeds Responder (u ∷ us))
-
 -- the number of a message's line
 pub line-number : (p : Plan) (n at pre : ℕ) → IsPattern p → n ≤ length p.messages → at ≡ n - 1 → pre ≡ line_feeds (pre_lines p.initiator p.responder)
     → at + pre + 2 ≡ line_feeds (lines_before p n) + 1
@@ -114,31 +89,6 @@ line-number p n at pre right within at_is pre_is =
     omega (arith, none, colon, no_colon, ended, feed, whole, first, count, message_lines-feeds Initiator messages, at_is, pre_is)
 
 -- ---- the list of a message's tokens
-
-few-letters : (t : Token) → length (word_of t) ≤ 3
-few-letters E = omega arith
-few-letters S = omega arith
-few-letters Ee = omega arith
-few-letters Es = omega arith
-few-letters Se = omega arith
-few-letters Ss = omega arith
-few-letters Psk = omega arith
-
--- the bytes of one token more
-pub list-more : (tokens : List Token) (i : ℕ) (t : Token) (count len : ℕ) → i < length tokens → t ≡ get_or tokens i t → len ≡ length (word_of t)
-    → count ≡ length (words_before (take i tokens)) → count + (len + 2) ≡ length (words_before (take (i + 1) tokens))
-list-more tokens i t count len within is len_is count_is =
-    let word : Token → List ℕ = λ (u : Token). word_of u ++ codes ", " in
-    let more : take (i + 1) tokens ≡ take i tokens ++ t ∷ [] = take_more tokens i t within ∙ ap (λ (u : Token). take i tokens ++ u ∷ []) (sym is) in
-    let whole : length (words_before (take (i + 1) tokens)) ≡ length (words_before (take i tokens) ++ word t) =
-    ap (λ (us : List Token). length (words_before us)) more ∙ ap length (sym (flat_map_more word [] (take i tokens) t)) in
-    let parts = length-append (words_before (take i tokens)) (word t) in
-    let letters = length-append (word_of t) (codes ", ") in
-    let two : length (codes ", ") ≡ 2 = refl in
-    omega (arith, len_is, count_is, whole, parts, letters, two)
-
-pub few-more : (t : Token) (len : ℕ) → len ≡ length (word_of t) → len ≤ 3
-few-more t len is = let few = few-letters t in omega (arith, is, few)
 
 -- a comma and a space less than those of each token
 words-before : (t : Token) (ts : List Token) → length (words (t ∷ ts)) + 2 ≡ length (words_before (t ∷ ts))

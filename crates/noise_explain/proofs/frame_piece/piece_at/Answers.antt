@@ -1,6 +1,5 @@
-use Rattle.std.proofs.Common.{arith, rules, ◌≡◌, ◌∙◌, ◌+◌, ap, subst, not, length}
-use Rattle.noise_names.specs.Plan.{Plan, has_psk}
-use Rattle.noise_explain.specs.FramePieces.{makes_key}
+use Rattle.std.proofs.Common.{arith, rules, ◌≡◌, ◌∙◌, ap, not, length}
+use Rattle.noise_names.specs.Plan.{has_psk}
 use Rattle.noise_explain.specs.FramePieces.IsPieceAt.{in_length}
 use Rattle.noise_explain.specs.RulePlaces.{message_at}
 use Rattle.noise_explain.proofs.FrameLemmas.{has-more, key-at, or-else, or-then, payload-at, place-more, psk-is}
