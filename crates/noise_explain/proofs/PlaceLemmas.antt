@@ -1,5 +1,5 @@
 -- Lines of a text, and the pieces of a list of tokens.
-use Rattle.std.proofs.Common.{◌≡◌, ◌∙◌, ◌<◌, ◌+◌, ◌-◌, ℕ, zero, suc, List, [], ◌∷◌, ◌++◌, ap, sym, append_assoc, arith}
+use Rattle.std.proofs.Common.{◌≡◌, ◌∙◌, ◌<◌, ◌-◌, ℕ, zero, suc, List, [], ◌∷◌, ◌++◌, ap, sym, append_assoc, arith}
 use Rattle.std.specs.Prelude.{IfSome, Option, Some, None, codes}
 use denote.Bor.{Bor}
 use Rattle.std.proofs.lemmas.List.{flat_map_more}
