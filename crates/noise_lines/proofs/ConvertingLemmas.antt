@@ -1,9 +1,8 @@
 -- The text of a version 1 file, as one of version 2.
-use Rattle.std.proofs.Common.{◌≡◌, ◌∙◌, ap, sym, refl, ℕ, ◌+◌, ◌<◌, ◌≤◌, Vec, List, [], ◌∷◌, ◌++◌, Option, Some, None, codes, length, get_or, take, append_assoc, decimal}
+use Rattle.std.proofs.Common.{◌≡◌, ◌∙◌, ap, sym, refl, ℕ, ◌+◌, ◌≤◌, Vec, List, [], ◌∷◌, ◌++◌, Option, Some, None, codes, length, take, append_assoc, decimal}
 use Rattle.std.specs.Global.{Global}
-use Rattle.std.specs.Prelude.{flat_map, slice_get}
+use Rattle.std.specs.Prelude.{flat_map}
 use Rattle.std.proofs.lemmas.List.{take_all}
-use Rattle.std.proofs.lemmas.Option.{slice_get_read}
 use Rattle.noise_names.specs.declared.token.Role.{Role}
 use Rattle.noise_names.specs.declared.token.Role.TheVariants.{Initiator, Responder}
 use Rattle.noise_names.specs.Names.{name_bytes}
@@ -19,7 +18,6 @@ use Rattle.noise_vectors.specs.declared.vector.VectorFile.{VectorFile}
 use Rattle.noise_vectors.specs.declared.vector.Version.{Version}
 use Rattle.noise_vectors.specs.declared.vector.Version.TheVariants.{One}
 use Rattle.noise_lines.specs.Converted.{converted_text}
-use Rattle.noise_lines.proofs.OutputLemmas.{elements-more}
 
 -- ---- what follows the lines of a text
 
@@ -77,16 +75,6 @@ pub expectations-text : (lines : List (Vec ℕ Global)) → flat_map expectation
 expectations-text [] = refl
 expectations-text (l ∷ ls) =
     ap (λ (t : List ℕ). expectation l ++ t) (expectations-text ls) ∙ append_assoc (expect_line l.items) (10 ∷ []) (lines_of expect_line (bytes_of ls) [])
-
--- one more
-pub expectation-more : (lines items : List (Vec ℕ Global)) (i : ℕ) (x : Vec ℕ Global) (before now after : List ℕ) → items ≡ lines → i < length items
-    → x ≡ get_or items i x → now ≡ before ++ flat_map expectation (take i lines) → after ≡ now ++ expectation x
-    → after ≡ before ++ flat_map expectation (take (i + 1) lines)
-expectation-more lines items i x before now after same less is inv pushed =
-    let found : slice_get items i ≡ Some x = slice_get_read items (length items) i x refl less is in
-    let here : slice_get lines i ≡ Some x = rw (← same) found in
-    pushed ∙ ap (λ (t : List ℕ). t ++ expectation x) inv ∙ append_assoc before (flat_map expectation (take i lines)) (expectation x)
-    ∙ ap (λ (t : List ℕ). before ++ t) (elements-more expectation lines i x here)
 
 pub expectations-done : (lines items : List (Vec ℕ Global)) (i : ℕ) (before now : List ℕ) → items ≡ lines → length items ≤ i
     → now ≡ before ++ flat_map expectation (take i lines) → now ≡ before ++ lines_of expect_line (bytes_of lines) []

@@ -1,15 +1,14 @@
 -- Words of printed bytes.
-use Rattle.std.proofs.Common.{◌≡◌, ◌∙◌, refl, ℕ, ◌+◌, ◌/◌, ◌%◌, ◌<◌, ◌≤◌, ◌^◌, true, List, [], ◌∷◌, ◌++◌, arith}
+use Rattle.std.proofs.Common.{◌≡◌, ◌∙◌, refl, ℕ, ◌+◌, ◌/◌, ◌%◌, ◌<◌, ◌^◌, true, List, [], ◌∷◌, ◌++◌, arith}
 use Rattle.std.specs.Prelude.{decimal, slice_index}
 use Rattle.std.specs.List.{All, list_all}
 use Rattle.std.proofs.lemmas.Bool.Decides.{nat_tests}
 use Rattle.std.proofs.lemmas.Fmt.{decimal_by_steps}
-use Rattle.std.proofs.lemmas.List.Elements.{All-get_or, All-head, All-tail, All-weaker}
+use Rattle.std.proofs.lemmas.List.Elements.{All-get_or, All-head, All-tail}
 use Rattle.std.proofs.lemmas.List.Folds.{list_all-append}
 use Rattle.std.proofs.lemmas.List.Sums.{AllPass-from_list_all}
 use Rattle.hex.specs.Hex.{encode_lower, encode_with, lower_digits}
 use Rattle.noise_vectors.specs.HexWord.{hex_of}
-use Rattle.noise_vectors.specs.VectorFile.{IsExpected}
 use Rattle.noise_lines.specs.PrintedWords.{is_printed, is_printed_byte}
 
 abbrev passes : ℕ → Type 0
@@ -17,17 +16,6 @@ passes b = is_printed_byte b ≡ true
 
 abbrev is_byte : ℕ → Type 0
 is_byte b = b < 256
-
-within : (b : ℕ) → passes b → (32 ≤ b) × (b ≤ 126)
-within b h = (grind (arith, nat_tests), grind (arith, nat_tests))
-
--- a printed word is one that a file may expect
-pub IsExpected-printed : (word : List ℕ) → is_printed word ≡ true → IsExpected word
-IsExpected-printed [] h = absurd (cc h)
-IsExpected-printed (b ∷ bs) h = (
-  omega arith,
-  All-weaker passes (λ b. (32 ≤ b) × (b ≤ 126)) within (b ∷ bs) (AllPass-from_list_all is_printed_byte (b ∷ bs) h),
-)
 
 all_printed : (word : List ℕ) → is_printed word ≡ true → list_all is_printed_byte word ≡ true
 all_printed [] h = refl

@@ -1,5 +1,5 @@
 -- The text of a trace, written line by line.
-use Rattle.std.proofs.Common.{◌≡◌, ◌∙◌, refl, sym, ap, ap₂, subst, ℕ, zero, suc, ◌+◌, List, [], ◌∷◌, ◌++◌, Option, Some, None, Vec, drop, take, slice_get, append_assoc, append-nil, add-one}
+use Rattle.std.proofs.Common.{◌≡◌, ◌∙◌, refl, sym, ap, ap₂, ℕ, zero, suc, ◌+◌, List, [], ◌∷◌, ◌++◌, Option, Vec, drop, take, slice_get, append_assoc, add-one}
 use Rattle.std.specs.Global.{Global}
 use Rattle.std.specs.Prelude.{unwrap_or}
 use Rattle.std.specs.Io.KnownBytes.{Appends}
@@ -75,19 +75,6 @@ written-cut before now after lines traces i x trace w here is cut =
     (w.whole
     ∙ ap (λ (t : List ℕ). w.done ++ t) (step-at (drop i lines) (drop (i + 1) lines) traces i x here)
     ∙ ap (λ (ls : List (List ℕ)). w.done ++ (lines_text (x ∷ ls) ++ lines_text (with_traces (drop (i + 1) lines) (drop (suc i) traces)))) (sym is))
-
-pub written-all : (before now : Option (List ℕ)) (lines : List (List ℕ)) (traces : List (List (List ℕ))) (i : ℕ) → Written before now lines traces i
-    → drop i lines ≡ [] → Appends before now (lines_text (with_traces lines traces))
-written-all before now lines traces i w none =
-    subst (λ (t : List ℕ). Appends before now t)
-    (sym (w.whole ∙ ap (λ (ls : List (List ℕ)). w.done ++ lines_text (with_traces ls (drop i traces))) none ∙ append-nil w.done)) w.appended
-
-appends-none : (a : Option (List ℕ)) → Appends a a []
-appends-none None = tt
-appends-none (Some xs) = sym (append-nil xs)
-
-pub none-written : (a : Option (List ℕ)) (lines : List (List ℕ)) (traces : List (List (List ℕ))) → Written a a lines traces 0
-none-written a lines traces = record { done = []; appended = appends-none a; whole = refl }
 
 pub drop-bytes : (lines : List (Vec ℕ Global)) (i : ℕ) → drop i (bytes_of lines) ≡ bytes_of (drop i lines)
 drop-bytes [] zero = refl
