@@ -48,14 +48,6 @@ pub key-renewed : (r : History) (writer : Role) (i n : ℕ) → i ≢ 0 → (n +
 key-renewed r writer i n some none =
     grown-more (renewals i n) (renewals i (n + 1)) (split_key r writer) (renewals-turned i n some none)
 
-pub key-kept : (r : History) (writer : Role) (i n : ℕ) → i ≢ 0 → (n + 1) % i ≢ 0 → renewed_after r writer i n ≡ None
-key-kept r writer i n some more =
-    grown-same (renewals i n) (renewals i (n + 1)) (split_key r writer) (renewals-unchanged i n some more)
-
-pub key-never : (r : History) (writer : Role) (i n : ℕ) → i ≡ 0 → renewed_after r writer i n ≡ None
-key-never r writer i n none =
-    grown-same (renewals i n) (renewals i (n + 1)) (split_key r writer) (renewals-never i n none)
-
 -- the key of the next message
 pub key-next : (r : History) (writer : Role) (i n : ℕ)
     → unwrap_or (renewed_after r writer i n) (transport_key r writer i n) ≡ transport_key r writer i (n + 1)
