@@ -1,10 +1,10 @@
 -- From a parse's matches to the order that they state.
-use Rattle.std.proofs.Common.{◌≡◌, ◌∙◌, ap, ap₂, sym, refl, codes, List, [], ◌∷◌, ◌++◌, Option, Some, None, option_map}
-use Rattle.std.specs.Prelude.{Box, Bool, true, false, option_and_then}
+use Rattle.std.proofs.Common.{◌≡◌, ◌∙◌, ap, ap₂, sym, refl, codes, List, [], ◌∷◌, Option, Some, None, option_map}
+use Rattle.std.specs.Prelude.{Box, Bool, true, false}
 use Rattle.std.specs.Str.{bytes_eq}
 use Rattle.std.proofs.lemmas.Slice.Eq.{bytes_eq-Decides}
 use Rattle.std.specs.Box.{box_value}
-use Rattle.clap.specs.Walk.{Row, Text, first_of, rows_of}
+use Rattle.clap.specs.Walk.{Row, Text, rows_of}
 use Rattle.clap.proofs.WalkLemmas.{first_value-rows}
 use Rattle.clap.specs.Kinds.{IsAmong, Kinds}
 use Rattle.clap.specs.declared.error.kind.ErrorKind.{ErrorKind}
@@ -14,7 +14,7 @@ use Rattle.clap.specs.Faults.{fault_of}
 use Rattle.clap.specs.declared.parser.matches.ArgMatches.{ArgMatches}
 use Rattle.clap.specs.declared.parser.matches.SubCommand.{SubCommand}
 use Rattle.clap.specs.declared.parser.matches.ArgMatches.TheViews.{out-ArgMatches, out-SubCommand}
-use Rattle.noise_words.specs.CommandLine.{Choice, Named, asked, asked_without, choice_in, chosen_of, flag_in, flag_of, heading_flag, noise, part_choice, role_choice, stated_by, stated_in}
+use Rattle.noise_words.specs.CommandLine.{Choice, Named, asked, asked_without, choice_in, chosen_of, flag_in, flag_of, noise, stated_by, stated_in}
 
 -- the name that a parse found is that of its rows
 name_of-rows : {Z : Type 0} (o : Option (Box SubCommand Z))
@@ -91,15 +91,3 @@ chosen_of-other a b text not_a not_b =
     let no_b = differs b text not_b in
     rw (no_a, no_b) refl
 
--- the order for a trace, by what the matches have for its options, its flag and its file
-abbrev pub traced_by : Option (Option Text) → Option (Option Text) → Option Text → Option Text → Option Named
-traced_by part role heading file =
-    option_and_then (λ chosen. option_map (λ text. (codes "trace", text ∷ [], chosen ++ heading ∷ [])) file)
-    (option_and_then (λ first. option_map (λ more. first ∷ more) (option_and_then (λ second. Some (second ∷ [])) role)) part)
-
-pub stated_by-trace : (rows : List Row) (part role : Option (Option Text)) (heading file : Option Text) → part ≡ choice_in rows part_choice
-    → role ≡ choice_in rows role_choice → heading ≡ flag_in rows heading_flag → file ≡ first_of (codes "FILE") rows
-    → traced_by part role heading file ≡ stated_by (codes "trace") rows
-stated_by-trace rows part role heading file part_is role_is heading_is file_is =
-    ap₂ (λ p r. traced_by p r heading file) part_is role_is
-    ∙ ap₂ (traced_by (choice_in rows part_choice) (choice_in rows role_choice)) heading_is file_is
