@@ -1,17 +1,10 @@
 -- What `talk`, `replay` and `convert` have done, and why they haven't.
-use Rattle.std.proofs.Common.{◌≡◌, ◌≢◌, ◌∙◌, refl, sym, ap, subst, ◌⊎◌, inl, inr, ◌<◌, ◌≤◌, ℕ, List, [], ◌∷◌, Vec, Option, Some, None, Result, Ok, Err, OnOk, length, map}
+use Rattle.std.proofs.Common.{◌≡◌, ◌∙◌, refl, sym, ap, subst, ◌⊎◌, inl, inr, ◌<◌, ◌≤◌, ℕ, List, [], ◌∷◌, Vec, Option, Some, None, Result, Ok, Err, OnOk, length}
 use Rattle.std.specs.Global.{Global}
 use Rattle.std.specs.Prelude.{IfErr, IfOk, IfSome}
 use Rattle.std.specs.Io.KnownBytes.{Appends}
-use Rattle.noise_names.specs.declared.token.Role.{Role}
-use Rattle.noise_events.specs.Events.{events_of}
-use Rattle.noise_duel.specs.Acts.{roles_and_payloads}
-use Rattle.noise_duel.specs.Conversation.{say_events}
-use Rattle.noise_events.specs.Events.{Event as Act, Say as Said}
-use Rattle.noise_events.specs.declared.event.Event.{Event}
 use Rattle.noise_lines.specs.Verdicts.{IsMet}
 use Rattle.noise_tool.specs.Conversion.{MeetsItself}
-use Rattle.noise_tool.specs.Ends.{IsStartFault}
 use Rattle.noise_lines.specs.Faults.{of_vector, status_of}
 use Rattle.noise_tool.specs.Performing.{AreMet, Converts, DifferAt, HasPrinted, HasRun, IsFault, IsNotMet, IsOfLines, IsPlain, IsReadVector, IsRunFault, IsTooLongConverted, IsUnlike, IsUnmet, Printing, RunsFile}
 use Rattle.noise_words.specs.declared.orders.Chosen.{Chosen}
@@ -29,7 +22,7 @@ use Rattle.noise_tool.specs.Tracing.{IsTraceOf}
 use Rattle.noise_tool.specs.Prefixes.{PrintsRun, PrintsRunPrefix}
 use Rattle.noise_tool.proofs.MetLemmas.{met-or-unmet}
 use Rattle.noise_vectors.specs.Expectations.{IsFirstUnmet, bytes_of}
-use Rattle.noise_vectors.specs.VectorFile.{IsAllowedFile, IsReadFault, IsVectorFile, say_of}
+use Rattle.noise_vectors.specs.VectorFile.{IsAllowedFile, IsReadFault, IsVectorFile}
 use Rattle.noise_vectors.specs.WrongLine.{IsReported}
 use Rattle.noise_vectors.specs.declared.faults.VectorFault.{VectorFault}
 use Rattle.noise_vectors.specs.declared.faults.VectorFault.TheVariants as vector
@@ -38,20 +31,6 @@ use Rattle.noise_vectors.specs.declared.vector.AllowedEvents.{AllowedEvents}
 use Rattle.noise_vectors.specs.declared.vector.AllowedEvents.TheVariants.{VersionOne}
 use Rattle.noise_vectors.specs.declared.vector.VectorFile.{VectorFile}
 use Rattle.noise_vectors.specs.declared.vector.Version.TheVariants.{One}
-
--- the lines of what is said are the events of the run
-say_events-lines : (lines : List (Role × Vec ℕ Global × List ℕ))
-    → events_of (map say_of lines) ≡ say_events (map (λ (l : Role × Vec ℕ Global × List ℕ). (l.0, l.1.items)) lines)
-say_events-lines [] = refl
-say_events-lines (l ∷ ls) = ap (λ (es : List Act). Said l.0 l.1.items ∷ es) (say_events-lines ls)
-
--- the events that are these lines
-pub said-events : (events : List Event) (lines given : List (Role × Vec ℕ Global × List ℕ)) → events ≡ map say_of lines → given ≡ lines
-    → say_events (roles_and_payloads given) ≡ events_of events
-said-events events lines given said is =
-    ap (λ (l : List (Role × Vec ℕ Global × List ℕ)). say_events (roles_and_payloads l)) is
-    ∙ sym (say_events-lines lines)
-    ∙ ap events_of (sym said)
 
 -- ---- of a file's bytes
 

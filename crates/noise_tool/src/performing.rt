@@ -24,7 +24,7 @@ ghost use Rattle.noise_lines.specs.declared.faults.Fault.{Fault};
 use crate::comparison::compare_log;
 use crate::explanation::explain_files;
 use crate::laws::conversions_meet_themselves;
-use crate::running::{Outcome, replay, run_vector};
+use crate::running::{Outcome, replay};
 use crate::testing::{FilesByName, test};
 use crate::trace_file::trace_chosen;
 use noise_lines::{
@@ -223,7 +223,7 @@ fn run_file<R: Read, O: Write>(
         ⊎ PrintsRunPrefix IsPlain (R.remaining file.old) (O.contents out.old) (O.contents out.new) }
 {
     let ReadVector { file: vector, .. } = read_vector_file(alloc, allowed, file)?;
-    let outcome = run_vector(alloc, vector, allowed)?;
+    let outcome = replay(alloc, vector)?;
     print_outcome(&outcome, out)
 }
 

@@ -1,7 +1,6 @@
 //! The run of a vector file.
 
 ghost use Rattle.std.specs.Prelude.{◌≡◌, ◌++◌, ◌∷◌, [], ℕ, List, Option, IfErr, IfOk, OnOk, codes, map};
-ghost use Rattle.std.specs.List.{All};
 ghost use Rattle.noise_duel.specs.DatagramReports.{DatagramDuelMatches};
 ghost use Rattle.noise_duel.specs.DatagramSides.{datagram_sides};
 ghost use Rattle.noise_duel.specs.DuelValue.{both_sides};
@@ -10,9 +9,7 @@ ghost use Rattle.noise_events.specs.Events.{events_of};
 ghost use Rattle.noise_session.specs.Datagrams.{DatagramState};
 ghost use Rattle.noise_session.specs.Ends.{EndState};
 ghost use Rattle.noise_vectors.specs.Expectations.{bytes_of};
-ghost use Rattle.noise_vectors.specs.VectorFile.{IsAllowed, IsAllowedFile};
 ghost use Rattle.noise_vectors.specs.VectorText.{window_words};
-ghost use Rattle.noise_vectors.specs.declared.vector.AllowedEvents.TheVariants.{SayOnly};
 ghost use Rattle.noise_tool.specs.Ends.{FileDuelMatches, IsStartFault};
 ghost use Rattle.noise_lines.specs.PrintedWords.{AreExpected};
 ghost use Rattle.noise_tool.specs.Printed.{Appended, state_lines};
@@ -25,7 +22,7 @@ use noise_duel::{DatagramDuel, Duel, Event};
 use noise_lines::{Fault, Line};
 use noise_session::Window;
 use noise_session::laws::end_is_reported;
-use noise_vectors::{AllowedEvents, FileDatagrams, FileKeys, VectorFile, Version, said_lines};
+use noise_vectors::{FileDatagrams, FileKeys, VectorFile, Version};
 use std::alloc::{AllocError, Global};
 
 /// What comes of the run of a file.
@@ -37,22 +34,9 @@ pub struct Outcome {
     pub expected: Vec<Vec<u8>>,
 }
 
-/// Makes the two ends that the file describes, and lets them say what it says.
+/// Makes the two ends that the file describes, and runs its events, and its datagrams.
 ///
 /// Where there are no such ends, the fault is that of `make_ends`.
-pub fn talk(alloc: Global, file: VectorFile) -> Result<Outcome, Fault>
-    requires { IsAllowedFile SayOnly file }
-    ensures lines { IfOk result (λ outcome. IsRunOf file (bytes_of outcome.lines.items)) }
-    ensures printed { IfOk result (λ outcome. AreExpected outcome.lines.items) }
-    ensures expected { IfOk result (λ outcome. bytes_of outcome.expected.items ≡ expected_in file.version) }
-    ensures fault { IfErr result (λ fault. IsStartFault file fault) }
-{
-    let (duel, events, version) = make_ends(alloc, file)?;
-    let (duel, lines) = say(alloc, duel, events)?;
-    Ok(close(alloc, duel, lines, version)?)
-}
-
-/// The same of all kinds of events, and of datagrams.
 pub fn replay(alloc: Global, file: VectorFile) -> Result<Outcome, Fault>
     ensures lines { IfOk result (λ outcome. IsRunOf file (bytes_of outcome.lines.items)) }
     ensures printed { IfOk result (λ outcome. AreExpected outcome.lines.items) }
@@ -62,37 +46,6 @@ pub fn replay(alloc: Global, file: VectorFile) -> Result<Outcome, Fault>
     let (duel, events, version) = make_ends(alloc, file)?;
     let (duel, lines) = run_events(alloc, duel, &events)?;
     Ok(close(alloc, duel, lines, version)?)
-}
-
-/// One of the two, by what the file is allowed to have.
-pub fn run_vector(alloc: Global, file: VectorFile, allowed: AllowedEvents) -> Result<Outcome, Fault>
-    requires { IsAllowedFile allowed file }
-    ensures lines { IfOk result (λ outcome. IsRunOf file (bytes_of outcome.lines.items)) }
-    ensures printed { IfOk result (λ outcome. AreExpected outcome.lines.items) }
-    ensures expected { IfOk result (λ outcome. bytes_of outcome.expected.items ≡ expected_in file.version) }
-    ensures fault { IfErr result (λ fault. IsStartFault file fault) }
-{
-    match allowed {
-        AllowedEvents::SayOnly => talk(alloc, file),
-        AllowedEvents::Any | AllowedEvents::VersionOne => replay(alloc, file),
-    }
-}
-
-// The duel after these events, which only say things, and the lines of what came of them.
-fn say(
-    alloc: Global,
-    duel: Duel<FileKeys, FileKeys>,
-    events: Vec<Event>,
-) -> Result<(Duel<FileKeys, FileKeys>, Vec<Vec<u8>>), AllocError>
-    requires { All (IsAllowed SayOnly) events.items }
-    ensures ran { (v w : EndState) → FileDuelMatches duel (both_sides v w)
-        → IfOk result (λ r. LeavesLines (both_sides v w) (events_of events.items) r.0 (bytes_of r.1.items)) }
-    ensures printed { IfOk result (λ r. AreExpected r.1.items) }
-{
-    let said = said_lines(alloc, events)?;
-    let (duel, report) = duel.converse(alloc, &said)?;
-    let lines = entry_lines(alloc, &report)?;
-    Ok((duel, lines))
 }
 
 // The duel after these events, and the lines of what came of them.
