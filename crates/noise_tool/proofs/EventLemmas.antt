@@ -20,6 +20,7 @@ use Rattle.noise_tool.specs.TracedEnds.{EndsTraced, entry_frame}
 use Rattle.noise_tool.specs.Tracing.{came_traces, happened_traces, written_frame, written_trace}
 use Rattle.noise_tool.specs.declared.key_use_lines.Selection.{Selection}
 use Rattle.noise_tool.specs.declared.traced_ends.TracedEnds.{TracedEnds}
+use Rattle.noise_tool.proofs.ReceivedLemmas.{first-note}
 use Rattle.noise_tool.proofs.RunningLemmas.{on_ok}
 use Rattle.std.proofs.lemmas.Option.{same_Some}
 use Rattle.noise_names.specs.Lists.{get-last}
@@ -194,18 +195,6 @@ say-none selection d next role payload notes h none = at (of-say selection d nex
   at (inl s) = none-first role (Wrote s.number) _ (none ∙ s.notes_are)
   at (inr s) = none-first role (WriteFault s.why) _ (none ∙ s.notes_are)
 
-pub head-note : (r s : Role) (m n : Note) (ms ns : List (Role × Note)) → (r, m) ∷ ms ≡ (s, n) ∷ ns → m ≡ n
-head-note r s m n ms ns e = ap (λ (xs : List (Role × Note)). first-of m xs) e where
-  first-of : Note → List (Role × Note) → Note
-  first-of d [] = d
-  first-of d (x ∷ xs) = x.1
-
-rest-notes : (r s : Role) (m n : Note) (ms ns : List (Role × Note)) → (r, m) ∷ ms ≡ (s, n) ∷ ns → ms ≡ ns
-rest-notes r s m n ms ns e = ap rest-of e where
-  rest-of : List (Role × Note) → List (Role × Note)
-  rest-of [] = []
-  rest-of (x ∷ xs) = xs
-
 -- what is known of the write, and of the bytes that come then
 abbrev Writes-on : Selection → Sides → Sides → Role → Note → Traces → Traces → TracedEnds → TracedEnds → Type 0
 Writes-on selection d last role given old one before between = (next : Side) (payload : List ℕ) (note : Note) (w : SideWrites (side d role) payload note next)
@@ -222,11 +211,11 @@ say-fault selection d next role by payload notes more h given old one before bet
     at : Said-all selection d next role payload notes (happened_traces selection d next (Say role payload) notes h)
         ⊎ Said-none selection d next role payload notes (happened_traces selection d next (Say role payload) notes h)
         → (one ≡ old ++ happened_traces selection d next (Say role payload) notes h) × EndsTraced between next
-    at (inl s) = absurd (no_number s.number (head-note by role given (Wrote s.number) more _ (reported ∙ s.notes_are)))
+    at (inl s) = absurd (no_number s.number (first-note by role given (Wrote s.number) more _ (reported ∙ s.notes_are)).0)
     at (inr s) =
         let done = on s.after payload (WriteFault s.why) s.w traced
         (ap (λ (z : Sides). (side z role).frames) s.next_is ∙ frames-written d role s.after)
-        (head-note by role given (WriteFault s.why) more _ (reported ∙ s.notes_are)) in (
+        (first-note by role given (WriteFault s.why) more _ (reported ∙ s.notes_are)).0 in (
           done.0 ∙ ap (λ (x : Traces). old ++ x) (sym s.traces_are),
           subst (λ (z : Sides). EndsTraced between z) (sym s.next_is) done.1,
         )
@@ -251,10 +240,10 @@ say-frame {E = E} selection d next role by payload notes more h number frame old
         ⊎ Said-none selection d next role payload notes (happened_traces selection d next (Say role payload) notes h)
         → OnOk r ((new ≡ old ++ happened_traces selection d next (Say role payload) notes h) × EndsTraced after next)
     at (inr s) =
-        let bad : Wrote number ≡ WriteFault s.why = head-note by role (Wrote number) (WriteFault s.why) more _ (reported ∙ s.notes_are) in absurd (cc bad)
+        let bad : Wrote number ≡ WriteFault s.why = (first-note by role (Wrote number) (WriteFault s.why) more _ (reported ∙ s.notes_are)).0 in absurd (cc bad)
     at (inl s) =
-        let heads : Wrote number ≡ Wrote s.number = head-note by role (Wrote number) (Wrote s.number) more _ (reported ∙ s.notes_are) in
-        let tails = rest-notes by role (Wrote number) (Wrote s.number) more _ (reported ∙ s.notes_are) in
+        let two = first-note by role (Wrote number) (Wrote s.number) more _ (reported ∙ s.notes_are) in
+        let heads : Wrote number ≡ Wrote s.number = two.0 in
         let written : (side next role).frames ≡ s.after.frames =
         ap (λ (z : Sides). (side z role).frames) s.next_is ∙ frames-said d role s.after s.reader in
         let done = on s.after payload (Wrote s.number) s.w traced written heads in
@@ -280,7 +269,7 @@ say-frame {E = E} selection d next role by payload notes more h number frame old
               (came_traces selection (other role) (side d (other role)) s.reader s.bytes s.heard s.x)
               ∙ ap (λ (x : Traces). old ++ x) (sym s.traces_are),
           subst (λ (z : Sides). EndsTraced after z) (sym s.next_is) both.1,
-        )) (last s.reader s.heard s.x tails)
+        )) (last s.reader s.heard s.x two.1)
 
 -- an entry that reports of no frame
 pub note-number : (e : Entry) → ((n : ℕ) → e ≡ entry.Wrote n → ⊥) → (n : ℕ) → note_of e ≢ Wrote n

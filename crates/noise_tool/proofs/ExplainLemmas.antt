@@ -1,12 +1,12 @@
 -- What is said of files that are explained.
-use Rattle.std.proofs.Common.{◌≡◌, ◌∙◌, refl, sym, ap, subst, ◌⊎◌, inl, inr, arith, ◌≤◌, if◌then◌else◌, ℕ, Bool, true, false, nat_le, List, [], ◌∷◌, ◌++◌, Option, String, drop, length, string_bytes, take, append_assoc, append-nil}
+use Rattle.std.proofs.Common.{◌≡◌, ◌∙◌, refl, sym, ap, subst, ◌⊎◌, inl, inr, arith, ◌≤◌, if◌then◌else◌, ℕ, Bool, true, false, nat_le, List, [], ◌∷◌, ◌++◌, Option, String, drop, length, string_bytes, take, append_assoc}
 use Rattle.std.specs.Prelude.{IfOk, IsTrue, Result, Ok, Err, map}
 use Rattle.std.specs.Global.{Global}
 use Rattle.std.specs.Io.KnownBytes.{Appends, Keeps}
-use Rattle.std.proofs.KnownBytes.{Appends-nil, Appends-trans}
+use Rattle.std.proofs.KnownBytes.{Appends-trans}
 use Rattle.std.proofs.lemmas.List.{flat_map_more, map-append, map_push, take_all, take-append-drop}
 use Rattle.std.specs.List.{Contains}
-use Rattle.std.proofs.lemmas.List.Elements.{All-nil, All-push, Contains-append_right}
+use Rattle.std.proofs.lemmas.List.Elements.{All-push, Contains-append_right}
 use Rattle.std.proofs.lemmas.List.Sums.{fold-append}
 use Rattle.noise_explain.specs.declared.explanation.Explained.{Explained}
 use Rattle.noise_lines.specs.Faults.{status_of}
@@ -18,14 +18,6 @@ use Rattle.noise_explain.specs.Shown.{unread_head}
 use Rattle.noise_tool.specs.Explaining.{AreSaid, ExplainsPrefix, HasExplained, IsExplainedFile, Said, StopsExplaining, said_text, worse}
 use Rattle.noise_tool.specs.Testing.{EndsTest}
 use Rattle.noise_tool.proofs.TestingLemmas.{after-prefix, kept-appends, reported-ends, reported-left, whole-prefix}
-
-pub none-said : (bytes_at : List ℕ → Option (List ℕ)) (out : Option (List ℕ)) → HasExplained bytes_at [] out out 0
-none-said bytes_at out = record {
-  said = [];
-  are = record { named = refl; right = All-nil (λ (s : Said). IsExplainedFile (bytes_at s.name) s.name s.explained) };
-  printed = Appends-nil out;
-  status_is = refl;
-}
 
 -- it is said of one file more
 said-of : (bytes_at : List ℕ → Option (List ℕ)) (names : List (List ℕ)) (name : List ℕ) (said : List Said) (x : Explained) → AreSaid bytes_at names said
@@ -79,7 +71,7 @@ worse-few first second worst few few' is = at (nat_le first second) refl where
 
 -- ---- a prefix of what is said
 
-pub said-begun : (bytes_at : List ℕ → Option (List ℕ)) (names others all : List (List ℕ)) (a e : Option (List ℕ)) (status : ℕ) → names ++ others ≡ all
+said-begun : (bytes_at : List ℕ → Option (List ℕ)) (names others all : List (List ℕ)) (a e : Option (List ℕ)) (status : ℕ) → names ++ others ≡ all
     → HasExplained bytes_at names a e status → ExplainsPrefix bytes_at all a e
 said-begun bytes_at names others all a e status is before = record {
   first = names;
@@ -89,10 +81,6 @@ said-begun bytes_at names others all a e status is before = record {
   are = before.are;
   grown = whole-prefix a e (said_text before.said) before.printed;
 }
-
-pub all-begun : (bytes_at : List ℕ → Option (List ℕ)) (names : List (List ℕ)) (a e : Option (List ℕ)) (status : ℕ) → HasExplained bytes_at names a e status
-    → ExplainsPrefix bytes_at names a e
-all-begun bytes_at names a e status before = said-begun bytes_at names [] names a e status (append-nil names) before
 
 -- what is said of the next file has begun
 pub next-begun : (bytes_at : List ℕ → Option (List ℕ)) (names others all : List (List ℕ)) (name : List ℕ) (a m e : Option (List ℕ)) (status : ℕ) (x : Explained)
@@ -110,9 +98,12 @@ next-begun bytes_at names others all name a m e status x text is before right te
           (after-prefix a m e (said_text before.said) text before.printed grown);
     }
 
--- the names, cut before one of them
-pub names-cut : (names : List (String Global)) (i : ℕ) → map string_bytes (take i names) ++ map string_bytes (drop i names) ≡ map string_bytes names
-names-cut names i = sym (map-append string_bytes (take i names) (drop i names)) ∙ ap (map string_bytes) (take-append-drop i names)
+-- what is said of the files before one of them
+pub begun-at : (bytes_at : List ℕ → Option (List ℕ)) (names : List (String Global)) (i : ℕ) (a e : Option (List ℕ)) (status : ℕ)
+    → HasExplained bytes_at (map string_bytes (take i names)) a e status → ExplainsPrefix bytes_at (map string_bytes names) a e
+begun-at bytes_at names i a e status before =
+    said-begun bytes_at (map string_bytes (take i names)) (map string_bytes (drop i names)) (map string_bytes names) a e status
+    (sym (map-append string_bytes (take i names) (drop i names)) ∙ ap (map string_bytes) (take-append-drop i names)) before
 
 -- ---- what is reported where the command ends
 

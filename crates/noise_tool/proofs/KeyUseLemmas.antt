@@ -22,7 +22,7 @@ use Rattle.noise_session.specs.Sending.Sends.{refuses, lacks_dh_result, sends_ha
 use Rattle.noise_session.specs.Steps.{StepValue}
 use Rattle.noise_session.specs.Steps.StepValue.{Payload, Dropped, Refused, Exhausted}
 use Rattle.noise_session.specs.Taking.{Judges}
-use Rattle.noise_session.specs.Taking.Judges.{accepted, refused, opened, dropped, exhausted}
+use Rattle.noise_session.specs.Taking.Judges.{refused, dropped, exhausted}
 use Rattle.noise_names.specs.Tokens.{other}
 use Rattle.noise_state.specs.History.{History}
 use Rattle.noise_session.specs.Transport.{last_nonce, transport_key}
@@ -196,9 +196,6 @@ wrote-or-not s next payload note (writes_handshake _ text _ xs free w) no_number
 wrote-or-not s next payload note (writes_transport _ text _ free opens spelled) no_number no_fault = no_number (length s.frames) refl
 
 -- ---- reading
-
-payload-same : (x y : List ℕ) → Judged (Payload x) ≡ Judged (Payload y) → x ≡ y
-payload-same x y e = cc
 
 module _ (old new : Trace) (m : KeyUse) where
   -- a message that was accepted

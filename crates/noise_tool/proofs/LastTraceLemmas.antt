@@ -1,7 +1,6 @@
 -- The lines of the key schedules after the events.
-use Rattle.std.proofs.Common.{◌≡◌, ◌∙◌, ◌&&◌, ◌==◌, refl, sym, ap, arith, ℕ, Bool, true, false, List, [], ◌∷◌, ◌++◌, length, Option, Some, None, is_some}
+use Rattle.std.proofs.Common.{◌≡◌, ◌∙◌, ◌&&◌, ◌==◌, refl, sym, ℕ, Bool, true, false, List, [], ◌∷◌, ◌++◌, length, Option, is_some}
 use Rattle.std.specs.Prelude.{if◌then◌else◌}
-use Rattle.std.proofs.lemmas.Bool.Decides.{nat_tests}
 use Rattle.noise_names.specs.declared.token.Role.{Role}
 use Rattle.noise_names.specs.declared.token.Role.TheVariants.{Initiator, Responder}
 use Rattle.noise_names.specs.Plan.{Plan, is_one_way}
@@ -9,9 +8,6 @@ use Rattle.noise_session.specs.Ends.{EndState, progress_of}
 use Rattle.noise_session.specs.EndDatagrams.{is_untouched}
 use Rattle.noise_session.specs.Progress.Progress.{Handshaking, Open, HasEnded}
 use Rattle.noise_duel.specs.Sides.{Sides}
-use Rattle.noise_state.specs.History.{initiator_key, responder_key}
-use Rattle.noise_handshake.specs.Party.{Party}
-use Rattle.noise_trace.specs.KeyUses.{keys_in}
 use Rattle.noise_vectors.specs.declared.vector.FileDatagrams.{FileDatagrams}
 use Rattle.noise_tool.specs.Running.{AreLast, are_ready, is_ready}
 use Rattle.noise_tool.specs.Running.AreLast.{without, unready, ready}
@@ -53,14 +49,3 @@ ready-over datagrams d e =
       ready-passed d.initiator.state (and_parts (is_ready d.initiator.state) (is_ready d.responder.state) both).0,
       ready-passed d.responder.state (and_parts (is_ready d.initiator.state) (is_ready d.responder.state) both).1,
     )
-
--- ---- the keys of a session that has opened
-
-same-test : (n : ℕ) → (n == n) ≡ true
-same-test n = grind (arith, nat_tests)
-
-pub keys-there : (v : Party) → v.passed ≡ length v.pattern.messages → keys_in v ≡ Some (initiator_key v.history, responder_key v.history)
-keys-there v e =
-    let test : (v.passed == length v.pattern.messages) ≡ true =
-    ap (λ (k : ℕ). k == length v.pattern.messages) e ∙ same-test (length v.pattern.messages) in
-    ap (λ (b : Bool). if b then Some (initiator_key v.history, responder_key v.history) else None) test

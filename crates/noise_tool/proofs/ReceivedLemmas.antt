@@ -67,7 +67,7 @@ read-empties s next message step (refuses_message _ _ _ after gives judges) = ju
 
 -- ---- one entry more
 
-first-note : (role other : Role) (n m : Note) (ns ms : List (Role × Note)) → (role, n) ∷ ns ≡ (other, m) ∷ ms → (n ≡ m) × (ns ≡ ms)
+pub first-note : (role other : Role) (n m : Note) (ns ms : List (Role × Note)) → (role, n) ∷ ns ≡ (other, m) ∷ ms → (n ≡ m) × (ns ≡ ms)
 first-note role other n m ns ms e =
     (ap (λ (xs : List (Role × Note)). note-of n xs) e, ap rest-of e)
   where

@@ -22,7 +22,7 @@ use Rattle.noise_vectors.specs.FileKeys.{public_of}
 use Rattle.noise_vectors.specs.declared.file_keys.FileKeys.{FileKeys}
 use Rattle.noise_vectors.specs.declared.file_keys.FileKeys.TheVariants.{Table}
 use Rattle.noise_vectors.specs.declared.vector.VectorFile.{VectorFile}
-use Rattle.noise_template.specs.Template.{IsTemplate, key_byte, key_in, name_of, placeholder, psk_key, unless_known}
+use Rattle.noise_template.specs.Template.{IsTemplate, key_byte, name_of, placeholder, psk_key, unless_known}
 use Rattle.noise_template.specs.Template as template
 use Rattle.noise_handshake.specs.Counterparts.{shown_before}
 use Rattle.noise_tool.specs.Ends.{IsFilePattern, keys_of_role, setup_of}

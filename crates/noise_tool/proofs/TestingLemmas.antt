@@ -1,24 +1,22 @@
 -- What comes of vector files that are tested.
-use Rattle.std.proofs.Common.{Vec, ◌≡◌, ◌∙◌, refl, sym, ap, ap₂, subst, ◌⊎◌, inl, inr, ◌<◌, ◌≤◌, ◌+◌, ◌==◌, if◌then◌else◌, ℕ, Bool, true, false, not, ◌&&◌, ◌||◌, List, [], ◌∷◌, ◌++◌, Option, Some, None, String, drop, get_or, length, string_bytes, take, append_assoc, append-nil, arith}
-use Rattle.std.specs.Prelude.{OnOk, IfErr, IfNone, IfOk, IfSome, IsTrue, Result, Ok, Err, cond, count_by, map}
+use Rattle.std.proofs.Common.{◌≡◌, ◌∙◌, refl, sym, ap, ap₂, subst, ◌⊎◌, inl, inr, ◌<◌, ◌≤◌, ◌+◌, ℕ, Bool, true, false, not, ◌&&◌, ◌||◌, List, [], ◌∷◌, ◌++◌, Option, Some, None, String, drop, get_or, length, string_bytes, take, append_assoc, append-nil, arith}
+use Rattle.std.specs.Prelude.{OnOk, IfErr, IfOk, IfSome, IsTrue, Result, Ok, Err, cond, count_by, map}
 use Rattle.std.specs.Global.{Global}
 use Rattle.std.specs.List.{sum_by}
 use Rattle.std.specs.Io.KnownBytes.{Appends, Keeps}
 use Rattle.std.proofs.KnownBytes.{Appends-nil, Appends-trans}
 use Rattle.std.proofs.lemmas.Grind.{flat_map-append}
 use Rattle.std.proofs.lemmas.List.{flat_map_more, map-append, map_more, map_push, take-append-drop}
-use Rattle.std.proofs.lemmas.List.Elements.{All-nil, All-push}
+use Rattle.std.proofs.lemmas.List.Elements.{All-push}
 use Rattle.std.proofs.lemmas.List.Sums.{sum_by-append}
 use Rattle.noise_names.specs.Names.{Section}
 use Rattle.noise_names.specs.Plan.{Plan}
 use Rattle.noise_names.specs.Text.{line}
-use Rattle.noise_lines.specs.Faults.{of_vector, status_of}
+use Rattle.noise_lines.specs.Faults.{status_of}
 use Rattle.noise_lines.specs.Lines.{lines_text}
 use Rattle.noise_lines.specs.Prefixes.{AppendsPrefix}
 use Rattle.noise_lines.specs.Reported.{IsReportedOf, LeavesOutput, error_text}
 use Rattle.noise_lines.specs.declared.verdict.Difference.{Difference}
-use Rattle.noise_vectors.specs.declared.faults.VectorFault.{VectorFault}
-use Rattle.noise_vectors.specs.declared.faults.VectorFault.TheVariants as vector
 use Rattle.noise_lines.specs.declared.faults.Fault.{Fault}
 use Rattle.noise_lines.specs.declared.faults.Fault.TheVariants as fault
 use Rattle.noise_vectors.specs.Expectations.{bytes_of}
@@ -26,21 +24,20 @@ use Rattle.noise_vectors.specs.VectorFile.{IsVectorFile}
 use Rattle.noise_vectors.specs.VectorText.{text_of}
 use Rattle.noise_vectors.specs.declared.vector.AllowedEvents.TheVariants.{Any}
 use Rattle.noise_vectors.specs.declared.vector.VectorFile.{VectorFile}
-use Rattle.noise_explain.specs.FramePieces.{HaveNoFrame, SaysPiece}
-use Rattle.noise_lines.specs.Verdicts.{IsJudged, bytes_in, is_met, verdict_text}
+use Rattle.noise_lines.specs.Verdicts.{IsJudged, is_met, verdict_text}
 use Rattle.noise_lines.specs.TracedLines.{traces_of}
 use Rattle.noise_tool.specs.Ends.{IsFilePatternFault, IsStartFault}
 use Rattle.noise_tool.specs.Performing.{IsRunFault}
 use Rattle.noise_tool.specs.Running.{IsRunOf, expected_in}
 use Rattle.noise_tool.specs.Selection.{all_lines}
-use Rattle.noise_tool.specs.Testing.{TestedName, EndsTest, HasBegunTest, HasTested, HaveTested, IsBelowVerdict, IsTraceFront, IsOfFile, IsPatternOfText, IsPieceOf, IsTested, IsVerdictOn, Judged, RunsTo, SayPiece, TestsPrefix}
-use Rattle.noise_tool.specs.Testing.{tested_names, tested_names_after, asked_in, below_of, failed_in, listed, is_input, passed_in, tally_line, tested_text, verdicts_text}
+use Rattle.noise_tool.specs.Testing.{TestedName, EndsTest, HasBegunTest, HasTested, HaveTested, IsBelowVerdict, IsTraceFront, IsOfFile, IsPatternOfText, IsPieceOf, IsTested, IsVerdictOn, Judged, RunsTo, TestsPrefix}
+use Rattle.noise_tool.specs.Testing.{tested_names, tested_names_after, asked_in, below_of, failed_in, is_input, passed_in, tally_line, tested_text, verdicts_text}
 use Rattle.noise_tool.specs.TracedText.{front_if}
 use Rattle.noise_tool.specs.Tracing.{HasTraces}
 use Rattle.noise_tool.specs.declared.testing.TestedRun.{TestedRun}
 use Rattle.noise_tool.specs.declared.tracing.Traced.{Traced}
 use Rattle.noise_lines.specs.declared.verdict.Verdict.{Verdict}
-use Rattle.noise_lines.specs.declared.verdict.Verdict.TheVariants.{Met, Differs, CannotRun, ExpectsNothing, NamedTwice}
+use Rattle.noise_lines.specs.declared.verdict.Verdict.TheVariants.{Differs, CannotRun, NamedTwice}
 
 -- ---- the verdict on a file
 
@@ -200,14 +197,6 @@ unrun-begun contents again traces known unreadable name old new verdict (Err why
   grown = subst (λ (t : List ℕ). AppendsPrefix (contents old) (contents new) t) (unrun-text name verdict) h;
 })
 
--- a text isn't run for what it says, or for want of memory
-of_vector-read : (why : VectorFault) → ¬ (of_vector why ≡ fault.Unreadable)
-of_vector-read (vector.Line n kind) e = absurd (cc e)
-of_vector-read vector.Memory e = absurd (cc e)
-
-pub vector-read : (why : VectorFault) (f : Fault) → f ≡ of_vector why → ¬ (f ≡ fault.Unreadable)
-vector-read why f is e = of_vector-read why (sym is ∙ e)
-
 no-pattern-read : (block : Option Plan) (name : Section) → ¬ IsFilePatternFault block name fault.Unreadable
 no-pattern-read None name h = h
 no-pattern-read (Some pattern) name h = h
@@ -234,39 +223,12 @@ start-unread file why h = λ e. no-pattern-read file.block file.protocol (subst 
 
 -- ---- the piece of a message
 
-pub say-first : (plan : Plan) (e p : Option (Vec ℕ Global)) (lines : List (List ℕ)) → e ≡ None → lines ≡ []
-    → SayPiece plan (bytes_in e) (bytes_in p) lines
-say-first plan e p lines none is = rw none is
-
-pub say-second : (plan : Plan) (e p : Option (Vec ℕ Global)) (lines : List (List ℕ)) → p ≡ None → lines ≡ []
-    → SayPiece plan (bytes_in e) (bytes_in p) lines
-say-second plan None p lines none is = is
-say-second plan (Some v) p lines none is = rw none is
-
-pub say-found : {E : Type 0} (plan : Plan) (e p found : Option (Vec ℕ Global)) (ev pv : List ℕ) (r : Result (Vec (Vec ℕ Global) Global) E)
-    → bytes_in e ≡ Some ev → bytes_in p ≡ Some pv → IfSome found (λ line. (n : ℕ) × SaysPiece plan n ev pv line.items)
-    → IfNone found (HaveNoFrame plan ev pv) → IfOk r (λ lines. bytes_of lines.items ≡ listed (bytes_in found))
-    → IfOk r (λ lines. SayPiece plan (bytes_in e) (bytes_in p) (bytes_of lines.items))
-say-found plan e p (Some line) ev pv (Ok lines) e_is p_is some none is = rw (e_is, p_is) (inl (some.0, line.items, is, some.1))
-say-found plan e p None ev pv (Ok lines) e_is p_is some none is = rw (e_is, p_is) (inr (is, none))
-say-found plan e p found ev pv (Err why) e_is p_is some none is = tt
-
 pub start-read : {T : Type 0} (file : VectorFile) (result : Result T Fault) → IfErr result (λ why. IsStartFault file why)
     → IfErr result (λ why. ¬ (why ≡ fault.Unreadable))
 start-read file (Ok t) h = tt
 start-read file (Err why) h = λ e. no-pattern-read file.block file.protocol (subst (IsStartFault file) e h)
 
 -- ---- several files
-
-pub none-tested : (traces : Bool) (bytes_at : List ℕ → Option (List ℕ)) (unreadable : List ℕ → Bool) (out : Option (List ℕ)) → HaveTested traces bytes_at unreadable [] out out 0 0
-none-tested traces bytes_at unreadable out = record {
-  verdicts = [];
-  named = refl;
-  right = All-nil (λ (v : Judged). IsVerdictOn v.again traces (bytes_at v.name) (unreadable v.name) v.verdict v.below);
-  printed = Appends-nil out;
-  passed_is = refl;
-  failed_is = refl;
-}
 
 counted : {X : Type 0} (p : X → Bool) (xs : List X) (x : X) → count_by p (xs ++ x ∷ []) ≡ count_by p xs + cond (p x) 1 0
 counted {X = X} p xs x =
@@ -313,21 +275,6 @@ kept-appends None b c bs p q = tt
 kept-appends (Some x) None c bs p q = absurd p
 kept-appends (Some x) (Some y) None bs p q = absurd q
 kept-appends (Some x) (Some y) (Some z) bs p q = q ∙ p
-
--- the line of how many passed and failed is written after them
-pub whole-tested : (traces : Bool) (bytes_at : List ℕ → Option (List ℕ)) (unreadable : List ℕ → Bool) (names : List (List ℕ)) (a m n e : Option (List ℕ)) (passed failed status : ℕ)
-    (tally : List ℕ) → HaveTested traces bytes_at unreadable (tested_names names) a m passed failed → tally ≡ tally_line passed failed → Appends m n tally → Keeps n e
-    → status ≡ (if failed == 0 then 0 else 1) → IsTested traces bytes_at unreadable names a e status
-whole-tested traces bytes_at unreadable names a m n e passed failed status tally before tally_is written kept status_is =
-    record {
-      verdicts = before.verdicts;
-      named = before.named;
-      right = before.right;
-      printed = kept-appends a n e _ (subst (λ (t : List ℕ). Appends a n (verdicts_text before.verdicts ++ t))
-          (tally_is ∙ ap₂ tally_line before.passed_is before.failed_is)
-          (Appends-trans a m n (verdicts_text before.verdicts) tally before.printed written)) kept;
-      status_is = status_is ∙ ap (λ (k : ℕ). if k == 0 then 0 else 1) before.failed_is;
-    }
 
 -- ---- a prefix of what is printed
 
@@ -518,7 +465,7 @@ abbrev pub named-after : Bool → List (List ℕ) → Bool
 named-after named [] = named
 named-after named (name ∷ more) = named-after (named || is_input name) more
 
-pub named-more : (named : Bool) (names : List (List ℕ)) (name : List ℕ) → named-after named (names ++ name ∷ []) ≡ (named-after named names || is_input name)
+named-more : (named : Bool) (names : List (List ℕ)) (name : List ℕ) → named-after named (names ++ name ∷ []) ≡ (named-after named names || is_input name)
 named-more named [] name = refl
 named-more named (n ∷ names) name = named-more (named || is_input n) names name
 
@@ -528,29 +475,27 @@ asked-append named [] more = refl
 asked-append named (n ∷ names) more =
     ap (λ (fs : List TestedName). (n, is_input n && named) ∷ fs) (asked-append (named || is_input n) names more)
 
--- a name is that of standard input again, and it was named from there on
-is-again : (again is named i n : Bool) → is ≡ i → named ≡ n → ((is ≡ true) × (again ≡ named)) ⊎ ((is ≡ false) × (again ≡ false)) → again ≡ (i && n)
-is-again again is named i n e f (inl (on, same)) = same ∙ f ∙ rw (sym e ∙ on) refl
-is-again again is named i n e f (inr (off, none)) = none ∙ rw (sym e ∙ off) refl
-
-pub is-named : (next named is n i : Bool) → named ≡ n → is ≡ i → ((named ≡ true) × (next ≡ true)) ⊎ ((named ≡ false) × (next ≡ is)) → next ≡ (n || i)
-is-named next named is n i f e (inl (on, stays)) = stays ∙ rw (sym f ∙ on) refl
-is-named next named is n i f e (inr (off, same)) = same ∙ e ∙ rw (sym f ∙ off) refl
-
 -- one name more
 asked-more : (names all : List (List ℕ)) (name : List ℕ) (again : Bool) → all ≡ names ++ name ∷ [] → again ≡ (is_input name && named-after false names)
     → tested_names all ≡ tested_names names ++ (name, again) ∷ []
 asked-more names all name again all_is again_is =
     ap tested_names all_is ∙ asked-append false names (name ∷ []) ∙ ap (λ (b : Bool). tested_names names ++ (name, b) ∷ []) (sym again_is)
 
--- what is tested_names for up to a name, by whether it is that of standard input and whether that was named before
-pub asked-here : (names : List (String Global)) (i : ℕ) (item : String Global) (name : List ℕ) (again is named : Bool) → i < length names
-    → item ≡ get_or names i item → name ≡ string_bytes item → is ≡ is_input name → named ≡ named-after false (map string_bytes (take i names))
-    → ((is ≡ true) × (again ≡ named)) ⊎ ((is ≡ false) × (again ≡ false))
+-- the names up to one of them, by whether that is standard input again
+pub asked-here : (names : List (String Global)) (i : ℕ) (item : String Global) (name : List ℕ) (again named : Bool) → i < length names
+    → item ≡ get_or names i item → name ≡ string_bytes item → named ≡ named-after false (map string_bytes (take i names)) → again ≡ (is_input name && named)
     → tested_names (map string_bytes (take (i + 1) names)) ≡ tested_names (map string_bytes (take i names)) ++ (name, again) ∷ []
-asked-here names i item name again is named less item_is name_is is_is named_is again_in =
+asked-here names i item name again named less item_is name_is named_is again_is =
     asked-more (map string_bytes (take i names)) _ name again (name-more names i item name less item_is name_is)
-    (is-again again is named _ _ is_is named_is again_in)
+    (again_is ∙ ap (λ (b : Bool). is_input name && b) named_is)
+
+-- and by whether standard input is named among them
+pub named-here : (names : List (String Global)) (i : ℕ) (item : String Global) (name : List ℕ) (named next : Bool) → i < length names
+    → item ≡ get_or names i item → name ≡ string_bytes item → named ≡ named-after false (map string_bytes (take i names)) → next ≡ (named || is_input name)
+    → next ≡ named-after false (map string_bytes (take (i + 1) names))
+named-here names i item name named next less item_is name_is named_is next_is =
+    next_is ∙ ap (λ (b : Bool). b || is_input name) named_is ∙ sym (named-more false (map string_bytes (take i names)) name)
+    ∙ ap (named-after false) (sym (name-more names i item name less item_is name_is))
 
 -- the names, cut before one of them
 asked-cut : (names : List (String Global)) (i : ℕ)

@@ -1,6 +1,6 @@
 //! The command `test`: vector files are run, and each run is compared with what its file expects.
 
-ghost use Rattle.std.specs.Prelude.{◌≡◌, ◌⊎◌, ◌<◌, ◌≤◌, ℕ, Bool, List, Option, true, false, IfErr, IfOk, IfSome, IsTrue, OnOk, length, map, string_bytes, vec_len};
+ghost use Rattle.std.specs.Prelude.{◌≡◌, ◌⊎◌, ◌<◌, ◌≤◌, ◌&&◌, ◌||◌, ℕ, Bool, List, Option, true, false, IfErr, IfOk, IfSome, IsTrue, OnOk, length, map, string_bytes, vec_len};
 ghost use Rattle.std.specs.Io.KnownBytes.{Appends};
 ghost use Rattle.noise_lines.specs.Faults.{status_of};
 ghost use Rattle.noise_lines.specs.Prefixes.{AppendsPrefix};
@@ -132,9 +132,8 @@ fn test_each<F: FilesByName, O: Write>(
     let mut named = false;
     for name in names {
         let name = name.as_str();
-        let is_input = is_input(name);
-        let again = is_input && named;
-        named = named || is_input;
+        let again = is_again(name, named);
+        named = is_named(name, named);
         if test_file(alloc, name, again, traces, files, out)? {
             passed += 1;
         } else {
@@ -149,6 +148,20 @@ pub(crate) fn is_input(name: &str) -> bool
     ensures { result ≡ is_input name.now }
 {
     name == "-"
+}
+
+// Whether standard input has this name, and was named before.
+fn is_again(name: &str, named: bool) -> bool
+    ensures { result ≡ (is_input name.now && named) }
+{
+    is_input(name) && named
+}
+
+// Whether it has this name, or was named before.
+fn is_named(name: &str, named: bool) -> bool
+    ensures { result ≡ (named || is_input name.now) }
+{
+    named || is_input(name)
 }
 
 // Runs the file of this name, if it isn't standard input again, and writes what comes of it. Whether it passed.

@@ -1,12 +1,10 @@
-use Rattle.std.proofs.Common.{rules, ◌≡◌, ◌∙◌, ap, sym, refl, subst}
+use Rattle.std.proofs.Common.{rules, ◌≡◌, ◌∙◌, sym, refl, subst}
 use Rattle.std.proofs.lemmas.Result.{err_from_is_err_and}
 use Rattle.std.proofs.lemmas.List.Elements.{same_from_all_zip}
 use Rattle.noise_names.specs.declared.token.Role.TheVariants.{Initiator, Responder}
-use Rattle.noise_names.specs.Plan.{Plan}
 use Rattle.noise_handshake.specs.Party.{Party}
 use Rattle.noise_handshake.specs.Matching.{Matches}
 use Rattle.noise_vectors.specs.FileKeys.{public_of, agreement_of}
-use Rattle.noise_handshake.specs.Counterparts.{shown_before}
 use Rattle.noise_tool.proofs.EndLemmas.{begun-same, both-set-up, setup-same, none-reported, reported-first, reported-second}
 use Rattle.noise_tool.proofs.ends.begin.Goals as goal
 
@@ -15,11 +13,7 @@ returns-in_err-first-clause-fault c =
     let p = err_from_is_err_and c.from_residual-in_err-first.result c.from_residual-in_err-first.ensures.1 in
     let file = c.args.file in
     let plan = c.in_ok-pattern.pattern in
-    let known : c.shown_before-of_responder.result ≡ shown_before plan Responder (public_of file.responder) =
-    c.shown_before-of_responder.ensures in
-    let psks : c.deref-2.result.now ≡ file.psks.items = search rules in
-    let setup = setup-same Initiator file.initiator plan plan c.shown_before-of_responder.result (shown_before plan Responder (public_of file.responder))
-    c.deref-2.result.now file.psks.items refl known psks in
+    let setup = setup-same Initiator file.initiator plan plan _ _ _ _ refl c.shown_before-of_responder.ensures c.deref-2.ensures.0 in
     rw (p.1, p.2) (reported-first file plan c.in_err-first.field-0.0 _
     c.in_ok-pattern.ensures.pattern c.in_ok-pattern.ensures.valid setup c.in_err-first.ensures.fault)
 
@@ -29,43 +23,22 @@ returns-in_err-second-clause-fault c =
     let file = c.args.file in
     let plan = c.in_ok-pattern.pattern in
     let copy : c.in_ok-same.same ≡ plan = search (rules, same_from_all_zip, c.in_ok-same.ensures.cases) in
-    let known : c.shown_before-of_responder.result ≡ shown_before plan Responder (public_of file.responder) =
-    c.shown_before-of_responder.ensures in
-    let known-2 : c.shown_before-of_initiator.result ≡ shown_before plan Initiator (public_of file.initiator) =
-    c.shown_before-of_initiator.ensures in
-    let psks : c.deref-2.result.now ≡ file.psks.items = search rules in
-    let psks-2 : c.deref-4.result.now ≡ file.psks.items = search rules in
-    let setup = setup-same Initiator file.initiator plan plan c.shown_before-of_responder.result (shown_before plan Responder (public_of file.responder))
-    c.deref-2.result.now file.psks.items refl known psks in
-    let setup-2 = setup-same Responder file.responder c.in_ok-same.same plan c.shown_before-of_initiator.result
-    (shown_before plan Initiator (public_of file.initiator))
-    c.deref-4.result.now file.psks.items copy known-2 psks-2 in
-    let none = sym setup ∙ none-reported Initiator _ c.in_ok-first.ensures.fault in
-    rw (p.1, p.2) (reported-second file plan c.in_err-second.field-0.0 _
-    c.in_ok-pattern.ensures.pattern c.in_ok-pattern.ensures.valid none setup-2 c.in_err-second.ensures.fault)
+    let setup = setup-same Initiator file.initiator plan plan _ _ _ _ refl c.shown_before-of_responder.ensures c.deref-2.ensures.0 in
+    let setup-2 = setup-same Responder file.responder _ _ _ _ _ _ copy c.shown_before-of_initiator.ensures c.deref-4.ensures.0 in
+    rw (p.1, p.2) (reported-second file plan c.in_err-second.field-0.0 _ c.in_ok-pattern.ensures.pattern c.in_ok-pattern.ensures.valid
+    (sym setup ∙ none-reported Initiator _ c.in_ok-first.ensures.fault) setup-2 c.in_err-second.ensures.fault)
 
 pub returns-clause-handshakes : goal.returns-clause-handshakes
 returns-clause-handshakes c =
     let file = c.args.file in
     let plan = c.in_ok-pattern.pattern in
     let copy : c.in_ok-same.same ≡ plan = search (rules, same_from_all_zip, c.in_ok-same.ensures.cases) in
-    let known : c.shown_before-of_responder.result ≡ shown_before plan Responder (public_of file.responder) =
-    c.shown_before-of_responder.ensures in
-    let known-2 : c.shown_before-of_initiator.result ≡ shown_before plan Initiator (public_of file.initiator) =
-    c.shown_before-of_initiator.ensures in
-    let text : c.deref.result.now ≡ file.prologue.items = search rules in
-    let text-2 : c.deref-3.result.now ≡ file.prologue.items = search rules in
-    let psks : c.deref-2.result.now ≡ file.psks.items = search rules in
-    let psks-2 : c.deref-4.result.now ≡ file.psks.items = search rules in
-    let start = begun-same Initiator file.initiator plan plan c.deref.result.now file.prologue.items c.shown_before-of_responder.result
-    (shown_before plan Responder (public_of file.responder)) c.deref-2.result.now file.psks.items refl text known psks in
-    let start-2 = begun-same Responder file.responder c.in_ok-same.same plan c.deref-3.result.now file.prologue.items c.shown_before-of_initiator.result
-    (shown_before plan Initiator (public_of file.initiator)) c.deref-4.result.now file.psks.items copy text-2 known-2 psks-2 in
-    let setup = setup-same Initiator file.initiator plan plan c.shown_before-of_responder.result (shown_before plan Responder (public_of file.responder))
-    c.deref-2.result.now file.psks.items refl known psks in
-    let setup-2 = setup-same Responder file.responder c.in_ok-same.same plan c.shown_before-of_initiator.result
-    (shown_before plan Initiator (public_of file.initiator))
-    c.deref-4.result.now file.psks.items copy known-2 psks-2 in
+    let known = c.shown_before-of_responder.ensures in
+    let known-2 = c.shown_before-of_initiator.ensures in
+    let start = begun-same Initiator file.initiator plan plan _ _ _ _ _ _ refl c.deref.ensures.value known c.deref-2.ensures.0 in
+    let start-2 = begun-same Responder file.responder _ _ _ _ _ _ _ _ copy c.deref-3.ensures.value known-2 c.deref-4.ensures.0 in
+    let setup = setup-same Initiator file.initiator plan plan _ _ _ _ refl known c.deref-2.ensures.0 in
+    let setup-2 = setup-same Responder file.responder _ _ _ _ _ _ copy known-2 c.deref-4.ensures.0 in
     record {
       plan = plan;
       of_file = record {

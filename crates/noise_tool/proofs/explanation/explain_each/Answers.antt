@@ -1,5 +1,5 @@
-use Rattle.std.proofs.Common.{rules, arith, inl, inr, ◌≡◌, ◌≤◌, ◌∙◌, ◌+◌, drop, sym, ℕ, List, length, map, string_bytes, take}
-use Rattle.noise_tool.proofs.ExplainLemmas.{all-begun, all-kept, names-cut, next-begun, said-begun, said-more, stops-in, three-explained, three-stops, worse-few}
+use Rattle.std.proofs.Common.{rules, inl, inr, ◌≡◌, ◌≤◌, ◌∙◌, ◌+◌, drop, sym, ℕ, List, length, map, string_bytes, take}
+use Rattle.noise_tool.proofs.ExplainLemmas.{all-kept, begun-at, next-begun, said-kept, said-more, stops-in, three-explained, three-stops, worse-few}
 use Rattle.noise_tool.proofs.TestingLemmas.{err-any, if-err-map, name-more, names-at}
 use Rattle.noise_tool.proofs.explanation.explain_each.Goals as goal
 
@@ -20,10 +20,7 @@ loop-name-preserved g c =
 
 pub returns-in_err-explained-clause-prefix : goal.returns-in_err-explained-clause-prefix
 returns-in_err-explained-clause-prefix g c =
-    let i = c.loop-name.name-index in
-    let names = c.args.names.now in
-    said-begun (g.F.FilesByName.bytes_at c.args.files.now) (map string_bytes (take i names)) (map string_bytes (drop i names))
-    (map string_bytes names) _ _ c.loop-name.status (names-cut names i) c.loop-name.invariant.1
+    begun-at (g.F.FilesByName.bytes_at c.args.files.now) c.args.names.now c.loop-name.name-index _ _ c.loop-name.status c.loop-name.invariant.1
 
 pub returns-in_err-explained-clause-quiet : goal.returns-in_err-explained-clause-quiet
 returns-in_err-explained-clause-quiet g c = err-any _ _ c.loop-name.invariant.2
@@ -44,10 +41,7 @@ returns-in_default-clause-outside g c =
 
 pub returns-in_default-clause-prefix : goal.returns-in_default-clause-prefix
 returns-in_default-clause-prefix g c =
-    let i = c.loop-name.name-index in
-    let names = c.args.names.now in
-    said-begun (g.F.FilesByName.bytes_at c.args.files.now) (map string_bytes (take i names)) (map string_bytes (drop i names))
-    (map string_bytes names) _ _ c.loop-name.status (names-cut names i) c.loop-name.invariant.1
+    begun-at (g.F.FilesByName.bytes_at c.args.files.now) c.args.names.now c.loop-name.name-index _ _ c.loop-name.status c.loop-name.invariant.1
 
 pub returns-in_default-clause-quiet : goal.returns-in_default-clause-quiet
 returns-in_default-clause-quiet g c = if-err-map c.write_unread.result _ _ (λ same. same ∙ c.loop-name.invariant.2) c.write_unread.ensures.quiet
@@ -67,12 +61,9 @@ returns-in_err-write-clause-quiet g c = err-any _ _ c.loop-name.invariant.2
 
 pub returns-in_err-flush-clause-prefix : goal.returns-in_err-flush-clause-prefix
 returns-in_err-flush-clause-prefix g c =
-    let i = c.loop-name.name-index in
-    let names = c.args.names.now in
     let bytes_at = g.F.FilesByName.bytes_at c.args.files.now in
-    let past : length names ≤ i = search rules in
-    all-begun bytes_at (map string_bytes names) _ _ c.loop-name.status
-    (all-kept bytes_at names i _ _ _ c.loop-name.status past c.loop-name.invariant.1 c.flush.ensures.unchanged)
+    begun-at bytes_at c.args.names.now c.loop-name.name-index _ _ c.loop-name.status
+    (said-kept bytes_at _ _ _ _ c.loop-name.status c.loop-name.invariant.1 c.flush.ensures.unchanged)
 
 pub returns-in_err-flush-clause-quiet : goal.returns-in_err-flush-clause-quiet
 returns-in_err-flush-clause-quiet g c = err-any _ _ c.loop-name.invariant.2
@@ -92,9 +83,6 @@ returns-clause-outside g c = inl c.loop-name.invariant.0
 
 pub returns-clause-prefix : goal.returns-clause-prefix
 returns-clause-prefix g c =
-    let i = c.loop-name.name-index in
-    let names = c.args.names.now in
     let bytes_at = g.F.FilesByName.bytes_at c.args.files.now in
-    let past : length names ≤ i = search rules in
-    all-begun bytes_at (map string_bytes names) _ _ c.loop-name.status
-    (all-kept bytes_at names i _ _ _ c.loop-name.status past c.loop-name.invariant.1 c.flush.ensures.unchanged)
+    begun-at bytes_at c.args.names.now c.loop-name.name-index _ _ c.loop-name.status
+    (said-kept bytes_at _ _ _ _ c.loop-name.status c.loop-name.invariant.1 c.flush.ensures.unchanged)

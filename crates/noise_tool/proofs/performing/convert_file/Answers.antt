@@ -1,4 +1,4 @@
-use Rattle.std.proofs.Common.{◌≡◌, ◌⊎◌, ℕ, List, Some, [], subst, ◌∙◌, inr, refl, rules}
+use Rattle.std.proofs.Common.{◌≡◌, ◌⊎◌, ℕ, List, Some, [], subst, ◌∙◌, inr, refl}
 use Rattle.std.proofs.lemmas.Result.{err_from_is_err_and}
 use Rattle.noise_lines.specs.Prefixes.{AppendsPrefix}
 use Rattle.noise_vectors.specs.declared.vector.AllowedEvents.TheVariants.{VersionOne}
@@ -28,7 +28,7 @@ returns-in_err-convert_vector-clause-fault g c =
 pub returns-clause-done : goal.returns-clause-done
 returns-clause-done g c =
     let converted = c.in_ok-convert_vector.field-0.items in
-    let same : c.deref-2.result.now ≡ converted = search rules in
+    let same : c.deref-2.result.now ≡ converted = c.deref-2.ensures.value in
     on_ok c.print.result _ _ (λ grown. at-known (λ (bytes : List ℕ). HasConverted bytes _ _) (g.R.Read.remaining c.args.file.now) c.deref.result.now
     (rw c.deref.ensures.value c.in_ok-text.ensures.read.bytes) (converted, c.in_ok-convert_vector.ensures.converted, rw (← same) grown))
     c.print.ensures.printed
@@ -36,7 +36,7 @@ returns-clause-done g c =
 pub returns-clause-prefix : goal.returns-clause-prefix
 returns-clause-prefix g c =
     let converted = c.in_ok-convert_vector.field-0.items in
-    let same : c.deref-2.result.now ≡ converted = search rules in
+    let same : c.deref-2.result.now ≡ converted = c.deref-2.ensures.value in
     inr (
       converted,
       at-known (λ (bytes : List ℕ). HasConverted bytes (Some []) (Some converted)) (g.R.Read.remaining c.args.file.now) c.deref.result.now

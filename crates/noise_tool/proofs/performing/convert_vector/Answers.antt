@@ -1,4 +1,4 @@
-use Rattle.std.proofs.Common.{◌≡◌, inl, inr, rules}
+use Rattle.std.proofs.Common.{◌≡◌, inl, inr}
 use Rattle.std.proofs.lemmas.Result.{err_from_is_err_and}
 use Rattle.noise_tool.proofs.PerformingLemmas.{converts-of, no-converted}
 use Rattle.noise_tool.proofs.performing.convert_vector.Goals as goal
@@ -14,7 +14,7 @@ convert-requires c = (c.args.file, c.requires.first, c.requires.text)
 pub returns-clause-converted : goal.returns-clause-converted
 returns-clause-converted c =
     let outcome = c.in_ok-outcome.outcome in
-    let lines : c.deref.result.now ≡ outcome.lines.items = search rules in
+    let lines : c.deref.result.now ≡ outcome.lines.items = c.deref.ensures.value in
     converts-of c.args.text.now c.args.file outcome c.deref.result.now c.convert.result c.requires.right c.requires.first c.requires.text lines
     c.in_ok-outcome.ensures.lines (c.conversions_meet_themselves.ensures c.args.file outcome.lines c.requires.right c.requires.first
     c.in_ok-outcome.ensures.printed c.in_ok-outcome.ensures.lines) (c.convert.ensures.converted c.args.file c.requires.first c.requires.text)
@@ -23,6 +23,6 @@ returns-clause-converted c =
 pub returns-clause-fault : goal.returns-clause-fault
 returns-clause-fault c =
     let outcome = c.in_ok-outcome.outcome in
-    let lines : c.deref.result.now ≡ outcome.lines.items = search rules in
+    let lines : c.deref.result.now ≡ outcome.lines.items = c.deref.ensures.value in
     no-converted c.args.text.now c.args.file outcome c.deref.result.now c.convert.result c.requires.right c.requires.first c.requires.text lines
     c.in_ok-outcome.ensures.lines c.convert.ensures.fault

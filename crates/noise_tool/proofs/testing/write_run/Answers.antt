@@ -1,7 +1,7 @@
-use Rattle.std.proofs.Common.{inl, inr, refl, rules, ◌≡◌}
+use Rattle.std.proofs.Common.{inl, inr, refl, ◌≡◌}
 use Rattle.noise_lines.specs.Verdicts.{IsJudged}
 use Rattle.noise_vectors.specs.Expectations.{bytes_of}
-use Rattle.noise_tool.specs.Testing.{IsPieceOf, below_of}
+use Rattle.noise_tool.specs.Testing.{below_of}
 use Rattle.noise_tool.proofs.TestingLemmas.{err-any, judged-begun, judged-known}
 use Rattle.noise_tool.proofs.testing.write_run.Goals as goal
 
@@ -11,10 +11,10 @@ returns-clause-tested g c =
     let outcome = run.traced.outcome in
     let verdict = c.in_ok-verdict.verdict in
     let piece = bytes_of c.in_ok-piece.piece.items in
-    let lines : c.deref.result.now ≡ outcome.lines.items = search rules in
-    let expected : c.deref-2.result.now ≡ outcome.expected.items = search rules in
+    let lines : c.deref.result.now ≡ outcome.lines.items = c.deref.ensures.value in
+    let expected : c.deref-2.result.now ≡ outcome.expected.items = c.deref-2.ensures.value in
     let judged : IsJudged (bytes_of outcome.lines.items) (bytes_of outcome.expected.items) verdict = rw (← lines, ← expected) c.in_ok-verdict.ensures in
-    let piece_is : c.deref-3.result.now ≡ c.in_ok-piece.piece.items = search rules in
+    let piece_is : c.deref-3.result.now ≡ c.in_ok-piece.piece.items = c.deref-3.ensures.value in
     λ known unreadable comes. record {
       verdict = verdict;
       below = below_of c.args.traces verdict piece run.traced;
@@ -35,9 +35,9 @@ returns-in_err-write_verdict-clause-prefix g c =
     let outcome = run.traced.outcome in
     let verdict = c.in_ok-verdict.verdict in
     let piece = bytes_of c.in_ok-piece.piece.items in
-    let lines : c.deref.result.now ≡ outcome.lines.items = search rules in
-    let expected : c.deref-2.result.now ≡ outcome.expected.items = search rules in
+    let lines : c.deref.result.now ≡ outcome.lines.items = c.deref.ensures.value in
+    let expected : c.deref-2.result.now ≡ outcome.expected.items = c.deref-2.ensures.value in
     let judged : IsJudged (bytes_of outcome.lines.items) (bytes_of outcome.expected.items) verdict = rw (← lines, ← expected) c.in_ok-verdict.ensures in
-    let piece_is : c.deref-3.result.now ≡ c.in_ok-piece.piece.items = search rules in
+    let piece_is : c.deref-3.result.now ≡ c.in_ok-piece.piece.items = c.deref-3.ensures.value in
     λ known unreadable comes. err-any _ _ (inr (judged-begun c.args.traces known unreadable c.args.name.now run verdict piece _ _ comes.0 comes.1 judged
     c.in_ok-piece.ensures (rw (← piece_is) c.in_err-write_verdict.ensures.prefix)))

@@ -1,6 +1,5 @@
-use Rattle.std.proofs.Common.{rules, ◌≡◌, ◌∙◌, ◌++◌, ap, ap₂, ℕ, List, length}
+use Rattle.std.proofs.Common.{◌≡◌, ◌∙◌, ◌++◌, ap, ap₂, ℕ, List, length}
 use Rattle.noise_names.specs.declared.token.Role.TheVariants.{Initiator, Responder}
-use Rattle.noise_names.specs.Plan.{Plan}
 use Rattle.noise_handshake.specs.declared.remote.Remote.{Remote}
 use Rattle.noise_handshake.specs.Setup.{setup_fault}
 use Rattle.noise_vectors.specs.FileKeys.{public_of}
@@ -16,8 +15,8 @@ returns c = λ set_up.
     c.shown_before-of_responder.ensures in
     let known-2 : c.shown_before-of_initiator.result ≡ shown_before plan Initiator (public_of file.initiator) =
     c.shown_before-of_initiator.ensures in
-    let text : c.deref.result.now ≡ file.prologue.items = search rules in
-    let text-2 : c.deref-2.result.now ≡ file.prologue.items = search rules in
+    let text : c.deref.result.now ≡ file.prologue.items = c.deref.ensures.value in
+    let text-2 : c.deref-2.result.now ≡ file.prologue.items = c.deref-2.ensures.value in
     let head = rw c.new-lines.ensures.items at c.in_ok-push_heading.ensures in
     let first = c.in_ok-push_start.ensures (length file.psks.items)
     (ap (λ (r : Remote). setup_fault plan Initiator (public_of file.initiator) r (length file.psks.items)) known ∙ set_up Initiator) in

@@ -6,8 +6,8 @@ use Rattle.noise_duel.specs.Sides.{Sides, side}
 use Rattle.noise_events.specs.Events.{Deliver, Raw, Say, Write, event_of}
 use Rattle.noise_lines.specs.TracedLines.{traces_of}
 use Rattle.noise_tool.specs.TracedEnds.{EndsTraced}
-use Rattle.noise_tool.proofs.EventLemmas.{Traces, event-same, frames-written, head-note, no-entries, none-first, of-deliver, of-missing, of-raw, of-write}
-use Rattle.noise_tool.proofs.ReceivedLemmas.{traces-push}
+use Rattle.noise_tool.proofs.EventLemmas.{Traces, event-same, frames-written, no-entries, none-first, of-deliver, of-missing, of-raw, of-write}
+use Rattle.noise_tool.proofs.ReceivedLemmas.{first-note, traces-push}
 use Rattle.noise_tool.proofs.RunningLemmas.{on_ok}
 use Rattle.noise_tool.proofs.traced_event.trace_event.Goals as goal
 
@@ -27,7 +27,7 @@ returns-in-Some c = λ d next notes h traced frames reported.
       subst (λ (z : Sides). EndsTraced c.trace_write.new.ends z) (sym s.next_is) done.1,
     )) (c.trace_write.ensures d next s.after bytes s.note s.w traced frames
     (ap (λ (z : Sides). (side z role).frames) s.next_is ∙ frames-written d role s.after)
-    (head-note first.0 role (note_of first.1) s.note _ [] (sym (ap notes_of c.in-Some.ensures.cases.0) ∙ reported ∙ s.notes_are)))) h
+    (first-note first.0 role (note_of first.1) s.note _ [] (sym (ap notes_of c.in-Some.ensures.cases.0) ∙ reported ∙ s.notes_are)).0)) h
 
 pub returns-in-None : goal.returns-in-None
 returns-in-None c = λ d next notes h traced frames reported.
