@@ -1,7 +1,7 @@
 //! Two ends of equal setup.
 #![tactic(auto)]
 
-ghost use Rattle.std.specs.Prelude.{◌≡◌, ◌≤◌, ℕ, List, length, IfOk, MatchResult, Some, None};
+ghost use Rattle.std.specs.Prelude.{◌≡◌, ◌≤◌, length, IfOk, MatchResult, None};
 ghost use Rattle.noise_names.specs.Limits.{IsPattern};
 ghost use Rattle.noise_names.specs.Validity.{IsValid};
 ghost use Rattle.noise_handshake.specs.Setup.{party_at_start, setup_fault};
@@ -13,7 +13,7 @@ ghost use Rattle.noise_conversation.specs.inner.NewEnds.{MakesEnds};
 use crate::ConversationFault;
 use noise_duel::Duel;
 use noise_handshake::own_keys::shown_before;
-use noise_handshake::{Agreeing, Handshake, Keys, Own, Remote};
+use noise_handshake::{Agreeing, Handshake, Keys, Remote};
 use noise_names::{Role, ValidPattern};
 use noise_session::End;
 use noise_session::laws::end_is_reported;
@@ -36,8 +36,6 @@ pub(crate) fn make_ends<K: Agreeing>(
 {
     let of_initiator = shown_before(&pattern, Role::Initiator, &initiator);
     let of_responder = shown_before(&pattern, Role::Responder, &responder);
-    long_keys(&initiator);
-    long_keys(&responder);
     let same = copy(&pattern)?;
     let first = make_end(
         alloc,
@@ -99,12 +97,4 @@ fn copy(pattern: &ValidPattern) -> Result<ValidPattern, AllocError>
 {
     let same = pattern.clone()?;
     Ok(same)
-}
-
-// The public keys of a party have 32 bytes.
-fn long_keys<K: Keys>(keys: &K)
-    ensures { (x : Own) (k : List ℕ) → K.public_of keys.now x ≡ Some k → length k ≡ 32 }
-{
-    let _ = keys.public(Own::Ephemeral);
-    let _ = keys.public(Own::Static);
 }

@@ -1,11 +1,12 @@
 //! Which tokens a party has in a pattern (Noise, 7.1), and its public keys.
 #![tactic(auto)]
 
-ghost use Rattle.std.specs.Prelude.{◌≡◌, ◌≤◌, ◌&&◌, ℕ, length};
+ghost use Rattle.std.specs.Prelude.{◌≡◌, ◌≤◌, ◌&&◌, ℕ, List, length, Some};
 ghost use Rattle.std.specs.List.{list_any};
 ghost use Rattle.noise_names.specs.Tokens.{same_role, same_token};
 ghost use Rattle.noise_names.specs.Plan.{places_of, message_places};
 ghost use Rattle.noise_names.specs.Validity.{is_among};
+ghost use Rattle.noise_keys.specs.declared.keys.Own.{Own};
 ghost use Rattle.noise_handshake.specs.Counterparts.{shown_before};
 ghost use Rattle.noise_handshake.specs.Passed.{passed_places};
 ghost use Rattle.noise_handshake.specs.Setup.{keys_of, public_keys, token_of};
@@ -106,19 +107,13 @@ pub fn keys_of(party: Role, role: Role, own: &Remote, remote: &Remote) -> Remote
 
 /// Of a party's public keys those of its pre-message, which the other party knows before the first message.
 pub fn shown_before<K: Keys>(pattern: &ValidPattern, party: Role, keys: &K) -> Remote
-    ensures { result ≡ shown_before pattern.now party (K.public_of keys.now) }
+    ensures value { result ≡ shown_before pattern.now party (K.public_of keys.now) }
+    ensures len { (own : Own) (key : List ℕ) → K.public_of keys.now own ≡ Some key → length key ≡ 32 }
 {
     let pre = pattern.pattern().pre(party);
+    let own = public_keys(keys);
     Remote {
-        e: if pre.contains(&Token::E) {
-            keys.public(Own::Ephemeral)
-        } else {
-            None
-        },
-        s: if pre.contains(&Token::S) {
-            keys.public(Own::Static)
-        } else {
-            None
-        },
+        e: if pre.contains(&Token::E) { own.e } else { None },
+        s: if pre.contains(&Token::S) { own.s } else { None },
     }
 }

@@ -1,9 +1,8 @@
-use Rattle.std.proofs.Common.{◌≡◌, ◌∙◌, ap, sym, refl, subst, ℕ, length, Option}
+use Rattle.std.proofs.Common.{◌≡◌, ◌∙◌, sym, refl, subst, ℕ, length, Option}
 use Rattle.std.proofs.lemmas.Result.{err_from_is_err_and}
 use Rattle.noise_names.specs.declared.token.Role.TheVariants.{Initiator, Responder}
 use Rattle.noise_names.specs.Plan.{Plan}
 use Rattle.noise_handshake.specs.declared.remote.Remote.{Remote}
-use Rattle.noise_handshake.specs.Counterparts.{shown_before}
 use Rattle.noise_handshake.specs.Setup.{party_at_start}
 use Rattle.noise_keys.specs.declared.faults.SetupFault.{SetupFault}
 use Rattle.noise_session.specs.Ends.{EndMatches, end_of}
@@ -19,16 +18,16 @@ pub returns-in_err-first : goal.returns-in_err-first
 returns-in_err-first g c =
     let n : ℕ = length c.args.psks.now in
     let q = err_from_is_err_and c.from_residual-in_err-first.result c.from_residual-in_err-first.ensures.1 in
-    let known = fault-same Initiator (g.K.Keys.public_of c.args.initiator) c.args.pattern c.args.pattern _ _ n refl c.shown_before-of_responder.ensures in
+    let known = fault-same Initiator (g.K.Keys.public_of c.args.initiator) c.args.pattern c.args.pattern _ _ n refl c.shown_before-of_responder.ensures.value in
     rw (q.1, q.2) (first-reported _ _ _ (subst (λ (found : Option SetupFault). IsReportedFault found c.in_err-first.field-0.0) known c.in_err-first.ensures.setup))
 
 pub returns-in_err-second : goal.returns-in_err-second
 returns-in_err-second g c =
     let n : ℕ = length c.args.psks.now in
     let q = err_from_is_err_and c.from_residual-in_err-second.result c.from_residual-in_err-second.ensures.1 in
-    let known = fault-same Initiator (g.K.Keys.public_of c.args.initiator) c.args.pattern c.args.pattern _ _ n refl c.shown_before-of_responder.ensures in
+    let known = fault-same Initiator (g.K.Keys.public_of c.args.initiator) c.args.pattern c.args.pattern _ _ n refl c.shown_before-of_responder.ensures.value in
     let known-2 = fault-same Responder (g.K.Keys.public_of c.args.responder) c.in_ok-same.same c.args.pattern _ _ n c.in_ok-same.ensures
-    c.shown_before-of_initiator.ensures in
+    c.shown_before-of_initiator.ensures.value in
     rw (q.1, q.2) (next-reported _ _ _ (sym known ∙ c.in_ok-first.ensures.setup)
     (subst (λ (found : Option SetupFault). IsReportedFault found c.in_err-second.field-0.0) known-2 c.in_err-second.ensures.setup))
 
@@ -40,8 +39,8 @@ returns g c =
     let n : ℕ = length psks in
     let a : Start = start_by g.K.Keys.public_of g.K.Keys.agreement p Initiator text psks c.args.initiator c.args.responder in
     let b : Start = start_by g.K.Keys.public_of g.K.Keys.agreement p Responder text psks c.args.responder c.args.initiator in
-    let known : c.shown_before-of_responder.result ≡ a.remote = c.shown_before-of_responder.ensures in
-    let known-2 : c.shown_before-of_initiator.result ≡ b.remote = c.shown_before-of_initiator.ensures in
+    let known : c.shown_before-of_responder.result ≡ a.remote = c.shown_before-of_responder.ensures.value in
+    let known-2 : c.shown_before-of_initiator.result ≡ b.remote = c.shown_before-of_initiator.ensures.value in
     let copy : c.in_ok-same.same ≡ p = c.in_ok-same.ensures in
     let none = sym (fault-same Initiator a.own p p _ a.remote n refl known) ∙ c.in_ok-first.ensures.setup in
     let none-2 = sym (fault-same Responder b.own c.in_ok-same.same p _ b.remote n copy known-2) ∙ c.in_ok-second.ensures.setup in
@@ -65,8 +64,8 @@ returns g c =
           known_too = refl;
           keys = g.met.K.Agreeing.commutes c.args.initiator c.args.responder;
         };
-        initiator_keys = c.long_keys.ensures;
-        responder_keys = c.long_keys-2.ensures;
+        initiator_keys = c.shown_before-of_initiator.ensures.len;
+        responder_keys = c.shown_before-of_responder.ensures.len;
         pattern = c.in_ok-first.ensures.valid.0;
         valid = c.in_ok-first.ensures.valid.1;
       },

@@ -13,7 +13,7 @@ returns-in_err-first-clause-fault c =
     let p = err_from_is_err_and c.from_residual-in_err-first.result c.from_residual-in_err-first.ensures.1 in
     let file = c.args.file in
     let plan = c.in_ok-pattern.pattern in
-    let setup = setup-same Initiator file.initiator plan plan _ _ _ _ refl c.shown_before-of_responder.ensures c.deref-2.ensures.0 in
+    let setup = setup-same Initiator file.initiator plan plan _ _ _ _ refl c.shown_before-of_responder.ensures.value c.deref-2.ensures.0 in
     rw (p.1, p.2) (reported-first file plan c.in_err-first.field-0.0 _
     c.in_ok-pattern.ensures.pattern c.in_ok-pattern.ensures.valid setup c.in_err-first.ensures.fault)
 
@@ -23,8 +23,8 @@ returns-in_err-second-clause-fault c =
     let file = c.args.file in
     let plan = c.in_ok-pattern.pattern in
     let copy : c.in_ok-same.same ≡ plan = search (rules, same_from_all_zip, c.in_ok-same.ensures.cases) in
-    let setup = setup-same Initiator file.initiator plan plan _ _ _ _ refl c.shown_before-of_responder.ensures c.deref-2.ensures.0 in
-    let setup-2 = setup-same Responder file.responder _ _ _ _ _ _ copy c.shown_before-of_initiator.ensures c.deref-4.ensures.0 in
+    let setup = setup-same Initiator file.initiator plan plan _ _ _ _ refl c.shown_before-of_responder.ensures.value c.deref-2.ensures.0 in
+    let setup-2 = setup-same Responder file.responder _ _ _ _ _ _ copy c.shown_before-of_initiator.ensures.value c.deref-4.ensures.0 in
     rw (p.1, p.2) (reported-second file plan c.in_err-second.field-0.0 _ c.in_ok-pattern.ensures.pattern c.in_ok-pattern.ensures.valid
     (sym setup ∙ none-reported Initiator _ c.in_ok-first.ensures.fault) setup-2 c.in_err-second.ensures.fault)
 
@@ -33,8 +33,8 @@ returns-clause-handshakes c =
     let file = c.args.file in
     let plan = c.in_ok-pattern.pattern in
     let copy : c.in_ok-same.same ≡ plan = search (rules, same_from_all_zip, c.in_ok-same.ensures.cases) in
-    let known = c.shown_before-of_responder.ensures in
-    let known-2 = c.shown_before-of_initiator.ensures in
+    let known = c.shown_before-of_responder.ensures.value in
+    let known-2 = c.shown_before-of_initiator.ensures.value in
     let start = begun-same Initiator file.initiator plan plan _ _ _ _ _ _ refl c.deref.ensures.value known c.deref-2.ensures.0 in
     let start-2 = begun-same Responder file.responder _ _ _ _ _ _ _ _ copy c.deref-3.ensures.value known-2 c.deref-4.ensures.0 in
     let setup = setup-same Initiator file.initiator plan plan _ _ _ _ refl known c.deref-2.ensures.0 in

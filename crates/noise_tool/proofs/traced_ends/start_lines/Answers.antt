@@ -12,9 +12,9 @@ returns c = λ set_up.
     let file = c.args.file.now in
     let plan = c.args.pattern.now in
     let known : c.shown_before-of_responder.result ≡ shown_before plan Responder (public_of file.responder) =
-    c.shown_before-of_responder.ensures in
+    c.shown_before-of_responder.ensures.value in
     let known-2 : c.shown_before-of_initiator.result ≡ shown_before plan Initiator (public_of file.initiator) =
-    c.shown_before-of_initiator.ensures in
+    c.shown_before-of_initiator.ensures.value in
     let text : c.deref.result.now ≡ file.prologue.items = c.deref.ensures.value in
     let text-2 : c.deref-2.result.now ≡ file.prologue.items = c.deref-2.ensures.value in
     let head = rw c.new-lines.ensures.items at c.in_ok-push_heading.ensures in
