@@ -3,7 +3,6 @@
 
 ghost use Rattle.std.specs.Prelude.{◌≡◌, ◌≤◌, ℕ, List, ◌++◌, length, OnOk, IfOk, IfSome};
 ghost use Rattle.noise_session.specs.Ends.{EndMatches};
-ghost use Rattle.noise_session.specs.Frames.{IsPartial};
 ghost use Rattle.noise_session.specs.Steps.{step_value};
 ghost use Rattle.noise_duel.specs.Entries.{notes_of};
 ghost use Rattle.noise_duel.specs.Notes.{noted_by, held_note};
@@ -76,7 +75,6 @@ fn receive_piece<K: Keys>(
 {
     let mut rest = piece;
     while !rest.is_empty() {
-        holds_part(end);
         let (count, step) = end.take(rest);
         if count == 0 {
             return Ok(left_at(step, rest.len()));
@@ -86,13 +84,6 @@ fn receive_piece<K: Keys>(
         rest = after;
     }
     Ok(None)
-}
-
-// What an end holds is less than a frame.
-fn holds_part<K: Keys>(end: &End<K>)
-    ensures { IsPartial end.now.partial }
-{
-    end.held();
 }
 
 // So many bytes, and why an end takes none of them, if that is its step.

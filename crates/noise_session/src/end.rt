@@ -137,6 +137,7 @@ impl<K: Keys> End<K> {
     /// Only the bytes that it holds, with the piece after them, count: where a frame is cut into pieces makes no
     /// difference.
     pub fn take<'a>(&'a mut self, piece: &[u8]) -> (usize, Step<'a>)
+        ensures partial { IsPartial self.old.partial }
         ensures count { result.0 ≤ length piece.now }
         ensures* takes { sem 𝓛 (Lends K.row K.Keys self.entry (λ next.
             EndTakes K.public_of K.agreement self.old piece.now result.0 (step_value result.1) next)) }

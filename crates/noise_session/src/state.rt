@@ -58,6 +58,7 @@ impl<K: Keys> State<K> {
 
     // Takes bytes of a piece, and reads the message of a frame that is whole with them.
     pub(crate) fn take(&mut self, piece: &[u8]) -> (usize, Outcome)
+        ensures partial { IsPartial (partial_of self.old.incoming) }
         ensures count { result.0 ≤ length piece.now }
         ensures place { MatchesIn (message_in self.new) result.1 }
         ensures takes { EndTakes K.public_of K.agreement (end_in self.old) piece.now result.0

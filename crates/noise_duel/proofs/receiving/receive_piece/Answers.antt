@@ -12,7 +12,7 @@ returns-then-count-eq0-clause-stops g c s matches =
     stopped-idle g.K.Keys.public_of g.K.Keys.agreement s c.args.role c.args.piece.now c.loop-rest.rest.now c.loop-rest.end c.take.follows.lender-at-none
     c.args.entries.now.items c.loop-rest.entries.items c.take.result.0 (step_value c.take.result.1) c.left_at.result (c.loop-rest.invariant.some s matches)
     c.take.follows.holds-at-none c.if-count-eq0.true
-    (is-some c.is_empty.result (length c.loop-rest.rest.now) c.is_empty.ensures c.loop-rest-test.true) c.holds_part.ensures c.left_at.ensures
+    (is-some c.is_empty.result (length c.loop-rest.rest.now) c.is_empty.ensures c.loop-rest-test.true) c.take.ensures.partial c.left_at.ensures
 
 pub loop-rest-preserved : goal.loop-rest-preserved
 loop-rest-preserved g c = record {
