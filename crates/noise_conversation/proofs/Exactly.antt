@@ -1,108 +1,54 @@
 -- What is reported of a whole message, by what the message is.
-use Rattle.std.proofs.Common.{◌≡◌, ◌≢◌, ◌<◌, ℕ, List, length, refl, sym, ◌∙◌, ap, subst, arith, Result, Ok, Err}
-use Rattle.std.specs.Prelude.{Bool, true, false, IsTrue, MatchBool, ◌==◌, nat_lt, if◌then◌else◌}
+use Rattle.std.proofs.Common.{◌≡◌, ℕ, List, refl, sym, ◌∙◌, ap, subst, arith, Result, Ok, Err}
 use Rattle.noise_names.specs.declared.token.Role.{Role}
 use Rattle.noise_names.specs.declared.token.Role.TheVariants.{Initiator, Responder}
 use Rattle.noise_names.specs.Tokens.{other, turn_from}
-use Rattle.noise_names.specs.Plan.{Plan, is_one_way}
 use Rattle.noise_handshake.specs.declared.faults.Cause.{Cause}
-use Rattle.noise_handshake.specs.declared.faults.Cause.TheVariants.{Short, Tag}
 use Rattle.noise_handshake.specs.declared.faults.ReadFault.{ReadFault}
 use Rattle.noise_handshake.specs.declared.faults.ReadFault.TheVariants as read
 use Rattle.noise_handshake.specs.Party.{Party, Listens, Accepts, Refuses}
 use Rattle.noise_handshake.specs.Matching.{DoesNotRead}
-use Rattle.noise_session.specs.Transport.{transport_message}
 use Rattle.noise_session.specs.Steps.{StepValue}
 use Rattle.noise_session.specs.Steps.StepValue.{Dropped, Exhausted}
-use Rattle.noise_session.specs.Progress.{is_open}
-use Rattle.noise_session.specs.Progress.Progress.{Handshaking, Open, HasEnded}
-use Rattle.noise_session.specs.Ends.{EndState, progress_of}
+use Rattle.noise_session.specs.Ends.{EndState}
 use Rattle.noise_session.specs.Taking.{Judges}
-use Rattle.noise_session.specs.Taking.Judges.{accepted, refused, opened, dropped, exhausted}
-use Rattle.noise_session.specs.Exactly.{Encodes, AcceptedExactly}
+use Rattle.noise_session.specs.Taking.Judges.{refused, dropped, exhausted}
+use Rattle.noise_session.specs.Exactly.{AcceptedExactly}
 use Rattle.noise_conversation.specs.Exactly.{IsDropped, HasNoNonce, ReportedExactly, IsReadResult, ReadExactly}
-use Rattle.std.proofs.lemmas.Bool.{eqb-true}
-
--- ---- an open end has seen all messages of its handshake
-
-open-by : (ended done : Bool) (role : Role) (one_way : Bool) (sent received : ℕ) (pattern : Plan) (passed : ℕ)
-    → IsTrue (is_open (if ended then HasEnded role else if done then Open role one_way sent received else Handshaking pattern role passed)) → done ≡ true
-open-by true done role one_way sent received pattern passed h = cc
-open-by false true role one_way sent received pattern passed h = refl
-open-by false false role one_way sent received pattern passed h = cc
-
-pub open-passed : (v : EndState) → IsTrue (is_open (progress_of v)) → v.party.passed ≡ length v.party.pattern.messages
-open-passed v opens =
-    eqb-true v.party.passed (length v.party.pattern.messages)
-    (open-by v.party.ended (v.party.passed == length v.party.pattern.messages) v.party.role
-    (is_one_way v.party.pattern) v.sent v.received v.party.pattern v.party.passed opens)
-
-pub none-due : (v : EndState) → IsTrue (is_open (progress_of v)) → v.party.passed < length v.party.pattern.messages → ⊥
-none-due v opens more = let all = open-passed v opens in omega (arith, more, all)
+use Rattle.std.proofs.lemmas.Bool.{MatchBool-at_true}
 
 -- ---- what is dropped
 
-where-open : (b : Bool) (P Q : Type 0) → IsTrue b → P → MatchBool b P Q
-where-open true P Q h p = p
-where-open false P Q h p = absurd (cc)
-
-either-way : (b : Bool) (P Q R : Type 0) → MatchBool b P Q → (IsTrue b → P → R) → (Q → R) → R
-either-way true P Q R m f g = f refl m
-either-way false P Q R m f g = g m
-
-cause-same : (c d : Cause) → Dropped c ≡ Dropped d → c ≡ d
-cause-same c d e = cc
-
-no-payload : (v : EndState) (message : List ℕ) → IsTrue (is_open (progress_of v))
-    → ((payload : List ℕ) → message ≢ transport_message v.party.history (other v.party.role) v.interval v.received payload)
-    → (payload : List ℕ) → Encodes v message payload → ⊥
-no-payload v message opens never payload e =
-    either-way (is_open (progress_of v)) _ _ ⊥ e (λ h here. never payload here.1) (λ here. none-due v opens (here.1).listens.more)
-
 reported-dropped : (v next : EndState) (message : List ℕ) (cause : Cause) (reported : StepValue) → Judges v message reported next → reported ≡ Dropped cause
     → IsDropped v message cause
-reported-dropped v next message cause reported (accepted _ _ p xs a) e = absurd (cc)
-reported-dropped v next message cause reported (refused _ _ k c a) e = absurd (cc)
-reported-dropped v next message cause reported (opened _ _ p opens low is) e = absurd (cc)
 reported-dropped v next message cause reported (dropped _ _ opens low never) e = record {
   opens = opens;
   nonce = low;
-  none = no-payload v message opens never;
-  why = sym (cause-same (if nat_lt (length message) 16 then Short else Tag) cause e);
+  none = λ payload encodes. never payload (MatchBool-at_true _ _ opens encodes).1;
+  why = cc;
 }
-reported-dropped v next message cause reported (exhausted _ _ opens last) e = absurd (cc)
-
-dropped-reported : (v next : EndState) (message : List ℕ) (cause : Cause) (reported : StepValue) → Judges v message reported next → IsDropped v message cause
-    → reported ≡ Dropped cause
-dropped-reported v next message cause reported (accepted _ _ p xs a) d = absurd (none-due v d.opens a.listens.more)
-dropped-reported v next message cause reported (refused _ _ k c a) d = absurd (none-due v d.opens a.listens.more)
-dropped-reported v next message cause reported (opened _ _ p opens low is) d = absurd (d.none p (where-open (is_open (progress_of v)) _ _ opens (low, is)))
-dropped-reported v next message cause reported (dropped _ _ opens low never) d = ap Dropped (sym d.why)
-dropped-reported v next message cause reported (exhausted _ _ opens last) d = absurd (d.nonce last)
-
--- ---- and where no nonce is left
+reported-dropped v next message cause reported _ e = absurd (cc)
 
 reported-exhausted : (v next : EndState) (message : List ℕ) (reported : StepValue) → Judges v message reported next → reported ≡ Exhausted → HasNoNonce v
-reported-exhausted v next message reported (accepted _ _ p xs a) e = absurd (cc)
-reported-exhausted v next message reported (refused _ _ k c a) e = absurd (cc)
-reported-exhausted v next message reported (opened _ _ p opens low is) e = absurd (cc)
-reported-exhausted v next message reported (dropped _ _ opens low never) e = absurd (cc)
 reported-exhausted v next message reported (exhausted _ _ opens last) e = record { opens = opens; nonce = last }
+reported-exhausted v next message reported _ e = absurd (cc)
 
-exhausted-reported : (v next : EndState) (message : List ℕ) (reported : StepValue) → Judges v message reported next → HasNoNonce v → reported ≡ Exhausted
-exhausted-reported v next message reported (accepted _ _ p xs a) x = absurd (none-due v x.opens a.listens.more)
-exhausted-reported v next message reported (refused _ _ k c a) x = absurd (none-due v x.opens a.listens.more)
-exhausted-reported v next message reported (opened _ _ p opens low is) x = absurd (low x.nonce)
-exhausted-reported v next message reported (dropped _ _ opens low never) x = absurd (low x.nonce)
-exhausted-reported v next message reported (exhausted _ _ opens last) x = refl
+module _ (one : (v x y : EndState) (m : List ℕ) (s t : StepValue) → Judges v m s x → Judges v m t y → (s ≡ t) × (x ≡ y)) where
+  dropped-reported : (v next : EndState) (message : List ℕ) (cause : Cause) (reported : StepValue) → Judges v message reported next → IsDropped v message cause
+      → reported ≡ Dropped cause
+  dropped-reported v next message cause reported j d =
+      (one v next _ message reported _ j (dropped v message d.opens d.nonce (λ payload is. d.none payload (rw (d.opens) (d.nonce, is))))).0 ∙ ap Dropped (sym d.why)
 
-pub reported-exactly : AcceptedExactly → ReportedExactly
-reported-exactly law v next message reported j = record {
-  payload = (law v next message reported j).payload;
-  refused = (law v next message reported j).refused;
-  dropped = λ c. (reported-dropped v next message c reported j, dropped-reported v next message c reported j);
-  exhausted = (reported-exhausted v next message reported j, exhausted-reported v next message reported j);
-}
+  pub reported-exactly : AcceptedExactly → ReportedExactly
+  reported-exactly law v next message reported j = record {
+    payload = (law v next message reported j).payload;
+    refused = (law v next message reported j).refused;
+    dropped = λ c. (reported-dropped v next message c reported j, dropped-reported v next message c reported j);
+    exhausted = (
+      reported-exhausted v next message reported j,
+      λ x. (one v next _ message reported Exhausted j (exhausted v message x.opens x.nonce)).0,
+    );
+  }
 
 -- ---- a handshake by itself
 

@@ -1,20 +1,23 @@
 -- In every run the payloads that a report reports of are those of the messages that the ends wrote and accepted.
-use Rattle.std.proofs.Common.{◌≡◌, ℕ, ◌+◌, ◌<◌, List, [], ◌∷◌, ◌++◌, length, refl, ap, sym, subst, ◌∙◌, arith, append-nil, append_assoc, length-append}
+use Rattle.std.proofs.Common.{◌≡◌, ℕ, ◌+◌, ◌<◌, List, ◌∷◌, ◌++◌, length, refl, ap, sym, subst, ◌∙◌, arith, append-nil, append_assoc, length-append, []}
 use Rattle.std.proofs.lemmas.Grind.{flat_map-append}
 use Rattle.std.proofs.lemmas.List.{map-append}
 use Rattle.std.specs.List.{flat_map}
-use Rattle.std.specs.Prelude.{Bool, true, false, zero, suc, Err, if◌then◌else◌}
+use Rattle.std.specs.Prelude.{◌==◌, Bool, true, false, IsTrue, zero, suc, Err, if◌then◌else◌}
+use Rattle.std.proofs.lemmas.Bool.Decides.{nat_tests}
 use Rattle.noise_names.specs.declared.token.Role.{Role}
 use Rattle.noise_names.specs.declared.token.Role.TheVariants.{Initiator, Responder}
 use Rattle.noise_names.specs.Tokens.{other, same_role, turn_from}
-use Rattle.noise_names.specs.Plan.{Plan}
+use Rattle.noise_names.specs.Plan.{Plan, is_one_way}
 use Rattle.noise_handshake.specs.Party.{Party}
 use Rattle.noise_session.specs.declared.faults.SendFault.{SendFault}
 use Rattle.noise_session.specs.declared.faults.SendFault.TheVariants.{Agreement}
 use Rattle.noise_session.specs.Faults.{ends}
 use Rattle.noise_session.specs.Steps.{StepValue}
 use Rattle.noise_session.specs.Steps.StepValue.{Payload}
-use Rattle.noise_session.specs.Ends.{EndState, ended_session, end_of}
+use Rattle.noise_session.specs.Progress.{is_open}
+use Rattle.noise_session.specs.Progress.Progress.{Handshaking, Open, HasEnded}
+use Rattle.noise_session.specs.Ends.{EndState, ended_session, end_of, progress_of}
 use Rattle.noise_session.specs.Taking.{Judges}
 use Rattle.noise_session.specs.Taking.Judges.{accepted, refused, opened, dropped, exhausted}
 use Rattle.noise_session.specs.Sending.{Sends, after_fault}
@@ -32,18 +35,26 @@ use Rattle.noise_duel.specs.Runs.Happens.{writes, says_nothing, says, delivers, 
 use Rattle.noise_duel.specs.Runs.Run.{ends as run_ends, begins}
 use Rattle.noise_duel.specs.Sides.{TransportMessage, Side, Sides, new_side, with_state, wrote_handshake, accepted_handshake, wrote_transport, accepted_transport}
 use Rattle.noise_conversation.specs.Payloads.{notes_about, payload_reported, payload_given, was_written, done_of, own_payloads, PayloadsAreReported}
-use Rattle.noise_conversation.proofs.Exactly.{none-due}
 use Rattle.noise_names.specs.Roles.{same_role-self, same_role-other, other-same_role}
+
+-- no message of the handshake is due at an end that is open
+none-due : (v : EndState) → IsTrue (is_open (progress_of v)) → v.party.passed < length v.party.pattern.messages → ⊥
+none-due v opens more = go v.party.ended (v.party.passed == length v.party.pattern.messages) refl opens
+  where
+    go : (ended all : Bool) → (v.party.passed == length v.party.pattern.messages) ≡ all
+        → IsTrue (is_open (if ended then HasEnded v.party.role else if all then Open v.party.role (is_one_way v.party.pattern) v.sent v.received
+        else Handshaking v.party.pattern v.party.role v.party.passed)) → ⊥
+    go false true e h = grind (arith, nat_tests)
+    go _ _ e h = cc
 
 -- ---- lists
 
 done-append : (ps qs : List (List ℕ)) (bs cs : List Bool) → length ps ≡ length bs → done_of (ps ++ qs) (bs ++ cs) ≡ done_of ps bs ++ done_of qs cs
 done-append [] qs [] cs e = refl
-done-append [] qs (b ∷ bs) cs e = absurd (omega (arith, e))
-done-append (p ∷ ps) qs [] cs e = absurd (omega (arith, e))
 done-append (p ∷ ps) qs (b ∷ bs) cs e =
     let one : List (List ℕ) = if b then p ∷ [] else [] in
     ap (λ (zs : List (List ℕ)). one ++ zs) (done-append ps qs bs cs (omega (arith, e))) ∙ sym (append_assoc one (done_of ps bs) (done_of qs cs))
+done-append _ qs _ cs e = absurd (omega (arith, e))
 
 -- a list in between that is empty
 moved : (xs ys zs : List (List ℕ)) → zs ≡ [] → (xs ++ ys) ++ zs ≡ (xs ++ zs) ++ ys
@@ -274,16 +285,14 @@ module _ (plan : Plan) (role : Role) where
 -- ---- both ends
 
 noted-own : (role : Role) (notes : List Note) → notes_about role (noted_by role notes) ≡ notes
-noted-own Initiator [] = refl
 noted-own Initiator (n ∷ notes) = ap (λ (z : List Note). n ∷ z) (noted-own Initiator notes)
-noted-own Responder [] = refl
 noted-own Responder (n ∷ notes) = ap (λ (z : List Note). n ∷ z) (noted-own Responder notes)
+noted-own _ [] = refl
 
 noted-other : (role : Role) (notes : List Note) → notes_about (other role) (noted_by role notes) ≡ []
-noted-other Initiator [] = refl
 noted-other Initiator (n ∷ notes) = noted-other Initiator notes
-noted-other Responder [] = refl
 noted-other Responder (n ∷ notes) = noted-other Responder notes
+noted-other _ [] = refl
 
 module _ (plan : Plan) (role : Role) where
   hears : (s t : Side) (bytes : List ℕ) (notes : List Note) → Unchanged plan role s → SideReceives s bytes notes t

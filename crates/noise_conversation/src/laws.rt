@@ -12,7 +12,7 @@ ghost use Rattle.noise_conversation.specs.Turns.{LinesTakeTurns};
 use noise_duel::laws::{datagrams_agree, ends_agree, ends_match};
 use noise_handshake::Keys;
 use noise_handshake::laws::{accepted_once, refused_once};
-use noise_session::laws::{accepted_exactly, end_is_reported};
+use noise_session::laws::{accepted_exactly, end_is_reported, judged_once};
 
 /// Two parties whose `XorKeys` have both key pairs have a DH result at each DH of every pattern.
 pub fn xor_keys_have_dh_results()
@@ -39,6 +39,7 @@ pub fn reported_exactly()
     ensures { ReportedExactly }
 {
     accepted_exactly();
+    judged_once();
 }
 
 /// Where both ends of a duel report one hash, they have the one hash that the laws on agreement speak of.

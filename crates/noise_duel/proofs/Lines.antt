@@ -1,5 +1,5 @@
 -- What comes of one line between two ends, where the message that is written is accepted.
-use Rattle.std.proofs.Common.{◌≡◌, ◌≢◌, ℕ, ◌≤◌, List, [], ◌∷◌, ◌++◌, length, refl, ap, sym, subst, ◌∙◌, arith, append-nil, Some, None, slice_get}
+use Rattle.std.proofs.Common.{◌≡◌, ◌≢◌, ℕ, ◌≤◌, List, ◌∷◌, ◌++◌, length, refl, ap, sym, subst, ◌∙◌, arith, append-nil, Some, None, slice_get, []}
 use Rattle.std.specs.Prelude.{false, Err, IsTrue, Option}
 use Rattle.noise_names.specs.declared.token.Role.{Role}
 use Rattle.noise_names.specs.Tokens.{other}
@@ -14,7 +14,7 @@ use Rattle.noise_session.specs.Steps.StepValue.{Payload}
 use Rattle.noise_session.specs.Progress.{is_open, idle_step, refusal}
 use Rattle.noise_session.specs.Ends.{EndState, progress_of}
 use Rattle.noise_session.specs.Taking.{Judges}
-use Rattle.noise_session.specs.Taking.Judges.{accepted, refused, opened, dropped, exhausted}
+use Rattle.noise_session.specs.Taking.Judges.{accepted, refused, dropped, exhausted}
 use Rattle.noise_session.specs.Sending.{Sends}
 use Rattle.noise_session.specs.Sending.Sends.{refuses, lacks_dh_result}
 use Rattle.noise_session.specs.Framing.{frame-whole, frame-same}
@@ -65,14 +65,6 @@ writes-transport_message s next payload k open-now (writes_transport _ m _ e due
 
 -- ---- hearing
 
-judges-no-fault : LawsBelow → (v next : EndState) (message : List ℕ) (step : StepValue) → GivesNoPayload step → (xs : List (List ℕ)) (payload : List ℕ)
-    → is_open (progress_of v) ≡ false → Accepts v.party message xs payload → Judges v message step next → ⊥
-judges-no-fault laws v next message step bad xs payload shut a (accepted _ _ p ys b) = bad
-judges-no-fault laws v next message step bad xs payload shut a (refused _ _ token cause r) = laws.not_refused v.party message xs payload token cause a r
-judges-no-fault laws v next message step bad xs payload shut a (opened _ _ p due low is) = bad
-judges-no-fault laws v next message step bad xs payload shut a (dropped _ _ due low never) = cc
-judges-no-fault laws v next message step bad xs payload shut a (exhausted _ _ due full) = cc
-
 pub reads-message : LawsBelow → (t : Side) (message payload : List ℕ) (xs : List (List ℕ)) → is_open (progress_of t.state) ≡ false
     → Accepts t.state.party message xs payload
     → (step : StepValue) (next : Side) → SideReads t message step next
@@ -85,16 +77,15 @@ reads-message laws t message payload xs shut a step next (accepts_handshake _ _ 
     )
 reads-message laws t message payload xs shut a step next (accepts_transport _ _ p due low is) = cc
 reads-message laws t message payload xs shut a step next (refuses_message _ _ _ after bad j) =
-    absurd (judges-no-fault laws t.state after message step bad xs payload shut a j)
+    absurd (subst GivesNoPayload (laws.judged_once t.state after _ message step (Payload payload) j (accepted t.state message payload xs a)).0 bad)
 
 transport_messages-no-fault : (v next : EndState) (message payload : List ℕ) (step : StepValue) → GivesNoPayload step → IsTrue (is_open (progress_of v))
     → v.received ≢ last_nonce
     → message ≡ transport_message v.party.history (other v.party.role) v.interval v.received payload → Judges v message step next → ⊥
-transport_messages-no-fault v next message payload step bad due low is (accepted _ _ p ys b) = bad
 transport_messages-no-fault v next message payload step bad due low is (refused _ _ token cause r) = omega (arith, r.listens.more, all-passed v due)
-transport_messages-no-fault v next message payload step bad due low is (opened _ _ p d l i) = bad
 transport_messages-no-fault v next message payload step bad due low is (dropped _ _ d l never) = never payload is
 transport_messages-no-fault v next message payload step bad due low is (exhausted _ _ d full) = low full
+transport_messages-no-fault v next message payload step bad due low is _ = bad
 
 pub reads-transport_message : (t : Side) (message payload : List ℕ) → IsTrue (is_open (progress_of t.state)) → t.state.received ≢ last_nonce
     → message ≡ transport_message t.state.party.history (other t.state.party.role) t.state.interval t.state.received payload

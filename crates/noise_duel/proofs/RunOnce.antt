@@ -1,17 +1,15 @@
 -- A run is determined: of two ends and a list of events one list of notes and one pair of ends comes.
-use Rattle.std.proofs.Common.{◌≡◌, ℕ, ◌<◌, List, [], ◌∷◌, ◌++◌, length, refl, ap, sym, subst, ◌∙◌, arith, Some, None, slice_get}
-use Rattle.std.specs.Prelude.{Option, Err, Result, IsTrue}
+use Rattle.std.proofs.Common.{◌≡◌, ℕ, ◌<◌, List, ◌∷◌, ◌++◌, length, refl, ap, sym, subst, ◌∙◌, arith, Some, slice_get, []}
+use Rattle.std.specs.Prelude.{Err, Result, IsTrue}
 use Rattle.noise_names.specs.declared.token.Role.{Role}
 use Rattle.noise_names.specs.Tokens.{other}
-use Rattle.noise_handshake.specs.Matching.{after_message}
 use Rattle.noise_session.specs.declared.faults.SendFault.{SendFault}
 use Rattle.noise_session.specs.Frames.{IsPartial}
 use Rattle.noise_session.specs.Steps.{StepValue}
-use Rattle.noise_session.specs.Steps.StepValue.{Payload, Refused}
+use Rattle.noise_session.specs.Steps.StepValue.{Payload}
 use Rattle.noise_session.specs.Progress.{is_open}
-use Rattle.noise_session.specs.Ends.{EndState, progress_of}
-use Rattle.noise_session.specs.Taking.{Judges}
-use Rattle.noise_session.specs.Taking.Judges.{accepted, refused, opened, dropped, exhausted}
+use Rattle.noise_session.specs.Ends.{progress_of}
+use Rattle.noise_session.specs.Taking.Judges.{accepted, opened}
 use Rattle.noise_duel.specs.Below.{LawsBelow}
 use Rattle.noise_duel.specs.Sides.{Side, Sides, side, with_side, with_state, wrote_handshake, accepted_handshake, wrote_transport, accepted_transport}
 use Rattle.noise_events.specs.Events.{Event}
@@ -34,54 +32,7 @@ refused_with why = Err why
 err-same : (x y : SendFault) → refused_with x ≡ refused_with y → x ≡ y
 err-same x y e = cc
 
-wrote-same : (m n : ℕ) → Wrote m ≡ Wrote n → m ≡ n
-wrote-same m n e = cc
-
-not-both : (why : SendFault) (n : ℕ) → WriteFault why ≡ Wrote n → ⊥
-not-both why n e = cc
-
-some-none : {X : Type 0} (o : Option X) (x : X) → o ≡ Some x → o ≡ None → ⊥
-some-none o x e f = cc
-
 module _ (laws : LawsBelow) where
-  -- a message is judged in one way
-  judged-once : (v x y : EndState) (m : List ℕ) (s t : StepValue) → Judges v m s x → Judges v m t y → (s ≡ t) × (x ≡ y)
-  judged-once v x y m s t (accepted _ _ p xs a) (accepted _ _ q ys b) =
-      let one = laws.accepted_once v.party m xs ys p q a b in (
-        ap Payload one.1,
-        ap (λ (zs : List (List ℕ)). record v { party = after_message v.party zs p; partial = [] }) one.0
-            ∙ ap (λ (r : List ℕ). record v { party = after_message v.party ys r; partial = [] }) one.1,
-      )
-  judged-once v x y m s t (accepted _ _ p xs a) (refused _ _ k c b) = absurd (laws.not_refused v.party m xs p k c a b)
-  judged-once v x y m s t (accepted _ _ p xs a) (opened _ _ q opens low is) = let more = a.listens.more in let all = all-passed v opens in absurd (omega arith)
-  judged-once v x y m s t (accepted _ _ p xs a) (dropped _ _ opens low never) = let more = a.listens.more in let all =
-      all-passed v opens in absurd (omega arith)
-  judged-once v x y m s t (accepted _ _ p xs a) (exhausted _ _ opens last) = let more = a.listens.more in let all = all-passed v opens in absurd (omega arith)
-  judged-once v x y m s t (refused _ _ k c a) (accepted _ _ p xs b) = absurd (laws.not_refused v.party m xs p k c b a)
-  judged-once v x y m s t (refused _ _ k c a) (refused _ _ j d b) =
-      let one = laws.refused_once v.party m k j c d a b in
-      (ap (λ (i : ℕ). Refused i c) one.0 ∙ ap (Refused j) one.1, refl)
-  judged-once v x y m s t (refused _ _ k c a) (opened _ _ q opens low is) = let more = a.listens.more in let all = all-passed v opens in absurd (omega arith)
-  judged-once v x y m s t (refused _ _ k c a) (dropped _ _ opens low never) = let more = a.listens.more in let all = all-passed v opens in absurd (omega arith)
-  judged-once v x y m s t (refused _ _ k c a) (exhausted _ _ opens last) = let more = a.listens.more in let all = all-passed v opens in absurd (omega arith)
-  judged-once v x y m s t (opened _ _ p opens low is) (accepted _ _ q xs a) = let more = a.listens.more in let all = all-passed v opens in absurd (omega arith)
-  judged-once v x y m s t (opened _ _ p opens low is) (refused _ _ k c a) = let more = a.listens.more in let all = all-passed v opens in absurd (omega arith)
-  judged-once v x y m s t (opened _ _ p opens low is) (opened _ _ q other_opens other_low be) =
-      (ap Payload (transport_message-same v.party.history (other v.party.role) v.interval v.received p q (sym is ∙ be)), refl)
-  judged-once v x y m s t (opened _ _ p opens low is) (dropped _ _ other_opens other_low never) = absurd (never p is)
-  judged-once v x y m s t (opened _ _ p opens low is) (exhausted _ _ other_opens last) = absurd (low last)
-  judged-once v x y m s t (dropped _ _ opens low never) (accepted _ _ q xs a) = let more = a.listens.more in let all =
-      all-passed v opens in absurd (omega arith)
-  judged-once v x y m s t (dropped _ _ opens low never) (refused _ _ k c a) = let more = a.listens.more in let all = all-passed v opens in absurd (omega arith)
-  judged-once v x y m s t (dropped _ _ opens low never) (opened _ _ q other_opens other_low is) = absurd (never q is)
-  judged-once v x y m s t (dropped _ _ opens low never) (dropped _ _ other_opens other_low other_never) = (refl, refl)
-  judged-once v x y m s t (dropped _ _ opens low never) (exhausted _ _ other_opens last) = absurd (low last)
-  judged-once v x y m s t (exhausted _ _ opens last) (accepted _ _ q xs a) = let more = a.listens.more in let all = all-passed v opens in absurd (omega arith)
-  judged-once v x y m s t (exhausted _ _ opens last) (refused _ _ k c a) = let more = a.listens.more in let all = all-passed v opens in absurd (omega arith)
-  judged-once v x y m s t (exhausted _ _ opens last) (opened _ _ q other_opens low is) = absurd (low last)
-  judged-once v x y m s t (exhausted _ _ opens last) (dropped _ _ other_opens low never) = absurd (low last)
-  judged-once v x y m s t (exhausted _ _ opens last) (exhausted _ _ other_opens other_last) = (refl, refl)
-
   -- no handshake message is due at an end that is open
   not-due : (s : Side) → IsTrue (is_open (progress_of s.state)) → s.state.party.passed < length s.state.party.pattern.messages → ⊥
   not-due s due more = let all = all-passed s.state due in omega arith
@@ -97,20 +48,20 @@ module _ (laws : LawsBelow) where
   reads-once s x y m a b (accepts_handshake _ _ p xs h) (accepts_transport _ _ q due low is) =
       let more = h.listens.more in let all = all-passed s.state due in absurd (omega arith)
   reads-once s x y m a b (accepts_handshake _ _ p xs h) (refuses_message _ _ _ next bad j) =
-      absurd (subst GivesNoPayload (sym (judged-once s.state _ next m (Payload p) b (accepted s.state m p xs h) j).0) bad)
+      absurd (subst GivesNoPayload (sym (laws.judged_once s.state _ next m (Payload p) b (accepted s.state m p xs h) j).0) bad)
   reads-once s x y m a b (accepts_transport _ _ p due low is) (accepts_handshake _ _ q ys k) =
       let more = k.listens.more in let all = all-passed s.state due in absurd (omega arith)
   reads-once s x y m a b (accepts_transport _ _ p due low is) (accepts_transport _ _ q d l be) =
       let same : p ≡ q = transport_message-same s.state.party.history (other s.state.party.role) s.state.interval s.state.received p q (sym is ∙ be) in
       (ap Payload same, ap (λ (z : List ℕ). accepted_transport s (record { message = m; payload = z })) same)
   reads-once s x y m a b (accepts_transport _ _ p due low is) (refuses_message _ _ _ next bad j) =
-      absurd (subst GivesNoPayload (sym (judged-once s.state _ next m (Payload p) b (opened s.state m p due low is) j).0) bad)
+      absurd (subst GivesNoPayload (sym (laws.judged_once s.state _ next m (Payload p) b (opened s.state m p due low is) j).0) bad)
   reads-once s x y m a b (refuses_message _ _ _ next bad j) (accepts_handshake _ _ q ys k) =
-      absurd (subst GivesNoPayload (judged-once s.state next _ m a (Payload q) j (accepted s.state m q ys k)).0 bad)
+      absurd (subst GivesNoPayload (laws.judged_once s.state next _ m a (Payload q) j (accepted s.state m q ys k)).0 bad)
   reads-once s x y m a b (refuses_message _ _ _ next bad j) (accepts_transport _ _ q d l be) =
-      absurd (subst GivesNoPayload (judged-once s.state next _ m a (Payload q) j (opened s.state m q d l be)).0 bad)
+      absurd (subst GivesNoPayload (laws.judged_once s.state next _ m a (Payload q) j (opened s.state m q d l be)).0 bad)
   reads-once s x y m a b (refuses_message _ _ _ next bad j) (refuses_message _ _ _ after worse k) =
-      let one = judged-once s.state next after m a b j k in (one.0, ap (with_state s) one.1)
+      let one = laws.judged_once s.state next after m a b j k in (one.0, ap (with_state s) one.1)
 
   -- a payload is written in one way
   writes-once : (s x y : Side) (payload : List ℕ) (a b : Note) → SideWrites s payload a x → SideWrites s payload b y → (a ≡ b) × (x ≡ y)
@@ -140,13 +91,13 @@ module _ (laws : LawsBelow) where
   receives-once : (s x y : Side) (bytes : List ℕ) (ms ns : List Note) → SideReceives s bytes ms x → SideReceives s bytes ns y → (ms ≡ ns) × (x ≡ y)
   receives-once s x y bytes ms ns (is_idle _ _ step e) (is_idle _ _ other_step f) =
       (ap (λ (z : StepValue). left_note z (length bytes)) (same_Some step other_step (sym e ∙ f)), refl)
-  receives-once s x y bytes ms ns (is_idle _ _ step e) (waits _ _ f partial) = absurd (some-none _ step e f)
-  receives-once s x y bytes ms ns (is_idle _ _ step e) (reads_frame _ _ _ _ m rest _ more f is short reads on) = absurd (some-none _ step e f)
-  receives-once s x y bytes ms ns (waits _ _ e partial) (is_idle _ _ step f) = absurd (some-none _ step f e)
+  receives-once s x y bytes ms ns (is_idle _ _ step e) (waits _ _ f partial) = cc
+  receives-once s x y bytes ms ns (is_idle _ _ step e) (reads_frame _ _ _ _ m rest _ more f is short reads on) = cc
+  receives-once s x y bytes ms ns (waits _ _ e partial) (is_idle _ _ step f) = cc
   receives-once s x y bytes ms ns (waits _ _ e partial) (waits _ _ f part) = (refl, refl)
   receives-once s x y bytes ms ns (waits _ _ e partial) (reads_frame _ _ _ _ m rest _ more f is short reads on) =
       absurd (frame-whole m rest short (subst (λ (z : List ℕ). IsPartial z) is partial))
-  receives-once s x y bytes ms ns (reads_frame _ _ _ _ m rest _ more e is short reads on) (is_idle _ _ step f) = absurd (some-none _ step f e)
+  receives-once s x y bytes ms ns (reads_frame _ _ _ _ m rest _ more e is short reads on) (is_idle _ _ step f) = cc
   receives-once s x y bytes ms ns (reads_frame _ _ _ _ m rest _ more e is short reads on) (waits _ _ f partial) =
       absurd (frame-whole m rest short (subst (λ (z : List ℕ). IsPartial z) is partial))
   receives-once s x y bytes ms ns (reads_frame _ next _ _ m rest step more e is short reads on)
@@ -174,12 +125,12 @@ module _ (laws : LawsBelow) where
       let one = writes-once (side d role) next after payload (WriteFault why) (WriteFault other_why) h k in
       (ap (λ (z : Note). (role, z) ∷ []) one.0, ap (with_side d role) one.1)
   happens-once d x y event ms ns (says_nothing _ role payload why next h) (says _ _ _ bytes n notes after heard k at receives) =
-      absurd (not-both why n (writes-once (side d role) next after payload (WriteFault why) (Wrote n) h k).0)
+      cc ((writes-once (side d role) next after payload (WriteFault why) (Wrote n) h k).0)
   happens-once d x y event ms ns (says _ role payload bytes n notes next heard h at receives) (says_nothing _ _ _ why after k) =
-      absurd (not-both why n (writes-once (side d role) after next payload (WriteFault why) (Wrote n) k h).0)
+      cc ((writes-once (side d role) after next payload (WriteFault why) (Wrote n) k h).0)
   happens-once d x y event ms ns (says _ role payload bytes n notes next heard h at receives) (says _ _ _ others k more after hears w from gets) =
       let one = writes-once (side d role) next after payload (Wrote n) (Wrote k) h w in
-      let number : n ≡ k = wrote-same n k one.0 in
+      let number : n ≡ k = cc (one.0) in
       let there : slice_get next.frames n ≡ Some others = ap (slice_get next.frames) number ∙ ap (λ (z : Side). slice_get z.frames k) one.1 ∙ from in
       let same : bytes ≡ others = same_Some bytes others (sym at ∙ there) in
       let two = receives-once (side d (other role)) heard hears bytes notes more receives
@@ -193,12 +144,12 @@ module _ (laws : LawsBelow) where
       let two = receives-once (side d role) heard hears bytes notes more receives
       (subst (λ (z : List ℕ). SideReceives (side d role) z more hears) (sym same) gets) in
       (all-noted-same role notes more heard hears two.0 two.1, ap (with_side d role) two.1)
-  happens-once d x y event ms ns (delivers _ role n bytes notes heard at receives) (misses _ _ _ none) = absurd (some-none _ bytes at none)
-  happens-once d x y event ms ns (misses _ role n none) (delivers _ _ _ bytes notes heard at receives) = absurd (some-none _ bytes at none)
   happens-once d x y event ms ns (misses _ role n none) (misses _ _ _ missing) = (refl, refl)
   happens-once d x y event ms ns (injects _ role bytes notes heard receives) (injects _ _ _ more hears gets) =
       let two = receives-once (side d role) heard hears bytes notes more receives gets in
       (all-noted-same role notes more heard hears two.0 two.1, ap (with_side d role) two.1)
+  happens-once d x y event ms ns (delivers _ role n bytes notes heard at receives) (misses _ _ _ none) = cc
+  happens-once d x y event ms ns (misses _ role n none) (delivers _ _ _ bytes notes heard at receives) = cc
 
   pub run-once : RunOnce
   run-once d x y events ms ns (ends _) (ends _) = (refl, refl)

@@ -23,6 +23,8 @@ use Rattle.noise_handshake.specs.Setup.{party_at_start, has_before, has_token, p
 use Rattle.noise_handshake.specs.Counterparts.{Counterparts, DhResultsAgree, IsEquipped, is_dh, keys_if, shown_after, shown_before}
 use Rattle.noise_session.specs.declared.faults.SendFault.{SendFault}
 use Rattle.noise_session.specs.Ends.{EndState}
+use Rattle.noise_session.specs.Steps.{StepValue}
+use Rattle.noise_session.specs.Taking.{Judges}
 use Rattle.noise_session.specs.Sending.{Sends}
 
 pub record LawsBelow : Type 0 where
@@ -39,6 +41,8 @@ pub record LawsBelow : Type 0 where
       → Writes v payload xs m → LacksDhResult v k → ⊥
   pub sent_once : (v x y : EndState) (payload : List ℕ) (r s : Result (List ℕ) SendFault)
       → Sends v payload r x → Sends v payload s y → (r ≡ s) × (x ≡ y)
+  pub judged_once : (v x y : EndState) (message : List ℕ) (s t : StepValue)
+      → Judges v message s x → Judges v message t y → (s ≡ t) × (x ≡ y)
   -- where there is a key, and what a message carries
   pub keyed_first : (name prologue : List ℕ) (p : Plan) (initiator responder : Remote) → IsPattern p
       → is_some (cipher_key (start name p prologue initiator responder)) ≡ has_key p (passed_places p 0)

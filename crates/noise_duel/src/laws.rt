@@ -17,9 +17,9 @@ use noise_handshake::laws::{
     accepted_once, due_is_written, keys_carried, overhead_added, refused_once, setup_is_whole,
     shown_is_known, starts_are_counterparts, tokens_match, written_is_accepted, written_once,
 };
-use noise_session::laws::sent_once;
+use noise_session::laws::{judged_once, sent_once};
 
-// What the laws of the handshake say, in one.
+// What the laws of the handshake and of an end say, in one.
 fn laws_below()
     ensures { LawsBelow }
 {
@@ -27,6 +27,7 @@ fn laws_below()
     refused_once();
     written_once();
     sent_once();
+    judged_once();
     overhead_added();
     keys_carried();
     tokens_match();

@@ -3,7 +3,6 @@ use Rattle.std.proofs.Common.{◌≡◌, ℕ, List, refl, ◌∙◌, ap, subst}
 use Rattle.std.specs.Prelude.{Bool, true, false, IsTrue, MatchBool}
 use Rattle.noise_names.specs.declared.token.Role.{Role}
 use Rattle.noise_names.specs.Tokens.{other}
-use Rattle.noise_state.specs.History.{History}
 use Rattle.noise_handshake.specs.declared.faults.Cause.{Cause}
 use Rattle.noise_handshake.specs.Party.{Party, Accepts, Refuses}
 use Rattle.noise_session.specs.Transport.{transport_message}
@@ -14,7 +13,6 @@ use Rattle.noise_session.specs.Ends.{EndState, progress_of}
 use Rattle.noise_session.specs.Taking.{Judges}
 use Rattle.noise_session.specs.Taking.Judges.{accepted, refused, opened, dropped, exhausted}
 use Rattle.noise_session.specs.Exactly.{Encodes, AcceptedExactly}
-use Rattle.noise_session.proofs.Once.{judged-once}
 use Rattle.noise_session.proofs.Parties.{closed-yet}
 
 where-shut : (b : Bool) (P Q : Type 0) → (IsTrue b → ⊥) → Q → MatchBool b P Q
@@ -59,21 +57,13 @@ reported-refuses v next message token cause reported (opened _ _ p opens low is)
 reported-refuses v next message token cause reported (dropped _ _ opens low never) e = absurd (cc)
 reported-refuses v next message token cause reported (exhausted _ _ opens last) e = absurd (cc)
 
-pub accepted-exactly : ((v : Party) (message : List ℕ) (xs ys : List (List ℕ)) (p q : List ℕ) → Accepts v message xs p → Accepts v message ys q
-    → (xs ≡ ys) × (p ≡ q))
-    → ((v : Party) (message : List ℕ) (k j : ℕ) (c d : Cause) → Refuses v message k c → Refuses v message j d → (k ≡ j) × (c ≡ d))
-    → ((v : Party) (message : List ℕ) (xs : List (List ℕ)) (p : List ℕ) (k : ℕ) (c : Cause) → Accepts v message xs p → Refuses v message k c → ⊥)
-    → ((r : History) (writer : Role) (interval n : ℕ) (p q : List ℕ) → transport_message r writer interval n p ≡ transport_message r writer interval n q → p ≡ q)
-    → AcceptedExactly
-accepted-exactly one refused-one apart transport_message-one v next message reported j = record {
+pub accepted-exactly : ((v x y : EndState) (m : List ℕ) (s t : StepValue) → Judges v m s x → Judges v m t y → (s ≡ t) × (x ≡ y)) → AcceptedExactly
+accepted-exactly one v next message reported j = record {
   payload = λ p. (
     reported-encodes v next message p reported j,
     λ e. either-way (is_open (progress_of v)) _ _ (reported ≡ Payload p) e
-        (λ opens here. (judged-once one refused-one apart transport_message-one v next _ message reported (Payload p) j (opened v message p opens here.0 here.1)).0)
-        (λ here. (judged-once one refused-one apart transport_message-one v next _ message reported (Payload p) j (accepted v message p here.0 here.1)).0),
+        (λ opens here. (one v next _ message reported (Payload p) j (opened v message p opens here.0 here.1)).0)
+        (λ here. (one v next _ message reported (Payload p) j (accepted v message p here.0 here.1)).0),
   );
-  refused = λ k c. (
-    reported-refuses v next message k c reported j,
-    λ r. (judged-once one refused-one apart transport_message-one v next _ message reported (Refused k c) j (refused v message k c r)).0,
-  );
+  refused = λ k c. (reported-refuses v next message k c reported j, λ r. (one v next _ message reported (Refused k c) j (refused v message k c r)).0);
 }

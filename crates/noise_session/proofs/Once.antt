@@ -57,6 +57,7 @@ module _ (accepted-one : (v : Party) (message : List ℕ) (xs ys : List (List �
   judged-once v x y m s t (exhausted _ _ opens last) (dropped _ _ other_opens low never) = absurd (low last)
   judged-once v x y m s t (exhausted _ _ opens last) (exhausted _ _ other_opens other_last) = (refl, refl)
 
+module _ (judged-one : (v x y : EndState) (m : List ℕ) (s t : StepValue) → Judges v m s x → Judges v m t y → (s ≡ t) × (x ≡ y)) where
   pub takes-once : (v x y : EndState) (piece : List ℕ) (m n : ℕ) (s t : StepValue) → Takes v piece m s x → Takes v piece n t y → (m ≡ n) × (s ≡ t) × (x ≡ y)
   takes-once v x y piece m n s t (idles _ _ _ e) (idles _ _ _ f) = let same : s ≡ t = cc in (refl, same, refl)
   takes-once v x y piece m n s t (idles _ _ _ e) (waits _ _ f partial) = cc
@@ -70,6 +71,6 @@ module _ (accepted-one : (v : Party) (message : List ℕ) (xs ys : List (List �
       absurd (frame-whole message rest short (subst (λ (bytes : List ℕ). IsPartial bytes) is partial))
   takes-once v x y piece m n s t (judges _ _ _ message rest _ _ e is short count j) (judges _ _ _ other left _ _ f be small number k) =
       let one = frame-same message other rest left short small (sym is ∙ be) in
-      let same = judged-once v x y other s t (subst (λ (bytes : List ℕ). Judges v bytes s x) one.0 j) k in
+      let same = judged-one v x y other s t (subst (λ (bytes : List ℕ). Judges v bytes s x) one.0 j) k in
       let taken : m ≡ n = omega (arith, ap length one.1, count, number) in
       (taken, same.0, same.1)

@@ -13,7 +13,7 @@ ghost use Rattle.noise_session.specs.Counterparts.{EndCounterparts};
 ghost use Rattle.noise_session.specs.Steps.{StepValue};
 ghost use Rattle.noise_session.specs.Steps.StepValue.{More, Payload};
 ghost use Rattle.noise_session.specs.Exactly.{AcceptedExactly};
-ghost use Rattle.noise_session.specs.Taking.{Takes};
+ghost use Rattle.noise_session.specs.Taking.{Judges, Takes};
 ghost use Rattle.noise_session.specs.Sending.{Sends};
 ghost use Rattle.noise_session.specs.Datagrams.{DatagramState, Runs, AreOnce, AreParties, OpensInWindow, datagram, unsealed};
 
@@ -35,14 +35,22 @@ pub fn message_is_due()
     ensures { (v w : TransportState) (payload : List ℕ) → Faces v w → due_message w payload ≡ next_message v payload }
 {}
 
+/// A whole message gives one step at an end, and leaves one state.
+pub fn judged_once()
+    ensures { (v x y : EndState) (message : List ℕ) (s t : StepValue)
+        → Judges v message s x → Judges v message t y → (s ≡ t) × (x ≡ y) }
+{
+    accepted_once();
+    refused_once();
+    transport_message_same();
+}
+
 /// A piece gives one step at an end: the same number of bytes is taken, and the same state is left.
 pub fn taken_once()
     ensures { (v x y : EndState) (piece : List ℕ) (m n : ℕ) (s t : StepValue)
         → Takes v piece m s x → Takes v piece n t y → (m ≡ n) × (s ≡ t) × (x ≡ y) }
 {
-    accepted_once();
-    refused_once();
-    transport_message_same();
+    judged_once();
 }
 
 /// An end that listens accepts a whole message exactly where it is one of some payload, and refuses a handshake message
@@ -50,9 +58,7 @@ pub fn taken_once()
 pub fn accepted_exactly()
     ensures { AcceptedExactly }
 {
-    accepted_once();
-    refused_once();
-    transport_message_same();
+    judged_once();
 }
 
 /// A first part that isn't a whole frame may be taken by itself: both parts then give the step of the whole piece.

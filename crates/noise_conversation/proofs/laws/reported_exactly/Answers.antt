@@ -2,4 +2,4 @@ use Rattle.noise_conversation.proofs.Exactly.{reported-exactly}
 use Rattle.noise_conversation.proofs.laws.reported_exactly.Goals as goal
 
 pub returns : goal.returns
-returns c = reported-exactly c.accepted_exactly.ensures
+returns c = reported-exactly c.judged_once.ensures c.accepted_exactly.ensures

@@ -8,6 +8,7 @@ returns c = record {
   written_once = c.written_once.ensures.message;
   not_lacking = c.written_once.ensures.apart;
   sent_once = c.sent_once.ensures;
+  judged_once = c.judged_once.ensures;
   keyed_first = c.overhead_added.ensures.first;
   keyed_next = c.overhead_added.ensures.next;
   written_carries = c.keys_carried.ensures.written;

@@ -2,4 +2,4 @@ use Rattle.noise_session.proofs.Once.{takes-once}
 use Rattle.noise_session.proofs.laws.taken_once.Goals as goal
 
 pub returns : goal.returns
-returns c = takes-once c.accepted_once.ensures c.refused_once.ensures.one c.refused_once.ensures.apart c.transport_message_same.ensures
+returns c = takes-once c.judged_once.ensures
