@@ -19,7 +19,7 @@ pub(crate) struct Lines<'a> {
 }
 
 impl<'a> Lines<'a> {
-    ghost use Rattle.std.specs.Prelude.{◌≡◌, ◌↔◌, [], List, ℕ, IsTrue, IsFalse, IsOk, IfOk, IfErr, MatchResult};
+    ghost use Rattle.std.specs.Prelude.{◌≡◌, ◌↔◌, [], List, ℕ, IsTrue, IsFalse, IsOk, IfOk, IfErr, OnErr, MatchResult};
     ghost use Rattle.noise_vectors.specs.Lines.{IsRead, last_number};
     ghost use Rattle.noise_vectors.specs.VectorText.{line};
     ghost use Rattle.noise_vectors.specs.Words.{lacks};
@@ -45,6 +45,7 @@ impl<'a> Lines<'a> {
         ensures missing { IfErr result
             (λ fault. (self.old.rest.now ≡ [])
             × (fault ≡ VectorFault.Line (last_number self.old + 1) LineKind.Ending)) }
+        ensures unchanged { OnErr result (self.new ≡ self.old) }
     {
         let rest = self.rest;
         if rest.is_empty() {
