@@ -7,7 +7,8 @@ use Rattle.noise_session.specs.Ends.{hash_in}
 use Rattle.noise_events.specs.Events.{Event}
 use Rattle.noise_duel.specs.declared.report.Report.{Report}
 use Rattle.noise_duel.specs.Conversation.{sides_at_start}
-use Rattle.noise_duel.specs.Entries.{bytes_of, notes_of}
+use Rattle.noise_names.specs.Lists.{bytes_of}
+use Rattle.noise_duel.specs.Entries.{notes_of}
 use Rattle.noise_duel.specs.DuelValue.{DuelValue, DuelMatches}
 use Rattle.noise_duel.specs.Networks.{HaveOneHash, HaveOneHistory, HistoriesCollide, PayloadsAgree, SharePsks}
 use Rattle.noise_duel.specs.Reports.{Reports}

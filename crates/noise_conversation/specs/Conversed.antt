@@ -7,7 +7,8 @@ use Rattle.noise_keys.specs.declared.keys.Own.{Own}
 use Rattle.noise_session.specs.Ends.{hash_in}
 use Rattle.noise_duel.specs.declared.report.Report.{Report}
 use Rattle.noise_duel.specs.Conversation.{frames_by, notes_of_lines}
-use Rattle.noise_duel.specs.Entries.{bytes_of, notes_of}
+use Rattle.noise_names.specs.Lists.{bytes_of}
+use Rattle.noise_duel.specs.Entries.{notes_of}
 use Rattle.noise_duel.specs.DuelValue.{DuelValue}
 use Rattle.noise_duel.specs.Reports.{receive_key_in, send_key_in}
 use Rattle.noise_conversation.specs.declared.fault.ConversationFault.{ConversationFault}

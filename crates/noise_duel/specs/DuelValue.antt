@@ -3,7 +3,7 @@ use Rattle.std.specs.Prelude.{◌≡◌, ℕ, List, Option}
 use Rattle.noise_keys.specs.declared.keys.Own.{Own}
 use Rattle.noise_session.specs.Ends.{EndState, EndValue, EndMatches}
 use Rattle.noise_duel.specs.declared.report.Report.{Report}
-use Rattle.noise_duel.specs.Entries.{bytes_of}
+use Rattle.noise_names.specs.Lists.{bytes_of}
 use Rattle.noise_duel.specs.Sides.{Sides, new_side}
 
 -- two ends as contracts see them

@@ -1,6 +1,5 @@
 -- The entries and frames that code has, as notes and bytes.
-use Rattle.std.specs.Prelude.{ℕ, List, Vec, Result, Ok, Err, map}
-use Rattle.std.specs.Global.{Global}
+use Rattle.std.specs.Prelude.{ℕ, List, Result, Ok, Err, map}
 use Rattle.noise_names.specs.declared.token.Role.{Role}
 use Rattle.noise_session.specs.declared.faults.SendFault.{SendFault}
 use Rattle.noise_session.specs.Steps.{StepValue}
@@ -34,6 +33,3 @@ notes_of entries = map (λ e. (e.0, note_of e.1)) entries
 abbrev pub written_note : Result ℕ SendFault → Note
 written_note (Ok n) = Wrote n
 written_note (Err why) = WriteFault why
-
-abbrev pub bytes_of : List (Vec ℕ Global) → List (List ℕ)
-bytes_of frames = map (λ f. f.items) frames

@@ -11,7 +11,7 @@ use Rattle.noise_duel.specs.DatagramNotes.{DatagramNote, Missing}
 use Rattle.noise_duel.specs.DatagramReports.{DatagramDuelValue, DatagramDuelMatches, datagram_note_of, datagram_notes_of}
 use Rattle.noise_duel.specs.DatagramRuns.{PartySeals, PartyOpens, DatagramHappens, DatagramRun}
 use Rattle.noise_duel.specs.DatagramSides.{DatagramSide, DatagramSides, sealed_datagrams}
-use Rattle.noise_duel.specs.Entries.{bytes_of}
+use Rattle.noise_names.specs.Lists.{bytes_of}
 
 -- A payload was sealed, or refused: the party's datagrams and those that it sealed are those after that.
 pub record HasSealed (s : DatagramSide) (payload : List ℕ) (entry : DatagramEntry) (datagrams : DatagramsValue)

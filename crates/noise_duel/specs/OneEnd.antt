@@ -6,7 +6,8 @@ use Rattle.noise_keys.specs.declared.keys.Own.{Own}
 use Rattle.noise_session.specs.declared.faults.SendFault.{SendFault}
 use Rattle.noise_session.specs.Ends.{EndValue, EndMatches}
 use Rattle.noise_duel.specs.declared.entry.Entry.{Entry}
-use Rattle.noise_duel.specs.Entries.{bytes_of, notes_of, written_note}
+use Rattle.noise_names.specs.Lists.{bytes_of}
+use Rattle.noise_duel.specs.Entries.{notes_of, written_note}
 use Rattle.noise_duel.specs.Notes.{Note, held_note, noted_by}
 use Rattle.noise_duel.specs.Sides.{Side}
 use Rattle.noise_duel.specs.Runs.{SideWrites, SideReceives}

@@ -14,7 +14,8 @@ use Rattle.noise_session.specs.Ends.{EndState, EndMatches, hash_in, remote_stati
 use Rattle.noise_duel.specs.declared.report.Report.{Report}
 use Rattle.noise_duel.specs.Agreement.{VisiblyEqual}
 use Rattle.noise_duel.specs.Conversation.{KeyMaterial, ComeThrough, HaveParts, InTurn, end_after, sides_at_start, frames_by, handshake_payloads, history_in, notes_of_lines, transcript}
-use Rattle.noise_duel.specs.Entries.{bytes_of, notes_of}
+use Rattle.noise_names.specs.Lists.{bytes_of}
+use Rattle.noise_duel.specs.Entries.{notes_of}
 use Rattle.noise_events.specs.Events.{Event}
 use Rattle.noise_duel.specs.DuelValue.{DuelValue, DuelMatches, HasFrames, both_sides}
 use Rattle.noise_duel.specs.Invariant.{ComesOfMessages}

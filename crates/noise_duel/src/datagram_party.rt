@@ -4,7 +4,7 @@
 ghost use Rattle.std.specs.Prelude.{◌≡◌, ℕ, List, length, IfOk, slice_get};
 ghost use Rattle.noise_session.specs.Datagrams.{DatagramsMatch};
 ghost use Rattle.noise_duel.specs.DatagramSides.{DatagramSide, sealed_datagrams};
-ghost use Rattle.noise_duel.specs.Entries.{bytes_of};
+ghost use Rattle.noise_names.specs.Lists.{bytes_of};
 ghost use Rattle.noise_duel.specs.OneDatagram.{HasFound, HasOpened, HasSealed};
 
 use crate::datagram_report::DatagramEntry;

@@ -10,7 +10,7 @@ ghost use Rattle.noise_events.specs.Events.{event_of, events_of};
 ghost use Rattle.noise_duel.specs.Acts.{roles_and_payloads};
 ghost use Rattle.noise_duel.specs.Conversation.{say_events};
 ghost use Rattle.noise_duel.specs.DatagramReports.{DatagramDuelMatches, datagram_sides_of};
-ghost use Rattle.noise_duel.specs.Entries.{bytes_of};
+ghost use Rattle.noise_names.specs.Lists.{bytes_of};
 ghost use Rattle.noise_events.specs.Events.{Deliver, Raw, Say};
 ghost use Rattle.noise_duel.specs.DuelValue.{DuelMatches, both_sides};
 ghost use Rattle.noise_duel.specs.OneEvent.{Applies, HasTaken, RoleWrites};

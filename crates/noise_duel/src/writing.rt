@@ -3,7 +3,7 @@
 
 ghost use Rattle.std.specs.Prelude.{◌≡◌, ℕ, List, length, IfOk};
 ghost use Rattle.noise_session.specs.Ends.{EndMatches};
-ghost use Rattle.noise_duel.specs.Entries.{bytes_of};
+ghost use Rattle.noise_names.specs.Lists.{bytes_of};
 ghost use Rattle.noise_duel.specs.OneEnd.{HasWritten};
 ghost use Rattle.noise_duel.specs.Sides.{Side};
 

@@ -8,7 +8,7 @@ use Rattle.noise_names.specs.declared.token.Role.TheVariants.{Initiator, Respond
 use Rattle.noise_names.specs.Names.{name_bytes}
 use Rattle.noise_names.specs.Plan.{Plan}
 use Rattle.noise_names.specs.Text as PatternText
-use Rattle.noise_vectors.specs.Expectations.{bytes_of}
+use Rattle.noise_names.specs.Lists.{bytes_of}
 use Rattle.noise_vectors.specs.HexWord.{hex_of}
 use Rattle.noise_vectors.specs.VectorText.{answer_words, block_text, event_words, expect_line, header_words, is_second, line, lines_of, party_text}
 use Rattle.noise_vectors.specs.VectorText.{key_words, psk_words, role_word, text_body, text_of, version_text}

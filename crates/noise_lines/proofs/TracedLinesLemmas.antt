@@ -7,7 +7,7 @@ use Rattle.std.proofs.KnownBytes.{Appends-trans}
 use Rattle.std.proofs.lemmas.List.{take-map}
 use Rattle.noise_lines.specs.Lines.{lines_text}
 use Rattle.noise_lines.specs.Prefixes.{AppendsPrefix}
-use Rattle.noise_vectors.specs.Expectations.{bytes_of}
+use Rattle.noise_names.specs.Lists.{bytes_of}
 use Rattle.noise_lines.specs.TracedLines.{traces_of, with_traces, with_traces_to}
 use Rattle.noise_lines.proofs.PrefixLemmas.{prefix-after}
 

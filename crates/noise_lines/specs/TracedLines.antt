@@ -1,7 +1,7 @@
 -- Lines, each with those that follow it: those of a run, with those of the key schedules.
 use Rattle.std.specs.Prelude.{ℕ, List, [], ◌∷◌, ◌++◌, Vec, map, take}
 use Rattle.std.specs.Global.{Global}
-use Rattle.noise_vectors.specs.Expectations.{bytes_of}
+use Rattle.noise_names.specs.Lists.{bytes_of}
 
 -- the lines after each note, as code holds them
 abbrev pub traces_of : List (Vec (Vec ℕ Global) Global) → List (List (List ℕ))

@@ -1,7 +1,7 @@
 //! A version 1 vector file as one of version 2.
 
 ghost use Rattle.std.specs.Prelude.{◌≡◌, ◌⊎◌, ◌<◌, ◌≤◌, ◌++◌, [], IfErr, IfOk, OnOk, length};
-ghost use Rattle.noise_vectors.specs.Expectations.{bytes_of};
+ghost use Rattle.noise_names.specs.Lists.{bytes_of};
 ghost use Rattle.noise_vectors.specs.VectorText.{expect_line, lines_of, text_of};
 ghost use Rattle.noise_vectors.specs.declared.vector.VectorFile.{VectorFile};
 ghost use Rattle.noise_vectors.specs.declared.vector.Version.TheVariants.{One};

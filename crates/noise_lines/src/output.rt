@@ -1,7 +1,7 @@
 //! Writing to an output.
 
 ghost use Rattle.std.specs.Prelude.{◌≡◌, IfErr, OnOk};
-ghost use Rattle.noise_vectors.specs.Expectations.{bytes_of};
+ghost use Rattle.noise_names.specs.Lists.{bytes_of};
 ghost use Rattle.std.specs.Io.{WritesAtMost};
 ghost use Rattle.std.specs.Io.KnownBytes.{Appends, Keeps, WriteAppends};
 ghost use Rattle.noise_lines.specs.Lines.{lines_text};

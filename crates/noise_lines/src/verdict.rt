@@ -1,7 +1,7 @@
 //! What comes of a vector file that is tested.
 
 ghost use Rattle.std.specs.Prelude.{◌≡◌, ◌<◌, ◌++◌, IfErr, IfOk, OnOk, slice_get};
-ghost use Rattle.noise_vectors.specs.Expectations.{bytes_of};
+ghost use Rattle.noise_names.specs.Lists.{bytes_of};
 ghost use Rattle.noise_lines.specs.declared.verdict.Verdict.TheVariants.{Differs};
 ghost use Rattle.noise_lines.specs.Verdicts.{IsJudged, IsMet, ReportsUnmet, bytes_in, is_met, named_fault, named_line, shown_line, verdict_text};
 

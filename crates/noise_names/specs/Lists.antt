@@ -1,6 +1,23 @@
--- Facts on lists, for proofs of several crates.
-use Rattle.std.proofs.Common.{◌≡◌, ℕ, zero, suc, List, [], ◌∷◌, ◌++◌, length, take, drop, slice_get, Some, refl, ap, sym, ◌∙◌}
+-- Lists, and facts on them, for several crates.
+use Rattle.std.proofs.Common.{◌≡◌, ◌≢◌, ◌⊎◌, inl, inr, ℕ, zero, suc, List, [], ◌∷◌, ◌++◌, length, take, drop, map}
+use Rattle.std.proofs.Common.{slice_get, Some, Vec, refl, ap, sym, ◌∙◌}
+use Rattle.std.specs.Prelude.{bytes_eq}
+use Rattle.std.specs.Global.{Global}
+use Rattle.std.proofs.lemmas.Bool.{cases_Bool}
+use Rattle.std.proofs.lemmas.Bool.Decides.{not_from_Decides}
+use Rattle.std.proofs.lemmas.Slice.Eq.{bytes_eq-Decides}
 use Rattle.std.proofs.lemmas.List.{drop_at, take_at}
+
+-- the bytes of each
+abbrev pub bytes_of : List (Vec ℕ Global) → List (List ℕ)
+bytes_of vecs = map (λ v. v.items) vecs
+
+-- two texts are the same or not
+pub same-or : (xs ys : List ℕ) → (xs ≡ ys) ⊎ (xs ≢ ys)
+same-or xs ys = elim (cases_Bool (bytes_eq xs ys)) [
+  | inl same ↦ inl ((bytes_eq-Decides xs ys).0 same)
+  | inr differ ↦ inr (not_from_Decides (bytes_eq xs ys) (bytes_eq-Decides xs ys) differ)
+]
 
 pub cons-same : {X : Type 0} {x y : X} {xs ys : List X} → x ≡ y → xs ≡ ys → x ∷ xs ≡ y ∷ ys
 cons-same e f = cc

@@ -2,7 +2,7 @@
 use Rattle.std.proofs.Common.{◌≡◌, ◌∙◌, ap, sym, refl, subst, ℕ, Vec, List, [], ◌∷◌, None, codes}
 use Rattle.std.specs.Global.{Global}
 use Rattle.std.specs.List.{All}
-use Rattle.noise_vectors.specs.Expectations.{bytes_of}
+use Rattle.noise_names.specs.Lists.{bytes_of}
 use Rattle.noise_vectors.specs.VectorFile.{IsExpected, IsVectorFile}
 use Rattle.noise_vectors.specs.VectorText.{expect_line, expect_words, line, lines_of, text_body, text_of}
 use Rattle.noise_vectors.specs.declared.vector.VectorFile.{VectorFile}

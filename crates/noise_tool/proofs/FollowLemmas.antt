@@ -24,7 +24,7 @@ use Rattle.noise_duel.specs.Runs.{SideReads, SideWrites}
 use Rattle.noise_duel.specs.Runs.SideWrites.{writes_nothing, writes_handshake, writes_transport}
 use Rattle.noise_duel.specs.Runs.SideReads.{accepts_handshake, accepts_transport, refuses_message}
 use Rattle.noise_duel.specs.Sides.{Side}
-use Rattle.noise_vectors.specs.Expectations.{bytes_of}
+use Rattle.noise_names.specs.Lists.{bytes_of}
 use Rattle.noise_vectors.specs.FileKeys.{agreement_of, public_of}
 use Rattle.noise_vectors.specs.declared.file_keys.FileKeys.{FileKeys}
 use Rattle.noise_tool.specs.KeyUseLines.{HasLaterNonce, key_use_lines}

@@ -21,7 +21,8 @@ use Rattle.noise_tool.specs.Selection.{selection_of}
 use Rattle.noise_tool.specs.Tracing.{IsTraceOf}
 use Rattle.noise_tool.specs.Prefixes.{PrintsRun, PrintsRunPrefix}
 use Rattle.noise_tool.proofs.MetLemmas.{met-or-unmet}
-use Rattle.noise_vectors.specs.Expectations.{IsFirstUnmet, bytes_of}
+use Rattle.noise_names.specs.Lists.{bytes_of}
+use Rattle.noise_vectors.specs.Expectations.{IsFirstUnmet}
 use Rattle.noise_vectors.specs.VectorFile.{IsAllowedFile, IsReadFault, IsVectorFile}
 use Rattle.noise_vectors.specs.WrongLine.{IsReported}
 use Rattle.noise_vectors.specs.declared.faults.VectorFault.{VectorFault}

@@ -12,7 +12,7 @@ use Rattle.noise_duel.specs.DatagramReports.{datagram_note_of, datagram_notes_of
 use Rattle.noise_duel.specs.declared.entry.Entry.{Entry}
 use Rattle.noise_duel.specs.Entries.{note_of, notes_of}
 use Rattle.noise_duel.specs.Sides.{Sides}
-use Rattle.noise_vectors.specs.Expectations.{bytes_of}
+use Rattle.noise_names.specs.Lists.{bytes_of}
 use Rattle.noise_vectors.specs.VectorFile.{IsExpected}
 use Rattle.noise_lines.specs.PrintedWords.{AreExpected}
 use Rattle.noise_tool.specs.Printed.{note_line}

@@ -14,7 +14,7 @@ use Rattle.noise_duel.specs.Runs.{SideReads, SideReceives}
 use Rattle.noise_duel.specs.Runs.SideReads.{accepts_handshake, accepts_transport, refuses_message}
 use Rattle.noise_duel.specs.Runs.SideReceives.{is_idle, waits, reads_frame}
 use Rattle.noise_duel.specs.Sides.{Side}
-use Rattle.noise_vectors.specs.Expectations.{bytes_of}
+use Rattle.noise_names.specs.Lists.{bytes_of}
 use Rattle.noise_lines.specs.TracedLines.{traces_of}
 use Rattle.noise_tool.specs.TracedEnds.{IsOfNoFrame, ShowsEnd}
 use Rattle.noise_tool.specs.Tracing.{blanks, came_traces, read_trace}

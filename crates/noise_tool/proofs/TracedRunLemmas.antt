@@ -4,7 +4,8 @@ use Rattle.noise_names.specs.declared.token.Role.{Role}
 use Rattle.noise_events.specs.Events.{Event}
 use Rattle.noise_duel.specs.declared.entry.Entry.{Entry}
 use Rattle.noise_duel.specs.declared.report.Report.{Report}
-use Rattle.noise_duel.specs.Entries.{bytes_of as frames_in, notes_of}
+use Rattle.noise_names.specs.Lists.{bytes_of}
+use Rattle.noise_duel.specs.Entries.{notes_of}
 use Rattle.noise_duel.specs.DuelValue.{DuelMatches, DuelValue}
 use Rattle.noise_duel.specs.Notes.{Note}
 use Rattle.noise_duel.specs.OneEvent.{HasHappened}
@@ -64,8 +65,8 @@ none-traced selection d events duel report traced traces matches new follows non
   );
   matches = matches;
   frames = record {
-    initiator = ap frames_in first ∙ sym new.0;
-    responder = ap frames_in second ∙ sym new.1;
+    initiator = ap bytes_of first ∙ sym new.0;
+    responder = ap bytes_of second ∙ sym new.1;
   };
   traced = follows;
 }

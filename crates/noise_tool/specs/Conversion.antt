@@ -1,7 +1,7 @@
 -- What a conversion does when it is replayed.
 use Rattle.std.specs.Prelude.{◌≡◌, ◌↔◌, ℕ, List, Vec}
 use Rattle.std.specs.Global.{Global}
-use Rattle.noise_vectors.specs.Expectations.{bytes_of}
+use Rattle.noise_names.specs.Lists.{bytes_of}
 use Rattle.noise_vectors.specs.VectorFile.{IsVectorFile}
 use Rattle.noise_vectors.specs.VectorText.{text_of}
 use Rattle.noise_vectors.specs.declared.vector.VectorFile.{VectorFile}

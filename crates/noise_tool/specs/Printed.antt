@@ -18,7 +18,7 @@ use Rattle.noise_session.specs.Steps.StepValue.{Ended, YourTurn, Silent, Payload
 use Rattle.noise_duel.specs.Notes.{Note, Wrote, WriteFault, Judged, Left, Missing, Held}
 use Rattle.noise_duel.specs.Sides.{Side, Sides, side}
 use Rattle.noise_lines.specs.Lines.{line_of}
-use Rattle.noise_vectors.specs.Expectations.{bytes_of}
+use Rattle.noise_names.specs.Lists.{bytes_of}
 use Rattle.noise_vectors.specs.HexWord.{hex_of}
 use Rattle.noise_vectors.specs.VectorText.{role_word}
 

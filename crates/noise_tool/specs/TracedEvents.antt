@@ -17,7 +17,7 @@ use Rattle.noise_tool.specs.declared.traced_end.TracedEnd.{TracedEnd}
 use Rattle.noise_tool.specs.declared.traced_ends.TracedEnds.{TracedEnds}
 use Rattle.noise_tool.specs.TracedEnds.{EndsTraced, ShowsEnd, TracedMatches}
 use Rattle.noise_tool.specs.Tracing.{came_traces, happened_traces, read_trace, written_frame, written_trace}
-use Rattle.noise_vectors.specs.Expectations.{bytes_of}
+use Rattle.noise_names.specs.Lists.{bytes_of}
 
 -- the traces of a run, as code has them
 abbrev pub Traces : Type 0

@@ -1,6 +1,6 @@
 -- The lines of a trace, by the value that the program has of it.
 use Rattle.std.specs.Prelude.{ℕ, Bool, true, false, List, [], ◌++◌}
-use Rattle.noise_vectors.specs.Expectations.{bytes_of}
+use Rattle.noise_names.specs.Lists.{bytes_of}
 use Rattle.noise_lines.specs.TracedLines.{traces_of, with_traces, with_traces_to}
 use Rattle.noise_tool.specs.declared.tracing.Traced.{Traced}
 

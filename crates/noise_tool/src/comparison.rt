@@ -8,7 +8,7 @@ ghost use Rattle.noise_lines.specs.Prefixes.{AppendsPrefix};
 ghost use Rattle.noise_lines.specs.Reported.{error_text};
 ghost use Rattle.noise_lines.specs.declared.faults.Fault.{Fault};
 ghost use Rattle.noise_lines.specs.TracedLines.{traces_of};
-ghost use Rattle.noise_vectors.specs.Expectations.{bytes_of};
+ghost use Rattle.noise_names.specs.Lists.{bytes_of};
 ghost use Rattle.noise_tool.specs.Comparing.{Compares, ComparesPrefix, IfMade, IfWrong, IsCompared, IsNotCompared, IsRefusedTwice, IsUncompared, IsWrongLog};
 ghost use Rattle.noise_tool.specs.Comparing.{NamesInputTwice, finding_status, schedule_of, uncompared_line};
 ghost use Rattle.noise_tool.specs.Testing.{RunsTo};

@@ -3,7 +3,7 @@
 ghost use Rattle.std.specs.Prelude.{◌≡◌, ◌⊎◌, ◌≤◌, [], ℕ, List, Some, IfErr, IfOk, IfSome, OnOk, map, string_bytes};
 ghost use Rattle.noise_lines.specs.Faults.{status_of};
 ghost use Rattle.std.specs.Io.KnownBytes.{Appends};
-ghost use Rattle.noise_vectors.specs.Expectations.{bytes_of};
+ghost use Rattle.noise_names.specs.Lists.{bytes_of};
 ghost use Rattle.noise_vectors.specs.VectorFile.{IsVectorFile};
 ghost use Rattle.noise_vectors.specs.VectorText.{text_of};
 ghost use Rattle.noise_vectors.specs.declared.vector.AllowedEvents.TheVariants.{VersionOne};

@@ -7,7 +7,7 @@ ghost use Rattle.noise_duel.specs.Entries.{note_of, notes_of, step_of};
 ghost use Rattle.noise_duel.specs.Notes.{WriteFault};
 ghost use Rattle.noise_duel.specs.DuelValue.{HasFrames};
 ghost use Rattle.noise_duel.specs.Sides.{Side, Sides, side};
-ghost use Rattle.noise_vectors.specs.Expectations.{bytes_of};
+ghost use Rattle.noise_names.specs.Lists.{bytes_of};
 ghost use Rattle.noise_vectors.specs.FileKeys.{agreement_of, public_of};
 ghost use Rattle.noise_lines.specs.Lines.{text_in};
 ghost use Rattle.noise_tool.specs.Ends.{FileDuelMatches};

@@ -8,7 +8,7 @@ ghost use Rattle.noise_duel.specs.Sides.{Sides};
 ghost use Rattle.noise_events.specs.Events.{events_of};
 ghost use Rattle.noise_session.specs.Datagrams.{DatagramState};
 ghost use Rattle.noise_session.specs.Ends.{EndState};
-ghost use Rattle.noise_vectors.specs.Expectations.{bytes_of};
+ghost use Rattle.noise_names.specs.Lists.{bytes_of};
 ghost use Rattle.noise_vectors.specs.VectorText.{window_words};
 ghost use Rattle.noise_tool.specs.Ends.{FileDuelMatches, IsStartFault};
 ghost use Rattle.noise_lines.specs.PrintedWords.{AreExpected};

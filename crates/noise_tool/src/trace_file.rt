@@ -7,7 +7,7 @@ ghost use Rattle.noise_lines.specs.Lines.{lines_text};
 ghost use Rattle.noise_lines.specs.Prefixes.{AppendsPrefix};
 ghost use Rattle.noise_lines.specs.Verdicts.{IsMet};
 ghost use Rattle.noise_lines.specs.declared.faults.Fault.TheVariants.{Unwritable};
-ghost use Rattle.noise_vectors.specs.Expectations.{bytes_of};
+ghost use Rattle.noise_names.specs.Lists.{bytes_of};
 ghost use Rattle.noise_vectors.specs.declared.vector.AllowedEvents.TheVariants.{Any};
 ghost use Rattle.noise_tool.specs.Performing.{IsNotMet, IsOfLines, IsShortFile, IsUnlike, RunsFile, UnlessTwo};
 ghost use Rattle.noise_tool.specs.Prefixes.{PrintsRunPrefix};

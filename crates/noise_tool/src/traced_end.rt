@@ -12,7 +12,7 @@ ghost use Rattle.noise_session.specs.Frames.{frame};
 ghost use Rattle.noise_session.specs.Steps.{StepValue};
 ghost use Rattle.noise_trace.specs.KeyUses.{use_value, stopped_use};
 ghost use Rattle.noise_trace.specs.KeyUses.KeyUseValue.{Nothing};
-ghost use Rattle.noise_vectors.specs.Expectations.{bytes_of};
+ghost use Rattle.noise_names.specs.Lists.{bytes_of};
 ghost use Rattle.noise_tool.specs.KeyUseLines.{HasLaterNonce, key_use_lines};
 ghost use Rattle.noise_tool.specs.TracedEnds.{Follow, IsOfNoFrame, ShowsEnd, Used, note_ends};
 ghost use Rattle.noise_tool.specs.TracedEvents.{TracesRead, TracesReads, TracesReceived, TracesWrite};

@@ -5,7 +5,7 @@ ghost use Rattle.noise_handshake.specs.Setup.{setup_fault};
 ghost use Rattle.noise_handshake.specs.Party.{Party};
 ghost use Rattle.noise_names.specs.declared.token.Role.{Role};
 ghost use Rattle.noise_session.specs.Ends.{end_of};
-ghost use Rattle.noise_vectors.specs.Expectations.{bytes_of};
+ghost use Rattle.noise_names.specs.Lists.{bytes_of};
 ghost use Rattle.noise_vectors.specs.FileKeys.{agreement_of, public_of};
 ghost use Rattle.noise_vectors.specs.SameFile.{SaySame};
 ghost use Rattle.noise_tool.specs.Ends.{FileMatches, IsStartFault, setup_of};

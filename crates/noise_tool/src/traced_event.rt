@@ -1,7 +1,8 @@
 //! The lines that follow the entries of an event.
 
 ghost use Rattle.std.specs.Prelude.{◌≡◌, ℕ, List, MatchOption, None, Some, slice_get};
-ghost use Rattle.noise_duel.specs.Entries.{bytes_of as frames_in, note_of};
+ghost use Rattle.noise_names.specs.Lists.{bytes_of};
+ghost use Rattle.noise_duel.specs.Entries.{note_of};
 ghost use Rattle.noise_duel.specs.DuelValue.{HasFrames};
 ghost use Rattle.noise_duel.specs.Sides.{Sides, side};
 ghost use Rattle.noise_events.specs.Events.{Say, event_of};
@@ -77,7 +78,7 @@ fn trace_say(
 
 // The frames that this role wrote.
 fn frames_of(report: &Report, role: Role) -> &[Vec<u8>]
-    ensures { (d : Sides) → HasFrames report.now d → frames_in result.now ≡ (side d role).frames }
+    ensures { (d : Sides) → HasFrames report.now d → bytes_of result.now ≡ (side d role).frames }
 {
     match role {
         Role::Initiator => report.initiator.as_slice(),

@@ -5,7 +5,7 @@ ghost use Rattle.noise_duel.specs.Sides.{Sides};
 ghost use Rattle.noise_events.specs.Events.{events_of};
 ghost use Rattle.noise_names.specs.declared.token.Role.TheVariants.{Initiator, Responder};
 ghost use Rattle.noise_session.specs.Ends.{EndState};
-ghost use Rattle.noise_vectors.specs.Expectations.{bytes_of};
+ghost use Rattle.noise_names.specs.Lists.{bytes_of};
 ghost use Rattle.noise_vectors.specs.SameFile.{SaySame};
 ghost use Rattle.noise_lines.specs.Faults.{status_of};
 ghost use Rattle.noise_lines.specs.TracedLines.{traces_of};

@@ -1,10 +1,5 @@
 -- Where lines differ from those that are expected.
-use Rattle.std.specs.Prelude.{◌≡◌, ◌≢◌, ℕ, ◌+◌, ◌<◌, List, map, Vec, slice_get}
-use Rattle.std.specs.Global.{Global}
-
--- the bytes of each line
-abbrev pub bytes_of : List (Vec ℕ Global) → List (List ℕ)
-bytes_of lines = map (λ l. l.items) lines
+use Rattle.std.specs.Prelude.{◌≡◌, ◌≢◌, ℕ, ◌+◌, ◌<◌, List, slice_get}
 
 -- Line n, counted from 1, is the first at which the two lists differ, or one has ended.
 pub record IsFirstUnmet (lines expected : List (List ℕ)) (n : ℕ) : Type 0 where

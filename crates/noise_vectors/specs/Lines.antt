@@ -2,7 +2,7 @@
 use Rattle.std.specs.Prelude.{◌≡◌, ℕ, ◌+◌, IsFalse, IsTrue, List, []}
 use Rattle.noise_vectors.specs.VectorText.{line}
 use Rattle.noise_vectors.specs.Words.{lacks}
-use Rattle.noise_vectors.specs.WrongLine.{line_feeds}
+use Rattle.noise_names.specs.WrongText.{line_feeds}
 use Rattle.noise_vectors.specs.declared.lines.Lines.{Lines}
 
 -- the number of the last line with a line feed: how many lines were read, and how many line feeds are left

@@ -18,7 +18,8 @@ use Rattle.noise_vectors.specs.VectorFile.{AreKeys, IsAllowed, IsDatagramEvent, 
 use Rattle.noise_vectors.specs.VectorText.{AfterDatagrams, AfterEvents, answer_words, datagram_event_words, datagrams_text, event_words, expect_line}
 use Rattle.noise_vectors.specs.VectorText.{header_words, line, lines_of, party_text, psk_words, window_words}
 use Rattle.noise_vectors.specs.Words.{IsKey}
-use Rattle.noise_vectors.specs.WrongLine.{Block, IsFirstLine, IsWrongIn, line_feeds}
+use Rattle.noise_names.specs.WrongText.{line_feeds}
+use Rattle.noise_vectors.specs.WrongLine.{Block, IsFirstLine, IsWrongIn}
 use Rattle.noise_vectors.specs.declared.faults.LineKind.{LineKind}
 use Rattle.noise_vectors.specs.declared.faults.LineKind.TheVariants as kinds
 use Rattle.noise_vectors.specs.declared.faults.VectorFault.{VectorFault}

@@ -1,12 +1,12 @@
 -- Which line of a wrong file is reported. A line of the pattern that a file spells is reported as it is of a pattern
 -- text.
-use Rattle.std.specs.Prelude.{⊤, ◌≡◌, ◌≢◌, ◌⊎◌, ◌+◌, ◌==◌, IsFalse, IsTrue, ℕ, List, [], ◌∷◌, ◌++◌, Bool, false, codes, count_by, decimal, nat_eq, None}
+use Rattle.std.specs.Prelude.{⊤, ◌≡◌, ◌≢◌, ◌⊎◌, ◌+◌, IsFalse, IsTrue, ℕ, List, [], ◌∷◌, ◌++◌, Bool, false, codes, decimal, nat_eq, None}
 use Rattle.std.specs.List.{All, starts_with}
 use Rattle.noise_names.specs.declared.faults.TextFault.{TextFault}
 use Rattle.noise_names.specs.declared.token.Role.TheVariants.{Initiator, Responder}
 use Rattle.noise_names.specs.Fundamental.{fundamental_of}
 use Rattle.noise_names.specs.Names.{IsSection, Section, name_bytes}
-use Rattle.noise_names.specs.WrongText.{IsTextFault, heading_of}
+use Rattle.noise_names.specs.WrongText.{IsTextFault, heading_of, line_feeds}
 use Rattle.noise_vectors.specs.Block.{IsInner, itself}
 use Rattle.noise_vectors.specs.HexWord.{hex_of}
 use Rattle.noise_vectors.specs.SameFile.{expected_of}
@@ -21,10 +21,6 @@ use Rattle.noise_vectors.specs.declared.file_keys.FileKeys.TheVariants.{Xor, Tab
 use Rattle.noise_vectors.specs.declared.vector.AllowedEvents.{AllowedEvents}
 use Rattle.noise_vectors.specs.declared.vector.AllowedEvents.TheVariants.{VersionOne}
 use Rattle.noise_vectors.specs.declared.vector.VectorFile.{VectorFile}
-
--- how many line feeds (10) the text has
-abbrev pub line_feeds : List ℕ → ℕ
-line_feeds text = count_by (λ b. b == 10) text
 
 -- the text's first line: a line feed or the text's end follows it, and before the text's end there is at least one byte
 abbrev pub IsFirstLine : List ℕ → List ℕ → Type 0

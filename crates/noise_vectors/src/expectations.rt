@@ -1,7 +1,8 @@
 //! Where lines of output differ from those that are expected.
 
 ghost use Rattle.std.specs.Prelude.{◌≡◌, ◌≢◌, ◌<◌, ◌≤◌, ℕ, MatchOption, length, slice_get};
-ghost use Rattle.noise_vectors.specs.Expectations.{IsFirstUnmet, bytes_of};
+ghost use Rattle.noise_names.specs.Lists.{bytes_of};
+ghost use Rattle.noise_vectors.specs.Expectations.{IsFirstUnmet};
 
 /// The number of the first line, from 1 on, at which the two lists differ or one has ended, or None where they are
 /// equal.

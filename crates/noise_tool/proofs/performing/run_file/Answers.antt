@@ -1,6 +1,6 @@
 use Rattle.std.proofs.Common.{ℕ, List, inr, refl}
 use Rattle.std.proofs.lemmas.Result.{err_from_is_err_and}
-use Rattle.noise_vectors.specs.Expectations.{bytes_of}
+use Rattle.noise_names.specs.Lists.{bytes_of}
 use Rattle.noise_tool.specs.Performing.{IsPlain, IsRunFault}
 use Rattle.noise_tool.proofs.PerformingLemmas.{has-run, no-run, or-other, run-prefix, stopped-known}
 use Rattle.noise_tool.proofs.Shortness.{stays-short}

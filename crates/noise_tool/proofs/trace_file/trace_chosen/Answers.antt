@@ -1,6 +1,6 @@
 use Rattle.std.proofs.Common.{ℕ, List, inr, ◌∙◌, refl}
 use Rattle.std.proofs.lemmas.Result.{err_from_is_err_and}
-use Rattle.noise_vectors.specs.Expectations.{bytes_of}
+use Rattle.noise_names.specs.Lists.{bytes_of}
 use Rattle.noise_vectors.specs.declared.vector.AllowedEvents.TheVariants.{Any}
 use Rattle.noise_vectors.specs.declared.vector.VectorFile.{VectorFile}
 use Rattle.noise_lines.specs.TracedLines.{traces_of}

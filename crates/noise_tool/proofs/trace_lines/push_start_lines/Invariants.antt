@@ -1,5 +1,5 @@
 use Rattle.std.proofs.Common.{◌≡◌, ◌++◌, drop}
-use Rattle.noise_vectors.specs.Expectations.{bytes_of}
+use Rattle.noise_names.specs.Lists.{bytes_of}
 use Rattle.noise_tool.specs.PrintedTrace.{start_lines_from}
 use Rattle.noise_tool.proofs.trace_lines.push_start_lines.Given as goal
 

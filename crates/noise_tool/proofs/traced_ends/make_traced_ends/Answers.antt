@@ -4,7 +4,7 @@ use Rattle.noise_names.specs.Plan.{Plan}
 use Rattle.noise_duel.specs.DuelValue.{DuelMatches, both_sides}
 use Rattle.noise_duel.specs.Messages.{begun_as}
 use Rattle.noise_session.specs.Ends.{end_of}
-use Rattle.noise_vectors.specs.Expectations.{bytes_of}
+use Rattle.noise_names.specs.Lists.{bytes_of}
 use Rattle.noise_vectors.specs.FileKeys.{public_of, agreement_of}
 use Rattle.noise_tool.specs.Ends.{setup_of, file_start}
 use Rattle.noise_tool.specs.TracedEnds.{TracedMatches}

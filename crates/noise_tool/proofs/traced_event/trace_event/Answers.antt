@@ -1,6 +1,6 @@
 use Rattle.std.proofs.Common.{◌≡◌, ◌++◌, ◌∷◌, ◌∙◌, [], List, ℕ, OnOk, ap, slice_get, subst, sym, Vec}
 use Rattle.std.specs.Global.{Global}
-use Rattle.noise_vectors.specs.Expectations.{bytes_of}
+use Rattle.noise_names.specs.Lists.{bytes_of}
 use Rattle.noise_duel.specs.Entries.{note_of, notes_of}
 use Rattle.noise_duel.specs.Sides.{Sides, side}
 use Rattle.noise_events.specs.Events.{Deliver, Raw, Say, Write, event_of}

@@ -1,6 +1,6 @@
 use Rattle.std.proofs.Common.{◌∙◌, ap, refl}
 use Rattle.noise_events.specs.Events.{events_of}
-use Rattle.noise_vectors.specs.Expectations.{bytes_of}
+use Rattle.noise_names.specs.Lists.{bytes_of}
 use Rattle.noise_lines.specs.TracedLines.{traces_of}
 use Rattle.noise_tool.specs.Ends.{sides_of_file}
 use Rattle.noise_tool.proofs.TracedWhole.{traced-whole}
