@@ -1,6 +1,5 @@
 -- What the entries of a run of datagrams report, and what two parties agree on by them.
-use Rattle.std.proofs.Common.{◌≡◌, ◌≢◌, ◌≤◌, ◌<◌, ℕ, zero, suc, ◌+◌, List, [], ◌∷◌, ◌++◌, length, length-append, drop, map, Option, Some, None, Ok, slice_get}
-use Rattle.std.proofs.Common.{refl, sym, ◌∙◌, ap, subst, arith, inl, inr, ◌⊎◌}
+use Rattle.std.proofs.Common.{◌≡◌, ◌≢◌, ◌≤◌, ◌<◌, ℕ, zero, suc, ◌+◌, List, ◌∷◌, ◌++◌, length, length-append, drop, map, Option, Some, None, Ok, slice_get, refl, sym, ◌∙◌, ap, subst, arith, inl, inr, ◌⊎◌, []}
 use Rattle.std.specs.Prelude.{Bool, true, false, ◌&&◌, ◌==◌, nat_le, nat_lt, if◌then◌else◌}
 use Rattle.std.specs.Int.{w64, to_be_bytes}
 use Rattle.std.proofs.lemmas.Bool.{false≢true, or_left, or_right, ne_eqb, eq-eqb, leb-false, or_parts}
@@ -12,7 +11,6 @@ use Rattle.noise_names.specs.Tokens.{other, same_role}
 use Rattle.noise_state.specs.History.{History}
 use Rattle.noise_session.specs.declared.faults.SendFault.{SendFault}
 use Rattle.noise_session.specs.declared.faults.SendFault.TheVariants as send
-use Rattle.noise_session.specs.declared.datagram_fault.DatagramFault.{DatagramFault}
 use Rattle.noise_session.specs.Transport.{transport_message, split_key, last_nonce}
 use Rattle.noise_session.specs.Windows.{is_among}
 use Rattle.noise_session.specs.Datagrams.{DatagramState, Opens, accepting, datagram, nonce_named, unsealed}
@@ -29,23 +27,19 @@ use Rattle.noise_duel.specs.DatagramRuns.PartySeals.{seals, seals_nothing}
 use Rattle.noise_duel.specs.DatagramSides.{DatagramSide, DatagramSides, NonceMessage, at_nonce, sealed_datagrams, datagram_sides, new_party, of_nonce, opening, party, with_party, sealing, datagram_bytes}
 use Rattle.noise_duel.specs.Forgery.{ForgedMessage}
 use Rattle.noise_duel.specs.Sides.{Sides, TransportMessage}
-use Rattle.noise_conversation.specs.Datagrams.{nonce_of_event, SealedAt, OpenedAt, IsReportedOfDatagrams, DatagramsAreReported, ForgedDatagram, EntriesArrive}
+use Rattle.noise_conversation.specs.Datagrams.{nonce_of_event, SealedAt, OpenedAt, IsReportedOfDatagrams, DatagramsAreReported, ForgedDatagram, EntriesArrive, DatagramEntriesAgree, DatagramKeysCome}
 use Rattle.noise_duel.specs.Clash.{ClashFound, ClashIsCollision}
 use Rattle.noise_duel.specs.Networks.{HaveOneHistory, HistoriesCollide}
 use Rattle.noise_conversation.specs.Clash.{HistoriesClash}
-use Rattle.noise_conversation.specs.Datagrams.{DatagramEntriesAgree, DatagramKeysCome}
 use Rattle.std.proofs.lemmas.Option.{same_Some}
 use Rattle.noise_names.specs.Lists.{get-front, get-last}
 
 -- ---- lists
 
-none-some : {X : Type 0} (x : X) → None ≡ Some x → ⊥
-none-some x e = cc
-
 get-either : {X : Type 0} (xs : List X) (y : X) (n : ℕ) (x : X) → slice_get (xs ++ y ∷ []) n ≡ Some x
     → (slice_get xs n ≡ Some x) ⊎ ((n ≡ length xs) × (x ≡ y))
 get-either [] y zero x e = inr (refl, sym (same_Some y x e))
-get-either [] y (suc n) x e = absurd (none-some x e)
+get-either [] y (suc n) x e = cc
 get-either (z ∷ xs) y zero x e = inl e
 get-either (z ∷ xs) y (suc n) x e = elim (get-either xs y n x e) [
   | inl old ↦ inl old
@@ -54,7 +48,7 @@ get-either (z ∷ xs) y (suc n) x e = elim (get-either xs y n x e) [
 
 get-whole : (ms : List NonceMessage) (n : ℕ) (bytes : List ℕ) → slice_get (map datagram_bytes ms) n ≡ Some bytes
     → (m : NonceMessage) × (slice_get ms n ≡ Some m) × (datagram_bytes m ≡ bytes)
-get-whole [] n bytes e = absurd (none-some bytes e)
+get-whole [] n bytes e = cc
 get-whole (m ∷ ms) zero bytes e = (m, refl, same_Some (datagram_bytes m) bytes e)
 get-whole (m ∷ ms) (suc n) bytes e = get-whole ms n bytes e
 
@@ -65,9 +59,7 @@ low-nonce role one_way nonce n e =
     let last : Option SendFault = if nat_le last_nonce nonce then Some send.Exhausted else None in
     let long : Option SendFault = if nat_lt 65543 (n + 24) then Some send.TooLong else last in
     let a = no-fault (one_way && same_role role Responder) send.OneWay long e in
-    let b = no-fault (nat_lt 65543 (n + 24)) send.TooLong last a.1 in
-    let c = no-fault (nat_le last_nonce nonce) send.Exhausted None b.1 in
-    leb-false last_nonce nonce c.0
+    leb-false last_nonce nonce (no-fault (nat_le last_nonce nonce) send.Exhausted None (no-fault (nat_lt 65543 (n + 24)) send.TooLong last a.1).1).0
 
 fresh : (v : DatagramState) (bytes payload : List ℕ) (w : DatagramState) → Opens v bytes (Ok payload) w → is_among v.accepted (nonce_named bytes) ≡ false
 fresh v bytes payload w (opened _ _ _ none is) = (fault-free v bytes none).fresh
@@ -121,51 +113,29 @@ stays-reported role theirs s event note never none =
     (λ n bytes e. never n bytes (ap (λ (z : Role × DatagramNote). z.1) e))
     (λ payload e. none payload (ap (λ (z : Role × DatagramNote). z.1) e))
 
-fault-sealed : (why : SendFault) (n : ℕ) (bytes : List ℕ) → SealFault why ≡ Sealed n bytes → ⊥
-fault-sealed why n bytes e = cc
-
-fault-payload : (why : SendFault) (payload : List ℕ) → SealFault why ≡ Payload payload → ⊥
-fault-payload why payload e = cc
-
-rejected-sealed : (why : DatagramFault) (n : ℕ) (bytes : List ℕ) → Rejected why ≡ Sealed n bytes → ⊥
-rejected-sealed why n bytes e = cc
-
-rejected-payload : (why : DatagramFault) (payload : List ℕ) → Rejected why ≡ Payload payload → ⊥
-rejected-payload why payload e = cc
-
-missing-sealed : (k n : ℕ) (bytes : List ℕ) → Missing k ≡ Sealed n bytes → ⊥
-missing-sealed k n bytes e = cc
-
-missing-payload : (k : ℕ) (payload : List ℕ) → Missing k ≡ Payload payload → ⊥
-missing-payload k payload e = cc
-
-sealed-payload : (n : ℕ) (bytes payload : List ℕ) → Sealed n bytes ≡ Payload payload → ⊥
-sealed-payload n bytes payload e = cc
-
 seal-step : (role : Role) (theirs s : DatagramSide) (payload : List ℕ) (note : DatagramNote) (next : DatagramSide) → PartySeals s payload note next
     → OneStep role theirs s (Seal role payload) (role, note) next
 seal-step role theirs s payload note next (seals _ _ e) = has_sealed role theirs s payload e
 seal-step role theirs s payload note next (seals_nothing _ _ why e) =
-    stays-reported role theirs s (Seal role payload) (SealFault why) (fault-sealed why) (fault-payload why)
+    stays-reported role theirs s (Seal role payload) (SealFault why) (λ n bytes e. cc) (λ payload e. cc)
 
 open-step : (role : Role) (theirs s : DatagramSide) (event : DatagramEvent) (bytes : List ℕ) (note : DatagramNote) (next : DatagramSide)
     → PartyOpens s bytes note next → Came role theirs event bytes → OneStep role theirs s event (role, note) next
 open-step role theirs s event bytes note next (opens _ _ payload o) came =
     has_opened role theirs s event bytes payload came (fresh s.state bytes payload (accepting s.state (nonce_named bytes)) o)
 open-step role theirs s event bytes note next (rejects _ _ why o) came =
-    stays-reported role theirs s event (Rejected why) (rejected-sealed why) (rejected-payload why)
+    stays-reported role theirs s event (Rejected why) (λ n bytes e. cc) (λ payload e. cc)
 
 miss-step : (role : Role) (theirs s : DatagramSide) (n : ℕ) → OneStep role theirs s (Open role n) (role, Missing n) s
-miss-step role theirs s n = stays-reported role theirs s (Open role n) (Missing n) (missing-sealed n) (missing-payload n)
+miss-step role theirs s n = stays-reported role theirs s (Open role n) (Missing n) (λ k bytes e. cc) (λ payload e. cc)
 
 -- what is a step of the role that it is about leaves the other role as it was
 by-role : (role r : Role) (d : DatagramSides) (event : DatagramEvent) (reported : DatagramNote) (s : DatagramSide)
     → OneStep r (party d (other r)) (party d r) event (r, reported) s
     → OneStep role (party d (other role)) (party d role) event (r, reported) (party (with_party d r s) role)
-by-role Initiator Initiator d event reported s step = step
 by-role Initiator Responder d event reported s step = stays-other Initiator d.responder d.initiator event reported
 by-role Responder Initiator d event reported s step = stays-other Responder d.initiator d.responder event reported
-by-role Responder Responder d event reported s step = step
+by-role _ _ d event reported s step = step
 
 misses-by-role : (role r : Role) (d : DatagramSides) (n : ℕ) → OneStep role (party d (other role)) (party d role) (Open r n) (r, Missing n) (party d role)
 misses-by-role role Initiator d n =
@@ -206,10 +176,9 @@ numbered-step role theirs s event note t (has_opened _ _ _ _ bytes payload came 
 
 unchanged-step : (role : Role) (theirs s : DatagramSide) (event : DatagramEvent) (note : Role × DatagramNote) (t : DatagramSide)
     → OneStep role theirs s event note t → (n : ℕ) (m : NonceMessage) → slice_get s.sealed n ≡ Some m → slice_get t.sealed n ≡ Some m
-unchanged-step role theirs s event note t (stays _ _ _ _ _ _ _) n m e = e
 unchanged-step role theirs s event note t (has_sealed _ _ _ payload _) n m e =
     get-front s.sealed (at_nonce s.state.sent (transport_message s.state.history s.state.role 0 s.state.sent payload) payload ∷ []) n m e
-unchanged-step role theirs s event note t (has_opened _ _ _ _ bytes payload came new) n m e = e
+unchanged-step role theirs s event note t _ n m e = e
 
 -- a nonce that was opened, with its message
 record Has (s : DatagramSide) (n : ℕ) (m : TransportMessage) : Type 0 where
@@ -230,10 +199,9 @@ has-step role theirs s event note t (has_opened _ _ _ _ bytes payload came new) 
 -- a nonce that isn't accepted yet wasn't before
 less-step : (role : Role) (theirs s : DatagramSide) (event : DatagramEvent) (note : Role × DatagramNote) (t : DatagramSide)
     → OneStep role theirs s event note t → (n : ℕ) → is_among t.state.accepted n ≡ false → is_among s.state.accepted n ≡ false
-less-step role theirs s event note t (stays _ _ _ _ _ _ _) n e = e
-less-step role theirs s event note t (has_sealed _ _ _ payload _) n e = e
 less-step role theirs s event note t (has_opened _ _ _ _ bytes payload came new) n e =
     (or_parts (nonce_named bytes == n) (is_among s.state.accepted n) e).1
+less-step role theirs s event note t _ n e = e
 
 -- ---- what a run keeps
 
@@ -281,11 +249,11 @@ sealed-now role theirs s event note t (has_sealed _ _ _ payload _) n bytes e =
       given = refl;
     }
 sealed-now role theirs s event note t (has_opened _ _ _ _ came_bytes payload came new) n bytes e =
-    absurd (sealed-payload n bytes payload (sym (ap (λ (z : Role × DatagramNote). z.1) e)))
+    cc (ap (λ (z : Role × DatagramNote). z.1) e)
 
 sealed-at : (role : Role) (d last : DatagramSides) (events : List DatagramEvent) (notes : List (Role × DatagramNote)) → DatagramRun d events notes last
     → (i n : ℕ) (bytes : List ℕ) → slice_get notes i ≡ Some (role, Sealed n bytes) → SealedAs role (party last role) (slice_get events i) n bytes
-sealed-at role d last events notes (ends _) i n bytes e = absurd (none-some (role, Sealed n bytes) e)
+sealed-at role d last events notes (ends _) i n bytes e = cc
 sealed-at role d last events notes (begins _ next _ event more note rest now run) zero n bytes e =
     let s = sealed-now role (party d (other role)) (party d role) event note (party next role) (step-of role d next event note now) n bytes
     (same_Some note (role, Sealed n bytes) e) in
@@ -301,7 +269,6 @@ sealed-at role d last events notes (begins _ next _ event more note rest now run
 found-now : (role : Role) (theirs s : DatagramSide) (event : DatagramEvent) (note : Role × DatagramNote) (t : DatagramSide)
     → OneStep role theirs s event note t → (n : ℕ) (m : NonceMessage) → slice_get t.sealed n ≡ Some m
     → (slice_get s.sealed n ≡ Some m) ⊎ ((event ≡ Seal role m.message.payload) × (note ≡ (role, Sealed n (datagram_bytes m))))
-found-now role theirs s event note t (stays _ _ _ _ _ _ _) n m e = inl e
 found-now role theirs s event note t (has_sealed _ _ _ payload _) n m e =
     let new : NonceMessage = at_nonce s.state.sent (transport_message s.state.history s.state.role 0 s.state.sent payload) payload in
     elim (get-either s.sealed new n m e) [
@@ -311,7 +278,7 @@ found-now role theirs s event note t (has_sealed _ _ _ payload _) n m e =
         ap (λ (k : ℕ). (role, Sealed k (datagram_bytes new))) (sym h.0) ∙ ap (λ (z : NonceMessage). (role, Sealed n (datagram_bytes z))) (sym h.1),
       )
     ]
-found-now role theirs s event note t (has_opened _ _ _ _ bytes payload came new) n m e = inl e
+found-now role theirs s event note t _ n m e = inl e
 
 find-sealed : (role : Role) (d last : DatagramSides) (events : List DatagramEvent) (notes : List (Role × DatagramNote)) → DatagramRun d events notes last
     → (n : ℕ) (m : NonceMessage) → slice_get (party last role).sealed n ≡ Some m
@@ -350,18 +317,15 @@ record OpenedAs (role : Role) (theirs s : DatagramSide) (event : Option Datagram
   pub from : ((bytes : List ℕ) × (event ≡ Some (Raw role bytes)) × (nonce_named bytes ≡ n) × (drop 8 bytes ≡ message))
       ⊎ ((m : NonceMessage) × (slice_get theirs.sealed n ≡ Some m) × (m.message.message ≡ message))
 
-payload-same : (p q : List ℕ) → Payload p ≡ Payload q → p ≡ q
-payload-same p q e = cc
-
 opened-now : (role : Role) (theirs s : DatagramSide) (event : DatagramEvent) (note : Role × DatagramNote) (t : DatagramSide)
     → OneStep role theirs s event note t → Numbered theirs → (n : ℕ) (payload : List ℕ) → note ≡ (role, Payload payload) → nonce_of_event event ≡ Some n
     → OpenedAs role theirs t (Some event) n payload × (is_among s.state.accepted n ≡ false)
 opened-now role theirs s event note t (stays _ _ _ _ _ _ none) h n payload e f = absurd (none payload e)
 opened-now role theirs s event note t (has_sealed _ _ _ given _) h n payload e f =
-    absurd (sealed-payload (length s.sealed) (datagram s.state.history s.state.role s.state.sent given) payload (ap (λ (z : Role × DatagramNote). z.1) e))
+    cc (ap (λ (z : Role × DatagramNote). z.1) e)
 opened-now role theirs s event note t (has_opened _ _ _ _ bytes reported came new) h n payload e f =
     let named : nonce_named bytes ≡ n = same_Some (nonce_named bytes) n (sym (came-named role theirs event bytes came h) ∙ f) in
-    let same : reported ≡ payload = payload-same reported payload (ap (λ (z : Role × DatagramNote). z.1) e) in (
+    let same : reported ≡ payload = cc (ap (λ (z : Role × DatagramNote). z.1) e) in (
       record {
         message = drop 8 bytes;
         has = record {
@@ -396,7 +360,7 @@ first-now role d next event note events notes now h n payload o =
 opened-at : (role : Role) (d last : DatagramSides) (events : List DatagramEvent) (notes : List (Role × DatagramNote)) → DatagramRun d events notes last
     → Numbered (party d (other role)) → (i n : ℕ) (payload : List ℕ) → OpenedAt events notes i role n payload
     → OpenedAs role (party last (other role)) (party last role) (slice_get events i) n payload
-opened-at role d last events notes (ends _) h i n payload o = absurd (none-some (role, Payload payload) o.entry)
+opened-at role d last events notes (ends _) h i n payload o = cc
 opened-at role d last events notes (begins _ next _ event more note rest now run) h zero n payload o =
     let a = (first-now role d next event note more rest now h n payload o).0 in
     record {
@@ -421,7 +385,7 @@ opened-at role d last events notes (begins _ next _ event more note rest now run
 not-before : (role : Role) (d last : DatagramSides) (events : List DatagramEvent) (notes : List (Role × DatagramNote)) → DatagramRun d events notes last
     → Numbered (party d (other role)) → (i n : ℕ) (payload : List ℕ) → OpenedAt events notes i role n payload
     → is_among (party d role).state.accepted n ≡ false
-not-before role d last events notes (ends _) h i n payload o = absurd (none-some (role, Payload payload) o.entry)
+not-before role d last events notes (ends _) h i n payload o = cc
 not-before role d last events notes (begins _ next _ event more note rest now run) h zero n payload o =
     (first-now role d next event note more rest now h n payload o).1
 not-before role d last events notes (begins _ next _ event more note rest now run) h (suc i) n payload o =
@@ -431,16 +395,14 @@ not-before role d last events notes (begins _ next _ event more note rest now ru
 
 opened-once : (role : Role) (d last : DatagramSides) (events : List DatagramEvent) (notes : List (Role × DatagramNote)) → DatagramRun d events notes last
     → Numbered (party d (other role)) → (i j n : ℕ) (p q : List ℕ) → OpenedAt events notes i role n p → OpenedAt events notes j role n q → i ≡ j
-opened-once role d last events notes (ends _) h i j n p q a b = absurd (none-some (role, Payload p) a.entry)
+opened-once role d last events notes (ends _) h i j n p q a b = cc
 opened-once role d last events notes (begins _ next _ event more note rest now run) h zero zero n p q a b = refl
 opened-once role d last events notes (begins _ next _ event more note rest now run) h zero (suc j) n p q a b =
-    let first = (first-now role d next event note more rest now h n p a).0 in
     let new = not-before role next last more rest run (numbered-next (other role) d next event note now h) j n q (later more rest event note j role n q b) in
-    absurd (false≢true (sym new ∙ first.has.among))
+    absurd (false≢true (sym new ∙ ((first-now role d next event note more rest now h n p a).0).has.among))
 opened-once role d last events notes (begins _ next _ event more note rest now run) h (suc i) zero n p q a b =
-    let first = (first-now role d next event note more rest now h n q b).0 in
     let new = not-before role next last more rest run (numbered-next (other role) d next event note now h) i n p (later more rest event note i role n p a) in
-    absurd (false≢true (sym new ∙ first.has.among))
+    absurd (false≢true (sym new ∙ ((first-now role d next event note more rest now h n q b).0).has.among))
 opened-once role d last events notes (begins _ next _ event more note rest now run) h (suc i) (suc j) n p q a b =
     ap suc (opened-once role next last more rest run (numbered-next (other role) d next event note now h) i j n p q
     (later more rest event note i role n p a) (later more rest event note j role n q b))
@@ -448,8 +410,6 @@ opened-once role d last events notes (begins _ next _ event more note rest now r
 opened-found : (role : Role) (theirs s : DatagramSide) (event : DatagramEvent) (note : Role × DatagramNote) (t : DatagramSide)
     → OneStep role theirs s event note t → Numbered theirs → (n : ℕ) (m : TransportMessage) → of_nonce t.opened n ≡ Some m
     → (of_nonce s.opened n ≡ Some m) ⊎ ((nonce_of_event event ≡ Some n) × (note ≡ (role, Payload m.payload)))
-opened-found role theirs s event note t (stays _ _ _ _ _ _ _) h n m e = inl e
-opened-found role theirs s event note t (has_sealed _ _ _ payload _) h n m e = inl e
 opened-found role theirs s event note t (has_opened _ _ _ _ bytes payload came new) h n m e =
     let first : NonceMessage = at_nonce (nonce_named bytes) (drop 8 bytes) payload in
     elim (eqb_tells (nonce_named bytes) n) [
@@ -459,6 +419,7 @@ opened-found role theirs s event note t (has_opened _ _ _ _ bytes payload came n
       )
       | inr y ↦ inl (sym (later-of first s.opened n y.1) ∙ e)
     ]
+opened-found role theirs s event note t _ h n m e = inl e
 
 find-opened : (role : Role) (d last : DatagramSides) (events : List DatagramEvent) (notes : List (Role × DatagramNote)) → DatagramRun d events notes last
     → Numbered (party d (other role)) → (n : ℕ) (m : TransportMessage) → of_nonce (party last role).opened n ≡ Some m
@@ -476,24 +437,21 @@ find-opened role d last events notes (begins _ next _ event more note rest now r
 -- ---- both parties
 
 numbered-new : (v : DatagramState) → v.sent ≡ 0 → Numbered (new_party v)
-numbered-new v e = record { sending = e; few = omega arith; number = λ n m f. absurd (none-some m f) }
-
-payload-of : (role : Role) (p q : List ℕ) → Some (Seal role p) ≡ Some (Seal role q) → p ≡ q
-payload-of role p q e = cc
+numbered-new v e = record { sending = e; few = omega arith; number = λ n m f. cc }
 
 is-reported : (role : Role) (d last : DatagramSides) (events : List DatagramEvent) (notes : List (Role × DatagramNote)) → DatagramRun d events notes last
     → Numbered (party d (other role)) → (party d role).sealed ≡ [] → (party d role).opened ≡ [] → IsReportedOfDatagrams role events notes (party last role)
 is-reported role d last events notes run h none unopened = record {
   sealed = λ n m e. elim (find-sealed role d last events notes run n m e) [
-    | inl old ↦ absurd (none-some m (sym (ap (λ (z : List NonceMessage). slice_get z n) none) ∙ old))
+    | inl old ↦ cc (sym (ap (λ (z : List NonceMessage). slice_get z n) none) ∙ old)
     | inr f ↦ f
   ];
   sealed_only = λ i n payload bytes at. (
       let s = sealed-at role d last events notes run i n bytes at.entry in
-      (s.message, s.at, payload-of role s.message.message.payload payload (sym s.given ∙ at.event), s.bytes_are)
+      (s.message, s.at, cc (sym s.given ∙ at.event), s.bytes_are)
       );
   opened = λ n m e. elim (find-opened role d last events notes run h n m e) [
-    | inl old ↦ absurd (none-some m (sym (ap (λ (z : List NonceMessage). of_nonce z n) unopened) ∙ old))
+    | inl old ↦ cc (sym (ap (λ (z : List NonceMessage). of_nonce z n) unopened) ∙ old)
     | inr f ↦ f
   ];
   opened_only = λ i n payload at. (
@@ -512,7 +470,7 @@ datagrams-are-reported v w events notes last b run = (
 
 counted-of : (r : History) (writer : Role) (n k : ℕ) (ms : List NonceMessage) (m : NonceMessage) → AreCounted r writer n ms → slice_get ms k ≡ Some m
     → of_nonce ms (n + k) ≡ Some m.message
-counted-of r writer n k [] m h e = absurd (none-some m e)
+counted-of r writer n k [] m h e = cc
 counted-of r writer n zero (x ∷ ms) m h e =
     let same : x ≡ m = same_Some x m e in
     first-of x ms (n + 0) (h.0 ∙ omega arith) ∙ ap (λ (z : NonceMessage). Some z.message) same
@@ -523,7 +481,7 @@ counted-of r writer n (suc k) (x ∷ ms) m h e =
 
 at-nonce : (r : History) (writer : Role) (ms : List NonceMessage) (n : ℕ) (m : TransportMessage) → AreAtNonces r writer ms → of_nonce ms n ≡ Some m
     → m.message ≡ transport_message r writer 0 n m.payload
-at-nonce r writer [] n m h e = absurd (none-some m e)
+at-nonce r writer [] n m h e = cc
 at-nonce r writer (x ∷ ms) n m h e = elim (eqb_tells x.nonce n) [
   | inl y ↦ subst (λ (z : TransportMessage). z.message ≡ transport_message r writer 0 n z.payload) (same_Some x.message m (sym (first-of x ms n y.1) ∙ e))
       (subst (λ (i : ℕ). x.message.message ≡ transport_message r writer 0 i x.message.payload) y.1 h.0)
@@ -551,7 +509,7 @@ module _ (r : History) (writer : Role) (d last : DatagramSides) (events : List D
     own-entry : slice_get (party last writer).sealed n ≡ Some (record { nonce = n; message = record { message = found.message; payload = payload } })
         → (j : ℕ) × SealedAt events notes j writer n payload (datagram r writer n payload)
     own-entry e = elim (find-sealed writer d last events notes run n (at_nonce n found.message payload) e) [
-      | inl old ↦ absurd (none-some (at_nonce n found.message payload) (sym (ap (λ (z : List NonceMessage). slice_get z n) empty) ∙ old))
+      | inl old ↦ cc (sym (ap (λ (z : List NonceMessage). slice_get z n) empty) ∙ old)
       | inr f ↦ (
         f.0,
         record { event = f.1.event; entry = f.1.entry ∙ ap (λ (z : List ℕ). Some (writer, Sealed n (to_be_bytes w64 n ++ z))) the-transport_message },

@@ -1,5 +1,5 @@
 -- A piece that ends a frame is judged as the frame's message.
-use Rattle.std.proofs.Common.{◌≡◌, ℕ, ◌≤◌, List, [], ◌++◌, length, sym, ◌∙◌, subst, append-nil, None}
+use Rattle.std.proofs.Common.{◌≡◌, ℕ, ◌≤◌, List, ◌++◌, length, sym, ◌∙◌, subst, append-nil, None, []}
 use Rattle.noise_session.specs.Frames.{frame, IsPartial}
 use Rattle.noise_session.specs.Steps.{StepValue}
 use Rattle.noise_session.specs.Progress.{idle_step}

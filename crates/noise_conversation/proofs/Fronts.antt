@@ -1,5 +1,5 @@
 -- What a report reports of payloads and keys, from what agreement says of the run.
-use Rattle.std.proofs.Common.{◌≡◌, ℕ, ◌+◌, List, [], ◌∷◌, ◌++◌, length, map, take, drop, refl, ap, sym, subst, ◌∙◌, arith, inl, inr, append_assoc, length-append, Option, Some, None}
+use Rattle.std.proofs.Common.{◌≡◌, ℕ, ◌+◌, List, ◌∷◌, ◌++◌, length, map, take, drop, refl, ap, sym, subst, ◌∙◌, arith, inl, inr, append_assoc, length-append, Option, Some, None, []}
 use Rattle.std.proofs.Math.Seq.{take-append-add}
 use Rattle.std.proofs.lemmas.List.{length-map}
 use Rattle.std.proofs.lemmas.Option.{slice_get-map}
@@ -210,15 +210,13 @@ module _ (framed : EndsFrame) (one : PsksMakeOne) (come : PayloadsCome) where
 module _ {K : Type 0} (public_of : K → Own → Option (List ℕ)) (agreement : K → Own → List ℕ → Option (List ℕ)) where
   sending-key : (x : Phase K) (v : EndState) (k : List ℕ) → PhaseMatches public_of agreement x v → send_key_in x ≡ Some k
       → k ≡ transport_key v.party.history v.party.role v.interval v.sent
-  sending-key (phase.Handshaking h i) v k s e = absurd (cc)
   sending-key (phase.Open t) v k s e = let is = s.transport.sender.key in cc
-  sending-key (phase.Ended r o) v k s e = absurd (cc)
+  sending-key _ v k s e = absurd (cc)
 
   receiving-key : (x : Phase K) (v : EndState) (k : List ℕ) → PhaseMatches public_of agreement x v → receive_key_in x ≡ Some k
       → k ≡ transport_key v.party.history (other v.party.role) v.interval v.received
-  receiving-key (phase.Handshaking h i) v k s e = absurd (cc)
   receiving-key (phase.Open t) v k s e = let is = s.transport.receiver.key in cc
-  receiving-key (phase.Ended r o) v k s e = absurd (cc)
+  receiving-key _ v k s e = absurd (cc)
 
 -- as many were received as were sent
 as-many : (own written reported : List (List ℕ)) (sent received : List TransportMessage) (n m : ℕ) → written ≡ own ++ contents sent

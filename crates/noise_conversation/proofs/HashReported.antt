@@ -10,10 +10,9 @@ use Rattle.noise_duel.specs.Conversation.{end_after}
 use Rattle.noise_duel.specs.Messages.{Start}
 
 same-test : (m n : ℕ) (b c : Bool) → (min m n == m) ≡ b → nat_le m n ≡ c → b ≡ c
-same-test m n true true x y = refl
-same-test m n false false x y = refl
 same-test m n true false x y = absurd (grind (arith, nat_tests))
 same-test m n false true x y = absurd (grind (arith, nat_tests))
+same-test m n _ _ x y = refl
 
 -- an end after lines reports the hash exactly if there is a line for each handshake message
 pub hash-reported : (p : Plan) (role : Role) (s theirs : Start) (interval : ℕ) (r : History) (lines : List (Role × List ℕ))

@@ -1,5 +1,5 @@
 -- The texts that a party hashes as it mixes texts, and the two of two parties that clash.
-use Rattle.std.proofs.Common.{◌≡◌, ◌≢◌, ◌<◌, ℕ, List, [], ◌∷◌, ◌++◌, length, reverse, refl, ap, sym, subst, ◌∙◌, inl, inr, Option, Some, get_or}
+use Rattle.std.proofs.Common.{◌≡◌, ◌<◌, ℕ, List, ◌∷◌, ◌++◌, length, reverse, refl, ap, sym, subst, ◌∙◌, inl, inr, Option, Some, get_or, []}
 use Rattle.std.proofs.lemmas.List.{map-append, reverse-append}
 use Rattle.std.proofs.lemmas.Option.{same_Some, slice_get-map, slice_get_cases, slice_get_read}
 use Rattle.std.specs.Global.{Global}
@@ -12,7 +12,7 @@ use Rattle.noise_state.specs.History.{History, Entry, MixHash, Ciphertext, MixKe
 use Rattle.noise_state.specs.Standing.{StateMatches}
 use Rattle.noise_duel.specs.Clash.{ClashIsCollision, clash_position, first_clash}
 use Rattle.noise_duel.specs.Collision.{hash_texts, hash_texts_of, hashed, hashed_of}
-use Rattle.noise_duel.specs.Entries.{bytes_of}
+use Rattle.noise_names.specs.Lists.{bytes_of}
 use Rattle.noise_conversation.specs.declared.clash.HashClash.{HashClash}
 use Rattle.noise_conversation.specs.Mixed.{HasMixed, IsHashClash}
 

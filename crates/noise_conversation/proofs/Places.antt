@@ -1,5 +1,5 @@
 -- The place of a payload among all entries of a report.
-use Rattle.std.proofs.Common.{◌≡◌, ℕ, zero, suc, List, [], ◌∷◌, ◌++◌, length, take, refl, ap, sym, ◌∙◌, inl, inr, ◌⊎◌, Some, None}
+use Rattle.std.proofs.Common.{◌≡◌, ℕ, zero, suc, List, ◌∷◌, ◌++◌, length, take, refl, ap, sym, ◌∙◌, inl, inr, ◌⊎◌, Some, []}
 use Rattle.std.proofs.lemmas.Grind.{flat_map-append}
 use Rattle.std.specs.List.{flat_map}
 use Rattle.std.specs.Prelude.{slice_get, if◌then◌else◌}
@@ -7,7 +7,7 @@ use Rattle.noise_names.specs.declared.token.Role.{Role}
 use Rattle.noise_names.specs.declared.token.Role.TheVariants.{Initiator, Responder}
 use Rattle.noise_names.specs.Tokens.{same_role}
 use Rattle.noise_session.specs.Steps.{StepValue}
-use Rattle.noise_session.specs.Steps.StepValue.{Ended, YourTurn, Silent, More, Payload, Dropped, Refused, Exhausted}
+use Rattle.noise_session.specs.Steps.StepValue.{Payload}
 use Rattle.noise_duel.specs.Notes.{Note, Wrote, WriteFault, Judged, Left, Missing, Held}
 use Rattle.noise_conversation.specs.Entries.{IsPayloadAt}
 use Rattle.noise_conversation.specs.Payloads.{notes_about, payload_reported, reported_to}
@@ -26,21 +26,8 @@ OneOrNone role n = (reported_by role n ≡ []) ⊎ ((payload : List ℕ) × (n �
 
 own-step : (role : Role) (step : StepValue) → OneOrNone role (role, Judged step)
 own-step Initiator (Payload payload) = inr (payload, refl, refl)
-own-step Initiator Ended = inl refl
-own-step Initiator YourTurn = inl refl
-own-step Initiator Silent = inl refl
-own-step Initiator More = inl refl
-own-step Initiator (Dropped cause) = inl refl
-own-step Initiator (Refused token cause) = inl refl
-own-step Initiator Exhausted = inl refl
 own-step Responder (Payload payload) = inr (payload, refl, refl)
-own-step Responder Ended = inl refl
-own-step Responder YourTurn = inl refl
-own-step Responder Silent = inl refl
-own-step Responder More = inl refl
-own-step Responder (Dropped cause) = inl refl
-own-step Responder (Refused token cause) = inl refl
-own-step Responder Exhausted = inl refl
+own-step _ _ = inl refl
 
 own-note : (role : Role) (note : Note) → OneOrNone role (role, note)
 own-note role (Judged step) = own-step role step
@@ -58,11 +45,7 @@ own-note Responder (Held n) = inl refl
 one-or-none : (role writer : Role) (note : Note) → OneOrNone role (writer, note)
 one-or-none Initiator Initiator note = own-note Initiator note
 one-or-none Responder Responder note = own-note Responder note
-one-or-none Initiator Responder note = inl refl
-one-or-none Responder Initiator note = inl refl
-
-none-some : {X : Type 0} (x : X) → None ≡ Some x → ⊥
-none-some x e = cc
+one-or-none _ _ note = inl refl
 
 -- past a note that is no payload
 past : (role : Role) (n : Role × Note) (notes : List (Role × Note)) (i : ℕ) (payload : List ℕ) → reported_by role n ≡ []
@@ -85,7 +68,7 @@ past-one role n notes i payload first one p =
 -- the place of the payload of this number
 pub placed : (role : Role) (notes : List (Role × Note)) (i : ℕ) (payload : List ℕ) → slice_get (reported_to role notes) i ≡ Some payload
     → (place : ℕ) × IsPayloadAt role notes i place payload
-placed role [] i payload e = absurd (none-some payload e)
+placed role [] i payload e = cc
 placed role (n ∷ notes) zero payload e = elim (one-or-none role n.0 n.1) [
   | inl none ↦ past role n notes zero payload none (placed role notes zero payload
       (sym (ap (λ (z : List (List ℕ)). slice_get z zero) (reported-more role n notes ∙ ap (λ (z : List (List ℕ)). z ++ reported_to role notes) none)) ∙ e))

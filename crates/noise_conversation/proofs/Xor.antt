@@ -1,10 +1,10 @@
 -- The toy keys have a DH result at each DH.
-use Rattle.std.proofs.Common.{◌≡◌, refl, ℕ, List, Option, Some, None}
+use Rattle.std.proofs.Common.{◌≡◌, refl, ℕ, List, Option, Some}
 use Rattle.std.specs.Prelude.{true, is_some, IsSome}
 use Rattle.noise_names.specs.declared.token.Role.{Role}
 use Rattle.noise_names.specs.declared.token.Role.TheVariants.{Initiator, Responder}
 use Rattle.noise_names.specs.declared.token.Token.{Token}
-use Rattle.noise_names.specs.declared.token.Token.TheVariants.{E, S, Ee, Es, Se, Ss, Psk}
+use Rattle.noise_names.specs.declared.token.Token.TheVariants.{Ee, Es, Se, Ss}
 use Rattle.noise_keys.specs.declared.keys.Own.{Own}
 use Rattle.noise_keys.specs.declared.keys.Own.TheVariants.{Ephemeral, Static}
 use Rattle.noise_keys.specs.Keys.{key_of, xor_dh_result}
@@ -15,17 +15,12 @@ use Rattle.noise_conversation.specs.Setup.{XorKeysHaveDhResults}
 
 gives : (e s : Option (List ℕ)) (x : Own) (l : Option (List ℕ)) → IsSome e → IsSome s → IsSome l
     → is_some (dh_result_of (λ own remote. xor_dh_result (key_of own e s) remote) x l) ≡ true
-gives None s x l he hs hl = absurd (cc)
-gives (Some e) None x l he hs hl = absurd (cc)
-gives (Some e) (Some s) x None he hs hl = absurd (cc)
 gives (Some e) (Some s) Ephemeral (Some l) he hs hl = refl
 gives (Some e) (Some s) Static (Some l) he hs hl = refl
+gives _ _ x _ he hs hl = absurd (cc)
 
 there : (role : Role) (e s : Option (List ℕ)) (t : Token) → is_dh t ≡ true → IsSome e → IsSome s
     → IsSome (remote_at role (public_keys (λ own. key_of own e s)) t)
-there role e s E d f g = absurd (cc)
-there role e s S d f g = absurd (cc)
-there role e s Psk d f g = absurd (cc)
 there Initiator e s Ee d f g = f
 there Initiator e s Es d f g = g
 there Initiator e s Se d f g = f
@@ -34,6 +29,7 @@ there Responder e s Ee d f g = f
 there Responder e s Es d f g = f
 there Responder e s Se d f g = g
 there Responder e s Ss d f g = g
+there role e s _ d f g = absurd (cc)
 
 pub xor-keys-have-dh-results : XorKeysHaveDhResults
 xor-keys-have-dh-results p a b ae as-is be bs t d o = (

@@ -1,6 +1,6 @@
 -- Keys that agree give the same DH results, token by token.
-use Rattle.std.proofs.Common.{◌≡◌, ℕ, ◌+◌, List, [], ◌∷◌, drop, count_by, refl, ap, sym, subst, ◌∙◌}
-use Rattle.std.specs.Prelude.{Bool, true, false, not, Option, Some, None}
+use Rattle.std.proofs.Common.{◌≡◌, ℕ, ◌+◌, List, ◌∷◌, drop, count_by, refl, ap, sym, subst, ◌∙◌, []}
+use Rattle.std.specs.Prelude.{Bool, true, false, not, Option, Some}
 use Rattle.noise_names.specs.declared.token.Role.{Role}
 use Rattle.noise_names.specs.declared.token.Role.TheVariants.{Initiator, Responder}
 use Rattle.noise_names.specs.declared.token.Token.{Token}
@@ -13,8 +13,7 @@ use Rattle.noise_keys.specs.declared.keys.Own.{Own}
 use Rattle.noise_keys.specs.declared.keys.Own.TheVariants.{Ephemeral, Static}
 use Rattle.noise_handshake.specs.declared.remote.Remote.{Remote}
 use Rattle.noise_handshake.specs.Message.{token_bytes, after_token, after_tokens, message_bytes, after_payload}
-use Rattle.noise_handshake.specs.Party.{Party, Reader, Fit, Fits, reader, known_after, remote_after, psks_after, tokens_at, tokens_now, dh_result_of, own_at}
-use Rattle.noise_handshake.specs.Party.{remote_at}
+use Rattle.noise_handshake.specs.Party.{Party, Reader, Fit, Fits, reader, known_after, remote_after, psks_after, tokens_at, tokens_now, dh_result_of, own_at, remote_at}
 use Rattle.noise_handshake.specs.Writing.{Writer, Given, Gives, writer}
 use Rattle.noise_handshake.specs.Matching.{after_own, after_message}
 use Rattle.noise_duel.specs.Messages.{HandshakeMessage, Exchanged, Start}
@@ -66,33 +65,25 @@ gives-uses : (w : Writer) (known : Remote) (psks : List (List ℕ)) (t : Token) 
 gives-uses w known psks E x h = h.0
 gives-uses w known psks S x h = h.0
 gives-uses w known psks Psk x h = tt
-gives-uses w known psks Ee x h = h
-gives-uses w known psks Es x h = h
-gives-uses w known psks Se x h = h
-gives-uses w known psks Ss x h = h
+gives-uses w known psks _ x h = h
 
 fits-uses : (v : Reader) (own : Own → Option (List ℕ)) (known : Remote) (psks : List (List ℕ)) (t : Token) (x : List ℕ) → Fits v known psks t x
     → UsesAt false v.role own v.agree known t x
 fits-uses v own known psks E x h = tt
 fits-uses v own known psks S x h = tt
 fits-uses v own known psks Psk x h = tt
-fits-uses v own known psks Ee x h = h
-fits-uses v own known psks Es x h = h
-fits-uses v own known psks Se x h = h
-fits-uses v own known psks Ss x h = h
+fits-uses v own known psks _ x h = h
 
 given-uses : (w : Writer) (known : Remote) (psks : List (List ℕ)) (ts : List Token) (xs : List (List ℕ)) → Given w known psks ts xs
     → Uses true w.role w.own w.agree known ts xs
-given-uses w known psks [] xs h = tt
-given-uses w known psks (t ∷ ts) [] h = tt
 given-uses w known psks (t ∷ ts) (x ∷ xs) h = (gives-uses w known psks t x h.0, given-uses w known (psks_after psks t) ts xs h.1)
+given-uses w known psks _ _ h = tt
 
 fit-uses : (v : Reader) (own : Own → Option (List ℕ)) (known : Remote) (psks : List (List ℕ)) (ts : List Token) (xs : List (List ℕ))
     → Fit v known psks ts xs → Uses false v.role own v.agree known ts xs
-fit-uses v own known psks [] xs h = tt
-fit-uses v own known psks (t ∷ ts) [] h = tt
 fit-uses v own known psks (t ∷ ts) (x ∷ xs) h =
     (fits-uses v own known psks t x h.0, fit-uses v own (known_after known t x) (psks_after psks t) ts xs h.1)
+fit-uses v own known psks _ _ h = tt
 
 pub passes-uses : (v w : Party) (ps : List HandshakeMessage) → Exchanged v ps w → UsesAll v.pattern v.role v.own v.agree v.passed v.remote ps
 passes-uses v w [] (none _) = tt
@@ -136,9 +127,8 @@ module _ (a b : Start) (agrees : KeysAgree a b) where
   dh-same : (x y : Own) (known other : Option (List ℕ)) (s t : List ℕ) → ((k : List ℕ) → known ≡ Some k → b.own y ≡ Some k)
       → ((k : List ℕ) → other ≡ Some k → a.own x ≡ Some k)
       → dh_result_of a.agree x known ≡ Some s → dh_result_of b.agree y other ≡ Some t → s ≡ t
-  dh-same x y None other s t f g h i = cc
-  dh-same x y (Some k) None s t f g h i = cc
   dh-same x y (Some k) (Some l) s t f g h i = agrees x y l k s t (g l refl) (f k refl) h i
+  dh-same x y _ _ s t f g h i = cc
 
   module _ (has_psks : Bool) where
     text-same : (mine : Bool) (ka kb : Remote) (psks : List (List ℕ)) (r : History) (t : Token) (x y : List ℕ) → Knows ka b.own → Knows kb a.own
@@ -199,8 +189,6 @@ module _ (a b : Start) (agrees : KeysAgree a b) where
       → UsesAll p Initiator a.own a.agree n ka ps → UsesAll p Responder b.own b.agree n kb qs → UsePsks p n psks ps → UsePsks p n psks qs
       → AreLines p n r ps → AreLines p n r qs → AllAlike p n r r ps qs → ps ≡ qs
   all-agree p n ka kb psks r [] [] f g u w m k c d h = refl
-  all-agree p n ka kb psks r [] (q ∷ qs) f g u w m k c d h = absurd h
-  all-agree p n ka kb psks r (x ∷ xs) [] f g u w m k c d h = absurd h
   all-agree p n ka kb psks r (x ∷ xs) (y ∷ ys) f g u w m k c d h =
       let ts : List Token = tokens_at p.messages n in
       let mine : Bool = writes_now Initiator n in
@@ -221,3 +209,4 @@ module _ (a b : Start) (agrees : KeysAgree a b) where
       here.left here.right u.1 turned.1 m.1 k.1 c.1
       (subst (λ (s : History). AreLines p (n + 1) s ys) (sym after) d.1)
       (subst (λ (s : History). AllAlike p (n + 1) (after_payload (has_psk p) r ts x.carried x.payload) s xs ys) (sym after) h.1))
+  all-agree p n ka kb psks r _ _ f g u w m k c d h = absurd h

@@ -1,22 +1,9 @@
 -- A chain of hashes: where two of one length and one start end alike, they hashed the same, or two of their texts collide.
-use Rattle.std.proofs.Common.{◌≡◌, ◌≢◌, ℕ, List, [], ◌∷◌, ◌++◌, length, refl, sym, subst, ◌∙◌, arith, inl, inr, ◌⊎◌, slice_get}
-use Rattle.std.proofs.Common.{Some, length-append}
-use Rattle.std.proofs.lemmas.Bool.Decides.{eqb_tells}
+use Rattle.std.proofs.Common.{◌≡◌, ◌≢◌, ℕ, List, ◌∷◌, ◌++◌, length, refl, sym, subst, ◌∙◌, arith, inl, inr, ◌⊎◌, slice_get, Some, length-append, []}
 use Rattle.sha2.specs.Sha256.{sha256}
 use Rattle.sha2.proofs.Facts256.{length-sha256}
 use Rattle.noise_duel.specs.Collision.{CollisionAt}
-use Rattle.noise_names.specs.Lists.{heads, tails, split-apart, get-front, get-last, cons-same}
-
--- two texts are the same or not
-pub same-or : (xs ys : List ℕ) → (xs ≡ ys) ⊎ (xs ≢ ys)
-same-or [] [] = inl refl
-same-or [] (y ∷ ys) = inr (λ e. cc)
-same-or (x ∷ xs) [] = inr (λ e. cc)
-same-or (x ∷ xs) (y ∷ ys) = elim (eqb_tells x y) [ inl h ↦ after h.1 (same-or xs ys) | inr h ↦ inr (λ e. h.1 (heads x y xs ys e)) ]
-  where
-    after : x ≡ y → (xs ≡ ys) ⊎ (xs ≢ ys) → ((x ∷ xs) ≡ (y ∷ ys)) ⊎ ((x ∷ xs) ≢ (y ∷ ys))
-    after e (inl f) = inl (cons-same e f)
-    after e (inr f) = inr (λ g. f (tails x y xs ys g))
+use Rattle.noise_names.specs.Lists.{split-apart, get-front, get-last, cons-same, same-or}
 
 abbrev pub chained : List ℕ → List (List ℕ) → List ℕ
 chained start [] = start
@@ -48,8 +35,6 @@ collision-longer a b more others i c = record {
 pub chains-alike : (start : List ℕ) (xs ys : List (List ℕ)) → length start ≡ 32 → length xs ≡ length ys → chained start xs ≡ chained start ys
     → (xs ≡ ys) ⊎ ((i : ℕ) × CollisionAt (chain_texts start xs) (chain_texts start ys) i)
 chains-alike start [] [] long n e = inl refl
-chains-alike start [] (y ∷ ys) long n e = cc
-chains-alike start (x ∷ xs) [] long n e = cc
 chains-alike start (x ∷ xs) (y ∷ ys) long n e = go (same-or (chained start xs ++ x) (chained start ys ++ y)) (chains-alike start xs ys long (omega (arith, n)))
   where
     go : ((chained start xs ++ x) ≡ (chained start ys ++ y)) ⊎ ((chained start xs ++ x) ≢ (chained start ys ++ y))
@@ -77,3 +62,4 @@ chains-alike start (x ∷ xs) (y ∷ ys) long n e = go (same-or (chained start x
                 c.1,
           )
         ]
+chains-alike start _ _ long n e = cc

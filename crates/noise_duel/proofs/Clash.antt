@@ -1,5 +1,5 @@
 -- The first position at which two histories clash.
-use Rattle.std.proofs.Common.{◌≡◌, ◌≢◌, ◌≤◌, ◌+◌, ℕ, zero, suc, List, [], ◌∷◌, refl, ap, sym, subst, ◌∙◌, arith, inl, inr}
+use Rattle.std.proofs.Common.{◌≡◌, ◌≢◌, ◌≤◌, ◌+◌, ℕ, zero, suc, List, ◌∷◌, refl, ap, sym, subst, ◌∙◌, arith, inl, inr, []}
 use Rattle.std.specs.Prelude.{Bool, true, false, not, Some, if◌then◌else◌, bytes_eq}
 use Rattle.std.proofs.lemmas.Slice.Eq.{bytes_eq-Decides}
 use Rattle.sha2.specs.Sha256.{sha256}
@@ -46,9 +46,8 @@ matches-by false n i x y xs ys c e more =
     (suc r.0, omega arith, later x y xs ys r.0 r.2)
 
 matches-from : (n i : ℕ) (xs ys : List (List ℕ)) → first_clash n xs ys ≡ Some i → MatchesFrom n i xs ys
-matches-from n i [] ys e = absurd (cc)
-matches-from n i (x ∷ xs) [] e = absurd (cc)
 matches-from n i (x ∷ xs) (y ∷ ys) e = matches-by (clash x y) n i x y xs ys refl e (matches-from (n + 1) i xs ys)
+matches-from n i _ _ e = absurd (cc)
 
 abbrev FoundFrom : ℕ → ℕ → List (List ℕ) → List (List ℕ) → Type 0
 FoundFrom n k xs ys = (j : ℕ) × (first_clash n xs ys ≡ Some j) × (j ≤ n + k)

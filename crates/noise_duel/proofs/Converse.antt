@@ -1,9 +1,9 @@
 -- Conversations that are the same as far as they can be seen, with the same psks and DH results, are one.
-use Rattle.std.proofs.Common.{◌≡◌, ℕ, ◌+◌, List, [], ◌∷◌, ◌++◌, length, drop, count_by, refl, ap, sym, subst, ◌∙◌, append_assoc}
+use Rattle.std.proofs.Common.{◌≡◌, ℕ, ◌+◌, List, ◌∷◌, ◌++◌, length, drop, count_by, refl, ap, sym, subst, ◌∙◌, append_assoc, []}
 use Rattle.std.specs.Prelude.{Bool, is_some, if◌then◌else◌}
 use Rattle.noise_names.specs.declared.token.Role.TheVariants.{Initiator, Responder}
 use Rattle.noise_names.specs.declared.token.Token.{Token}
-use Rattle.noise_names.specs.declared.token.Token.TheVariants.{E, S, Ee, Es, Se, Ss, Psk}
+use Rattle.noise_names.specs.declared.token.Token.TheVariants.{E, S, Psk}
 use Rattle.noise_names.specs.Tokens.{is_psk}
 use Rattle.noise_names.specs.Plan.{Plan, has_psk, pre_of}
 use Rattle.noise_names.specs.Names.{name_bytes}
@@ -45,20 +45,15 @@ token-equal r psks S ts x y p q xs ys others rest c d f g h e =
     let z = split-apart (ciphertext r x) (ciphertext r y) p q n e in
     (ciphertext-same r x y z.0, z.1, h)
 token-equal r psks Psk ts x y p q xs ys others rest c d f g h e = (f ∙ sym g, e, h)
-token-equal r psks Ee ts x y p q xs ys others rest c d f g h e = (heads x y _ _ h, e, tails x y _ _ h)
-token-equal r psks Es ts x y p q xs ys others rest c d f g h e = (heads x y _ _ h, e, tails x y _ _ h)
-token-equal r psks Se ts x y p q xs ys others rest c d f g h e = (heads x y _ _ h, e, tails x y _ _ h)
-token-equal r psks Ss ts x y p q xs ys others rest c d f g h e = (heads x y _ _ h, e, tails x y _ _ h)
+token-equal r psks _ ts x y p q xs ys others rest c d f g h e = (heads x y _ _ h, e, tails x y _ _ h)
 
 front-equal : (has_psks : Bool) (r : History) (psks : List (List ℕ)) (ts : List Token) (xs ys : List (List ℕ)) (p q : List ℕ) (others rest : List (List ℕ))
     → Carry ts xs → Carry ts ys
     → PsksFit psks ts xs → PsksFit psks ts ys → dh_results ts xs ++ others ≡ dh_results ts ys ++ rest
     → before_payload has_psks r ts xs ++ p ≡ before_payload has_psks r ts ys ++ q → (xs ≡ ys) × (p ≡ q) × (others ≡ rest)
 front-equal has_psks r psks [] [] [] p q others rest c d f g h e = (refl, e, h)
-front-equal has_psks r psks [] [] (y ∷ ys) p q others rest c d f g h e = absurd d
 front-equal has_psks r psks [] (x ∷ xs) ys p q others rest c d f g h e = absurd c
 front-equal has_psks r psks (t ∷ ts) [] ys p q others rest c d f g h e = absurd c
-front-equal has_psks r psks (t ∷ ts) (x ∷ xs) [] p q others rest c d f g h e = absurd d
 front-equal has_psks r psks (t ∷ ts) (x ∷ xs) (y ∷ ys) p q others rest c d f g h e =
     let a : List ℕ = before_payload has_psks (after_token has_psks r t x) ts xs in
     let b : List ℕ = before_payload has_psks (after_token has_psks r t y) ts ys in
@@ -67,13 +62,12 @@ front-equal has_psks r psks (t ∷ ts) (x ∷ xs) (y ∷ ys) p q others rest c d
     let later = front-equal has_psks (after_token has_psks r t x) (psks_after psks t) ts xs ys p q others rest c.1 d.1 f.1 g.1 here.2
     (here.1 ∙ ap (λ (z : List ℕ). before_payload has_psks (after_token has_psks r t z) ts ys ++ q) (sym here.0)) in
     (cons-same here.0 later.0, later.1, later.2)
+front-equal has_psks r psks _ _ _ p q others rest c d f g h e = absurd d
 
 all-equal : (p : Plan) (n : ℕ) (r : History) (psks : List (List ℕ)) (ps qs : List HandshakeMessage) → messages_of ps ≡ messages_of qs → AllCarry p n ps
     → AllCarry p n qs
     → AreLines p n r ps → AreLines p n r qs → UsePsks p n psks ps → UsePsks p n psks qs → dh_results_from p n ps ≡ dh_results_from p n qs → ps ≡ qs
 all-equal p n r psks [] [] a k l b c f g h = refl
-all-equal p n r psks [] (q ∷ qs) a k l b c f g h = cc
-all-equal p n r psks (m ∷ ms) [] a k l b c f g h = cc
 all-equal p n r psks (m ∷ ms) (q ∷ qs) a k l b c f g h =
     let ts : List Token = tokens_at p.messages n in
     let bytes : m.message ≡ q.message = heads m.message q.message (messages_of ms) (messages_of qs) a in
@@ -90,6 +84,7 @@ all-equal p n r psks (m ∷ ms) (q ∷ qs) a k l b c f g h =
     (all-equal p (n + 1) (after_payload (has_psk p) r ts m.carried m.payload) (drop (count_by is_psk ts) psks) ms qs
     (tails m.message q.message (messages_of ms) (messages_of qs) a) k.1 l.1 b.1
     (subst (λ (s : History). AreLines p (n + 1) s qs) (sym after) c.1) f.1 g.1 here.2)
+all-equal p n r psks _ _ a k l b c f g h = cc
 
 pub visibly-equal-is-one : LawsBelow → VisiblyEqualIsOne
 visibly-equal-is-one laws p a b ps qs v w left right prologue before messages psks computed =

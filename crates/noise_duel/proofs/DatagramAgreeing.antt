@@ -1,8 +1,6 @@
 -- Two parties of one handshake agree on their datagrams.
-use Rattle.std.proofs.Common.{◌≡◌, ◌≢◌, ℕ, zero, suc, ◌+◌, List, [], ◌∷◌, ◌++◌, length, length-append, Option, Some, None, Ok, slice_get}
-use Rattle.std.proofs.Common.{refl, sym, ◌∙◌, ap, subst, arith, inl, inr, ◌⊎◌}
+use Rattle.std.proofs.Common.{◌≡◌, ◌≢◌, ℕ, zero, suc, ◌+◌, List, ◌∷◌, ◌++◌, length, length-append, Option, Some, None, Ok, slice_get, refl, sym, ◌∙◌, ap, subst, arith, inl, inr, ◌⊎◌, eq-eqb, []}
 use Rattle.std.proofs.lemmas.Bool.{ne_eqb}
-use Rattle.std.proofs.Common.{eq-eqb}
 use Rattle.std.proofs.lemmas.Bool.Decides.{eqb_tells}
 use Rattle.noise_names.specs.declared.token.Role.{Role}
 use Rattle.noise_names.specs.declared.token.Role.TheVariants.{Initiator, Responder}
@@ -14,8 +12,7 @@ use Rattle.noise_session.specs.Windows.{is_among}
 use Rattle.noise_session.specs.Datagrams.{AreOnce, DatagramState, IsSealed, Opens, datagram_fault, nonce_named}
 use Rattle.noise_session.specs.Datagrams.Opens.{opened}
 use Rattle.noise_session.specs.DatagramFaults.{fault-free}
-use Rattle.noise_duel.specs.DatagramAgreement.{AreAtNonces, AreCounted, ArriveOnce, ComesOfDatagrams}
-use Rattle.noise_duel.specs.DatagramAgreement.{DatagramRunsAgree, RunsMakeOneBeginning}
+use Rattle.noise_duel.specs.DatagramAgreement.{AreAtNonces, AreCounted, ArriveOnce, ComesOfDatagrams, DatagramRunsAgree, RunsMakeOneBeginning}
 use Rattle.noise_events.specs.DatagramEvents.{DatagramEvent}
 use Rattle.noise_duel.specs.DatagramNotes.{DatagramNote}
 use Rattle.noise_duel.specs.DatagramRuns.{DatagramHappens, DatagramRun, PartyOpens, PartySeals}
@@ -27,7 +24,7 @@ use Rattle.noise_duel.specs.DatagramSides.{DatagramSide, DatagramSides, NonceMes
 use Rattle.noise_duel.specs.Forgery.{ForgedMessage}
 use Rattle.noise_duel.specs.Sides.{TransportMessage}
 use Rattle.noise_duel.specs.Messages.{begun_as}
-use Rattle.noise_duel.proofs.Chain.{same-or}
+use Rattle.noise_names.specs.Lists.{same-or}
 use Rattle.noise_duel.proofs.Invariant.{ends-stand}
 use Rattle.noise_duel.proofs.Networks.{passes-role}
 use Rattle.noise_duel.proofs.Prefixes.{transport_message-same}
@@ -129,9 +126,6 @@ hold-run r d last events notes (begins _ next _ event more note rest now run) h 
     hold-run r next last more rest run (hold-happened r d next event note now h)
 
 -- ---- the message of a nonce
-none-some : {X : Type 0} (x : X) → None ≡ Some x → ⊥
-none-some x e = cc
-
 abbrev of_parts : ℕ → TransportMessage → NonceMessage
 of_parts n w = record { nonce = n; message = w }
 
@@ -154,7 +148,7 @@ module _ (r : History) (writer : Role) where
   -- of a writer's messages from nonce n on, that of nonce n + k has the number k
   counted-at : (n k : ℕ) (ms : List NonceMessage) (w : TransportMessage) → AreCounted r writer n ms → of_nonce ms (n + k) ≡ Some w
       → (slice_get ms k ≡ Some (record { nonce = n + k; message = w })) × (w.message ≡ transport_message r writer 0 (n + k) w.payload)
-  counted-at n k [] w h e = absurd (none-some w e)
+  counted-at n k [] w h e = cc
   counted-at n zero (m ∷ ms) w h e =
       let here : m.nonce ≡ n + 0 = h.0 ∙ omega arith in
       let same : m.message ≡ w = same_Some m.message w (sym (first-of m ms (n + 0) here) ∙ e) in (
@@ -172,7 +166,7 @@ module _ (r : History) (writer : Role) where
 
   at-nonces-at : (ms : List NonceMessage) (n : ℕ) (w : TransportMessage) → AreAtNonces r writer ms → of_nonce ms n ≡ Some w
       → w.message ≡ transport_message r writer 0 n w.payload
-  at-nonces-at [] n w h e = absurd (none-some w e)
+  at-nonces-at [] n w h e = cc
   at-nonces-at (m ∷ ms) n w h e = elim (eqb_tells m.nonce n) [
     | inl y ↦ subst (λ (z : TransportMessage). z.message ≡ transport_message r writer 0 n z.payload) (same_Some m.message w (sym (first-of m ms n y.1) ∙ e))
         (subst (λ (i : ℕ). m.message.message ≡ transport_message r writer 0 i m.message.payload) y.1 h.0)
@@ -188,7 +182,7 @@ module _ (r : History) (writer : Role) where
       at i m e None none = inr (record {
         forged = m;
         came = e;
-        unwritten = λ x there. absurd (none-some x (sym none ∙ there));
+        unwritten = λ x there. cc (sym none ∙ there);
         message_at = at-nonces-at came i m g e;
       })
       at i m e (Some w) there =

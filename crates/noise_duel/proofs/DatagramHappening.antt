@@ -1,8 +1,7 @@
 -- What comes of events on datagrams, in code, from what comes of one party's part of them.
-use Rattle.std.proofs.Common.{◌≡◌, ℕ, suc, List, [], ◌∷◌, ◌++◌, length, map, refl, ap, sym, subst, ◌∙◌, append_assoc, append-nil, Option, Some, None}
-use Rattle.std.proofs.Common.{Ok, Err, MatchOption, slice_get, Vec, Global, IsOk}
+use Rattle.std.proofs.Common.{◌≡◌, ℕ, List, ◌∷◌, ◌++◌, length, refl, ap, sym, subst, ◌∙◌, append_assoc, append-nil, Option, Some, None, Ok, Err, MatchOption, slice_get, Vec, Global, IsOk, []}
 use Rattle.std.specs.Prelude.{Result}
-use Rattle.std.proofs.lemmas.List.{map-append}
+use Rattle.std.proofs.lemmas.List.{map-append, length-map}
 use Rattle.noise_names.specs.declared.token.Role.{Role}
 use Rattle.noise_names.specs.declared.token.Role.TheVariants.{Initiator, Responder}
 use Rattle.noise_names.specs.Tokens.{other}
@@ -20,10 +19,9 @@ use Rattle.noise_duel.specs.DatagramRuns.DatagramHappens.{is_sealed, is_delivere
 use Rattle.noise_duel.specs.DatagramRuns.DatagramRun.{begins, ends}
 use Rattle.noise_duel.specs.DatagramRuns.PartyOpens.{opens, rejects}
 use Rattle.noise_duel.specs.DatagramRuns.PartySeals.{seals}
-use Rattle.noise_duel.specs.DatagramSides.{DatagramSide, DatagramSides, NonceMessage, party, with_party, sealed_datagrams, opening, sealing, datagram_bytes}
-use Rattle.noise_duel.specs.Entries.{bytes_of}
+use Rattle.noise_duel.specs.DatagramSides.{DatagramSide, DatagramSides, party, with_party, sealed_datagrams, opening, sealing, datagram_bytes}
+use Rattle.noise_names.specs.Lists.{bytes_of}
 use Rattle.noise_duel.specs.OneDatagram.{DatagramHappened, DatagramsHaveComeTo, HasFound, HasOpened, HasSealed, SealedMatch}
-use Rattle.noise_duel.proofs.Linking.{length-bytes_of}
 
 -- ---- one party seals
 
@@ -56,12 +54,8 @@ pub one-more-in : (s : DatagramSide) (payload : List ℕ)
     → sealed_datagrams (sealing s payload) ≡ sealed_datagrams s ++ datagram s.state.history s.state.role s.state.sent payload ∷ []
 one-more-in s payload = map-append datagram_bytes s.sealed _
 
-length-map-whole : (ms : List NonceMessage) → length (map datagram_bytes ms) ≡ length ms
-length-map-whole [] = refl
-length-map-whole (m ∷ ms) = ap suc (length-map-whole ms)
-
 pub number-is : (s : DatagramSide) (unchanged : List (Vec ℕ Global)) → bytes_of unchanged ≡ sealed_datagrams s → length s.sealed ≡ length unchanged
-number-is s unchanged same = sym (length-map-whole s.sealed) ∙ ap length (sym same) ∙ length-bytes_of unchanged
+number-is s unchanged same = sym (length-map s.sealed datagram_bytes) ∙ ap length (sym same) ∙ length-map unchanged (λ (v : Vec ℕ Global). v.items)
 
 -- ---- one party opens
 

@@ -1,5 +1,5 @@
 -- A run of datagrams is determined: of two parties and a list of events one list of notes and one pair of parties comes.
-use Rattle.std.proofs.Common.{◌≡◌, ℕ, List, ◌∷◌, Option, Some, None, refl, ap, sym, subst, ◌∙◌}
+use Rattle.std.proofs.Common.{◌≡◌, ℕ, List, ◌∷◌, refl, ap, sym, subst, ◌∙◌}
 use Rattle.std.specs.Prelude.{Ok, Err, Result}
 use Rattle.noise_names.specs.declared.token.Role.{Role}
 use Rattle.noise_names.specs.Tokens.{other}
@@ -17,17 +17,11 @@ use Rattle.noise_duel.specs.DatagramSides.{DatagramSide, DatagramSides, opening,
 use Rattle.noise_duel.proofs.Prefixes.{transport_message-same}
 use Rattle.std.proofs.lemmas.Option.{same_Some}
 
-some-none : {X : Type 0} (o : Option X) (x : X) → o ≡ Some x → o ≡ None → ⊥
-some-none o x e f = cc
-
 abbrev opens_as : List ℕ → Result (List ℕ) DatagramFault
 opens_as payload = Ok payload
 
 abbrev refused_as : DatagramFault → Result (List ℕ) DatagramFault
 refused_as why = Err why
-
-ok-same : (p q : List ℕ) → opens_as p ≡ opens_as q → p ≡ q
-ok-same p q e = cc
 
 err-same : (x y : DatagramFault) → refused_as x ≡ refused_as y → x ≡ y
 err-same x y e = cc
@@ -38,24 +32,24 @@ not-both p why e = cc
 opens-once : (v : DatagramState) (bytes : List ℕ) (w x : DatagramState) (p q : Result (List ℕ) DatagramFault) → Opens v bytes p w → Opens v bytes q x → p ≡ q
 opens-once v bytes w x p q (opened _ _ a none is) (opened _ _ b also be) =
     ap opens_as (transport_message-same v.history (other v.role) 0 (nonce_named bytes) a b (sym is ∙ be))
-opens-once v bytes w x p q (opened _ _ a none is) (refused _ _ why e) = absurd (some-none _ why e none)
 opens-once v bytes w x p q (opened _ _ a none is) (forged _ _ also never) = absurd (never a is)
-opens-once v bytes w x p q (refused _ _ why e) (opened _ _ b none is) = absurd (some-none _ why e none)
 opens-once v bytes w x p q (refused _ _ why e) (refused _ _ because f) = ap refused_as (same_Some why because (sym e ∙ f))
-opens-once v bytes w x p q (refused _ _ why e) (forged _ _ none never) = absurd (some-none _ why e none)
 opens-once v bytes w x p q (forged _ _ none never) (opened _ _ b also is) = absurd (never b is)
-opens-once v bytes w x p q (forged _ _ none never) (refused _ _ why e) = absurd (some-none _ why e none)
 opens-once v bytes w x p q (forged _ _ none never) (forged _ _ also again) = refl
+opens-once v bytes w x p q (opened _ _ a none is) (refused _ _ why e) = cc
+opens-once v bytes w x p q (refused _ _ why e) (opened _ _ b none is) = cc
+opens-once v bytes w x p q (refused _ _ why e) (forged _ _ none never) = cc
+opens-once v bytes w x p q (forged _ _ none never) (refused _ _ why e) = cc
 
 party-seals-once : (s : DatagramSide) (payload : List ℕ) (x y : DatagramSide) (m n : DatagramNote) → PartySeals s payload m x → PartySeals s payload n y → (m ≡ n) × (x ≡ y)
 party-seals-once s payload x y m n (seals _ _ none) (seals _ _ also) = (refl, refl)
-party-seals-once s payload x y m n (seals _ _ none) (seals_nothing _ _ why e) = absurd (some-none _ why e none)
-party-seals-once s payload x y m n (seals_nothing _ _ why e) (seals _ _ none) = absurd (some-none _ why e none)
 party-seals-once s payload x y m n (seals_nothing _ _ why e) (seals_nothing _ _ because f) = (ap SealFault (same_Some why because (sym e ∙ f)), refl)
+party-seals-once s payload x y m n (seals _ _ none) (seals_nothing _ _ why e) = cc
+party-seals-once s payload x y m n (seals_nothing _ _ why e) (seals _ _ none) = cc
 
 party-opens-once : (s : DatagramSide) (bytes : List ℕ) (x y : DatagramSide) (m n : DatagramNote) → PartyOpens s bytes m x → PartyOpens s bytes n y → (m ≡ n) × (x ≡ y)
 party-opens-once s bytes x y m n (opens _ _ a o) (opens _ _ b u) =
-    let same = ok-same a b (opens-once s.state bytes _ _ (opens_as a) (opens_as b) o u) in (ap Payload same, ap (opening s bytes) same)
+    let same : a ≡ b = cc (opens-once s.state bytes _ _ (opens_as a) (opens_as b) o u) in (ap Payload same, ap (opening s bytes) same)
 party-opens-once s bytes x y m n (opens _ _ a o) (rejects _ _ why u) =
     absurd (not-both a why (opens-once s.state bytes _ _ (opens_as a) (refused_as why) o u))
 party-opens-once s bytes x y m n (rejects _ _ why o) (opens _ _ b u) =
@@ -73,12 +67,12 @@ happens-once d x y event m n (is_delivered _ role i bytes note next at h) (is_de
     let one = party-opens-once (party d role) bytes next after note reported h
     (subst (λ (z : List ℕ). PartyOpens (party d role) z reported after) (sym same) k) in
     (ap (λ (z : DatagramNote). (role, z)) one.0, ap (with_party d role) one.1)
-happens-once d x y event m n (is_delivered _ role i bytes note next at h) (is_missing _ _ _ none) = absurd (some-none _ bytes at none)
-happens-once d x y event m n (is_missing _ role i none) (is_delivered _ _ _ bytes note next at h) = absurd (some-none _ bytes at none)
 happens-once d x y event m n (is_missing _ role i none) (is_missing _ _ _ also) = (refl, refl)
 happens-once d x y event m n (is_put_in _ role bytes note next h) (is_put_in _ _ _ reported after k) =
     let one = party-opens-once (party d role) bytes next after note reported h k in
     (ap (λ (z : DatagramNote). (role, z)) one.0, ap (with_party d role) one.1)
+happens-once d x y event m n (is_delivered _ role i bytes note next at h) (is_missing _ _ _ none) = cc
+happens-once d x y event m n (is_missing _ role i none) (is_delivered _ _ _ bytes note next at h) = cc
 
 pub datagram-run-once : DatagramRunOnce
 datagram-run-once d x y events ms ns (ends _) (ends _) = (refl, refl)

@@ -1,9 +1,9 @@
 -- With the same psks and DH results the same bytes are the same conversation, from the first message on.
-use Rattle.std.proofs.Common.{◌≡◌, ℕ, ◌+◌, List, [], ◌∷◌, ◌++◌, drop, count_by, refl, ap, sym, subst, ◌∙◌, inl, inr}
+use Rattle.std.proofs.Common.{◌≡◌, ℕ, ◌+◌, List, ◌∷◌, ◌++◌, drop, count_by, refl, ap, sym, subst, ◌∙◌, inl, inr, []}
 use Rattle.std.specs.Prelude.{Bool, unwrap_or}
 use Rattle.noise_names.specs.declared.token.Role.TheVariants.{Initiator, Responder}
 use Rattle.noise_names.specs.declared.token.Token.{Token}
-use Rattle.noise_names.specs.declared.token.Token.TheVariants.{E, S, Ee, Es, Se, Ss, Psk}
+use Rattle.noise_names.specs.declared.token.Token.TheVariants.{E, S, Psk}
 use Rattle.noise_names.specs.Tokens.{is_psk}
 use Rattle.noise_names.specs.Plan.{Plan, has_psk, pre_of}
 use Rattle.noise_names.specs.Names.{name_bytes}
@@ -11,8 +11,7 @@ use Rattle.noise_state.specs.History.{History, MixHash, and_then, ciphertext}
 use Rattle.noise_state.specs.Ciphertexts.{ciphertext-same}
 use Rattle.noise_handshake.specs.declared.remote.Remote.{Remote}
 use Rattle.noise_handshake.specs.Message.{token_bytes, after_token, after_tokens, message_bytes, after_payload, with_ephemeral}
-use Rattle.noise_handshake.specs.Party.{Party, Reader, Fit, Fits, reader, known_after, psks_after, first_psk, tokens_at, tokens_now, with_premessage}
-use Rattle.noise_handshake.specs.Party.{start}
+use Rattle.noise_handshake.specs.Party.{Party, Reader, Fit, Fits, reader, known_after, psks_after, first_psk, tokens_at, tokens_now, with_premessage, start}
 use Rattle.noise_handshake.specs.Writing.{Writer, Given, Gives, writer}
 use Rattle.noise_handshake.specs.Matching.{after_own, after_message}
 use Rattle.noise_handshake.specs.Setup.{public_keys}
@@ -52,16 +51,14 @@ gives-psk w known psks _ x h = tt
 
 fit-psks : (v : Reader) (known : Remote) (psks : List (List ℕ)) (ts : List Token) (xs : List (List ℕ)) → Fit v known psks ts xs
     → PsksFit psks ts xs
-fit-psks v known psks [] xs h = tt
-fit-psks v known psks (t ∷ ts) [] h = tt
 fit-psks v known psks (t ∷ ts) (x ∷ xs) h =
     (fits-psk v known psks t x h.0, fit-psks v (known_after known t x) (psks_after psks t) ts xs h.1)
+fit-psks v known psks _ _ h = tt
 
 given-psks : (w : Writer) (known : Remote) (psks : List (List ℕ)) (ts : List Token) (xs : List (List ℕ)) → Given w known psks ts xs
     → PsksFit psks ts xs
-given-psks w known psks [] xs h = tt
-given-psks w known psks (t ∷ ts) [] h = tt
 given-psks w known psks (t ∷ ts) (x ∷ xs) h = (gives-psk w known psks t x h.0, given-psks w known (psks_after psks t) ts xs h.1)
+given-psks w known psks _ _ h = tt
 
 pub passes-psks : (v w : Party) (ps : List HandshakeMessage) → Exchanged v ps w → UsePsks v.pattern v.passed v.psks ps
 passes-psks v w [] (none _) = tt
@@ -80,24 +77,18 @@ module _ (has_psks : Bool) where
   token-on r psks E ts x y xs ys others rest e f g h = (e, h)
   token-on r psks S ts x y xs ys others rest e f g h = (ciphertext-same r x y e, h)
   token-on r psks Psk ts x y xs ys others rest e f g h = (f ∙ sym g, h)
-  token-on r psks Ee ts x y xs ys others rest e f g h = (heads x y _ _ h, tails x y _ _ h)
-  token-on r psks Es ts x y xs ys others rest e f g h = (heads x y _ _ h, tails x y _ _ h)
-  token-on r psks Se ts x y xs ys others rest e f g h = (heads x y _ _ h, tails x y _ _ h)
-  token-on r psks Ss ts x y xs ys others rest e f g h = (heads x y _ _ h, tails x y _ _ h)
+  token-on r psks _ ts x y xs ys others rest e f g h = (heads x y _ _ h, tails x y _ _ h)
 
   front-on : (r : History) (psks : List (List ℕ)) (ts : List Token) (xs ys others rest : List (List ℕ)) → Alike has_psks r r ts xs ys
       → PsksFit psks ts xs → PsksFit psks ts ys
       → dh_results ts xs ++ others ≡ dh_results ts ys ++ rest → (xs ≡ ys) × (others ≡ rest)
   front-on r psks [] [] [] others rest a f g h = (refl, h)
-  front-on r psks [] [] (y ∷ ys) others rest a f g h = absurd a
-  front-on r psks [] (x ∷ xs) ys others rest a f g h = absurd a
-  front-on r psks (t ∷ ts) [] ys others rest a f g h = absurd a
-  front-on r psks (t ∷ ts) (x ∷ xs) [] others rest a f g h = absurd a
   front-on r psks (t ∷ ts) (x ∷ xs) (y ∷ ys) others rest a f g h =
       let here = token-on r psks t ts x y xs ys others rest a.0 f.0 g.0 h in
       let later = front-on (after_token has_psks r t x) (psks_after psks t) ts xs ys others rest
       (subst (λ (z : List ℕ). Alike has_psks (after_token has_psks r t x) (after_token has_psks r t z) ts xs ys) (sym here.0) a.1) f.1 g.1 here.1 in
       (cons-same here.0 later.0, later.1)
+  front-on r psks _ _ _ others rest a f g h = absurd a
 
 pub message-same : (m q : HandshakeMessage) → m.message ≡ q.message → m.carried ≡ q.carried → m.payload ≡ q.payload → m ≡ q
 message-same m q e f g =
@@ -109,8 +100,6 @@ all-on : (p : Plan) (n : ℕ) (r : History) (psks : List (List ℕ)) (ps qs : Li
     → AreLines p n r qs
     → UsePsks p n psks ps → UsePsks p n psks qs → dh_results_from p n ps ≡ dh_results_from p n qs → ps ≡ qs
 all-on p n r psks [] [] a b c f g h = refl
-all-on p n r psks [] (q ∷ qs) a b c f g h = absurd a
-all-on p n r psks (m ∷ ms) [] a b c f g h = absurd a
 all-on p n r psks (m ∷ ms) (q ∷ qs) a b c f g h =
     let ts : List Token = tokens_at p.messages n in
     let here = front-on (has_psk p) r psks ts m.carried q.carried (dh_results_from p (n + 1) ms) (dh_results_from p (n + 1) qs) a.0.0 f.0 g.0 h in
@@ -126,6 +115,7 @@ all-on p n r psks (m ∷ ms) (q ∷ qs) a b c f g h =
     (subst (λ (s : History). AllAlike p (n + 1) (after_payload (has_psk p) r ts m.carried m.payload) s ms qs) (sym after) a.1) b.1
     (subst (λ (s : History). AreLines p (n + 1) s qs) (sym after) c.1) f.1 g.1 here.1 in
     cons-same one later
+all-on p n r psks _ _ a b c f g h = absurd a
 
 -- ---- the start
 

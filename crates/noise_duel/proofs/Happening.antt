@@ -1,6 +1,5 @@
 -- What comes of events, in code, from what comes of one end's part of them.
-use Rattle.std.proofs.Common.{◌≡◌, ℕ, List, [], ◌∷◌, ◌++◌, length, map, refl, ap, sym, subst, ◌∙◌, append_assoc, append-nil, Option, Some, None}
-use Rattle.std.proofs.Common.{Result, Ok, Err, slice_get, Vec, Global}
+use Rattle.std.proofs.Common.{◌≡◌, ℕ, List, ◌∷◌, ◌++◌, length, map, refl, ap, sym, subst, ◌∙◌, append_assoc, append-nil, Option, Some, None, Result, Ok, Err, slice_get, Vec, Global, []}
 use Rattle.std.specs.Result.{result_ok}
 use Rattle.std.proofs.lemmas.List.{map-append}
 use Rattle.noise_names.specs.declared.token.Role.{Role}
@@ -39,9 +38,6 @@ wrote-there : (s next : Side) (payload : List ℕ) (n : ℕ) → SideWrites s pa
 wrote-there s next payload n (writes_handshake _ message _ xs free w) = (frame message, get-last s.frames (frame message))
 wrote-there s next payload n (writes_transport _ message _ free opens is) = (frame message, get-last s.frames (frame message))
 
-some-none : (o : Option (List ℕ)) (x : List ℕ) → o ≡ Some x → o ≡ None → ⊥
-some-none o x e f = cc
-
 -- ---- a delivery, taken apart
 
 record Delivery (d e : Sides) (role : Role) (n : ℕ) (notes : List (Role × Note)) : Type 0 where
@@ -57,7 +53,7 @@ delivery : (d e : Sides) (role : Role) (n : ℕ) (notes : List (Role × Note)) (
     → Happens d (Deliver role n) notes e → Delivery d e role n notes
 delivery d e role n notes bytes there (delivers _ _ _ found heard reader got receives) =
     record { bytes = found; heard = heard; reader = reader; got = got; receives = receives; notes_are = refl; beyond = refl }
-delivery d e role n notes bytes there (misses _ _ _ none) = absurd (some-none _ bytes there none)
+delivery d e role n notes bytes there (misses _ _ _ none) = cc
 
 -- a write, and the delivery of its frame to the other role, are a Say
 say-of : (d e : Sides) (role : Role) (payload : List ℕ) (n : ℕ) (next : Side) (notes : List (Role × Note)) → SideWrites (side d role) payload (Wrote n) next

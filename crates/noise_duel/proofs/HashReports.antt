@@ -1,10 +1,10 @@
 -- Equal hashes: all that can be seen of the conversation is the same, or two hashed texts collide.
-use Rattle.std.proofs.Common.{◌≡◌, ℕ, ◌+◌, List, [], ◌∷◌, length, refl, ap, sym, ◌∙◌, arith, inl, inr, ◌⊎◌}
+use Rattle.std.proofs.Common.{◌≡◌, ℕ, ◌+◌, List, ◌∷◌, length, refl, ap, sym, ◌∙◌, arith, inl, inr, ◌⊎◌, []}
 use Rattle.std.specs.Prelude.{Bool, true, false, is_some, unwrap_or}
 use Rattle.noise_names.specs.declared.token.Role.{Role}
 use Rattle.noise_names.specs.declared.token.Role.TheVariants.{Initiator, Responder}
 use Rattle.noise_names.specs.declared.token.Token.{Token}
-use Rattle.noise_names.specs.declared.token.Token.TheVariants.{E, S, Ee, Es, Se, Ss, Psk}
+use Rattle.noise_names.specs.declared.token.Token.TheVariants.{E, S}
 use Rattle.noise_names.specs.Plan.{Plan, has_psk, pre_of}
 use Rattle.noise_names.specs.Names.{name_bytes}
 use Rattle.noise_state.specs.History.{History, MixHash, and_then, cipher_key, hash}
@@ -29,17 +29,11 @@ ephemeral-name false r x = refl
 
 token-name : (psks : Bool) (r : History) (t : Token) (x : List ℕ) → (after_token psks r t x).name ≡ r.name
 token-name psks r E x = ephemeral-name psks r x
-token-name psks r S x = refl
-token-name psks r Ee x = refl
-token-name psks r Es x = refl
-token-name psks r Se x = refl
-token-name psks r Ss x = refl
-token-name psks r Psk x = refl
+token-name psks r _ x = refl
 
 front-name : (psks : Bool) (r : History) (ts : List Token) (xs : List (List ℕ)) → (after_tokens psks r ts xs).name ≡ r.name
-front-name psks r [] xs = refl
-front-name psks r (t ∷ ts) [] = refl
 front-name psks r (t ∷ ts) (x ∷ xs) = front-name psks (after_token psks r t x) ts xs ∙ token-name psks r t x
+front-name psks r _ _ = refl
 
 all-name : (p : Plan) (n : ℕ) (r : History) (ps : List HandshakeMessage) → (after_all p n r ps).name ≡ r.name
 all-name p n r [] = refl

@@ -1,9 +1,9 @@
 -- From what two histories hashed, back along their messages.
-use Rattle.std.proofs.Common.{◌≡◌, ℕ, List, [], ◌∷◌, ◌++◌, length, refl, ap, sym, ◌∙◌, arith}
+use Rattle.std.proofs.Common.{◌≡◌, ℕ, List, ◌∷◌, ◌++◌, length, refl, ap, sym, ◌∙◌, arith, []}
 use Rattle.std.specs.Prelude.{Bool, true, false, is_some, Option, Some, None, if◌then◌else◌, unwrap_or}
 use Rattle.noise_kdf.specs.Hkdf.{second_output}
 use Rattle.noise_names.specs.declared.token.Token.{Token}
-use Rattle.noise_names.specs.declared.token.Token.TheVariants.{E, S, Ee, Es, Se, Ss, Psk}
+use Rattle.noise_names.specs.declared.token.Token.TheVariants.{E, S, Psk}
 use Rattle.noise_state.specs.History.{History, MixHash, and_then, cipher_key, chaining_key, nonce, hash, ciphertext_under, ciphertext}
 use Rattle.noise_handshake.specs.declared.remote.Remote.{Remote}
 use Rattle.noise_handshake.specs.Message.{with_ephemeral, token_bytes, after_token, before_payload, after_tokens, after_payload}
@@ -32,20 +32,14 @@ ephemeral-keyed false r x = refl
 pub token-keyed : (psks : Bool) (r : History) (t : Token) (x : List ℕ)
     → is_some (cipher_key (after_token psks r t x)) ≡ keyed_after psks (is_some (cipher_key r)) t
 token-keyed psks r E x = ephemeral-keyed psks r x
-token-keyed psks r S x = refl
-token-keyed psks r Ee x = refl
-token-keyed psks r Es x = refl
-token-keyed psks r Se x = refl
-token-keyed psks r Ss x = refl
-token-keyed psks r Psk x = refl
+token-keyed psks r _ x = refl
 
 pub front-keyed : (psks : Bool) (r : History) (ts : List Token) (xs : List (List ℕ)) → OneEach ts xs
     → is_some (cipher_key (after_tokens psks r ts xs)) ≡ keyed_after_tokens psks (is_some (cipher_key r)) ts
-front-keyed psks r [] [] h = refl
-front-keyed psks r [] (x ∷ xs) h = refl
 front-keyed psks r (t ∷ ts) [] h = absurd h
 front-keyed psks r (t ∷ ts) (x ∷ xs) h =
     front-keyed psks (after_token psks r t x) ts xs h ∙ ap (λ (b : Bool). keyed_after_tokens psks b ts) (token-keyed psks r t x)
+front-keyed psks r [] _ h = refl
 
 module _ (psks : Bool) where
   -- each token travels as the same bytes
@@ -60,11 +54,8 @@ module _ (psks : Bool) where
       → length (hashed (after_token psks r t x)) ≡ length (hashed (after_token psks s t y))
   token-many r s E x y n = ap length (ephemeral-hashed psks r x) ∙ omega (arith, n) ∙ sym (ap length (ephemeral-hashed psks s y))
   token-many r s S x y n = omega (arith, n)
-  token-many r s Ee x y n = n
-  token-many r s Es x y n = n
-  token-many r s Se x y n = n
-  token-many r s Ss x y n = n
   token-many r s Psk x y n = omega (arith, n)
+  token-many r s _ x y n = n
 
   front-many : (r s : History) (ts : List Token) (xs ys : List (List ℕ)) → OneEach ts xs → OneEach ts ys → length (hashed r) ≡ length (hashed s)
       → length (hashed (after_tokens psks r ts xs)) ≡ length (hashed (after_tokens psks s ts ys))
@@ -95,24 +86,20 @@ module _ (psks : Bool) where
       let f : (x ∷ hashed r) ≡ (y ∷ hashed s) = sym (ephemeral-hashed psks r x) ∙ e ∙ ephemeral-hashed psks s y in
       (tails x y (hashed r) (hashed s) f, heads x y (hashed r) (hashed s) f)
   token-back r s S x y e = (tails (ciphertext r x) (ciphertext s y) (hashed r) (hashed s) e, heads (ciphertext r x) (ciphertext s y) (hashed r) (hashed s) e)
-  token-back r s Ee x y e = (e, refl)
-  token-back r s Es x y e = (e, refl)
-  token-back r s Se x y e = (e, refl)
-  token-back r s Ss x y e = (e, refl)
   token-back r s Psk x y e = (tails (second_output (chaining_key r) x) (second_output (chaining_key s) y) (hashed r) (hashed s) e, refl)
+  token-back r s _ x y e = (e, refl)
 
   front-back : (r s : History) (ts : List Token) (xs ys : List (List ℕ)) → OneEach ts xs → OneEach ts ys
       → hashed (after_tokens psks r ts xs) ≡ hashed (after_tokens psks s ts ys)
       → (hashed r ≡ hashed s) × Alike r s ts xs ys
   front-back r s [] [] [] f g e = (e, tt)
-  front-back r s [] [] (y ∷ ys) f g e = absurd g
   front-back r s [] (x ∷ xs) ys f g e = absurd f
   front-back r s (t ∷ ts) [] ys f g e = absurd f
-  front-back r s (t ∷ ts) (x ∷ xs) [] f g e = absurd g
   front-back r s (t ∷ ts) (x ∷ xs) (y ∷ ys) f g e =
       let later = front-back (after_token psks r t x) (after_token psks s t y) ts xs ys f g e in
       let here = token-back r s t x y later.0 in
       (here.0, (here.1, later.1))
+  front-back r s _ _ _ f g e = absurd g
 
   -- what it hashed reports a message's bytes, token by token
   pub line-back : (r s : History) (ts : List Token) (xs ys : List (List ℕ)) (p q : List ℕ) → OneEach ts xs → OneEach ts ys
@@ -144,13 +131,10 @@ module _ (psks : Bool) where
 
   pub front-same : (r s : History) (ts : List Token) (xs ys : List (List ℕ)) → Alike r s ts xs ys → before_payload psks r ts xs ≡ before_payload psks s ts ys
   front-same r s [] [] [] h = refl
-  front-same r s [] [] (y ∷ ys) h = absurd h
-  front-same r s [] (x ∷ xs) ys h = absurd h
-  front-same r s (t ∷ ts) [] ys h = absurd h
-  front-same r s (t ∷ ts) (x ∷ xs) [] h = absurd h
   front-same r s (t ∷ ts) (x ∷ xs) (y ∷ ys) h =
       ap (λ (b : List ℕ). b ++ before_payload psks (after_token psks r t x) ts xs) h.0
       ∙ ap (λ (b : List ℕ). token_bytes s t y ++ b) (front-same (after_token psks r t x) (after_token psks s t y) ts xs ys h.1)
+  front-same r s _ _ _ h = absurd h
 
   static-same : (keyed : Bool) (r s : History) (x y : List ℕ) (older others : List (List ℕ)) → is_some (cipher_key r) ≡ keyed → is_some (cipher_key s) ≡ keyed
       → ciphertext r x ≡ ciphertext s y → older ≡ others
@@ -165,21 +149,14 @@ module _ (psks : Bool) where
   open-token keyed r s E ts x y xs ys a b e f =
       cons-same e f
   open-token keyed r s S ts x y xs ys a b e f = static-same keyed r s x y (clear_keys psks keyed ts xs) (clear_keys psks keyed ts ys) a b e f
-  open-token keyed r s Ee ts x y xs ys a b e f = f
-  open-token keyed r s Es ts x y xs ys a b e f = f
-  open-token keyed r s Se ts x y xs ys a b e f = f
-  open-token keyed r s Ss ts x y xs ys a b e f = f
-  open-token keyed r s Psk ts x y xs ys a b e f = f
+  open-token keyed r s _ ts x y xs ys a b e f = f
 
   -- the public keys that travel as they are
   pub open-same : (keyed : Bool) (r s : History) (ts : List Token) (xs ys : List (List ℕ)) → is_some (cipher_key r) ≡ keyed → is_some (cipher_key s) ≡ keyed
       → Alike r s ts xs ys → clear_keys psks keyed ts xs ≡ clear_keys psks keyed ts ys
   open-same keyed r s [] [] [] a b h = refl
-  open-same keyed r s [] [] (y ∷ ys) a b h = absurd h
-  open-same keyed r s [] (x ∷ xs) ys a b h = absurd h
-  open-same keyed r s (t ∷ ts) [] ys a b h = absurd h
-  open-same keyed r s (t ∷ ts) (x ∷ xs) [] a b h = absurd h
   open-same keyed r s (t ∷ ts) (x ∷ xs) (y ∷ ys) a b h =
       open-token keyed r s t ts x y xs ys a b h.0
       (open-same (keyed_after psks keyed t) (after_token psks r t x) (after_token psks s t y) ts xs ys
       (token-keyed psks r t x ∙ ap (λ (k : Bool). keyed_after psks k t) a) (token-keyed psks s t y ∙ ap (λ (k : Bool). keyed_after psks k t) b) h.1)
+  open-same keyed r s _ _ _ a b h = absurd h

@@ -1,5 +1,5 @@
 -- Every event leaves each end what its messages made of it.
-use Rattle.std.proofs.Common.{◌≡◌, ℕ, ◌+◌, ◌<◌, List, [], ◌∷◌, ◌++◌, length, refl, ap, sym, subst, ◌∙◌, arith, inl, inr, ◌⊎◌, length-append}
+use Rattle.std.proofs.Common.{◌≡◌, ℕ, ◌+◌, ◌<◌, List, ◌∷◌, ◌++◌, length, refl, ap, sym, subst, ◌∙◌, arith, inl, inr, ◌⊎◌, length-append, []}
 use Rattle.std.proofs.lemmas.Bool.Decides.{nat_tests}
 use Rattle.std.specs.Prelude.{Bool, true, false, ◌==◌, Err, IsTrue, if◌then◌else◌}
 use Rattle.noise_names.specs.declared.token.Role.{Role}
@@ -77,9 +77,8 @@ all-passed v h = go v.party.ended (v.party.passed == length v.party.pattern.mess
         → IsTrue (is_open (if ended then HasEnded v.party.role else if all then Open v.party.role (is_one_way v.party.pattern) v.sent v.received
         else Handshaking v.party.pattern v.party.role v.party.passed))
         → v.party.passed ≡ length v.party.pattern.messages
-    go true all e h = cc
     go false true e h = grind (arith, nat_tests)
-    go false false e h = cc
+    go _ _ e h = cc
 
 length-more : {X : Type 0} (xs : List X) (x : X) (n : ℕ) → n ≡ length xs → n + 1 ≡ length (xs ++ x ∷ [])
 length-more xs x n e = omega (arith, length-append xs (x ∷ []))

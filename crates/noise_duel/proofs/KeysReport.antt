@@ -1,6 +1,6 @@
 -- Keys that agree and equal psks: one conversation and one history, or two hashed texts collide.
-use Rattle.std.proofs.Common.{◌≡◌, ℕ, List, [], ◌∷◌, length, ap, sym, subst, ◌∙◌, inl, inr}
-use Rattle.std.specs.Prelude.{true, Option, Some, None, is_some, unwrap_or}
+use Rattle.std.proofs.Common.{◌≡◌, ℕ, List, ◌∷◌, length, ap, sym, subst, ◌∙◌, inl, inr, []}
+use Rattle.std.specs.Prelude.{true, Option, Some, is_some, unwrap_or}
 use Rattle.noise_names.specs.declared.token.Role.{Role}
 use Rattle.noise_names.specs.declared.token.Role.TheVariants.{Initiator, Responder}
 use Rattle.noise_names.specs.declared.token.Token.{Token}
@@ -35,9 +35,8 @@ at-s k l (E ∷ ts) h e = at-s k l ts h (tails (unwrap_or k.e []) (unwrap_or l.e
 at-s k l (_ ∷ ts) h e = at-s k l ts h e
 
 there : (o q : Option (List ℕ)) (k : List ℕ) → o ≡ Some k → is_some q ≡ true → unwrap_or o [] ≡ unwrap_or q [] → q ≡ Some k
-there None q k e f g = cc
-there (Some x) None k e f g = cc
 there (Some x) (Some y) k e f g = ap Some (sym g) ∙ e
+there _ _ k e f g = cc
 
 -- what a party was given of the other's keys is right, where both mixed the same keys
 module _ (laws : LawsBelow) (p : Plan) (role : Role) (a b : Start) (set : IsSetUp p role a) (there_set : IsSetUp p (other role) b)

@@ -1,5 +1,5 @@
 -- What each party comes to know of the other's keys, where the conversation is one.
-use Rattle.std.proofs.Common.{◌≡◌, ℕ, ◌+◌, List, [], ◌∷◌, refl, ap, sym, subst, ◌∙◌}
+use Rattle.std.proofs.Common.{◌≡◌, ℕ, ◌+◌, List, ◌∷◌, refl, ap, sym, subst, ◌∙◌, []}
 use Rattle.std.specs.Prelude.{Bool, true, false, not}
 use Rattle.noise_names.specs.declared.token.Role.{Role}
 use Rattle.noise_names.specs.declared.token.Role.TheVariants.{Initiator, Responder}
@@ -13,8 +13,7 @@ use Rattle.noise_duel.specs.Below.{LawsBelow}
 use Rattle.noise_duel.specs.Messages.{HandshakeMessage, Exchanged, Start, begun_as}
 use Rattle.noise_duel.specs.Messages.Exchanged.{none, wrote, took}
 use Rattle.noise_duel.specs.Agreement.{Knows, KnowEachOther}
-use Rattle.noise_duel.proofs.Agreeing.{UsesAt, Uses, UsesAll, known_next, known_after_all, writes_now, is-own, learns, turns-apart}
-use Rattle.noise_duel.proofs.Agreeing.{passes-uses}
+use Rattle.noise_duel.proofs.Agreeing.{UsesAt, Uses, UsesAll, known_next, known_after_all, writes_now, is-own, learns, turns-apart, passes-uses}
 use Rattle.noise_duel.proofs.KeysReport.{knows-first}
 use Rattle.noise_names.specs.Roles.{same_role-self, same_role-other}
 
@@ -48,14 +47,11 @@ module _ (a b : Start) where
   front-known : (mine : Bool) (ka kb : Remote) (ts : List Token) (xs : List (List ℕ)) → Knows ka b.own → Knows kb a.own
       → Uses mine Initiator a.own a.agree ka ts xs → Uses (not mine) Responder b.own b.agree kb ts xs
       → Knows (known_after_all mine ka ts xs) b.own × Knows (known_after_all (not mine) kb ts xs) a.own
-  front-known true ka kb [] xs f g u w = (f, g)
-  front-known false ka kb [] xs f g u w = (f, g)
-  front-known true ka kb (t ∷ ts) [] f g u w = (f, g)
-  front-known false ka kb (t ∷ ts) [] f g u w = (f, g)
   front-known true ka kb (t ∷ ts) (x ∷ xs) f g u w =
       let k = token-known true ka kb t x f g u.0 w.0 in front-known true (known_next true ka t x) (known_next false kb t x) ts xs k.0 k.1 u.1 w.1
   front-known false ka kb (t ∷ ts) (x ∷ xs) f g u w =
       let k = token-known false ka kb t x f g u.0 w.0 in front-known false (known_next false ka t x) (known_next true kb t x) ts xs k.0 k.1 u.1 w.1
+  front-known _ ka kb _ _ f g u w = (f, g)
 
   all-known : (p : Plan) (n : ℕ) (ka kb : Remote) (ps : List HandshakeMessage) → Knows ka b.own → Knows kb a.own → UsesAll p Initiator a.own a.agree n ka ps
       → UsesAll p Responder b.own b.agree n kb ps

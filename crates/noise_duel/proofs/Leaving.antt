@@ -1,5 +1,5 @@
 -- The two ends after lines that come through.
-use Rattle.std.proofs.Common.{◌≡◌, ◌∙◌, refl, ap, ap₂, sym, ℕ, zero, suc, ◌+◌, ◌<◌, min, List, [], ◌∷◌, ◌++◌, length, map, take, drop, arith, append_assoc, length-append, count_by, drop-drop, Option}
+use Rattle.std.proofs.Common.{◌≡◌, ◌∙◌, refl, ap, ap₂, sym, ℕ, zero, suc, ◌+◌, ◌<◌, min, List, ◌∷◌, ◌++◌, length, map, take, drop, arith, append_assoc, length-append, count_by, drop-drop, Option, []}
 use Rattle.std.specs.Prelude.{Bool, true, false, cond, if◌then◌else◌}
 use Rattle.std.proofs.lemmas.List.{length-map, length-take}
 use Rattle.std.proofs.lemmas.List.Sums.{sum_by-cons}

@@ -1,6 +1,6 @@
 -- From one call of an end to a run.
-use Rattle.std.proofs.Common.{◌≡◌, ℕ, suc, ◌+◌, ◌<◌, ◌≤◌, List, [], ◌∷◌, ◌++◌, length, take, drop, true, false, ◌&&◌, if◌then◌else◌, Bool, Option, Some, None, Ok, refl, ap, sym, subst, ◌∙◌, arith, append_assoc, append-nil, length-append, Vec, Global, take-take}
-use Rattle.std.proofs.lemmas.List.{take-append-le}
+use Rattle.std.proofs.Common.{◌≡◌, ℕ, ◌+◌, ◌<◌, ◌≤◌, List, ◌∷◌, ◌++◌, length, take, drop, true, false, ◌&&◌, if◌then◌else◌, Bool, Option, Some, None, Ok, refl, ap, sym, subst, ◌∙◌, arith, append_assoc, append-nil, length-append, Vec, Global, take-take, []}
+use Rattle.std.proofs.lemmas.List.{map-append, take-append-le}
 use Rattle.std.proofs.Math.Seq.{take-append_seam, drop-append_seam, drop-append-add, drop-length}
 use Rattle.noise_names.specs.declared.token.Role.TheVariants.{Initiator}
 use Rattle.noise_names.specs.Tokens.{same_role}
@@ -18,7 +18,8 @@ use Rattle.noise_session.specs.Sending.{Sends}
 use Rattle.noise_session.specs.Sending.Sends.{sends_handshake, sends_transport}
 use Rattle.noise_duel.specs.declared.entry.Idle.{Idle}
 use Rattle.noise_duel.specs.declared.entry.Idle.TheVariants as idle
-use Rattle.noise_duel.specs.Entries.{step_of, bytes_of}
+use Rattle.noise_names.specs.Lists.{bytes_of}
+use Rattle.noise_duel.specs.Entries.{step_of}
 use Rattle.noise_duel.specs.Notes.{Note, Wrote, Judged}
 use Rattle.noise_duel.specs.Sides.{Side, with_state, wrote_handshake, wrote_transport, accepted_handshake, accepted_transport}
 use Rattle.noise_duel.specs.Runs.{SideWrites, SideReads, SideReceives}
@@ -33,19 +34,11 @@ use Rattle.std.proofs.lemmas.Option.{same_Some}
 pub front-of : (out xs : List ℕ) (n len : ℕ) → n ≤ len → n ≤ length out → take n (take len (out ++ xs)) ≡ take n out
 front-of out xs n len f g = take-take n len (out ++ xs) f ∙ take-append-le n out xs g
 
-bytes_of-append : (fs : List (Vec ℕ Global)) (f : Vec ℕ Global) → bytes_of (fs ++ f ∷ []) ≡ bytes_of fs ++ f.items ∷ []
-bytes_of-append [] f = refl
-bytes_of-append (x ∷ fs) f = ap (λ (bs : List (List ℕ)). x.items ∷ bs) (bytes_of-append fs f)
-
-pub length-bytes_of : (fs : List (Vec ℕ Global)) → length (bytes_of fs) ≡ length fs
-length-bytes_of [] = refl
-length-bytes_of (f ∷ fs) = ap suc (length-bytes_of fs)
-
 -- a frame more
 pub frames-unchanged : (old new : List (Vec ℕ Global)) (f : Vec ℕ Global) (bytes : List ℕ) (frames after : List (List ℕ)) → new ≡ old ++ f ∷ [] → f.items ≡ bytes
     → bytes_of old ≡ frames → after ≡ frames ++ bytes ∷ [] → bytes_of new ≡ after
 frames-unchanged old new f bytes frames after e is same more =
-    ap bytes_of e ∙ bytes_of-append old f ∙ ap (λ (b : List ℕ). bytes_of old ++ b ∷ []) is ∙ ap (λ (fs : List (List ℕ)). fs ++ bytes ∷ []) same ∙ sym more
+    ap bytes_of e ∙ map-append (λ (v : Vec ℕ Global). v.items) old (f ∷ []) ∙ ap (λ (b : List ℕ). bytes_of old ++ b ∷ []) is ∙ ap (λ (fs : List (List ℕ)). fs ++ bytes ∷ []) same ∙ sym more
 
 -- a write that succeeds
 pub record HasSent (s : Side) (payload bytes : List ℕ) (next : EndState) : Type 0 where

@@ -1,5 +1,5 @@
 -- The laws of conversations, at the ends of a run.
-use Rattle.std.proofs.Common.{◌≡◌, ℕ, List, [], ◌∷◌, length, refl, ap, sym, subst, ◌∙◌, arith, inl, inr, ◌⊎◌}
+use Rattle.std.proofs.Common.{◌≡◌, ℕ, List, ◌∷◌, length, refl, ap, sym, subst, ◌∙◌, arith, inl, inr, ◌⊎◌, []}
 use Rattle.noise_names.specs.declared.token.Role.{Role}
 use Rattle.noise_names.specs.declared.token.Role.TheVariants.{Initiator, Responder}
 use Rattle.noise_names.specs.Tokens.{other}
@@ -17,8 +17,7 @@ use Rattle.noise_duel.specs.Runs.{Run}
 use Rattle.noise_duel.specs.Conversation.{sides_at_start}
 use Rattle.noise_duel.specs.Invariant.{ComesOfMessages, AreTransportMessages}
 use Rattle.noise_duel.specs.Agreement.{VisiblyEqual}
-use Rattle.noise_duel.specs.Networks.{HaveOneHash, HistoriesCollide, SharePsks, HaveOneHistory, PayloadsAgree, HashesReport, PsksMakeOne, PayloadsCome}
-use Rattle.noise_duel.specs.Networks.{VisiblyEqualGivesOne}
+use Rattle.noise_duel.specs.Networks.{HaveOneHash, HistoriesCollide, SharePsks, HaveOneHistory, PayloadsAgree, HashesReport, PsksMakeOne, PayloadsCome, VisiblyEqualGivesOne}
 use Rattle.noise_session.specs.Ends.{EndState, session_hash}
 use Rattle.std.specs.Prelude.{Bool, true, false, Some, None, ◌==◌, if◌then◌else◌}
 use Rattle.std.proofs.lemmas.Bool.Decides.{nat_tests}

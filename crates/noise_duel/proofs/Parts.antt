@@ -1,6 +1,6 @@
 -- Two parties with their parts of one key material: what their messages carry, and that their DH results meet.
-use Rattle.std.proofs.Common.{◌≡◌, ℕ, List, [], ◌∷◌, length, refl, ap, sym, ◌∙◌}
-use Rattle.std.specs.Prelude.{Bool, true, Option, Some}
+use Rattle.std.proofs.Common.{◌≡◌, ℕ, List, ◌∷◌, length, refl, ap, sym, ◌∙◌, []}
+use Rattle.std.specs.Prelude.{Bool, true, false, Option, Some, None, if◌then◌else◌}
 use Rattle.noise_names.specs.declared.token.Role.{Role}
 use Rattle.noise_names.specs.declared.token.Role.TheVariants.{Initiator, Responder}
 use Rattle.noise_names.specs.declared.token.Token.{Token}
@@ -19,6 +19,11 @@ use Rattle.noise_duel.specs.Below.{LawsBelow}
 use Rattle.noise_duel.specs.Conversation.{KeyMaterial, carried_by, public_keys_in}
 use Rattle.std.proofs.lemmas.Bool.{or_right}
 use Rattle.noise_names.specs.Lists.{cons-same}
+
+-- two choices are one, where what is chosen at true is
+pub if-same : (b : Bool) (o q : Option (List ℕ)) → (b ≡ true → o ≡ q) → (if b then o else None) ≡ (if b then q else None)
+if-same true o q f = f refl
+if-same false o q f = refl
 
 some-same : (o : Option (List ℕ)) (x y : List ℕ) → o ≡ Some x → o ≡ Some y → x ≡ y
 some-same o x y f g = cc
@@ -79,8 +84,6 @@ module _ (laws : LawsBelow) (w : KeyMaterial) (has_psks : Bool) (role : Role) (o
   pub given-carried : (psks : List (List ℕ)) (ts : List Token) (xs : List (List ℕ)) → IsCarried ts → Given gives (keys_if e s theirs) psks ts xs
       → xs ≡ carried_by w role psks ts
   given-carried psks [] [] h g = refl
-  given-carried psks [] (x ∷ xs) h g = absurd g
-  given-carried psks (t ∷ ts) [] h g = absurd g
   given-carried psks (E ∷ ts) (x ∷ xs) h g =
       cons-same
       (some-same (own Ephemeral) x (w.public role Ephemeral) g.0.0 (h.0 Ephemeral refl)) (given-carried psks ts xs (on E ts h) g.1)
@@ -97,3 +100,4 @@ module _ (laws : LawsBelow) (w : KeyMaterial) (has_psks : Bool) (role : Role) (o
       cons-same (dh-carried Se x g.0 (h.1 Se refl refl)) (given-carried psks ts xs (on Se ts h) g.1)
   given-carried psks (Ss ∷ ts) (x ∷ xs) h g =
       cons-same (dh-carried Ss x g.0 (h.1 Ss refl refl)) (given-carried psks ts xs (on Ss ts h) g.1)
+  given-carried psks _ _ h g = absurd g

@@ -1,10 +1,10 @@
 -- Bytes that come to an end piece by piece, and what is reported of them.
-use Rattle.std.proofs.Common.{◌≡◌, ℕ, zero, suc, Bool, false, ◌==◌, IfSome, ◌+◌, ◌<◌, ◌≤◌, List, [], ◌∷◌, ◌++◌, length, drop, Option, Some, None, refl, ap, sym, subst, ◌∙◌, arith, append_assoc, append-nil, length-append}
+use Rattle.std.proofs.Common.{◌≡◌, ℕ, zero, suc, Bool, false, ◌==◌, IfSome, ◌+◌, ◌<◌, ◌≤◌, List, ◌∷◌, ◌++◌, length, drop, Option, Some, None, refl, ap, sym, subst, ◌∙◌, arith, append_assoc, append-nil, length-append, []}
 use Rattle.noise_names.specs.declared.token.Role.{Role}
 use Rattle.noise_keys.specs.declared.keys.Own.{Own}
 use Rattle.noise_session.specs.Frames.{IsPartial}
 use Rattle.noise_session.specs.Steps.{StepValue}
-use Rattle.noise_session.specs.Steps.StepValue.{Ended, YourTurn, Silent, More, Payload, Dropped, Refused, Exhausted}
+use Rattle.noise_session.specs.Steps.StepValue.{Ended, YourTurn, Silent}
 use Rattle.noise_session.specs.Ends.{EndState, EndValue, EndMatches, progress_of}
 use Rattle.noise_session.specs.Taking.{Takes}
 use Rattle.noise_duel.specs.declared.entry.Entry.{Entry}
@@ -51,11 +51,7 @@ most-left : (step : StepValue) (n most : ℕ) → n ≤ most → IfSome (left_of
 most-left Ended n most h = h
 most-left YourTurn n most h = h
 most-left Silent n most h = h
-most-left More n most h = tt
-most-left (Payload bytes) n most h = tt
-most-left (Dropped cause) n most h = tt
-most-left (Refused token cause) n most h = tt
-most-left Exhausted n most h = tt
+most-left _ n most h = tt
 
 pub left_of-most : (step : StepValue) (left : Option (Idle × ℕ)) (n most : ℕ) → left ≡ left_of step n → n ≤ most → IfSome left (λ l. l.1 ≤ most)
 left_of-most step left n most e h = subst (λ (o : Option (Idle × ℕ)). IfSome o (λ l. l.1 ≤ most)) (sym e) (most-left step n most h)

@@ -1,5 +1,5 @@
 -- What the laws say of a run, for the ends and the report that are left.
-use Rattle.std.proofs.Common.{◌≡◌, ℕ, zero, suc, ◌+◌, List, [], ◌∷◌, ◌++◌, length, take, refl, ap, sym, subst, ◌∙◌, append_assoc, Option, Some, None}
+use Rattle.std.proofs.Common.{◌≡◌, ℕ, zero, suc, ◌+◌, List, ◌∷◌, ◌++◌, length, take, refl, ap, sym, subst, ◌∙◌, append_assoc, Option, Some, None, []}
 use Rattle.std.specs.Prelude.{Bool, true, false, ◌&&◌, ◌||◌, ◌==◌, if◌then◌else◌}
 use Rattle.std.specs.List.{list_any}
 use Rattle.noise_names.specs.declared.token.Role.{Role}
@@ -22,8 +22,7 @@ use Rattle.noise_session.specs.declared.phase.Phase.TheVariants as phase
 use Rattle.noise_session.specs.Ends.{EndState, EndMatches, EndValue, IsReportedBy, PhaseMatches}
 use Rattle.noise_session.specs.Transport.{transport_key}
 use Rattle.noise_duel.specs.declared.report.Report.{Report}
-use Rattle.noise_duel.specs.Conversation.{KeyMaterial, HaveParts, InTurn, LinesComeThrough, LinesLeave}
-use Rattle.noise_duel.specs.Conversation.{sides_at_start, payloads_in, say_events}
+use Rattle.noise_duel.specs.Conversation.{KeyMaterial, HaveParts, InTurn, LinesComeThrough, LinesLeave, sides_at_start, payloads_in, say_events}
 use Rattle.noise_duel.specs.Entries.{notes_of}
 use Rattle.noise_events.specs.Events.{Event}
 use Rattle.noise_duel.specs.Notes.{Note}
@@ -36,6 +35,7 @@ use Rattle.noise_duel.specs.OwnFrames.{EndsFrame}
 use Rattle.noise_duel.specs.Reports.{EndsAgree, HaveComeThrough, Reports, receive_key_in, send_key_in, static_shown}
 use Rattle.noise_duel.specs.Runs.{Run}
 use Rattle.noise_duel.specs.Sides.{Sides}
+use Rattle.noise_duel.proofs.Parts.{if-same}
 use Rattle.noise_duel.proofs.Networks.{passes-pattern, passes-role}
 
 -- ---- agreement
@@ -92,10 +92,6 @@ passed-among p n party t h =
     subst (λ (ps : List Place). is_among party t ps ≡ true) (sym is)
     (any-front (λ x. is_at t x.step && same_role x.party party) (first_places p n) (more.0 ++ transport_places p) h)
 
-if-same : (b : Bool) (o q : Option (List ℕ)) → (b ≡ true → o ≡ q) → (if b then o else None) ≡ (if b then q else None)
-if-same true o q f = f refl
-if-same false o q f = refl
-
 -- the static key that a party knows of its counterpart is that of the key material
 known-static : (w : KeyMaterial) (p : Plan) (party : Role) (n : ℕ) (v u : Party) → v ≡ counterpart u v.own v.agree → u.pattern ≡ p → u.role ≡ party
     → u.passed ≡ n
@@ -119,9 +115,7 @@ module _ {K L : Type 0} (public_k : K → Own → Option (List ℕ)) (agreement_
       → (w.party.passed ≡ length w.party.pattern.messages → v.party.passed ≡ length v.party.pattern.messages)
       → w.party.history ≡ v.party.history → other w.party.role ≡ v.party.role → w.interval ≡ v.interval → w.received ≡ v.sent
       → receive_key_in y ≡ send_key_in x
-  keys-meet (phase.Handshaking h i) (phase.Handshaking k j) v w s t gv gw f g history role interval count = refl
   keys-meet (phase.Handshaking h i) (phase.Open u) v w s t gv gw f g history role interval count = absurd (s.more (g t.all))
-  keys-meet (phase.Handshaking h i) (phase.Ended r o) v w s t gv gw f g history role interval count = refl
   keys-meet (phase.Open u) (phase.Handshaking k j) v w s t gv gw f g history role interval count = absurd (t.more (f s.all))
   keys-meet (phase.Open a) (phase.Open b) v w s t gv gw f g history role interval count =
       t.transport.receiver.key
@@ -131,9 +125,8 @@ module _ {K L : Type 0} (public_k : K → Own → Option (List ℕ)) (agreement_
       ∙ ap (λ (k : ℕ). Some (transport_key v.party.history v.party.role v.interval k)) count
       ∙ sym s.transport.sender.key
   keys-meet (phase.Open u) (phase.Ended r o) v w s t gv gw f g history role interval count = let ended = t.ended in cc
-  keys-meet (phase.Ended r o) (phase.Handshaking k j) v w s t gv gw f g history role interval count = refl
   keys-meet (phase.Ended r o) (phase.Open u) v w s t gv gw f g history role interval count = let ended = s.ended in cc
-  keys-meet (phase.Ended r o) (phase.Ended q n) v w s t gv gw f g history role interval count = refl
+  keys-meet _ _ v w s t gv gw f g history role interval count = refl
 
 -- ---- the whole conversation
 

@@ -1,6 +1,6 @@
 -- Two parties that are set up alike have their parts of one key material.
-use Rattle.std.proofs.Common.{◌≡◌, ℕ, List, [], length, refl, ap, sym, ◌∙◌}
-use Rattle.std.specs.Prelude.{Bool, true, false, Option, Some, None, is_some, unwrap_or, if◌then◌else◌}
+use Rattle.std.proofs.Common.{◌≡◌, ℕ, List, length, refl, ap, sym, ◌∙◌, []}
+use Rattle.std.specs.Prelude.{true, Option, Some, None, is_some, unwrap_or}
 use Rattle.noise_names.specs.declared.token.Role.{Role}
 use Rattle.noise_names.specs.declared.token.Role.TheVariants.{Initiator, Responder}
 use Rattle.noise_names.specs.declared.token.Token.{Token}
@@ -19,6 +19,7 @@ use Rattle.noise_duel.specs.Messages.{Start}
 use Rattle.noise_duel.specs.Agreement.{IsSetUp}
 use Rattle.noise_duel.specs.Conversation.{KeyMaterial, IsPart, public_keys_in}
 use Rattle.noise_duel.specs.SetUpAlike.{AreSetUpAlike, HasLongKeys, HasDhResults, AlikeAreParts, material_of, absent_key, public_key_or_zeros}
+use Rattle.noise_duel.proofs.Parts.{if-same}
 
 there-is : (o : Option (List ℕ)) (d : List ℕ) → is_some o ≡ true → o ≡ Some (unwrap_or o d)
 there-is None d h = cc
@@ -28,10 +29,6 @@ long-or : (o : Option (List ℕ)) → ((k : List ℕ) → o ≡ Some k → lengt
 long-or None f = refl
 long-or (Some k) f = f k refl
 
-if-same : (b : Bool) (o q : Option (List ℕ)) → (b ≡ true → o ≡ q) → (if b then o else None) ≡ (if b then q else None)
-if-same true o q f = f refl
-if-same false o q f = refl
-
 set-own : LawsBelow → (p : Plan) (role : Role) (s : Start) → IsSetUp p role s → (x : Own) → is_among role (token_of x) (places_of p) ≡ true
     → is_some (s.own x) ≡ true
 set-own laws p role s h x k = laws.set_own p role s.own s.remote (length s.psks) h x k
@@ -40,13 +37,11 @@ set-own laws p role s h x k = laws.set_own p role s.own s.remote (length s.psks)
 dh-results-same : (agree their_agree : Own → List ℕ → Option (List ℕ)) (x y : Own) (mine theirs : Option (List ℕ))
     → ((k l r s : List ℕ) → mine ≡ Some k → theirs ≡ Some l → agree x l ≡ Some r → their_agree y k ≡ Some s → r ≡ s)
     → is_some (dh_result_of agree x theirs) ≡ true → is_some (dh_result_of their_agree y mine) ≡ true → dh_result_of agree x theirs ≡ dh_result_of their_agree y mine
-dh-results-same agree their_agree x y None None f g h = cc
-dh-results-same agree their_agree x y None (Some l) f g h = cc
-dh-results-same agree their_agree x y (Some k) None f g h = cc
 dh-results-same agree their_agree x y (Some k) (Some l) f g h =
     let r = there-is (agree x l) [] g in
     let s = there-is (their_agree y k) [] h in
     r ∙ ap Some (f k l (unwrap_or (agree x l) []) (unwrap_or (their_agree y k) []) refl refl r s) ∙ sym s
+dh-results-same agree their_agree x y _ _ f g h = cc
 
 abbrev true-key : (s : Start) → Own → List ℕ
 true-key s x = unwrap_or (s.own x) absent_key

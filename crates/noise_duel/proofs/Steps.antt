@@ -1,5 +1,5 @@
 -- A message from one end to the other one, which listens: in the handshake, and in transport.
-use Rattle.std.proofs.Common.{◌≡◌, ◌≢◌, ℕ, ◌+◌, ◌<◌, ◌≤◌, List, [], ◌∷◌, length, refl, ap, sym, subst, ◌∙◌, arith, None}
+use Rattle.std.proofs.Common.{◌≡◌, ◌≢◌, ℕ, ◌+◌, ◌<◌, ◌≤◌, List, ◌∷◌, length, refl, ap, sym, subst, ◌∙◌, arith, None, []}
 use Rattle.std.proofs.lemmas.Bool.Decides.{nat_tests}
 use Rattle.std.specs.Prelude.{Bool, true, false, ◌&&◌, ◌==◌, nat_lt, IsTrue, is_some}
 use Rattle.noise_names.specs.declared.token.Role.{Role}
@@ -8,7 +8,7 @@ use Rattle.noise_names.specs.Tokens.{other, same_role, turn_from}
 use Rattle.noise_names.specs.Plan.{is_one_way}
 use Rattle.noise_names.specs.Overhead.{has_key, overhead_of}
 use Rattle.noise_names.specs.Validity.{IsValid}
-use Rattle.noise_state.specs.History.{History, cipher_key}
+use Rattle.noise_state.specs.History.{History, cipher_key, rekeyed_times}
 use Rattle.noise_handshake.specs.Passed.{passed_places}
 use Rattle.noise_handshake.specs.Party.{Party, Accepts, Listens, Speaks}
 use Rattle.noise_handshake.specs.Writing.{Writes}
@@ -16,7 +16,6 @@ use Rattle.noise_handshake.specs.Matching.{after_own, after_message}
 use Rattle.noise_handshake.specs.Counterparts.{Counterparts, IsEquipped}
 use Rattle.noise_aead.specs.Sealing.{nonce_of}
 use Rattle.noise_aead.specs.Sealed.{length-sealed}
-use Rattle.noise_state.specs.History.{rekeyed_times}
 use Rattle.noise_session.specs.declared.faults.SendFault.{SendFault}
 use Rattle.noise_session.specs.Frames.{frame}
 use Rattle.noise_session.specs.Transport.{transport_message, last_nonce, renewals, split_key}

@@ -1,6 +1,5 @@
 -- Lines in turn between two parties with their parts of one key material come through.
-use Rattle.std.proofs.Common.{◌≡◌, ℕ, zero, suc, ◌+◌, ◌-◌, ◌<◌, ◌≤◌, List, [], ◌∷◌, ◌++◌, length, take, drop, map, count_by, refl, ap, sym, subst, ◌∙◌, arith}
-use Rattle.std.proofs.Common.{append-nil, append_assoc, Some, None}
+use Rattle.std.proofs.Common.{◌≡◌, ℕ, zero, suc, ◌+◌, ◌-◌, ◌<◌, ◌≤◌, List, ◌∷◌, ◌++◌, length, take, drop, map, count_by, refl, ap, sym, subst, ◌∙◌, arith, append-nil, append_assoc, Some, None, []}
 use Rattle.std.specs.Prelude.{Bool, true, false, nat_lt, IsTrue, Option, if◌then◌else◌, MatchBool, unwrap_or}
 use Rattle.noise_names.specs.declared.token.Role.{Role}
 use Rattle.noise_names.specs.declared.token.Role.TheVariants.{Initiator, Responder}
@@ -29,12 +28,10 @@ use Rattle.noise_events.specs.Events.{Say}
 use Rattle.noise_duel.specs.Notes.{Note, Wrote, Judged}
 use Rattle.noise_duel.specs.Runs.{Happens, Run}
 use Rattle.noise_duel.specs.Runs.Run.{ends, begins}
-use Rattle.noise_duel.specs.Conversation.{KeyMaterial, conversation, after_conversation, public_keys_in, start_in, IsPart, InTurn, notes_of_lines}
-use Rattle.noise_duel.specs.Conversation.{say_events, sides_at_start, in_turn, transport_messages_of, frames_by, payloads_in, LinesComeThrough, LinesRun}
-use Rattle.noise_duel.proofs.Parts.{HasMaterial, dh-results-agree}
+use Rattle.noise_duel.specs.Conversation.{KeyMaterial, conversation, after_conversation, public_keys_in, start_in, IsPart, InTurn, notes_of_lines, say_events, sides_at_start, in_turn, transport_messages_of, frames_by, payloads_in, LinesComeThrough, LinesRun}
+use Rattle.noise_duel.proofs.Parts.{HasMaterial, dh-results-agree, if-same}
 use Rattle.noise_duel.proofs.Lines.{say-can}
-use Rattle.noise_duel.proofs.EquallyFar.{EquallyFar, due_of, after_due, handshake_message, HandshakeLine, handshake-at, handshake-line, with_payload}
-use Rattle.noise_duel.proofs.EquallyFar.{TransportLine, transport-at, transport-line}
+use Rattle.noise_duel.proofs.EquallyFar.{EquallyFar, due_of, after_due, handshake_message, HandshakeLine, handshake-at, handshake-line, with_payload, TransportLine, transport-at, transport-line}
 use Rattle.std.proofs.lemmas.Bool.{ltb-true, ltb-false}
 
 -- ---- all lines
@@ -293,10 +290,6 @@ pre-agree has_psks x y (Psk ∷ ts) r f g = pre-agree has_psks x y ts r f g
 if-true : (b : Bool) (o : Option (List ℕ)) → b ≡ true → (if b then o else None) ≡ o
 if-true true o h = refl
 if-true false o h = cc
-
-if-same : (b : Bool) (o q : Option (List ℕ)) → (b ≡ true → o ≡ q) → (if b then o else None) ≡ (if b then q else None)
-if-same true o q f = f refl
-if-same false o q f = refl
 
 module _ (laws : LawsBelow) (w : KeyMaterial) (p : Plan) (prologue : List ℕ) (a b : Start) (i : IsPart w p Initiator prologue a)
     (j : IsPart w p Responder prologue b) where

@@ -1,5 +1,5 @@
 -- What version 2 adds: how its lines begin, and that they have no line feed (10).
-use Rattle.std.proofs.Common.{arith, ◌≡◌, ◌∙◌, ◌<◌, ◌^◌, ◌==◌, ◌≤◌, inl, inr, lit<, ap, refl, sym, true, false, true≢false, ℕ, Vec, Option, Some, None, List, [], ◌∷◌, ◌++◌, codes}
+use Rattle.std.proofs.Common.{arith, ◌≡◌, ◌∙◌, ◌<◌, ◌^◌, ◌==◌, ◌≤◌, inl, inr, lit<, ap, refl, sym, true, false, true≢false, ℕ, Vec, Option, Some, None, List, ◌∷◌, ◌++◌, codes, []}
 use Rattle.std.specs.Global.{Global}
 use Rattle.std.specs.Prelude.{decimal}
 use Rattle.std.specs.Bool.{nat_eq}
@@ -9,7 +9,7 @@ use Rattle.std.proofs.lemmas.Bool.Decides.{nat_tests}
 use Rattle.std.proofs.lemmas.List.Elements.{All-head, All-tail}
 use Rattle.noise_names.specs.declared.token.Role.{Role}
 use Rattle.noise_events.specs.declared.window.Window.{Window}
-use Rattle.noise_events.specs.declared.window.Window.TheVariants.{W64, W256, W1024}
+use Rattle.noise_events.specs.declared.window.Window.TheVariants.{W64}
 use Rattle.noise_events.specs.Windows.{width_of}
 use Rattle.noise_events.specs.declared.datagram_event.DatagramEvent.{DatagramEvent}
 use Rattle.noise_events.specs.declared.datagram_event.DatagramEvent.TheVariants.{Open, Raw, Seal}
@@ -17,12 +17,11 @@ use Rattle.noise_events.specs.declared.event.Event.{Event}
 use Rattle.noise_events.specs.declared.event.Event.TheVariants as event
 use Rattle.noise_vectors.specs.HexWord.{hex_of}
 use Rattle.noise_vectors.specs.VectorFile.{IsAllowedVersion, IsDatagramEvent, IsExpected}
-use Rattle.noise_vectors.specs.VectorText.{AfterDatagrams, AfterEvents, datagram_event_words, datagram_kind_word, event_words, expect_words}
-use Rattle.noise_vectors.specs.VectorText.{datagrams_text, is_second, line, lines_of, role_word, version_text, window_words}
+use Rattle.noise_vectors.specs.VectorText.{AfterDatagrams, AfterEvents, datagram_event_words, datagram_kind_word, event_words, expect_words, datagrams_text, is_second, line, lines_of, role_word, version_text, window_words}
 use Rattle.noise_vectors.specs.Words.{lacks}
 use Rattle.noise_vectors.specs.declared.vector.Additions.{Additions}
 use Rattle.noise_vectors.specs.declared.vector.AllowedEvents.{AllowedEvents}
-use Rattle.noise_vectors.specs.declared.vector.AllowedEvents.TheVariants.{SayOnly, Any, VersionOne}
+use Rattle.noise_vectors.specs.declared.vector.AllowedEvents.TheVariants.{SayOnly, VersionOne}
 use Rattle.noise_vectors.specs.declared.vector.FileDatagrams.{FileDatagrams}
 use Rattle.noise_vectors.specs.declared.vector.Version.{Version}
 use Rattle.noise_vectors.specs.declared.vector.Version.TheVariants.{One, Two}
@@ -160,13 +159,11 @@ second-has (Two a) e = (a, refl)
 
 pub no-datagrams : (allowed : AllowedEvents) (a : Additions) → IsAllowedVersion allowed (Two a) → allowed ≡ SayOnly → a.datagrams ≡ None
 no-datagrams SayOnly a h e = h
-no-datagrams Any a h e = absurd (cc e)
-no-datagrams VersionOne a h e = absurd (cc e)
+no-datagrams _ a h e = absurd (cc e)
 
 pub no-second : (allowed : AllowedEvents) (version : Version) → IsAllowedVersion allowed version → allowed ≡ VersionOne → is_second version ≡ false
-no-second SayOnly version h e = absurd (cc e)
-no-second Any version h e = absurd (cc e)
 no-second VersionOne version h e = ap is_second h
+no-second _ version h e = absurd (cc e)
 
 pub expected-after : (expected : List (Vec ℕ Global)) → AfterDatagrams (lines_of expect_words expected [])
 expected-after [] = inl refl

@@ -1,6 +1,5 @@
 -- Right files that begin with the lines that are read, and what other right files have after those.
-use Rattle.std.proofs.Common.{arith, ◌≡◌, ◌∙◌, ◌<◌, ap, refl, true, false, Bool, ℕ, List, [], ◌++◌, codes, length}
-use Rattle.std.proofs.Common.{Vec}
+use Rattle.std.proofs.Common.{arith, ◌≡◌, ◌∙◌, ◌<◌, ap, refl, true, false, Bool, ℕ, List, ◌++◌, codes, length, Vec, []}
 use Rattle.std.specs.Prelude.{decimal}
 use Rattle.std.specs.List.{All}
 use Rattle.std.specs.Global.{Global}
@@ -132,10 +131,9 @@ pub event-more : (allowed : AllowedEvents) (file other : VectorFile) (reported r
     → lacks 10 reported ≡ true → ¬ AfterEvents (line reported rest) → text_of other ≡ up_to_version file (line reported rest)
     → (event : Event) × IsRight allowed event × (reported ≡ event_words event)
 event-more allowed file other reported rest h k allow also none plain bad e =
-    let events = at-events file other (lines_of event_words file.events.items (line reported rest)) h k none e in
     let found = goes-on (event_lines allowed) (right-plain allowed) event-stands file.events.items other.events.items reported rest (version_text other.version)
     (all-right allowed file.events.items h.events allow.0) (all-right allowed other.events.items k.events also.0) plain (version-after other.version) bad
-    events in
+    (at-events file other (lines_of event_words file.events.items (line reported rest)) h k none e) in
     (found.0, found.1, found.2)
 
 -- the header of both is one
@@ -193,10 +191,9 @@ pub events-right : (file : VectorFile) (events : Vec Event Global) → IsVectorF
 events-right file events h k = changed-right file file.initiator file.responder events file.version h h.initiator h.responder k h.version
 
 -- the initiator's lines are read
-abbrev pub past-initiator : (allowed : AllowedEvents) (second : Bool) (text from left : List ℕ) (keys : FileKeys)
-    → BegunAt allowed second text from up_to_initiator → AreKeys keys → from ≡ party_text Initiator keys left
-    → BegunAt allowed second text left up_to_responder
-past-initiator allowed second text from left keys b h e = record {
+abbrev pub past-initiator : {allowed : AllowedEvents} {second : Bool} {text from : List ℕ} (left : List ℕ) (keys : FileKeys)
+    → BegunAt allowed second text from up_to_initiator → AreKeys keys → from ≡ party_text Initiator keys left → BegunAt allowed second text left up_to_responder
+past-initiator left keys b h e = record {
   file = with_initiator b.file keys;
   is_file = initiator-right b.file keys b.is_file h;
   is_allowed = b.is_allowed;
@@ -207,10 +204,9 @@ past-initiator allowed second text from left keys b h e = record {
 }
 
 -- the responder's
-abbrev pub past-responder : (allowed : AllowedEvents) (second : Bool) (text from left : List ℕ) (keys : FileKeys)
-    → BegunAt allowed second text from up_to_responder → AreKeys keys → from ≡ party_text Responder keys left
-    → BegunAt allowed second text left up_to_events
-past-responder allowed second text from left keys b h e = record {
+abbrev pub past-responder : {allowed : AllowedEvents} {second : Bool} {text from : List ℕ} (left : List ℕ) (keys : FileKeys)
+    → BegunAt allowed second text from up_to_responder → AreKeys keys → from ≡ party_text Responder keys left → BegunAt allowed second text left up_to_events
+past-responder left keys b h e = record {
   file = with_responder b.file keys;
   is_file = responder-right b.file keys b.is_file h;
   is_allowed = b.is_allowed;
@@ -221,10 +217,10 @@ past-responder allowed second text from left keys b h e = record {
 }
 
 -- the events'
-pub past-events : (allowed : AllowedEvents) (second : Bool) (text from left : List ℕ) (events : Vec Event Global)
+pub past-events : {allowed : AllowedEvents} {second : Bool} {text from : List ℕ} (left : List ℕ) (events : Vec Event Global)
     → BegunAt allowed second text from up_to_events → All IsEvent events.items → All (IsAllowed allowed) events.items
     → from ≡ lines_of event_words events.items left → BegunAt allowed second text left up_to_version
-past-events allowed second text from left events b h k e = record {
+past-events left events b h k e = record {
   file = with_events b.file events;
   is_file = events-right b.file events b.is_file h;
   is_allowed = (k, b.is_allowed.1);

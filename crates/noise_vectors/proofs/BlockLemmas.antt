@@ -1,5 +1,5 @@
 -- The text of a pattern as lines none of which is `end`, and such lines as they are read.
-use Rattle.std.proofs.Common.{arith, inl, inr, ◌≡◌, ◌∙◌, ◌+◌, ◌-◌, ◌==◌, not, Bool, true, ap, refl, subst, sym, ℕ, List, [], ◌∷◌, ◌++◌, codes, length, take}
+use Rattle.std.proofs.Common.{arith, inl, inr, ◌≡◌, ◌∙◌, ◌+◌, ◌-◌, ◌==◌, not, Bool, true, ap, refl, subst, sym, ℕ, List, ◌∷◌, ◌++◌, codes, length, take, []}
 use Rattle.std.specs.List.{All, list_all}
 use Rattle.std.proofs.Math.Seq.{take-append_seam}
 use Rattle.std.proofs.lemmas.Bool.{and_parts}
@@ -8,12 +8,11 @@ use Rattle.std.proofs.lemmas.List.Elements.{All-append, All-cons, All-head, All-
 use Rattle.noise_names.specs.declared.token.Role.{Role}
 use Rattle.noise_names.specs.declared.token.Role.TheVariants.{Initiator, Responder}
 use Rattle.noise_names.specs.declared.token.Token.{Token}
-use Rattle.noise_names.specs.declared.token.Token.TheVariants.{E, S, Ee, Es, Se, Ss, Psk}
+use Rattle.noise_names.specs.declared.token.Token.TheVariants.{E}
 use Rattle.noise_names.specs.Limits.{IsPattern}
 use Rattle.noise_names.specs.Names.{IsSection, Section, is_section_byte, section_bytes}
 use Rattle.noise_names.specs.Plan.{Plan}
-use Rattle.noise_names.specs.Text.{message_lines, pre_line, pre_lines, token_line, word_of, words}
-use Rattle.noise_names.specs.Text.{text_of as pattern_text}
+use Rattle.noise_names.specs.Text.{message_lines, pre_line, pre_lines, token_line, word_of, words, text_of as pattern_text}
 use Rattle.noise_names.specs.Tokens.{other}
 use Rattle.noise_names.specs.Facts.{section_bytes-all}
 use Rattle.noise_vectors.specs.Block.{IsInner, itself}
@@ -74,8 +73,7 @@ lacks-words : (ts : List Token) → lacks 10 (words ts) ≡ true
 lacks-words [] = refl
 lacks-words (t ∷ []) = lacks-word_of t
 lacks-words (t ∷ u ∷ ts) =
-    let first = lacks-append 10 (word_of t) (codes ", ") (lacks-word_of t) refl in
-    lacks-append 10 (word_of t ++ codes ", ") (words (u ∷ ts)) first (lacks-words (u ∷ ts))
+    lacks-append 10 (word_of t ++ codes ", ") (words (u ∷ ts)) (lacks-append 10 (word_of t) (codes ", ") (lacks-word_of t) refl) (lacks-words (u ∷ ts))
 
 lined-token_line : (party : Role) (ts : List Token) → Lined (token_line party ts)
 lined-token_line Initiator ts =
@@ -176,8 +174,7 @@ last-of rest left text after is_ended [] inner e next is =
     (e, n.1, n.2)
 last-of rest left text after is_ended (x ∷ xs) inner e next is =
     let first = All-head IsInner x xs inner in
-    let n = next x (lines_of itself xs (line (codes "end") rest)) first.0 e in
-    absurd (first.1 (sym n.0 ∙ is))
+    absurd (first.1 (sym (next x (lines_of itself xs (line (codes "end") rest)) first.0 e).0 ∙ is))
 
 pub Left-last : (rest left text after : List ℕ) (is_ended : Bool) → Left rest left → IsNext left text after is_ended → text ≡ codes "end"
     → (left ≡ line (codes "end") rest) × (after ≡ rest) × (is_ended ≡ true)
@@ -188,8 +185,7 @@ step-of : (rest left text after : List ℕ) (is_ended : Bool) (others : List (Li
     → left ≡ lines_of itself others (line (codes "end") rest) → IsNext left text after is_ended → ¬ (text ≡ codes "end")
     → Left rest after × (is_ended ≡ true)
 step-of rest left text after is_ended [] inner e next is =
-    let n = next (codes "end") rest refl e in
-    absurd (is n.0)
+    absurd (is (next (codes "end") rest refl e).0)
 step-of rest left text after is_ended (x ∷ xs) inner e next is =
     let n = next x (lines_of itself xs (line (codes "end") rest)) (All-head IsInner x xs inner).0 e in
     (record { others = xs; inner = All-tail IsInner x xs inner; left_is = n.1 }, n.2)
@@ -248,7 +244,7 @@ Read-end start {before = before} r line is = (
 -- ---- where no line `end` is left
 
 -- a line is no empty text
-no-line : (words rest : List ℕ) → ¬ ([] ≡ line words rest)
+pub no-line : (words rest : List ℕ) → ¬ ([] ≡ line words rest)
 no-line [] rest e = absurd (cc e)
 no-line (b ∷ bs) rest e = absurd (cc e)
 
@@ -261,8 +257,7 @@ no-feed (b ∷ bs) [] rest plain e =
     absurd (cc (rw first at parts.0))
 no-feed (b ∷ bs) (d ∷ ds) rest plain e =
     let more : bs ≡ line ds rest = cc (e) in
-    let parts = and_parts (not (b == 10)) (lacks 10 bs) plain in
-    no-feed bs ds rest parts.1 more
+    no-feed bs ds rest (and_parts (not (b == 10)) (lacks 10 bs) plain).1 more
 
 -- the block's last line is another than this one
 end-next : (left words after : List ℕ) → left ≡ line words after → IsInner words → ¬ IsFirstLine (codes "end") left
@@ -275,13 +270,12 @@ block-step : (left words after : List ℕ) (lines : List (List ℕ)) (end_ : Lis
 block-step left words after [] end_ e h inner ends is =
     absurd (end-next left words after e h (subst (IsFirstLine (codes "end")) (sym is) ends))
 block-step left words after (x ∷ xs) end_ e h inner ends is =
-    let first = All-head IsInner x xs inner in
     record {
       lines = xs;
       inner = All-tail IsInner x xs inner;
       after = end_;
       ends = ends;
-      left_is = (parted-one 10 words x after (lines_of itself xs end_) h.0 first.0 (sym e ∙ is)).1;
+      left_is = (parted-one 10 words x after (lines_of itself xs end_) h.0 (All-head IsInner x xs inner).0 (sym e ∙ is)).1;
     }
 
 -- and after the lines that were read

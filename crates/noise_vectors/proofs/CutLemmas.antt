@@ -1,6 +1,5 @@
 -- Numbers with commas between them, as they are read one after the other.
-use Rattle.std.proofs.Common.{arith, ◌≡◌, ◌∙◌, ◌+◌, ◌-◌, ◌<◌, ◌≤◌, ap, sym, refl, subst, lit<, ℕ, List, [], ◌∷◌, ◌++◌, map, codes, length}
-use Rattle.std.proofs.Common.{Bool, true, false, Option, Some, None}
+use Rattle.std.proofs.Common.{arith, ◌≡◌, ◌∙◌, ◌+◌, ◌-◌, ◌<◌, ◌≤◌, ap, sym, refl, subst, lit<, ℕ, List, ◌∷◌, ◌++◌, map, codes, length, Bool, true, false, Option, Some, None, []}
 use Rattle.std.specs.Prelude.{decimal, nat_le, nat_lt, slice_index_or, if◌then◌else◌, IfSome}
 use Rattle.std.specs.List.{All, join_with_byte}
 use Rattle.std.proofs.lemmas.Bool.{and_parts, le-leb, lt-ltb, ltb-true}
@@ -215,6 +214,5 @@ pub cuts-right : (made : Option (List ℕ)) (ns : List ℕ) → made ≡ (if are
 cuts-right made ns e h = rw e (at (are_cuts ns) refl) where
   at : (test : Bool) → are_cuts ns ≡ test → IfSome (if test then Some ns else None) AreCuts
   at true holds =
-      let parts = and_parts (nat_le (length ns) 8) (nat_lt 0 (slice_index_or ns (length ns - 1) 1)) holds in
-      (h, ltb-true 0 (slice_index_or ns (length ns - 1) 1) parts.1)
+      (h, ltb-true 0 (slice_index_or ns (length ns - 1) 1) (and_parts (nat_le (length ns) 8) (nat_lt 0 (slice_index_or ns (length ns - 1) 1)) holds).1)
   at false over = tt

@@ -1,5 +1,5 @@
 -- The words of an event.
-use Rattle.std.proofs.Common.{arith, ◌≡◌, ◌<◌, ◌^◌, lit<, refl, true, ℕ, List, [], ◌∷◌, ◌++◌, codes}
+use Rattle.std.proofs.Common.{arith, ◌≡◌, ◌<◌, ◌^◌, lit<, refl, true, ℕ, List, ◌∷◌, ◌++◌, codes, []}
 use Rattle.std.specs.Prelude.{decimal}
 use Rattle.std.specs.List.{All}
 use Rattle.std.proofs.lemmas.List.Elements.{All-cons, All-head, All-nil, All-tail}

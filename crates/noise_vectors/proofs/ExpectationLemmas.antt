@@ -1,12 +1,13 @@
 -- Lists of lines, compared line by line.
-use Rattle.std.proofs.Common.{arith, ◌≡◌, ◌≢◌, ◌∙◌, ◌+◌, ◌<◌, ◌≤◌, ◌⊎◌, inl, inr, ap, refl, sym, ℕ, suc, Vec, Some, None, List, [], ◌∷◌, length, get_or}
+use Rattle.std.proofs.Common.{arith, ◌≡◌, ◌≢◌, ◌∙◌, ◌+◌, ◌<◌, ◌≤◌, ◌⊎◌, inl, inr, ap, refl, sym, ℕ, suc, Vec, Some, None, List, ◌∷◌, length, get_or, []}
 use Rattle.std.specs.Global.{Global}
 use Rattle.std.specs.Prelude.{slice_get}
 use Rattle.std.proofs.lemmas.Option.{slice_get-map, slice_get_cases, slice_get_past, slice_get_read}
 use Rattle.std.specs.Option.{option_map}
 use Rattle.std.proofs.lemmas.List.{length-map}
 use Rattle.std.proofs.Math.Nat.{eq-or-lt_of_le}
-use Rattle.noise_vectors.specs.Expectations.{IsFirstUnmet, bytes_of}
+use Rattle.noise_names.specs.Lists.{bytes_of}
+use Rattle.noise_vectors.specs.Expectations.{IsFirstUnmet}
 
 -- the bytes of a line that is there
 pub line-at : (lines : List (Vec ℕ Global)) (i : ℕ) (l : Vec ℕ Global) → i < length lines → l ≡ get_or lines i l → slice_get (bytes_of lines) i ≡ Some l.items
@@ -28,13 +29,12 @@ same-more xs ys k before now i less = by (eq-or-lt_of_le (at_most less)) where
 -- lists of one length that have the same everywhere are equal
 pub all-same : {A : Type 0} (xs ys : List A) → length xs ≡ length ys → ((i : ℕ) → i < length xs → slice_get xs i ≡ slice_get ys i) → xs ≡ ys
 all-same [] [] len same = refl
-all-same [] (y ∷ ys) len same = absurd (cc len)
-all-same (x ∷ xs) [] len same = absurd (cc len)
 all-same (x ∷ xs) (y ∷ ys) len same =
     let first : Some x ≡ Some y = same 0 (omega arith) in
     let one : x ≡ y = cc first in
     let rest : xs ≡ ys = all-same xs ys (omega (arith, len)) (λ i less. same (suc i) (omega (arith, less))) in
     rw (one, rest) refl
+all-same _ _ len same = absurd (cc len)
 
 pub lines-len : (lines : List (Vec ℕ Global)) → length (bytes_of lines) ≡ length lines
 lines-len lines = length-map lines (λ (v : Vec ℕ Global). v.items)

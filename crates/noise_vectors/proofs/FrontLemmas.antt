@@ -1,5 +1,5 @@
 -- Texts that begin with given lines, whatever follows them.
-use Rattle.std.proofs.Common.{arith, ◌≡◌, ◌∙◌, ◌+◌, inl, inr, ap, refl, subst, sym, ℕ, List, [], ◌∷◌, ◌++◌, Option, Some, None, codes}
+use Rattle.std.proofs.Common.{arith, ◌≡◌, ◌∙◌, ◌+◌, inl, inr, ap, refl, subst, sym, ℕ, List, ◌∷◌, ◌++◌, Option, Some, None, codes, []}
 use Rattle.std.specs.Prelude.{decimal}
 use Rattle.std.proofs.lemmas.List.{append_assoc, append-nil}
 use Rattle.noise_names.specs.declared.token.Role.{Role}
@@ -11,8 +11,8 @@ use Rattle.noise_names.specs.Text.{text_of as pattern_text}
 use Rattle.noise_vectors.specs.HexWord.{hex_of}
 use Rattle.noise_vectors.specs.VectorFile.{IsAllowedFile, IsVectorFile}
 use Rattle.noise_vectors.specs.VectorText.{answer_words, block_text, datagram_event_words, datagrams_text, event_words, header_words, is_second, key_words, line, lines_of, party_text, psk_words, role_word, text_of, window_words}
-use Rattle.noise_vectors.specs.WrongLine.{IsCutShort, IsEnded, IsReportedLine, line_feeds}
-use Rattle.noise_vectors.specs.WrongLine.{up_to_end, up_to_events, up_to_initiator, up_to_interval, up_to_prologue, up_to_protocol, up_to_responder}
+use Rattle.noise_names.specs.WrongText.{line_feeds}
+use Rattle.noise_vectors.specs.WrongLine.{IsCutShort, IsEnded, IsReportedLine, up_to_end, up_to_events, up_to_initiator, up_to_interval, up_to_prologue, up_to_protocol, up_to_responder}
 use Rattle.noise_vectors.specs.ReaderFaults.{IsWrongFirst}
 use Rattle.noise_vectors.specs.declared.faults.LineKind.{LineKind}
 use Rattle.noise_vectors.specs.declared.faults.VectorFault.{VectorFault}

@@ -1,5 +1,5 @@
 -- The heading of a name, with which the text of a pattern begins.
-use Rattle.std.proofs.Common.{arith, ◌≡◌, ◌∙◌, ◌==◌, ◌↔◌, ◌&&◌, ap, refl, sym, not, true, false, true≢false, Bool, ℕ, List, [], ◌∷◌, ◌++◌, codes, drop}
+use Rattle.std.proofs.Common.{arith, ◌≡◌, ◌∙◌, ◌==◌, ◌↔◌, ◌&&◌, ap, refl, sym, not, true, false, true≢false, Bool, ℕ, List, ◌∷◌, ◌++◌, codes, drop, []}
 use Rattle.std.specs.Bool.{nat_eq}
 use Rattle.std.specs.Prelude.{bytes_eq}
 use Rattle.std.specs.List.{starts_with}
@@ -11,8 +11,7 @@ use Rattle.noise_names.specs.Facts.{section_bytes-all}
 use Rattle.noise_names.specs.Limits.{IsPattern}
 use Rattle.noise_names.specs.Names.{IsSection, Section, is_section_byte, prefix, section_bytes, suffix}
 use Rattle.noise_names.specs.Plan.{Plan}
-use Rattle.noise_names.specs.Text.{message_lines, pre_lines}
-use Rattle.noise_names.specs.Text.{text_of as pattern_text}
+use Rattle.noise_names.specs.Text.{message_lines, pre_lines, text_of as pattern_text}
 use Rattle.noise_names.specs.WrongText.{heading_of}
 use Rattle.noise_vectors.specs.VectorText.{line}
 use Rattle.noise_vectors.specs.Words.{lacks}
@@ -64,7 +63,7 @@ heading-test name text after test split value =
         drop 2 after,
         split ∙ ap (λ (t : List ℕ). section ++ t) (is.0 yes) ∙ sym (append_assoc section (codes ":") (10 ∷ drop 2 after)),
       ),
-      λ begun. is.1 begun.0 (after-front text section after (codes ":\n" ++ begun.0) split (heading-parts name text begun.0 begun.1)),
+      λ begun. is.1 begun.0 (after-front _ _ _ split (heading-parts name text begun.0 begun.1)),
     )
 
 -- a test that two names are one says so where they are

@@ -1,10 +1,10 @@
 -- The lines that are expected, as a file holds them.
-use Rattle.std.proofs.Common.{arith, ◌≡◌, ◌+◌, ◌<◌, ◌≤◌, ◌^◌, ap, refl, true, ℕ, List, [], ◌∷◌, ◌++◌, length, Vec}
+use Rattle.std.proofs.Common.{arith, ◌≡◌, ◌+◌, ◌<◌, ◌≤◌, ◌^◌, ap, refl, true, ℕ, List, ◌∷◌, ◌++◌, length, Vec, []}
 use Rattle.std.specs.Global.{Global}
 use Rattle.std.specs.List.{All}
 use Rattle.std.proofs.lemmas.List.{length-append}
 use Rattle.std.proofs.lemmas.List.Elements.{All-cons, All-head, All-nil, All-tail}
-use Rattle.noise_vectors.specs.Expectations.{bytes_of}
+use Rattle.noise_names.specs.Lists.{bytes_of}
 use Rattle.noise_vectors.specs.ReaderFaults.{expect_kind}
 use Rattle.noise_vectors.specs.VectorFile.{IsExpected}
 use Rattle.noise_vectors.specs.VectorText.{expect_line, expect_words, line, lines_of}

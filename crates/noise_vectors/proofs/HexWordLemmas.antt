@@ -1,18 +1,15 @@
 -- Lower-case digits read as bytes, and bytes read back from their digits.
-use Rattle.std.proofs.Common.{◌≡◌, ℕ, zero, suc, ◌+◌, ◌*◌, ◌/◌, ◌%◌, ◌<◌, ◌≤◌, ◌==◌, Bool, true, false, ◌&&◌, ◌||◌, not, ◌⊎◌, inl, inr}
-use Rattle.std.proofs.Common.{List, [], ◌∷◌, length, slice_index, Option, Some, None, Result, Ok, Err, refl, sym, ap, subst, ◌∙◌, arith, codes}
-use Rattle.std.specs.Prelude.{nat_lt}
+use Rattle.std.proofs.Common.{◌≡◌, ℕ, zero, suc, ◌+◌, ◌*◌, ◌/◌, ◌%◌, ◌<◌, ◌≤◌, ◌==◌, Bool, true, false, ◌&&◌, ◌||◌, not, ◌⊎◌, inl, inr, List, ◌∷◌, length, slice_index, Option, Some, None, Result, Ok, Err, refl, sym, ap, subst, ◌∙◌, arith, codes, []}
+use Rattle.std.specs.Prelude.{nat_lt, IsOk, MatchResult}
 use Rattle.std.proofs.Math.ListN.{get_or-eq_default}
 use Rattle.std.proofs.lemmas.Bool.{and_parts, cases_lt, eqb-true, ltb-false, ltb-true}
 use Rattle.std.proofs.lemmas.Bool.Decides.{nat_tests}
 use Rattle.std.proofs.lemmas.List.Elements.{All-cons, All-head, All-nil, All-tail}
 use Rattle.std.specs.List.{All, AllPass}
-use Rattle.hex.specs.Hex.{decode_pairs, decode_of, encode_lower, encode_with, hex_digit_value, lower_digits, pair_value, value_at, digit_or_error}
+use Rattle.hex.specs.Hex.{decode_pairs, decode_of, encode_lower, encode_with, hex_digit_value, lower_digits, pair_value, value_at, digit_or_error, decode_sized}
 use Rattle.hex.specs.declared.error.FromHexError.{FromHexError}
 use Rattle.hex.proofs.Pairs.{cons_byte, decode_pairs-ok_pair}
 use Rattle.hex.proofs.HexLemmas.{decode_of-even, decode_sized-ok, decode_sized-twice, length-encode_with}
-use Rattle.hex.specs.Hex.{decode_sized}
-use Rattle.std.specs.Prelude.{IsOk, MatchResult}
 use Rattle.noise_vectors.specs.HexWord.{hex_of, is_lower_digit, IsDigits, IsHexWord}
 use Rattle.noise_vectors.specs.VectorFile.{AreBytes}
 

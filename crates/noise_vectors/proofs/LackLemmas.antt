@@ -1,5 +1,5 @@
 -- Bytes that a word lacks.
-use Rattle.std.proofs.Common.{arith, ◌≡◌, ◌<◌, ◌==◌, not, Bool, true, false, refl, ℕ, List, [], ◌∷◌, ◌++◌, Option, Some, None, codes}
+use Rattle.std.proofs.Common.{arith, ◌≡◌, ◌<◌, ◌==◌, not, Bool, true, false, refl, ℕ, List, ◌∷◌, ◌++◌, Option, Some, None, codes, []}
 use Rattle.std.specs.Prelude.{decimal, IfSome}
 use Rattle.std.specs.List.{All, AllPass, list_all}
 use Rattle.std.proofs.lemmas.Bool.{and_parts}

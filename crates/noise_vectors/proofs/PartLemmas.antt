@@ -1,5 +1,5 @@
 -- What a reader of lines of one kind reports.
-use Rattle.std.proofs.Common.{arith, ◌≡◌, ◌∙◌, ◌+◌, ◌-◌, ◌<◌, ◌≤◌, ◌^◌, min, inl, inr, ap, refl, subst, sym, true, false, Bool, ℕ, List, [], ◌∷◌, ◌++◌, codes, get_or, length, map, zero}
+use Rattle.std.proofs.Common.{arith, ◌≡◌, ◌∙◌, ◌+◌, ◌-◌, ◌<◌, ◌≤◌, ◌^◌, min, inl, inr, ap, refl, subst, sym, true, false, Bool, ℕ, List, ◌∷◌, ◌++◌, codes, get_or, length, map, zero, []}
 use Rattle.std.specs.List.{All}
 use Rattle.std.proofs.Math.Nat.{min-eq_left}
 use Rattle.std.proofs.lemmas.List.{append_assoc, length-append}
@@ -11,7 +11,8 @@ use Rattle.noise_vectors.specs.Lines.{IsRead, last_number}
 use Rattle.noise_vectors.specs.ReaderFaults.{IsWrongBlock, Listed, ReportsAfter, ReportsLine}
 use Rattle.noise_vectors.specs.VectorText.{header_words, line, lines_of}
 use Rattle.noise_vectors.specs.Words.{lacks}
-use Rattle.noise_vectors.specs.WrongLine.{Block, IsWrongIn, line_feeds}
+use Rattle.noise_names.specs.WrongText.{line_feeds}
+use Rattle.noise_vectors.specs.WrongLine.{Block, IsWrongIn}
 use Rattle.noise_vectors.specs.declared.faults.LineKind.{LineKind}
 use Rattle.noise_vectors.specs.declared.faults.LineKind.TheVariants as kinds
 use Rattle.noise_vectors.specs.declared.faults.VectorFault.{VectorFault}
@@ -36,10 +37,9 @@ lines_of-cut words from rest reported xs x before last is =
 
 -- no header is that of both versions
 pub header-one : (a b : Bool) → header_words a ≡ header_words b → a ≡ b
-header-one true true e = refl
-header-one false false e = refl
 header-one true false e = absurd (numbers-apart _ _ (ap (λ (t : List ℕ). get_or t 7 0) e) refl)
 header-one false true e = absurd (numbers-apart _ _ (ap (λ (t : List ℕ). get_or t 7 0) e) refl)
+header-one _ _ e = refl
 
 pub header-lacks : (second : Bool) → lacks 10 (header_words second) ≡ true
 header-lacks true = refl

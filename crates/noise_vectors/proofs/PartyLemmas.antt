@@ -16,8 +16,8 @@ use Rattle.noise_vectors.specs.declared.file_keys.FileKeys.TheVariants.{Xor, Tab
 use Rattle.noise_vectors.proofs.LackLemmas.{lacks-append, lacks-encode_lower, lacks-key_word, own_word-plain, role_word-plain}
 
 -- what follows a front
-pub after-front : (text front after rest : List ℕ) → text ≡ front ++ after → text ≡ front ++ rest → after ≡ rest
-after-front text front after rest split is = append_cancel_left front after rest (sym split ∙ is)
+pub after-front : {text : List ℕ} (front after rest : List ℕ) → text ≡ front ++ after → text ≡ front ++ rest → after ≡ rest
+after-front front after rest split is = append_cancel_left front after rest (sym split ∙ is)
 
 -- two keys have no line feed (10)
 lacks-key_words : (e s : Option (List ℕ)) → IfSome e IsKey → IfSome s IsKey → lacks 10 (key_words e s) ≡ true
@@ -42,12 +42,12 @@ abbrev pub Splits : List ℕ → List ℕ → List ℕ → Type 0
 Splits text first after = (b h : List ℕ) → lacks 32 b ≡ true → text ≡ b ++ 32 ∷ h → (first ≡ b) × (after ≡ h)
 
 -- the keys after the name of the key pair
-pub answer-keys : (line front rest own keys : List ℕ) (entry : TableEntry) → front ≡ codes "answer " → line ≡ front ++ rest → Splits rest own keys
+pub answer-keys : {line front rest own keys : List ℕ} (entry : TableEntry) → front ≡ codes "answer " → line ≡ front ++ rest → Splits rest own keys
     → line ≡ answer_words entry → keys ≡ encode_lower entry.remote ++ 32 ∷ encode_lower entry.answer
-answer-keys line front rest own keys entry front_is split every e =
+answer-keys {line = line} {rest = rest} entry front_is split every e =
     let whole : line ≡ codes "answer " ++ rest = split ∙ ap (λ (t : List ℕ). t ++ rest) front_is in
-    let rest_is = after-front line (codes "answer ") rest
-    (own_word entry.own ++ 32 ∷ (encode_lower entry.remote ++ 32 ∷ encode_lower entry.answer)) whole e in
+    let rest_is = append_cancel_left (codes "answer ") rest (own_word entry.own ++ 32 ∷ (encode_lower entry.remote ++ 32 ∷ encode_lower entry.answer))
+    (sym whole ∙ e) in
     (every (own_word entry.own) (encode_lower entry.remote ++ 32 ∷ encode_lower entry.answer) (own_word-plain entry.own).1 rest_is).1
 
 -- whether the text begins as an answer's line does
@@ -91,9 +91,9 @@ abbrev pub ReadsLine : List ℕ → List ℕ → List ℕ → Bool → Type 0
 ReadsLine text read after is_ended = (w b : List ℕ) → lacks 10 w ≡ true → text ≡ line w b → (read ≡ w) × (after ≡ b) × (is_ended ≡ true)
 
 -- the next line is the party's
-pub party-read : (role : Role) (keys : FileKeys) (text rest read after : List ℕ) (is_ended : Bool) → AreKeys keys → text ≡ party_text role keys rest
+pub party-read : (role : Role) (keys : FileKeys) {text : List ℕ} (rest : List ℕ) {read after : List ℕ} {is_ended : Bool} → AreKeys keys → text ≡ party_text role keys rest
     → ReadsLine text read after is_ended → (read ≡ role_word role ++ 32 ∷ words_of keys) × (after ≡ after_of keys rest) × (is_ended ≡ true)
-party-read role keys text rest read after is_ended h e every =
+party-read role keys rest h e every =
     every (role_word role ++ 32 ∷ words_of keys) (after_of keys rest) (lacks-party role keys h) (e ∙ party_text-line role keys rest)
 
 -- the party's keys are those of a table
@@ -107,12 +107,12 @@ pub record IsTable (keys : FileKeys) (words : List ℕ) : Type 0 where
   pub entries_are : All IsEntry table.entries
 
 -- words that are not those of xor are a table's
-pub not-xor : (keys : FileKeys) (words front : List ℕ) → AreKeys keys → words ≡ words_of keys → front ≡ codes "xor "
+pub not-xor : (keys : FileKeys) {words front : List ℕ} → AreKeys keys → words ≡ words_of keys → front ≡ codes "xor "
     → ((e s : Option (List ℕ)) → IfSome e IsKey → IfSome s IsKey → words ≡ front ++ key_words e s → false ≡ true) → IsTable keys words
-not-xor (Xor keys) words front h is xor none =
+not-xor (Xor keys) h is xor none =
     let bad = none keys.e keys.s h.0 h.1 (is ∙ ap (λ (t : List ℕ). t ++ key_words keys.e keys.s) (sym xor)) in
     absurd (cc (bad))
-not-xor (Table keys) words front h is xor none = record {
+not-xor (Table keys) h is xor none = record {
   table = keys;
   words_are = is;
   after_is = λ rest. refl;
@@ -128,10 +128,10 @@ other-heads x y xs ys less e =
     omega arith
 
 -- after words of xor no answers stand
-pub xor-after : (keys : FileKeys) (words front : List ℕ) (e s : Option (List ℕ)) (rest : List ℕ) → words ≡ words_of keys → front ≡ codes "xor "
+pub xor-after : (keys : FileKeys) {words front : List ℕ} (e s : Option (List ℕ)) (rest : List ℕ) → words ≡ words_of keys → front ≡ codes "xor "
     → words ≡ front ++ key_words e s → after_of keys rest ≡ rest
-xor-after (Xor keys) words front e s rest is xor text = refl
-xor-after (Table keys) words front e s rest is xor text =
+xor-after (Xor keys) e s rest is xor text = refl
+xor-after (Table keys) e s rest is xor text =
     let same : codes "table " ++ key_words keys.e keys.s ≡ codes "xor " ++ key_words e s =
     sym is ∙ text ∙ ap (λ (t : List ℕ). t ++ key_words e s) xor in
     absurd (other-heads 116 120 (codes "able " ++ key_words keys.e keys.s) (codes "or " ++ key_words e s) (lit< tt) same)

@@ -1,5 +1,5 @@
 -- What the reader of a party's lines reports, and that of the datagrams.
-use Rattle.std.proofs.Common.{◌≡◌, ◌∙◌, inl, inr, ap, true, ℕ, List, [], ◌∷◌, ◌++◌, codes, Option}
+use Rattle.std.proofs.Common.{◌≡◌, ◌∙◌, inl, inr, ap, true, ℕ, List, ◌∷◌, ◌++◌, codes, Option, []}
 use Rattle.std.specs.Prelude.{IfSome, nat_eq}
 use Rattle.std.specs.List.{starts_with}
 use Rattle.std.proofs.lemmas.List.{append_assoc}
@@ -59,12 +59,11 @@ table-reported role e s from after total fault text he hs (inr (inl (is, cut))) 
       ),
     ))
 table-reported role e s from after total fault text he hs (inr (inr w)) =
-    let words = role_word role ++ (codes " table " ++ key_words e s) in
     inr (inr (inr (record {
       table = record { e = e; s = s; entries = w.done };
       are = (he, hs, w.few, w.are);
       left = w.left;
-      text_is = text ∙ ap (line words) w.text_is;
+      text_is = text ∙ ap (line (role_word role ++ (codes " table " ++ key_words e s))) w.text_is;
       begun = true_from_ne_false (starts_with nat_eq w.left (codes "answer ")) w.stands;
       it = w.it;
       full = w.full;

@@ -1,7 +1,6 @@
 -- Files that begin with the lines before the one that is reported, and that none goes on with it, as far as the interval.
 use denote.RawPtr.{null_ptr}
-use Rattle.std.proofs.Common.{arith, ◌≡◌, ◌⊎◌, ◌∙◌, ◌+◌, ◌<◌, ◌≤◌, ◌^◌, inl, inr, ap, sym, refl, subst, lit<, false, true, Bool, ℕ, List, [], ◌∷◌, ◌++◌, codes, length}
-use Rattle.std.proofs.Common.{Option, Some, None, Vec, vec_len}
+use Rattle.std.proofs.Common.{arith, ◌≡◌, ◌⊎◌, ◌∙◌, ◌+◌, ◌<◌, ◌≤◌, ◌^◌, inl, inr, ap, sym, refl, subst, lit<, false, true, Bool, ℕ, List, ◌∷◌, ◌++◌, codes, length, Option, Some, None, Vec, vec_len, []}
 use Rattle.std.specs.Prelude.{decimal, IsSome}
 use Rattle.std.proofs.lemmas.Bool.{false≢true}
 use Rattle.std.specs.Global.{Global}
@@ -14,7 +13,8 @@ use Rattle.noise_names.specs.Text.{text_of as pattern_text}
 use Rattle.noise_vectors.specs.HexWord.{hex_of}
 use Rattle.noise_vectors.specs.ReaderFaults.{IsHeaderLine, IsIntervalLine, IsPrologueLine, IsProtocolLine, ReportsBlock, ReportsLine}
 use Rattle.noise_vectors.specs.SameFile.{expected_of}
-use Rattle.noise_vectors.specs.WrongLine.{IsCutShort, IsOpenBlock, IsReported, line_feeds, up_to_interval, up_to_prologue, up_to_protocol}
+use Rattle.noise_names.specs.WrongText.{line_feeds}
+use Rattle.noise_vectors.specs.WrongLine.{IsCutShort, IsOpenBlock, IsReported, up_to_interval, up_to_prologue, up_to_protocol}
 use Rattle.noise_vectors.specs.VectorFile.{ArePsks, IsAllowed, IsAllowedFile, IsAllowedVersion, IsEvent, IsExpected, IsOwn, IsShort, IsVectorFile, IsVersion}
 use Rattle.noise_vectors.specs.VectorText.{block_text, header_words, is_second, line, text_of, version_text}
 use Rattle.noise_vectors.specs.Words.{IsKey}
@@ -90,11 +90,10 @@ version_of-right alloc false = tt
 
 version_of-allowed : (alloc : Global) (allowed : AllowedEvents) (second : Bool) → (allowed ≡ VersionOne → second ≡ false)
     → IsAllowedVersion allowed (version_of alloc second)
-version_of-allowed alloc SayOnly true h = refl
 version_of-allowed alloc SayOnly false h = tt
 version_of-allowed alloc Any second h = tt
 version_of-allowed alloc VersionOne true h = absurd (cc (h refl))
-version_of-allowed alloc VersionOne false h = refl
+version_of-allowed alloc _ _ h = refl
 
 pub sample-right : (alloc : Global) (second : Bool) (name : Section) (block : Option Plan) (prologue : Vec ℕ Global) (short : vec_len prologue ≤ 65535)
     (interval : ℕ) (psks : List (List ℕ)) → IsSection name → IsOwn name block → IsShort prologue.items → interval < 2 ^ 64 → ArePsks psks
@@ -186,11 +185,6 @@ after-header true other rest e = (parted-one 10 (header_words (is_second other.v
 after-header false other rest e = (parted-one 10 (header_words (is_second other.version)) (header_words false) (after_header other) rest
     (header-lacks (is_second other.version)) refl e).1
 
--- no line is an empty text
-pub line-some : (words rest : List ℕ) → ¬ ([] ≡ line words rest)
-line-some [] rest e = absurd (cc e)
-line-some (b ∷ bs) rest e = absurd (cc e)
-
 -- the text ends within the line of a name
 protocol-cut : (alloc : Global) (allowed : AllowedEvents) (text left : List ℕ) (second : Bool) (number : ℕ) (name : Section) (known : Option Plan)
     → fundamental_of name.base ≡ known → text ≡ line (header_words second) left → (allowed ≡ VersionOne → second ≡ false) → IsSection name
@@ -240,9 +234,8 @@ protocol-reported alloc allowed text left second total fault e one all (inr (inr
     (after_header file) (plain-right alloc second nn None nn-section nn-own) (plain-allowed alloc allowed second nn None one) (front-protocol file) refl
     (e ∙ ap (λ (s : Bool). line (header_words s) left) (sym (version_of-second alloc second))) all it
     (λ other rest h allow same.
-    let after = after-header (is_second file.version) other (line it.reported rest) same in
     let parts = parted-one 10 (codes "protocol " ++ name_bytes other.protocol) it.reported (after_protocol other) rest
-    (protocol-plain other.protocol h.protocol) it.is_first.0 after in
+    (protocol-plain other.protocol h.protocol) it.is_first.0 (after-header (is_second file.version) other (line it.reported rest) same) in
     bad (other.protocol, h.protocol, sym parts.0)))
 
 -- ---- the prologue
@@ -309,12 +302,11 @@ pub interval-reported : (alloc : Global) (allowed : AllowedEvents) (text left : 
 interval-reported alloc allowed text left second name block prologue short total fault e one h own few all (inl is) = reported-of allowed text fault Memory is tt
 interval-reported alloc allowed text left second name block prologue short total fault e one h own few all (inr (inl (is, inl none))) =
     let file = sample alloc second name block prologue short 0 [] in
-    let here = codes "prologue " ++ hex_of prologue.items in
     reported-of allowed text fault (Line (total + 1) kinds.Ending) is (inl (cut-before allowed text left (total + 1) file (up_to_interval file)
     105 ((codes "nterval " ++ decimal 0) ++ 10 ∷ after_interval file)
     (sample-right alloc second name block prologue short 0 [] h own few (lit< tt) none-psks)
     (sample-allowed alloc allowed second name block prologue short 0 [] one) (front-interval file)
-    (prologue-text alloc second file text (line here left) (version_of-second alloc second) e) none refl
+    (prologue-text alloc second file text (line (codes "prologue " ++ hex_of prologue.items) left) (version_of-second alloc second) e) none refl
     (ended-interval file [] (inl refl)) (next-number text total all)))
 interval-reported alloc allowed text left second name block prologue short total fault e one h own few all (inr (inl (is, inr (interval, small, words)))) =
     let file = sample alloc second name block prologue short interval [] in

@@ -1,21 +1,20 @@
 -- The lines of the psks, the parties and the events: right files that begin with those before the one that is reported, and that none goes on with it.
-use Rattle.std.proofs.Common.{arith, ◌≡◌, ◌∙◌, ◌+◌, ◌<◌, ◌≤◌, ◌^◌, inl, inr, ap, sym, refl, false, true≢false, Bool, ℕ, List, [], ◌∷◌, ◌++◌, codes}
-use Rattle.std.proofs.Common.{Option, Vec, vec_len}
+use Rattle.std.proofs.Common.{arith, ◌≡◌, ◌∙◌, ◌+◌, ◌<◌, ◌≤◌, ◌^◌, inl, inr, ap, sym, refl, false, true≢false, Bool, ℕ, List, ◌∷◌, ◌++◌, codes, Option, Vec, vec_len, []}
 use Rattle.std.specs.Prelude.{decimal}
 use Rattle.std.specs.List.{All}
 use Rattle.std.specs.Global.{Global}
 use Rattle.std.proofs.lemmas.List.{append_cancel_left, append-nil}
 use Rattle.std.proofs.lemmas.List.Elements.{All-cons, All-head, All-nil, All-tail}
 use Rattle.noise_events.specs.declared.event.Event.{Event}
-use Rattle.noise_events.specs.declared.event.Event.TheVariants.{Write, Say, Deliver, Raw}
+use Rattle.noise_events.specs.declared.event.Event.TheVariants.{Say}
 use Rattle.noise_names.specs.declared.token.Role.{Role}
 use Rattle.noise_names.specs.declared.token.Role.TheVariants.{Initiator, Responder}
 use Rattle.noise_names.specs.Names.{IsSection, Section, name_bytes}
 use Rattle.noise_names.specs.Plan.{Plan}
 use Rattle.noise_vectors.specs.HexWord.{hex_of}
 use Rattle.noise_vectors.specs.ReaderFaults.{ReportsAfter, ReportsParty, event_lines, psk_lines}
-use Rattle.noise_vectors.specs.WrongLine.{IsFirstLine, IsReported, is_answer_line, is_psk_line, line_feeds}
-use Rattle.noise_vectors.specs.WrongLine.{up_to_end, up_to_events, up_to_initiator, up_to_interval, up_to_responder}
+use Rattle.noise_names.specs.WrongText.{line_feeds}
+use Rattle.noise_vectors.specs.WrongLine.{IsFirstLine, IsReported, is_answer_line, is_psk_line, up_to_end, up_to_events, up_to_initiator, up_to_interval, up_to_responder}
 use Rattle.noise_vectors.specs.VectorFile.{ArePsks, IsAllowed, IsEvent, IsOwn, IsShort}
 use Rattle.noise_vectors.specs.VectorText.{AfterEvents, block_text, event_words, header_words, is_second, line, lines_of, party_text, psk_words, text_of, version_text}
 use Rattle.noise_vectors.specs.declared.faults.LineKind.TheVariants as kinds
@@ -26,16 +25,14 @@ use Rattle.noise_vectors.specs.declared.file_keys.FileKeys.TheVariants.{Xor, Tab
 use Rattle.noise_vectors.specs.declared.vector.AllowedEvents.{AllowedEvents}
 use Rattle.noise_vectors.specs.declared.vector.AllowedEvents.TheVariants.{VersionOne}
 use Rattle.noise_vectors.specs.declared.vector.VectorFile.{VectorFile}
-use Rattle.noise_vectors.proofs.BegunFiles.{BegunAt, after-initiator, after-psks, at-initiator, at-responder, event-more, events-right}
-use Rattle.noise_vectors.proofs.BegunFiles.{initiator-right, party-more, psk-more, responder-right, with_events, with_initiator, with_responder}
+use Rattle.noise_vectors.proofs.BegunFiles.{BegunAt, after-initiator, after-psks, at-initiator, at-responder, event-more, events-right, initiator-right, party-more, psk-more, responder-right, with_events, with_initiator, with_responder}
 use Rattle.noise_vectors.proofs.EventLemmas.{IsRight}
-use Rattle.noise_vectors.proofs.FrontLemmas.{IsFront, cut-before, cut-within, ended-initiator, ended-responder, front-both, front-end, front-events}
-use Rattle.noise_vectors.proofs.FrontLemmas.{front-initiator, front-interval, front-line, front-lines, front-party, front-responder, front-version, reported-line, up_to_version}
-use Rattle.noise_vectors.proofs.ReportedFiles.{line-some, sample, sample-allowed, sample-right, reported-of, vec_of, version_of-bare, version_of-quiet, version_of-second}
+use Rattle.noise_vectors.proofs.FrontLemmas.{IsFront, cut-before, cut-within, ended-initiator, ended-responder, front-both, front-end, front-events, front-initiator, front-interval, front-line, front-lines, front-party, front-responder, front-version, reported-line, up_to_version}
+use Rattle.noise_vectors.proofs.BlockLemmas.{no-line}
+use Rattle.noise_vectors.proofs.ReportedFiles.{sample, sample-allowed, sample-right, reported-of, vec_of, version_of-bare, version_of-quiet, version_of-second, next-number}
 use Rattle.noise_vectors.proofs.ReportedLemmas.{other-begun, same-begun}
 use Rattle.noise_vectors.proofs.VectorLemmas.{after_initiator, after_psks, after_responder, initiator-ends, responder-ends}
 use Rattle.std.proofs.lemmas.Bool.{true_from_ne_false}
-use Rattle.noise_vectors.proofs.ReportedFiles.{next-number}
 
 -- ---- the psks
 
@@ -215,7 +212,7 @@ front-alone front rest h e = append_cancel_left (front []) rest [] (sym (h rest)
 events-no_answer : (keys : FileKeys) (events : List Event) (reported left rest : List ℕ) → is_answer_line keys (lines_of event_words events left) ≡ false
     → IsFirstLine reported left → lines_of event_words events rest ≡ [] → is_answer_line keys reported ≡ false
 events-no_answer keys [] reported left rest h first e = answer-begun keys reported left first h
-events-no_answer keys (x ∷ xs) reported left rest h first e = absurd (line-some (event_words x) (lines_of event_words xs rest) (sym e))
+events-no_answer keys (x ∷ xs) reported left rest h first e = absurd (no-line (event_words x) (lines_of event_words xs rest) (sym e))
 
 lines-no_answer : (keys : FileKeys) (events : List Event) (reported left rest : List ℕ) → is_answer_line keys (lines_of event_words events left) ≡ false
     → IsFirstLine reported left → is_answer_line keys (lines_of event_words events (line reported rest)) ≡ false
@@ -225,7 +222,7 @@ lines-no_answer (Table keys) (Say role payload cuts ∷ xs) reported left rest h
 lines-no_answer (Table keys) (_ ∷ xs) reported left rest h first = refl
 
 pub not-after : (reported left rest : List ℕ) → IsFirstLine reported left → ¬ AfterEvents left → ¬ AfterEvents (line reported rest)
-not-after reported left rest first bad (inl none) = line-some reported rest (sym none)
+not-after reported left rest first bad (inl none) = no-line reported rest (sym none)
 not-after reported left rest first bad (inr (inl begun)) = bad (inr (inl (sym (other-begun reported left rest (codes "datagrams ") first refl) ∙ begun)))
 not-after reported left rest first bad (inr (inr begun)) = bad (inr (inr (sym (other-begun reported left rest (codes "expect ") first refl) ∙ begun)))
 

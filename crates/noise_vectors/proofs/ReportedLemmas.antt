@@ -1,6 +1,5 @@
 -- Which line is reported: the files that begin with the lines before it, and that none goes on with it.
-use Rattle.std.proofs.Common.{arith, subst, ◌≡◌, ◌∙◌, ◌+◌, ◌≤◌, ◌==◌, inl, inr, not, ap, refl, sym, true, false, Bool, ℕ, List, [], ◌∷◌}
-use Rattle.std.proofs.Common.{cond, length, true≢false}
+use Rattle.std.proofs.Common.{arith, subst, ◌≡◌, ◌∙◌, ◌+◌, ◌≤◌, ◌==◌, inl, inr, not, ap, refl, sym, true, false, Bool, ℕ, List, ◌∷◌, cond, length, true≢false, []}
 use Rattle.std.specs.Bool.{nat_eq}
 use Rattle.std.specs.List.{starts_with}
 use Rattle.std.proofs.lemmas.Bool.{and_parts}
@@ -8,7 +7,8 @@ use Rattle.std.proofs.lemmas.List.Sums.{count_by-le-length, sum_by-cons}
 use Rattle.noise_vectors.specs.VectorText.{line}
 use Rattle.noise_vectors.specs.Lines.{IsRead, last_number}
 use Rattle.noise_vectors.specs.ReaderFaults.{IsWrongFirst}
-use Rattle.noise_vectors.specs.WrongLine.{IsFirstLine, line_feeds}
+use Rattle.noise_names.specs.WrongText.{line_feeds}
+use Rattle.noise_vectors.specs.WrongLine.{IsFirstLine}
 use Rattle.noise_vectors.specs.Words.{lacks}
 use Rattle.noise_vectors.specs.declared.faults.LineKind.{LineKind}
 use Rattle.noise_vectors.specs.declared.faults.LineKind.TheVariants as kinds
@@ -117,10 +117,9 @@ line-begun (b ∷ bs) rest (f ∷ fs) h =
     rw (parts.0, more) refl
 
 same-test : (a b : Bool) → (a ≡ true → b ≡ true) → (b ≡ true → a ≡ true) → a ≡ b
-same-test true true f g = refl
 same-test true false f g = absurd (true≢false (sym (f refl)))
 same-test false true f g = absurd (true≢false (sym (g refl)))
-same-test false false f g = refl
+same-test _ _ f g = refl
 
 text-begun : (words text front : List ℕ) → IsFirstLine words text → starts_with nat_eq words front ≡ true → starts_with nat_eq text front ≡ true
 text-begun words text front (plain, inl (e, some)) h = rw e h

@@ -1,6 +1,5 @@
 -- The lines after the events: right files that begin with those before the one that is reported, and that none goes on with it.
-use Rattle.std.proofs.Common.{arith, ◌≡◌, ◌⊎◌, ◌∙◌, ◌+◌, ◌<◌, ◌^◌, inl, inr, ap, sym, refl, subst, lit<, false, true, true≢false, Bool, ℕ, List, [], ◌∷◌, ◌++◌, codes, length}
-use Rattle.std.proofs.Common.{Option, Some, None, Vec}
+use Rattle.std.proofs.Common.{arith, ◌≡◌, ◌⊎◌, ◌∙◌, ◌+◌, ◌<◌, ◌^◌, inl, inr, ap, sym, refl, subst, lit<, false, true, true≢false, Bool, ℕ, List, ◌∷◌, ◌++◌, codes, length, Option, Some, None, Vec, []}
 use Rattle.std.specs.Prelude.{IfSome}
 use Rattle.std.specs.Bool.{nat_eq}
 use Rattle.std.specs.List.{All, starts_with}
@@ -10,9 +9,10 @@ use Rattle.std.proofs.lemmas.List.Elements.{All-cons, All-head, All-nil, All-tai
 use Rattle.noise_events.specs.declared.datagram_event.DatagramEvent.{DatagramEvent}
 use Rattle.noise_events.specs.declared.event.Event.{Event}
 use Rattle.noise_events.specs.declared.window.Window.{Window}
-use Rattle.noise_vectors.specs.Expectations.{bytes_of}
+use Rattle.noise_names.specs.Lists.{bytes_of}
 use Rattle.noise_vectors.specs.ReaderFaults.{IsCutDatagrams, IsWrongDatagram, IsWrongFirst, IsWrongWindow, ReportsAfter, ReportsDatagrams, ReportsExpected, ReportsVersion, datagram_lines, expect_kind, expect_lines}
-use Rattle.noise_vectors.specs.WrongLine.{IsFirstLine, IsReported, IsReportedLine, line_feeds, up_to_end, up_to_events}
+use Rattle.noise_names.specs.WrongText.{line_feeds}
+use Rattle.noise_vectors.specs.WrongLine.{IsFirstLine, IsReported, IsReportedLine, up_to_end, up_to_events}
 use Rattle.noise_vectors.specs.VectorFile.{IsAllowedFile, IsAllowedVersion, IsDatagramEvent, IsExpected, IsVectorFile, IsVersion}
 use Rattle.noise_vectors.specs.VectorText.{AfterDatagrams, AfterEvents, datagram_event_words, datagrams_text, event_words, expect_line, expect_words, header_words, is_second, line, lines_of, text_body, text_of, version_text, window_words}
 use Rattle.noise_vectors.specs.Words.{lacks}
@@ -32,7 +32,8 @@ use Rattle.noise_vectors.proofs.BegunFiles.{BegunAt, after-no_answer, at-version
 use Rattle.noise_vectors.proofs.FrontLemmas.{IsFront, cut-within, front-both, front-datagrams, front-end, front-events, front-line, front-lines, front-version, reported-line, up_to_version}
 use Rattle.noise_vectors.proofs.HeldLemmas.{Good, good-plain, good-stands, partial-good, partial-lines}
 use Rattle.noise_vectors.proofs.PartLemmas.{goes-on, lines-over}
-use Rattle.noise_vectors.proofs.ReportedFiles.{line-some, reported-of, vec_of, next-number}
+use Rattle.noise_vectors.proofs.BlockLemmas.{no-line}
+use Rattle.noise_vectors.proofs.ReportedFiles.{reported-of, vec_of, next-number}
 use Rattle.noise_vectors.proofs.ReportedLater.{answer-begun, end-text, front-alone}
 use Rattle.noise_vectors.proofs.ReportedLemmas.{other-begun}
 use Rattle.noise_vectors.proofs.UniqueWords.{parted-one}
@@ -42,8 +43,7 @@ use Rattle.noise_vectors.proofs.UniqueWords.{parted-one}
 abbrev vecs_of : Global → (xs : List (List ℕ)) → All Good xs → List (Vec ℕ Global)
 vecs_of alloc [] h = []
 vecs_of alloc (x ∷ xs) h =
-    let small = (All-head Good x xs h).1 in
-    vec_of alloc x small ∷ vecs_of alloc xs (All-tail Good x xs h)
+    vec_of alloc x ((All-head Good x xs h).1) ∷ vecs_of alloc xs (All-tail Good x xs h)
 
 vecs_of-length : (alloc : Global) (xs : List (List ℕ)) (h : All Good xs) → length (vecs_of alloc xs h) ≡ length xs
 vecs_of-length alloc [] h = refl
@@ -134,7 +134,7 @@ one-reported allowed text from total fault b over some all it =
     let parts = version-other allowed false text from b other (line it.reported rest) k allow (after-other it.reported from rest it.is_first some over) same in
     one-ends other.version it.reported rest parts.1 parts.0) where
       one-ends : (version : Version) (reported rest : List ℕ) → is_second version ≡ false → ¬ (version_text version ≡ line reported rest)
-      one-ends One reported rest e same = line-some reported rest same
+      one-ends One reported rest e same = no-line reported rest same
       one-ends (Two a) reported rest e same = true≢false e
 
 some-begun : (front text : List ℕ) (b : ℕ) → starts_with nat_eq text (b ∷ front) ≡ true → ¬ (text ≡ [])
@@ -194,7 +194,7 @@ datagram-wrong (Some d) vs window done reported rest h k plain bad full e =
     full found.0 found.1 found.2
 
 not-after : (reported left rest : List ℕ) → IsFirstLine reported left → ¬ AfterDatagrams left → ¬ AfterDatagrams (line reported rest)
-not-after reported left rest first bad (inl none) = line-some reported rest (sym none)
+not-after reported left rest first bad (inl none) = no-line reported rest (sym none)
 not-after reported left rest first bad (inr begun) = bad (inr (sym (other-begun reported left rest (codes "expect ") first refl) ∙ begun))
 
 nil-good : All Good []
@@ -211,14 +211,13 @@ two-text file a rest =
 -- a text of no lines is what follows them
 lines-none : (events : List Event) (rest : List ℕ) → lines_of event_words events rest ≡ [] → rest ≡ []
 lines-none [] rest e = e
-lines-none (x ∷ xs) rest e = absurd (line-some (event_words x) (lines_of event_words xs rest) (sym e))
+lines-none (x ∷ xs) rest e = absurd (no-line (event_words x) (lines_of event_words xs rest) (sym e))
 
 datagram-reported : (alloc : Global) (allowed : AllowedEvents) (text from : List ℕ) (total : ℕ) (fault : VectorFault)
     (b : BegunAt allowed true text from up_to_version) → (allowed ≡ VersionOne → true ≡ false) → total ≡ line_feeds text
     → IsWrongDatagram allowed from total fault → IsReported allowed text fault
 datagram-reported alloc allowed text from total fault b one all w =
-    let over = over_of alloc w.window w.it.done w.it.few in
-    let a = two_of alloc (Some over) [] nil-good (lit< tt) in
+    let a = two_of alloc (Some (over_of alloc w.window w.it.done w.it.few)) [] nil-good (lit< tt) in
     let file = with_version b.file (Two a) in
     let right = version-right b.file (Two a) b.is_file (w.it.are, All-nil (λ (words : Vec ℕ Global). IsExpected words.items)) in
     let allow_it : IsAllowedFile allowed file = (b.is_allowed.0, two-allowed allowed a (λ e. absurd (w.is_allowed e)) (λ e. true≢false (one e))) in
@@ -239,15 +238,14 @@ datagram-reported alloc allowed text from total fault b one all w =
       none_expected = refl;
       no_answer = λ e.
           let none = front-alone (up_to_events file) (lines_of event_words file.events.items (version_text (Two a))) (front-events file) e in
-          absurd (line-some (window_words w.window) (lines_of datagram_event_words w.it.done [])
+          absurd (no-line (window_words w.window) (lines_of datagram_event_words w.it.done [])
           (sym (lines-none file.events.items (version_text (Two a)) none)));
     })
 
 datagram-cut : (alloc : Global) (allowed : AllowedEvents) (text from : List ℕ) (total : ℕ) (b : BegunAt allowed true text from up_to_version)
     → (allowed ≡ VersionOne → true ≡ false) → total ≡ line_feeds text → IsCutDatagrams allowed from → IsReported allowed text (Line (total + 1) kinds.Ending)
 datagram-cut alloc allowed text from total b one all cut =
-    let over = over_of alloc cut.window cut.events cut.few in
-    let a = two_of alloc (Some over) [] nil-good (lit< tt) in
+    let a = two_of alloc (Some (over_of alloc cut.window cut.events cut.few)) [] nil-good (lit< tt) in
     let file = with_version b.file (Two a) in
     inl (cut-within allowed text from (total + 1) file (up_to_version file) (λ rest. line (window_words cut.window) (lines_of datagram_event_words cut.events rest))
     [] (version-right b.file (Two a) b.is_file (cut.are, All-nil (λ (words : Vec ℕ Global). IsExpected words.items)))
@@ -297,7 +295,7 @@ expected-wrong : (over other : Option FileDatagrams) (vs : List (Vec ℕ Global)
 expected-wrong over other vs done reported rest h k right are plain after full e =
     let same = sym (partial-lines vs []) ∙ past-datagrams over other vs (lines_of expect_line done (line reported rest)) h k after e in
     let found = goes-on expect_lines good-plain good-stands done (bytes_of vs) reported rest [] are (partial-good vs right) plain refl
-    (λ none. line-some reported rest (sym none)) same in
+    (λ none. no-line reported rest (sym none)) same in
     full found.0 found.1 found.2
 
 -- the lines of what is expected, and a text after them

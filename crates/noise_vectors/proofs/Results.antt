@@ -1,7 +1,12 @@
 -- What is ensured of a call where it succeeded, and where it failed.
-use Rattle.std.proofs.Common.{◌≡◌, true, false, true≢false, Result, Ok, Err, if◌then◌else◌}
-use Rattle.std.specs.Result.{OnOk, OnErr, is_err, is_ok}
+use Rattle.std.proofs.Common.{◌≡◌, ap, true, false, true≢false, Result, Ok, Err, if◌then◌else◌}
+use Rattle.std.specs.Result.{IsErrAnd, OnOk, OnErr, is_err, is_ok}
 use Rattle.std.proofs.lemmas.Bool.{false≢true}
+
+-- the error of a `?` is the callee's
+pub err-is : {T E : Type 0} {e : E} (r : Result T E) → IsErrAnd r (λ y. y ≡ e) → r ≡ Err e
+err-is (Ok x) h = absurd h
+err-is (Err y) h = ap Err h
 
 pub at_ok : {T E P : Type 0} (r : Result T E) → OnOk r P → is_err r ≡ false → P
 at_ok (Ok x) h e = h

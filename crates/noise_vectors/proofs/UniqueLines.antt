@@ -1,6 +1,5 @@
 -- No lines of a vector file are those of two values.
-use Rattle.std.proofs.Common.{arith, ◌≡◌, ◌∙◌, ◌<◌, ◌^◌, ap, sym, refl, lit<, true, false}
-use Rattle.std.proofs.Common.{ℕ, List, [], ◌∷◌, ◌++◌, map, codes, get_or, Option}
+use Rattle.std.proofs.Common.{arith, ◌≡◌, ◌∙◌, ◌<◌, ◌^◌, ap, sym, refl, lit<, true, false, ℕ, List, ◌∷◌, ◌++◌, map, codes, get_or, Option, []}
 use Rattle.std.specs.Prelude.{decimal, IfSome, Vec}
 use Rattle.std.specs.Global.{Global}
 use Rattle.std.specs.Bool.{nat_eq}
@@ -19,8 +18,7 @@ use Rattle.noise_keys.specs.Table.{TableEntry}
 use Rattle.noise_vectors.specs.HexWord.{hex_of}
 use Rattle.noise_vectors.specs.SameFile.{cuts_of}
 use Rattle.noise_vectors.specs.VectorFile.{IsDatagramEvent, IsEntry, IsEvent, IsExpected}
-use Rattle.noise_vectors.specs.VectorText.{AfterDatagrams, AfterEvents, answer_words, datagram_event_words, event_words, expect_words, key_word, key_words, lengths_word, lines_of}
-use Rattle.noise_vectors.specs.VectorText.{own_word, psk_words, role_word}
+use Rattle.noise_vectors.specs.VectorText.{AfterDatagrams, AfterEvents, answer_words, datagram_event_words, event_words, expect_words, key_word, key_words, lengths_word, lines_of, own_word, psk_words, role_word}
 use Rattle.noise_vectors.specs.Words.{IsKey, lacks}
 use Rattle.noise_vectors.proofs.AdditionLemmas.{datagram_event-stands, datagram_event_words-line, event-stands, expected-line}
 use Rattle.noise_vectors.proofs.EventLemmas.{event_words-line}
@@ -81,9 +79,6 @@ roles-one r s x y e =
     let parts = parted-one 32 (role_word r) (role_word s) x y (role_word-plain r).1 (role_word-plain s).1 e in
     (role-one r s parts.0, parts.1)
 
-after-front : (front x y : List ℕ) → front ++ x ≡ front ++ y → x ≡ y
-after-front front x y e = append_cancel_left front x y e
-
 same-number : (m n : ℕ) → m < 2 ^ 32 → n < 2 ^ 32 → decimal m ≡ decimal n → m ≡ n
 same-number m n h k e = decimal_injective m n (omega (arith, h)) (omega (arith, k)) e
 
@@ -95,23 +90,23 @@ third x y e = ap (λ (t : List ℕ). get_or t 2 0) e
 
 pub event-one : (x y : Event) → IsEvent x → IsEvent y → event_words x ≡ event_words y → (event_of x ≡ event_of y) × (cuts_of x ≡ cuts_of y)
 event-one (Say r p c) (Say s q d) h k e =
-    let roles = roles-one r s (hex_of p.items ++ 32 ∷ lengths_word c) (hex_of q.items ++ 32 ∷ lengths_word d) (after-front (codes "say ") _ _ e) in
+    let roles = roles-one r s (hex_of p.items ++ 32 ∷ lengths_word c) (hex_of q.items ++ 32 ∷ lengths_word d) (append_cancel_left (codes "say ") _ _ e) in
     let parts = parted-one 32 (hex_of p.items) (hex_of q.items) (lengths_word c) (lengths_word d)
     (lacks-hex_of 32 p.items (lit< tt) h.0.1) (lacks-hex_of 32 q.items (lit< tt) k.0.1) roles.1 in
     let payload = hex-one p.items q.items h.0.1 k.0.1 parts.0 in
     (cc (roles.0, payload), lengths-one c d h.1.0 k.1.0 parts.1)
 event-one (Write r p) (Write s q) h k e =
-    let roles = roles-one r s (hex_of p.items) (hex_of q.items) (after-front (codes "write ") _ _ e) in
+    let roles = roles-one r s (hex_of p.items) (hex_of q.items) (append_cancel_left (codes "write ") _ _ e) in
     let payload = hex-one p.items q.items h.1 k.1 roles.1 in
     (cc (roles.0, payload), refl)
 event-one (Deliver r m c) (Deliver s n d) h k e =
-    let roles = roles-one r s (decimal m ++ 32 ∷ lengths_word c) (decimal n ++ 32 ∷ lengths_word d) (after-front (codes "deliver ") _ _ e) in
+    let roles = roles-one r s (decimal m ++ 32 ∷ lengths_word c) (decimal n ++ 32 ∷ lengths_word d) (append_cancel_left (codes "deliver ") _ _ e) in
     let parts = parted-one 32 (decimal m) (decimal n) (lengths_word c) (lengths_word d) (number-plain 32 m (lit< tt) h.0) (number-plain 32 n (lit< tt) k.0)
     roles.1 in
     let number = same-number m n h.0 k.0 parts.0 in
     (cc (roles.0, number), lengths-one c d h.1.0 k.1.0 parts.1)
 event-one (Raw r p) (Raw s q) h k e =
-    let roles = roles-one r s (hex_of p.items) (hex_of q.items) (after-front (codes "raw ") _ _ e) in
+    let roles = roles-one r s (hex_of p.items) (hex_of q.items) (append_cancel_left (codes "raw ") _ _ e) in
     let bytes = hex-one p.items q.items h.1 k.1 roles.1 in
     (cc (roles.0, bytes), refl)
 event-one x y h k e = absurd (numbers-apart _ _ (third (event_words x) (event_words y) e) refl)
@@ -130,15 +125,15 @@ events-one xs ys u v h k hu hv e =
 datagram-one : (x y : DatagramEvent) → IsDatagramEvent x → IsDatagramEvent y → datagram_event_words x ≡ datagram_event_words y
     → datagram_event_of x ≡ datagram_event_of y
 datagram-one (datagram.Seal r p) (datagram.Seal s q) h k e =
-    let roles = roles-one r s (hex_of p.items) (hex_of q.items) (after-front (codes "seal ") _ _ e) in
+    let roles = roles-one r s (hex_of p.items) (hex_of q.items) (append_cancel_left (codes "seal ") _ _ e) in
     let payload = hex-one p.items q.items h.1 k.1 roles.1 in
     cc (roles.0, payload)
 datagram-one (datagram.Open r m) (datagram.Open s n) h k e =
-    let roles = roles-one r s (decimal m) (decimal n) (after-front (codes "open ") _ _ e) in
+    let roles = roles-one r s (decimal m) (decimal n) (append_cancel_left (codes "open ") _ _ e) in
     let number = same-number m n h k roles.1 in
     cc (roles.0, number)
 datagram-one (datagram.Raw r p) (datagram.Raw s q) h k e =
-    let roles = roles-one r s (hex_of p.items) (hex_of q.items) (after-front (codes "foreign ") _ _ e) in
+    let roles = roles-one r s (hex_of p.items) (hex_of q.items) (append_cancel_left (codes "foreign ") _ _ e) in
     let bytes = hex-one p.items q.items h.1 k.1 roles.1 in
     cc (roles.0, bytes)
 datagram-one x y h k e = absurd (numbers-apart _ _ (first-byte (datagram_event_words x) (datagram_event_words y) e) refl)
@@ -155,7 +150,7 @@ abbrev pub IsExpectedLine : Vec ℕ Global → Type 0
 IsExpectedLine words = IsExpected words.items
 
 expect-one : (a b : Vec ℕ Global) → IsExpectedLine a → IsExpectedLine b → expect_words a ≡ expect_words b → a.items ≡ b.items
-expect-one a b h k e = after-front (codes "expect ") a.items b.items e
+expect-one a b h k e = append_cancel_left (codes "expect ") a.items b.items e
 
 pub expected-one : (xs bs : List (Vec ℕ Global)) → All (λ words. IsExpected words.items) xs → All (λ words. IsExpected words.items) bs
     → lines_of expect_words xs [] ≡ lines_of expect_words bs [] → map (λ l. l.items) xs ≡ map (λ l. l.items) bs

@@ -1,5 +1,5 @@
 -- No text is that of two vector files that say different things.
-use Rattle.std.proofs.Common.{◌≡◌, ◌∙◌, ap, sym, refl, subst, false, ◌==◌, ℕ, List, [], ◌∷◌, ◌++◌, codes, get_or, Option, Some, None}
+use Rattle.std.proofs.Common.{◌≡◌, ◌∙◌, ap, sym, refl, subst, false, ◌==◌, ℕ, List, ◌∷◌, ◌++◌, codes, get_or, Option, Some, None, []}
 use Rattle.std.specs.Prelude.{decimal, IfSome, Vec}
 use Rattle.std.specs.Global.{Global}
 use Rattle.std.specs.List.{All}
@@ -11,17 +11,14 @@ use Rattle.noise_names.specs.declared.token.Role.TheVariants.{Initiator, Respond
 use Rattle.noise_names.specs.Limits.{IsPattern}
 use Rattle.noise_names.specs.Names.{Section, name_bytes}
 use Rattle.noise_names.specs.Plan.{Plan}
-use Rattle.noise_names.specs.Text.{Spells}
-use Rattle.noise_names.specs.Text.{text_of as pattern_text}
+use Rattle.noise_names.specs.Text.{Spells, text_of as pattern_text}
 use Rattle.noise_events.specs.Windows.{width_of}
 use Rattle.noise_vectors.specs.Block.{IsInner}
 use Rattle.noise_vectors.specs.Block as Blocks
 use Rattle.noise_vectors.specs.HexWord.{hex_of}
 use Rattle.noise_vectors.specs.SameFile.{VectorTextsAreUnique, datagrams_of, expected_of, held_datagrams, number_of}
 use Rattle.noise_vectors.specs.VectorFile.{AreKeys, IsDatagramEvent, IsOwn, IsVectorFile, IsVersion}
-use Rattle.noise_vectors.specs.VectorText.{block_text, datagram_event_words, datagrams_text, expect_words, header_words, is_second, key_words}
-use Rattle.noise_vectors.specs.VectorText.{line, lines_of, party_text}
-use Rattle.noise_vectors.specs.VectorText.{role_word, text_of, version_text, window_words}
+use Rattle.noise_vectors.specs.VectorText.{block_text, datagram_event_words, datagrams_text, expect_words, header_words, is_second, key_words, line, lines_of, party_text, role_word, text_of, version_text, window_words}
 use Rattle.noise_vectors.specs.WrongLine.{is_answer_line}
 use Rattle.noise_vectors.specs.declared.file_keys.FileKeys.{FileKeys}
 use Rattle.noise_vectors.specs.declared.file_keys.FileKeys.TheVariants.{Xor, Table}
@@ -34,9 +31,7 @@ use Rattle.noise_vectors.proofs.BlockLemmas.{block-lines, lined-pattern}
 use Rattle.noise_vectors.proofs.PartLemmas.{header-lacks}
 use Rattle.noise_vectors.proofs.PartyLemmas.{after_of, lacks-party, no-answer, party_text-line, words_of}
 use Rattle.noise_vectors.proofs.ReadingLemmas.{interval-plain, prologue-plain, protocol-plain}
-use Rattle.noise_vectors.proofs.UniqueLines.{dh-results-one, datagrams-one}
-use Rattle.noise_vectors.proofs.UniqueLines.{events-one, expected-one, keys-one}
-use Rattle.noise_vectors.proofs.UniqueLines.{psks-one}
+use Rattle.noise_vectors.proofs.UniqueLines.{dh-results-one, datagrams-one, events-one, expected-one, keys-one, psks-one}
 use Rattle.noise_vectors.proofs.UniqueWords.{first-byte, hex-one, name-one, numbers-apart, parted-one, window-one}
 use Rattle.noise_vectors.proofs.VectorLemmas.{after_block, after_header, after_initiator, after_interval, after_prologue, after_protocol, after_psks, after_responder, initiator-ends, psks-end, responder-ends}
 
@@ -48,12 +43,10 @@ inner-one : (xs ys : List (List ℕ)) (u v : List ℕ) → All IsInner xs → Al
 inner-one [] [] u v h k e = (refl, (parted-one 10 (codes "end") (codes "end") u v refl refl e).1)
 inner-one [] (y ∷ ys) u v h k e =
     let good = All-head IsInner y ys k in
-    let parts = parted-one 10 (codes "end") y u (lines_of Blocks.itself ys (line (codes "end") v)) refl good.0 e in
-    absurd (good.1 (sym parts.0))
+    absurd (good.1 (sym (parted-one 10 (codes "end") y u (lines_of Blocks.itself ys (line (codes "end") v)) refl good.0 e).0))
 inner-one (x ∷ xs) [] u v h k e =
     let good = All-head IsInner x xs h in
-    let parts = parted-one 10 x (codes "end") (lines_of Blocks.itself xs (line (codes "end") u)) v good.0 refl e in
-    absurd (good.1 parts.0)
+    absurd (good.1 (parted-one 10 x (codes "end") (lines_of Blocks.itself xs (line (codes "end") u)) v good.0 refl e).0)
 inner-one (x ∷ xs) (y ∷ ys) u v h k e =
     let good = All-head IsInner x xs h in
     let also = All-head IsInner y ys k in
@@ -108,12 +101,10 @@ first-apart x y e differ = numbers-apart (get_or x 0 0) (get_or y 0 0) (first-by
 keys-after : (a b : FileKeys) (u v : List ℕ) → AreKeys a → AreKeys b → is_answer_line a u ≡ false → is_answer_line b v ≡ false
     → words_of a ≡ words_of b → after_of a u ≡ after_of b v → (a ≡ b) × (u ≡ v)
 keys-after (Xor a) (Xor b) u v h k hu hv e after =
-    let keys = append_cancel_left (codes "xor ") (key_words a.e a.s) (key_words b.e b.s) e in
-    let parts = keys-one a.e a.s b.e b.s h.0 h.1 k.0 k.1 keys in
+    let parts = keys-one a.e a.s b.e b.s h.0 h.1 k.0 k.1 (append_cancel_left (codes "xor ") (key_words a.e a.s) (key_words b.e b.s) e) in
     (ap (λ (x : _). Xor (record a { e = x })) parts.0 ∙ ap (λ (x : _). Xor (record b { s = x })) parts.1, after)
 keys-after (Table a) (Table b) u v h k hu hv e after =
-    let keys = append_cancel_left (codes "table ") (key_words a.e a.s) (key_words b.e b.s) e in
-    let parts = keys-one a.e a.s b.e b.s h.0 h.1 k.0 k.1 keys in
+    let parts = keys-one a.e a.s b.e b.s h.0 h.1 k.0 k.1 (append_cancel_left (codes "table ") (key_words a.e a.s) (key_words b.e b.s) e) in
     let answers = dh-results-one a.entries b.entries u v h.3 k.3 hu hv after in (
       ap (λ (x : _). Table (record a { e = x })) parts.0 ∙ ap (λ (x : _). Table (record a { e = b.e; s = x })) parts.1
           ∙ ap (λ (x : _). Table (record b { entries = x })) answers.0,
@@ -150,10 +141,8 @@ over-one : (a b : Option FileDatagrams) (xs ys : List (Vec ℕ Global)) → IfSo
     → datagrams_text a (lines_of expect_words xs []) ≡ datagrams_text b (lines_of expect_words ys [])
     → (held_datagrams a ≡ held_datagrams b) × (lines_of expect_words xs [] ≡ lines_of expect_words ys [])
 over-one None None xs ys h k e = (refl, e)
-over-one None (Some b) [] ys h k e = absurd (cc (e))
 over-one None (Some b) (x ∷ xs) ys h k e =
     absurd (first-apart (lines_of expect_words (x ∷ xs) []) (datagrams_text (Some b) (lines_of expect_words ys [])) e refl)
-over-one (Some a) None xs [] h k e = absurd (cc (e))
 over-one (Some a) None xs (y ∷ ys) h k e =
     absurd (first-apart (datagrams_text (Some a) (lines_of expect_words xs [])) (lines_of expect_words (y ∷ ys) []) e refl)
 over-one (Some a) (Some b) xs ys h k e =
@@ -165,6 +154,7 @@ over-one (Some a) (Some b) xs ys h k e =
     (append_cancel_left (codes "datagrams ") (decimal (width_of a.window)) (decimal (width_of b.window)) parts.0) in
     let events = datagrams-one a.events.items b.events.items u v h k (expected-after xs) (expected-after ys) parts.1 in
     (cc (window, events.0), events.1)
+over-one _ _ _ _ h k e = absurd (cc (e))
 
 version-one : (a b : Version) → IsVersion a → IsVersion b → number_of a ≡ number_of b → version_text a ≡ version_text b
     → (datagrams_of a ≡ datagrams_of b) × (expected_of a ≡ expected_of b)

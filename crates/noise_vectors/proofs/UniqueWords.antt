@@ -1,6 +1,5 @@
 -- No word or line of a vector file is that of two values.
-use Rattle.std.proofs.Common.{arith, ◌≡◌, ◌∙◌, ◌+◌, ◌<◌, ◌==◌, ap, sym, refl, subst, true, false, true≢false, not, ◌&&◌}
-use Rattle.std.proofs.Common.{ℕ, List, [], ◌∷◌, ◌++◌, map, codes, length, get_or, Option, Some, None}
+use Rattle.std.proofs.Common.{arith, ◌≡◌, ◌∙◌, ◌+◌, ◌<◌, ◌==◌, ap, sym, refl, subst, true, false, true≢false, not, ◌&&◌, ℕ, List, ◌∷◌, ◌++◌, map, codes, length, get_or, Option, Some, None, []}
 use Rattle.std.specs.Prelude.{decimal, nat_lt, IfSome}
 use Rattle.std.specs.List.{All, join_with_byte, list_all}
 use Rattle.std.proofs.lemmas.Bool.{and_parts, eq-eqb}
@@ -157,12 +156,10 @@ bases-one : (a b x y : List ℕ) → list_all is_base_byte a ≡ true → list_a
 bases-one [] [] x y h k hx hy e = (refl, e)
 bases-one [] (c ∷ cs) x y h k hx hy e =
     let first : get_or x 0 0 ≡ c = ap (λ (t : List ℕ). get_or t 0 0) e in
-    let parts = and_parts (is_base_byte c) (list_all is_base_byte cs) k in
-    absurd (true≢false (sym parts.0 ∙ ap is_base_byte (sym first) ∙ hx))
+    absurd (true≢false (sym (and_parts (is_base_byte c) (list_all is_base_byte cs) k).0 ∙ ap is_base_byte (sym first) ∙ hx))
 bases-one (c ∷ cs) [] x y h k hx hy e =
     let first : get_or y 0 0 ≡ c = ap (λ (t : List ℕ). get_or t 0 0) (sym e) in
-    let parts = and_parts (is_base_byte c) (list_all is_base_byte cs) h in
-    absurd (true≢false (sym parts.0 ∙ ap is_base_byte (sym first) ∙ hy))
+    absurd (true≢false (sym (and_parts (is_base_byte c) (list_all is_base_byte cs) h).0 ∙ ap is_base_byte (sym first) ∙ hy))
 bases-one (c ∷ cs) (d ∷ ds) x y h k hx hy e =
     let first : c ≡ d = cc (e) in
     let tails : cs ++ x ≡ ds ++ y = cc (e) in
@@ -204,8 +201,7 @@ places-one (m ∷ a ∷ ms) (n ∷ b ∷ ns) e =
 pub name-one : (s t : Section) → IsSection s → IsSection t → name_bytes s ≡ name_bytes t → s ≡ t
 name-one s t h k e =
     let after = append_cancel_left prefix (section_bytes s.base s.places ++ suffix) (section_bytes t.base t.places ++ suffix) e in
-    let sections = append_cancel_right (section_bytes s.base s.places) (section_bytes t.base t.places) suffix after in
     let parts = bases-one s.base t.base (joined s.places) (joined t.places) (base-bytes s.base h.base) (base-bytes t.base k.base)
-    (joined-first s.places) (joined-first t.places) sections in
+    (joined-first s.places) (joined-first t.places) (append_cancel_right (section_bytes s.base s.places) (section_bytes t.base t.places) suffix after) in
     let places = places-one s.places t.places parts.1 in
     ap (λ (b : List ℕ). record s { base = b }) parts.0 ∙ ap (λ (ns : List ℕ). record t { places = ns }) places

@@ -1,12 +1,12 @@
 -- What is left of a vector file's text where its lines are read one after the other.
-use Rattle.std.proofs.Common.{◌≡◌, refl, subst, sym, false, ℕ, List, [], ◌∷◌, ◌++◌, Option, codes, decimal}
+use Rattle.std.proofs.Common.{◌≡◌, refl, subst, sym, false, ℕ, List, ◌∷◌, ◌++◌, Option, codes, decimal, []}
 use Rattle.std.specs.Bool.{nat_eq}
 use Rattle.std.specs.List.{starts_with}
 use Rattle.noise_names.specs.declared.token.Role.TheVariants.{Initiator, Responder}
 use Rattle.noise_names.specs.Names.{Section, name_bytes}
 use Rattle.noise_names.specs.Plan.{Plan}
 use Rattle.noise_events.specs.declared.event.Event.{Event}
-use Rattle.noise_events.specs.declared.event.Event.TheVariants.{Write, Say, Deliver, Raw}
+use Rattle.noise_events.specs.declared.event.Event.TheVariants.{Say}
 use Rattle.noise_vectors.specs.HexWord.{hex_of}
 use Rattle.noise_vectors.specs.VectorFile.{IsOwn}
 use Rattle.noise_vectors.specs.VectorText.{block_text, event_words, line, lines_of, party_text, psk_words, version_text}

@@ -1,6 +1,5 @@
 -- Where a byte stands first, and what decimal numbers look like.
-use Rattle.std.proofs.Common.{arith, ◌≡◌, ◌∙◌, ◌+◌, ◌-◌, ◌<◌, ◌≤◌, ◌^◌, ◌==◌, not, true, false, ap, refl, sym, add-one, eq-eqb, lit<}
-use Rattle.std.proofs.Common.{ℕ, zero, suc, List, [], ◌∷◌, ◌++◌, Some, None, length, get_or, take, drop, Bool, inl, inr, subst, ◌⊎◌}
+use Rattle.std.proofs.Common.{arith, ◌≡◌, ◌∙◌, ◌+◌, ◌-◌, ◌<◌, ◌≤◌, ◌^◌, ◌==◌, not, true, false, ap, refl, sym, add-one, eq-eqb, lit<, ℕ, zero, suc, List, ◌∷◌, ◌++◌, Some, None, length, get_or, take, drop, Bool, inl, inr, subst, ◌⊎◌, []}
 use Rattle.std.specs.Prelude.{decimal, position}
 use Rattle.std.specs.List.{prefix_len}
 use Rattle.std.specs.Str.Parse.{AllDigits}
@@ -79,8 +78,7 @@ not_lacks byte [] after h =
     let same = eq-eqb byte byte refl in
     cc (rw same at parts.0)
 not_lacks byte (b ∷ bs) after h =
-    let parts = and_parts (not (b == byte)) (lacks byte (bs ++ byte ∷ after)) h in
-    not_lacks byte bs after parts.1
+    not_lacks byte bs after (and_parts (not (b == byte)) (lacks byte (bs ++ byte ∷ after)) h).1
 
 -- a text that is parted by its first such byte
 pub record Parted (byte : ℕ) (text : List ℕ) : Type 0 where
@@ -117,8 +115,7 @@ lacks-front byte text place found =
       | inl h ↦ absurd (not_lacks byte (take place text) (take (length text - (place + 1)) (drop (place + 1) text))
           (subst (λ (t : List ℕ). lacks byte t ≡ true) (parts-at byte text place found) h))
       | inr s ↦
-          let at = place-first byte text s.before s.after place found s.plain s.text_is in
-          let parts = parted byte text s.before s.after place s.text_is at in
+          let parts = parted byte text s.before s.after place s.text_is (place-first byte text s.before s.after place found s.plain s.text_is) in
           subst (λ (t : List ℕ). lacks byte t ≡ true) (sym parts.0) s.plain
     ]
 
@@ -136,8 +133,7 @@ lacks-digits byte (c ∷ cs) low h =
 -- a number has no byte that is less than a digit
 pub lacks-decimal : (byte n : ℕ) → byte < 48 → n < 2 ^ 64 → lacks byte (decimal n) ≡ true
 lacks-decimal byte n low small =
-    let numeral = decimal_is_IsNumeral n small in
-    lacks-digits byte (decimal n) low numeral.0.1
+    lacks-digits byte (decimal n) low (decimal_is_IsNumeral n small).0.1
 
 -- its first byte is a digit, and a zero only alone
 pub led-decimal : (n : ℕ) → n < 2 ^ 64

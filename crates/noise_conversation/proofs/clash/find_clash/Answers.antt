@@ -1,8 +1,8 @@
-use Rattle.std.proofs.Common.{◌≡◌, ◌∙◌, refl, sym, ℕ, zero, suc, ◌≤◌, min, List, [], ◌∷◌, length, drop, arith, None}
+use Rattle.std.proofs.Common.{◌≡◌, ◌∙◌, refl, sym, ℕ, zero, suc, ◌≤◌, min, List, ◌∷◌, length, drop, arith, None, []}
 use Rattle.std.specs.Global.{Global}
 use Rattle.std.specs.Prelude.{Vec}
 use Rattle.noise_duel.specs.Clash.{first_clash}
-use Rattle.noise_duel.specs.Entries.{bytes_of}
+use Rattle.noise_names.specs.Lists.{bytes_of}
 use Rattle.noise_conversation.proofs.clash.find_clash.Goals as goal
 
 no-right : (n : ℕ) (texts : List (List ℕ)) → first_clash n texts [] ≡ None
@@ -12,12 +12,10 @@ no-right n (text ∷ texts) = refl
 -- past the end of one of two lists
 none-left : (n i : ℕ) (xs ys : List (Vec ℕ Global)) → min (length xs) (length ys) ≤ i
     → first_clash n (bytes_of (drop i xs)) (bytes_of (drop i ys)) ≡ None
-none-left n zero [] ys h = refl
-none-left n zero (x ∷ xs) [] h = refl
 none-left n zero (x ∷ xs) (y ∷ ys) h = absurd (omega (arith, h))
-none-left n (suc i) [] ys h = refl
 none-left n (suc i) (x ∷ xs) [] h = no-right n (bytes_of (drop i xs))
 none-left n (suc i) (x ∷ xs) (y ∷ ys) h = none-left n i xs ys (omega (arith, h))
+none-left n _ _ _ h = refl
 
 pub returns : goal.returns
 returns c =

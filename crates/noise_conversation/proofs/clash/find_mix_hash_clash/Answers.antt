@@ -1,9 +1,6 @@
-use Rattle.std.proofs.Common.{◌≡◌, ◌∙◌, ℕ, List, sym, length, reverse, Some, None, arith}
-use Rattle.std.specs.Global.{Global}
-use Rattle.std.specs.Prelude.{Vec}
+use Rattle.std.proofs.Common.{◌∙◌, reverse, arith}
 use Rattle.noise_state.specs.History.{History}
-use Rattle.noise_duel.specs.Clash.{clash_position}
-use Rattle.noise_duel.specs.Entries.{bytes_of}
+use Rattle.noise_names.specs.Lists.{bytes_of}
 use Rattle.noise_conversation.proofs.Mixed.{both-within, clash-at, has-mixed, is-hash-clash, mixing}
 use Rattle.noise_conversation.proofs.clash.find_mix_hash_clash.Goals as goal
 

@@ -1,4 +1,4 @@
-use Rattle.std.proofs.Common.{◌≡◌, ◌≤◌, ◌∷◌, ◌++◌, ℕ, List, [], arith, length, take, sym, ap, subst, ◌∙◌}
+use Rattle.std.proofs.Common.{◌≡◌, ◌≤◌, ◌∷◌, ◌++◌, ℕ, List, arith, length, take, sym, ap, subst, ◌∙◌, []}
 use Rattle.noise_session.specs.Datagrams.{DatagramsValue, DatagramsMatch}
 use Rattle.noise_duel.specs.DatagramRuns.PartySeals.{seals_nothing}
 use Rattle.noise_duel.specs.DatagramSides.{sealed_datagrams, sealing}

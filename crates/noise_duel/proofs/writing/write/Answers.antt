@@ -1,10 +1,11 @@
-use Rattle.std.proofs.Common.{◌≡◌, ◌≤◌, ℕ, take, length, sym, subst, ap, ◌∙◌, arith}
+use Rattle.std.proofs.Common.{◌≡◌, ◌≤◌, ℕ, take, length, sym, subst, ap, ◌∙◌, arith, Vec, Global}
 use Rattle.noise_session.specs.Ends.{EndState, EndMatches}
 use Rattle.noise_duel.specs.Notes.{Wrote}
 use Rattle.noise_duel.specs.Sides.{with_state}
 use Rattle.noise_duel.specs.Runs.{SideWrites}
 use Rattle.noise_duel.specs.Runs.SideWrites.{writes_nothing}
-use Rattle.noise_duel.proofs.Linking.{sends-writes, front-of, frames-unchanged, length-bytes_of}
+use Rattle.noise_duel.proofs.Linking.{sends-writes, front-of, frames-unchanged}
+use Rattle.std.proofs.lemmas.List.{length-map}
 use Rattle.noise_duel.proofs.writing.write.Goals as goal
 
 pub returns-in_ok-push-in-Ok : goal.returns-in_ok-push-in-Ok
@@ -13,7 +14,7 @@ returns-in_ok-push-in-Ok g c s matches frames =
     let bytes = take c.in-Ok.len c.write_into.new.out in
     let wrote = sends-writes s c.args.payload.now bytes sent.0 sent.1 in
     let number : length s.frames ≡ c.len-number.result =
-    ap length (sym frames) ∙ length-bytes_of c.args.frames.now.items ∙ sym (c.len-number.ensures ∙ c.args.frames.now.ok.0) in
+    ap length (sym frames) ∙ length-map c.args.frames.now.items (λ (v : Vec ℕ Global). v.items) ∙ sym (c.len-number.ensures ∙ c.args.frames.now.ok.0) in
     let room : c.in-Ok.len ≤ c.in_ok-frame.frame.len =
     omega (arith, c.in-Ok.ensures.len.1, c.as_mut_slice.ensures.len, c.in_ok-frame.ensures.len, c.write_into.auto.out) in
     let written = c.truncate.ensures.items ∙ front-of c.write_into.new.out _ c.in-Ok.len c.in_ok-frame.frame.len room c.in-Ok.ensures.len.1 in

@@ -1,9 +1,8 @@
-use Rattle.std.proofs.Common.{rules, ◌≡◌, ◌∙◌, ap, inl, inr, lit<, refl, subst, true, ℕ, List, [], ◌++◌, Option, Some, codes}
+use Rattle.std.proofs.Common.{rules, ◌≡◌, ◌∙◌, ap, inl, inr, lit<, refl, subst, true, ℕ, List, ◌++◌, Option, Some, codes, []}
 use Rattle.std.proofs.lemmas.List.Elements.{All-nil}
 use Rattle.std.specs.Prelude.{IfSome}
 use Rattle.std.specs.Bool.{nat_eq}
 use Rattle.std.specs.List.{All, starts_with}
-use Rattle.std.proofs.lemmas.Result.{err_from_is_err_and}
 use Rattle.noise_vectors.specs.VectorFile.{IsDatagramEvent}
 use Rattle.noise_vectors.specs.VectorText.{AfterDatagrams, datagram_event_words, datagrams_text, lines_of, window_words}
 use Rattle.noise_vectors.specs.declared.vector.FileDatagrams.{FileDatagrams}
@@ -15,6 +14,7 @@ use Rattle.noise_vectors.proofs.LineLemmas.{begun-by}
 use Rattle.noise_vectors.proofs.PartyReported.{window-reported}
 use Rattle.noise_vectors.proofs.ReportedLemmas.{counted-ended, ending-reported, wrong-line}
 use Rattle.noise_vectors.proofs.additions.read_datagrams.Goals.{After-read_window}
+use Rattle.noise_vectors.proofs.Results.{err-is}
 use Rattle.noise_vectors.proofs.additions.read_datagrams.Goals as goal
 use Rattle.std.proofs.lemmas.Bool.{false≢true}
 
@@ -46,15 +46,13 @@ returns-in_default-clause-every c =
 pub returns-in_err-end-clause-every : goal.returns-in_err-end-clause-every
 returns-in_err-end-clause-every c =
     λ over rest right allowed after e.
-    let r = line-read (goal.at.returns-in_err-end-clause-every c).After-read_window over rest after e in
-    absurd (false≢true (c.in_err-end.ensures.ended.1 r.4))
+    absurd (false≢true (c.in_err-end.ensures.ended.1 (line-read (goal.at.returns-in_err-end-clause-every c).After-read_window over rest after e).4))
 
 pub returns-in_err-events-clause-every : goal.returns-in_err-events-clause-every
 returns-in_err-events-clause-every c =
-    let p = err_from_is_err_and c.from_residual-in_err-events.result c.from_residual-in_err-events.ensures.1 in
     λ over rest right allowed after e.
     let r = line-read (goal.at.returns-in_err-events-clause-every c).After-read_window over rest after e in
-    rw (p.1, p.2) (c.in_err-events.ensures.every r.0.events.items rest (subst AreRight r.1 right) after r.3)
+    rw (err-is c.from_residual-in_err-events.result c.from_residual-in_err-events.ensures.1) (c.in_err-events.ensures.every r.0.events.items rest (subst AreRight r.1 right) after r.3)
 
 pub returns-clause-every : goal.returns-clause-every
 returns-clause-every c =
@@ -73,9 +71,8 @@ returns-in_default-clause-reported c =
 pub returns-in_err-end-clause-reported : goal.returns-in_err-end-clause-reported
 returns-in_err-end-clause-reported c =
     let other : ¬ (c.args.allowed ≡ SayOnly) = search rules in
-    let p = err_from_is_err_and c.from_residual-in_err-end.result c.from_residual-in_err-end.ensures.1 in
     let last = (c.in_ok-line.ensures.read.last c.in_err-end.ensures.fault.0).0 in
-    rw (p.1, p.2) (inr (inl (
+    rw (err-is c.from_residual-in_err-end.result c.from_residual-in_err-end.ensures.1) (inr (inl (
       ending-reported c.in_ok-line.ensures.read c.in_err-end.ensures.fault,
       record {
         window = c.in-Some.window;
@@ -89,13 +86,11 @@ returns-in_err-end-clause-reported c =
 
 pub returns-clause-counted : goal.returns-clause-counted
 returns-clause-counted c =
-    let n = counted-ended c.in_ok-line.ensures.read (c.in_ok-end.ensures.ended.0 refl) in
-    c.in_ok-events.ensures.counted ∙ n
+    c.in_ok-events.ensures.counted ∙ (counted-ended c.in_ok-line.ensures.read (c.in_ok-end.ensures.ended.0 refl))
 
 pub returns-in_err-events-clause-reported : goal.returns-in_err-events-clause-reported
 returns-in_err-events-clause-reported c =
     let other : ¬ (c.args.allowed ≡ SayOnly) = search rules in
-    let p = err_from_is_err_and c.from_residual-in_err-events.result c.from_residual-in_err-events.ensures.1 in
     let n = counted-ended c.in_ok-line.ensures.read (c.in_ok-end.ensures.ended.0 refl) in
-    rw (p.1, p.2) (window-reported c.args.allowed c.in-Some.window c.args.lines.now.rest.now c.in_ok-line.line.now c.next.new.self.rest.now (last_number c.args.lines.now) _ (c.in_ok-line.ensures.read.ended (c.in_ok-end.ensures.ended.0 refl)) c.in-Some.ensures.text other
+    rw (err-is c.from_residual-in_err-events.result c.from_residual-in_err-events.ensures.1) (window-reported c.args.allowed c.in-Some.window c.args.lines.now.rest.now c.in_ok-line.line.now c.next.new.self.rest.now (last_number c.args.lines.now) _ (c.in_ok-line.ensures.read.ended (c.in_ok-end.ensures.ended.0 refl)) c.in-Some.ensures.text other
     (subst (λ (n : ℕ). ReportsAfter datagram_lines c.next.new.self.rest.now n c.in_err-events.field-0.0) n c.in_err-events.ensures.reported))

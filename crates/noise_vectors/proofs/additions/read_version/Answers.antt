@@ -1,25 +1,23 @@
 use Rattle.std.proofs.Common.{rules, ◌≡◌, ◌∙◌, ap, inl, inr, subst, true, ℕ, []}
-use Rattle.std.proofs.lemmas.Result.{err_from_is_err_and}
 use Rattle.noise_vectors.specs.VectorFile.{IsAllowedVersion, IsVersion}
 use Rattle.noise_vectors.specs.VectorText.{expect_words, lines_of, version_text}
 use Rattle.noise_vectors.proofs.AdditionLemmas.{expected-after, no-datagrams, second-has}
 use Rattle.noise_vectors.specs.ReaderFaults.{ReportsAfter, expect_lines}
+use Rattle.noise_vectors.proofs.Results.{err-is}
 use Rattle.noise_vectors.proofs.additions.read_version.Goals as goal
 
 pub returns-in_err-datagrams-clause-every : goal.returns-in_err-datagrams-clause-every
 returns-in_err-datagrams-clause-every c =
-    let p = err_from_is_err_and c.from_residual-in_err-datagrams.result c.from_residual-in_err-datagrams.ensures.1 in
     let second : c.args.second ≡ true = search rules in
     λ version right allowed which e.
     let (a, is) = second-has version (which ∙ second) in
     let h = subst IsVersion is right in
     let none = no-datagrams c.args.allowed a (subst (IsAllowedVersion c.args.allowed) is allowed) in
-    rw (p.1, p.2) (c.in_err-datagrams.ensures.every a.datagrams (lines_of expect_words a.expected.items []) h.0 none
+    rw (err-is c.from_residual-in_err-datagrams.result c.from_residual-in_err-datagrams.ensures.1) (c.in_err-datagrams.ensures.every a.datagrams (lines_of expect_words a.expected.items []) h.0 none
     (expected-after a.expected.items) (e ∙ ap version_text is))
 
 pub returns-in_err-expected-clause-every : goal.returns-in_err-expected-clause-every
 returns-in_err-expected-clause-every c =
-    let p = err_from_is_err_and c.from_residual-in_err-expected.result c.from_residual-in_err-expected.ensures.1 in
     let second : c.args.second ≡ true = search rules in
     λ version right allowed which e.
     let (a, is) = second-has version (which ∙ second) in
@@ -27,22 +25,20 @@ returns-in_err-expected-clause-every c =
     let none = no-datagrams c.args.allowed a (subst (IsAllowedVersion c.args.allowed) is allowed) in
     let read = c.in_ok-datagrams.ensures.every a.datagrams (lines_of expect_words a.expected.items []) h.0 none
     (expected-after a.expected.items) (e ∙ ap version_text is) in
-    rw (p.1, p.2) (c.in_err-expected.ensures.every a.expected.items h.1 read)
+    rw (err-is c.from_residual-in_err-expected.result c.from_residual-in_err-expected.ensures.1) (c.in_err-expected.ensures.every a.expected.items h.1 read)
 
 pub returns-in_err-datagrams-clause-reported : goal.returns-in_err-datagrams-clause-reported
 returns-in_err-datagrams-clause-reported c =
-    let p = err_from_is_err_and c.from_residual-in_err-datagrams.result c.from_residual-in_err-datagrams.ensures.1 in
     let second : c.args.second ≡ true = search rules in λ over.
-    rw (p.1, p.2) (inr (second, inl c.in_err-datagrams.ensures.reported))
+    rw (err-is c.from_residual-in_err-datagrams.result c.from_residual-in_err-datagrams.ensures.1) (inr (second, inl c.in_err-datagrams.ensures.reported))
 
 pub returns-in_err-expected-clause-reported : goal.returns-in_err-expected-clause-reported
 returns-in_err-expected-clause-reported c =
-    let p = err_from_is_err_and c.from_residual-in_err-expected.result c.from_residual-in_err-expected.ensures.1 in
     let second : c.args.second ≡ true = search rules in λ over.
     let n = c.in_ok-datagrams.ensures.counted in
     let after = c.read_datagrams.new.lines.rest.now in
     let reports = c.in_err-expected.ensures.reported in
-    rw (p.1, p.2) (inr (
+    rw (err-is c.from_residual-in_err-expected.result c.from_residual-in_err-expected.ensures.1) (inr (
       second,
       inr (record {
         datagrams = c.in_ok-datagrams.datagrams;

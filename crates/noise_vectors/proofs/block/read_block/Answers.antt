@@ -1,8 +1,8 @@
 use Rattle.std.proofs.Common.{◌∙◌, inl, inr, refl, sym}
 use Rattle.noise_vectors.proofs.BlockLemmas.{block-cut, block-lines, lined-pattern}
-use Rattle.std.proofs.lemmas.Result.{err_from_is_err_and}
 use Rattle.noise_vectors.specs.Lines.{last_number}
 use Rattle.noise_vectors.proofs.PartLemmas.{block-wrong}
+use Rattle.noise_vectors.proofs.Results.{err-is}
 use Rattle.noise_vectors.proofs.block.read_block.Goals as goal
 
 pub returns-in_err-text-clause-every : goal.returns-in_err-text-clause-every
@@ -36,13 +36,13 @@ returns-in_ok-end-in-Ok-clause-counted c = c.in_ok-text.ensures.counted (c.in_ok
 
 pub returns-in_err-text-clause-reported : goal.returns-in_err-text-clause-reported
 returns-in_err-text-clause-reported c =
-    let p = err_from_is_err_and c.from_residual.result c.from_residual.ensures.1 in λ right.
-    rw (p.1, p.2) (inl (c.in_err-text.ensures.reported))
+    λ right.
+    rw (err-is c.from_residual.result c.from_residual.ensures.1) (inl (c.in_err-text.ensures.reported))
 
 pub returns-in_err-end-in-Ok-clause-reported : goal.returns-in_err-end-in-Ok-clause-reported
 returns-in_err-end-in-Ok-clause-reported c =
-    let p = err_from_is_err_and c.from_residual-in_err-end-in-Ok.result c.from_residual-in_err-end-in-Ok.ensures.1 in λ right.
-    rw (p.1, p.2) (inr (inl (block-cut c.args.protocol.now c.args.lines.now.rest.now c.in_ok-text.text.now (last_number c.args.lines.now)
+    λ right.
+    rw (err-is c.from_residual-in_err-end-in-Ok.result c.from_residual-in_err-end-in-Ok.ensures.1) (inr (inl (block-cut c.args.protocol.now c.args.lines.now.rest.now c.in_ok-text.text.now (last_number c.args.lines.now)
     c.take_block.new.lines.number _ c.in-Ok.pattern c.in-Ok.ensures.right c.in-Ok.ensures.named c.in-Ok.ensures.spelled c.in_ok-text.ensures.block
     (λ before rest h e.
     let read = c.in_ok-text.ensures.every before rest h e in

@@ -1,4 +1,4 @@
-use Rattle.std.proofs.Common.{rules, ◌≡◌, ◌∙◌, ◌+◌, ◌-◌, ap, refl, sym, List, [], ℕ, ◌++◌, codes, length, take}
+use Rattle.std.proofs.Common.{rules, ◌≡◌, ◌∙◌, ◌+◌, ◌-◌, ap, refl, sym, List, ℕ, ◌++◌, codes, length, take, []}
 use Rattle.std.specs.Prelude.{IsTrue}
 use Rattle.std.proofs.lemmas.Slice.Eq.{bytes_eq-Decides}
 use Rattle.noise_vectors.specs.VectorText.{line}
@@ -6,8 +6,8 @@ use Rattle.noise_vectors.proofs.BlockLemmas.{front-is, Left-last, Left-next, Lef
 use Rattle.noise_vectors.proofs.LineLemmas.{Ends-after, Ends-whole}
 use Rattle.noise_vectors.specs.declared.faults.LineKind.TheVariants as kinds
 use Rattle.noise_vectors.specs.declared.faults.VectorFault.TheVariants.{Line}
-use Rattle.std.proofs.lemmas.Result.{err_from_is_err_and}
 use Rattle.noise_vectors.proofs.ReportedLemmas.{counted-ended, counted-last, ending-reported}
+use Rattle.noise_vectors.proofs.Results.{err-is}
 use Rattle.noise_vectors.proofs.block.take_block.Goals as goal
 
 pub loop-lines-init : goal.loop-lines-init
@@ -77,9 +77,8 @@ returns-then-eq-clause-last c = λ open_. counted-last c.in_ok-next.ensures.read
 
 pub returns-in_err-next-clause-reported : goal.returns-in_err-next-clause-reported
 returns-in_err-next-clause-reported c =
-    let p = err_from_is_err_and c.from_residual.result c.from_residual.ensures.1 in
     let none = c.in_err-next.ensures.missing.0 in
-    rw (p.1, p.2) (
+    rw (err-is c.from_residual.result c.from_residual.ensures.1) (
       c.in_err-next.ensures.missing.1 ∙ ap (λ (k : ℕ). Line (k + 1) kinds.Ending) c.loop-lines.invariant.2,
       Read-open c.args.lines.now.rest.now c.loop-lines.lines.rest.now c.loop-lines.invariant.3 (rw none refl) (λ e. let bad : [] ≡ codes "end" = sym none ∙ e in cc bad),
     )
@@ -90,8 +89,7 @@ returns-in_err-end-clause-reported c =
     let other : ¬ (c.in_ok-next.field-0.now ≡ codes "end") =
     λ e. let yes = (bytes_eq-Decides c.in_ok-next.field-0.now c.as_slice.result.now).1 (e ∙ sym word) in cc (c.eq.ensures, yes) in
     let last = (c.in_ok-next.ensures.read.last c.in_err-end.ensures.fault.0).0 in
-    let p = err_from_is_err_and c.from_residual-in_err-end.result c.from_residual-in_err-end.ensures.1 in
-    rw (p.1, p.2) (
+    rw (err-is c.from_residual-in_err-end.result c.from_residual-in_err-end.ensures.1) (
       ending-reported c.in_ok-next.ensures.read c.in_err-end.ensures.fault ∙ ap (λ (k : ℕ). Line (k + 1) kinds.Ending) c.loop-lines.invariant.2,
       Read-open c.args.lines.now.rest.now c.loop-lines.lines.rest.now c.loop-lines.invariant.3 (rw last c.in_ok-next.ensures.read.plain) (λ e. other (sym last ∙ e)),
     )

@@ -1,4 +1,4 @@
-use Rattle.std.proofs.Common.{rules, ◌≡◌, ◌∙◌, ap, subst, sym, [], codes}
+use Rattle.std.proofs.Common.{rules, ◌≡◌, ◌∙◌, ap, subst, sym, codes, []}
 use Rattle.std.proofs.lemmas.Slice.Eq.{bytes_eq-Decides}
 use Rattle.noise_vectors.specs.Cuts.{AreLengths}
 use Rattle.noise_vectors.specs.VectorText.{lengths_word}

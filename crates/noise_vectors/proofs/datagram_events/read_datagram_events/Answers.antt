@@ -1,4 +1,4 @@
-use Rattle.std.proofs.Common.{rules, refl, arith, ◌≡◌, ◌+◌, ◌∙◌, ap, sym, subst, List, [], ◌∷◌, ◌++◌, length, ◌<◌, ◌^◌}
+use Rattle.std.proofs.Common.{rules, refl, arith, ◌≡◌, ◌+◌, ◌∙◌, ap, sym, subst, List, ◌∷◌, ◌++◌, length, ◌<◌, ◌^◌, []}
 use Rattle.std.proofs.lemmas.Bool.{false≢true}
 use Rattle.std.specs.Prelude.{IsSome, IsTrue}
 use Rattle.std.specs.List.{All}
@@ -8,12 +8,11 @@ use Rattle.noise_vectors.specs.VectorFile.{IsDatagramEvent}
 use Rattle.noise_vectors.specs.VectorText.{AfterDatagrams, datagram_event_words, lines_of}
 use Rattle.noise_vectors.proofs.AdditionLemmas.{datagram_event-stands, datagram_event_words-line}
 use Rattle.noise_vectors.proofs.LineLemmas.{lines_of-more}
-use Rattle.std.proofs.lemmas.Result.{err_from_is_err_and}
 use Rattle.noise_vectors.specs.ReaderFaults.{datagram_lines}
 use Rattle.noise_vectors.proofs.PartLemmas.{lines-over, next-of, reports-cut, reports-wrong}
 use Rattle.noise_vectors.proofs.ReportedLemmas.{counted-ended}
 use Rattle.noise_vectors.proofs.HeldLemmas.{lines-long}
-use Rattle.noise_vectors.proofs.Results.{chosen_ok}
+use Rattle.noise_vectors.proofs.Results.{chosen_ok, err-is}
 use Rattle.noise_vectors.proofs.datagram_events.read_datagram_events.Goals as goal
 
 pub loop-alloc-init : goal.loop-alloc-init
@@ -38,8 +37,7 @@ returns-in_err-end-clause-every c = λ events rest right over e.
     c.loop-alloc.invariant.0 c.loop-alloc.invariant.1 e right over
     (λ stop. false≢true (sym c.loop-alloc-test.true ∙ c.is_after_datagrams.ensures.1 stop)) in
     let read = c.in_ok-line.ensures.every (datagram_event_words f.next) f.after (datagram_event_words-line f.next f.good) f.left_is in
-    let bad = c.in_err-end.ensures.ended.1 read.2 in
-    absurd (false≢true bad)
+    absurd (false≢true (c.in_err-end.ensures.ended.1 read.2))
 
 pub loop-alloc-preserved : goal.loop-alloc-preserved
 loop-alloc-preserved c =
@@ -80,6 +78,5 @@ returns-in_err-end-clause-reported c =
     let few : length c.loop-alloc.events.items + 1 < 2 ^ 63 = omega (arith, long) in
     let found : c.in_ok-line.line.now ≡ datagram_event_words c.in-Some.event = rw c.in-Some.is at c.in_ok-event.ensures.text in
     let is_event : IsDatagramEvent c.in-Some.event = rw c.in-Some.is at c.in_ok-event.ensures.right in
-    let p = err_from_is_err_and c.from_residual-in_err-end.result c.from_residual-in_err-end.ensures.1 in
-    rw (p.1, p.2) (reports-cut datagram_lines c.args.lines.now c.loop-alloc.events.items c.in-Some.event
+    rw (err-is c.from_residual-in_err-end.result c.from_residual-in_err-end.ensures.1) (reports-cut datagram_lines c.args.lines.now c.loop-alloc.events.items c.in-Some.event
     c.loop-alloc.invariant.0 c.loop-alloc.invariant.1 few c.loop-alloc.invariant.2 c.in_ok-line.ensures.read c.in_err-end.ensures.fault found is_event)

@@ -1,4 +1,4 @@
-use Rattle.std.proofs.Common.{rules, refl, arith, ◌≡◌, ◌+◌, ◌∙◌, ap, sym, subst, List, [], ◌∷◌, ◌++◌, length, ◌<◌, ◌^◌}
+use Rattle.std.proofs.Common.{rules, refl, arith, ◌≡◌, ◌+◌, ◌∙◌, ap, sym, subst, List, ◌∷◌, ◌++◌, length, ◌<◌, ◌^◌, []}
 use Rattle.std.proofs.lemmas.Bool.{false≢true}
 use Rattle.std.specs.Prelude.{IsSome, IsTrue}
 use Rattle.std.specs.List.{All}
@@ -9,12 +9,11 @@ use Rattle.noise_vectors.specs.VectorText.{AfterEvents, event_words, lines_of}
 use Rattle.noise_vectors.proofs.AdditionLemmas.{event-stands}
 use Rattle.noise_vectors.proofs.EventLemmas.{all-right, right-plain}
 use Rattle.noise_vectors.proofs.LineLemmas.{lines_of-more}
-use Rattle.std.proofs.lemmas.Result.{err_from_is_err_and}
 use Rattle.noise_vectors.specs.ReaderFaults.{event_lines}
 use Rattle.noise_vectors.proofs.PartLemmas.{lines-over, next-of, reports-cut, reports-wrong}
 use Rattle.noise_vectors.proofs.ReportedLemmas.{counted-ended}
 use Rattle.noise_vectors.proofs.HeldLemmas.{lines-long}
-use Rattle.noise_vectors.proofs.Results.{chosen_ok}
+use Rattle.noise_vectors.proofs.Results.{chosen_ok, err-is}
 use Rattle.noise_vectors.proofs.events.read_events.Goals as goal
 
 pub loop-alloc-init : goal.loop-alloc-init
@@ -40,8 +39,7 @@ returns-in_err-end-clause-every c = λ events rest right allowed over e.
     c.loop-alloc.invariant.0 (all-right c.args.allowed c.loop-alloc.events.items c.loop-alloc.invariant.2 c.loop-alloc.invariant.1) e (all-right c.args.allowed events right allowed) over
     (λ stop. false≢true (sym c.loop-alloc-test.true ∙ c.is_after_events.ensures.1 stop)) in
     let read = c.in_ok-line.ensures.every (event_words f.next) f.after (right-plain c.args.allowed f.next f.good) f.left_is in
-    let bad = c.in_err-end.ensures.ended.1 read.2 in
-    absurd (false≢true bad)
+    absurd (false≢true (c.in_err-end.ensures.ended.1 read.2))
 
 pub loop-alloc-preserved : goal.loop-alloc-preserved
 loop-alloc-preserved c =
@@ -86,6 +84,5 @@ returns-in_err-end-clause-reported c =
     let found : c.in_ok-line.line.now ≡ event_words c.in-Some.event = rw c.in-Some.is at c.in_ok-event.ensures.text in
     let is_allowed : IsAllowed c.args.allowed c.in-Some.event = rw c.in-Some.is at c.in_ok-event.ensures.allowed in
     let is_event : IsEvent c.in-Some.event = rw c.in-Some.is at c.in_ok-event.ensures.right in
-    let p = err_from_is_err_and c.from_residual-in_err-end.result c.from_residual-in_err-end.ensures.1 in
-    rw (p.1, p.2) (reports-cut (event_lines c.args.allowed) c.args.lines.now c.loop-alloc.events.items c.in-Some.event
+    rw (err-is c.from_residual-in_err-end.result c.from_residual-in_err-end.ensures.1) (reports-cut (event_lines c.args.allowed) c.args.lines.now c.loop-alloc.events.items c.in-Some.event
     c.loop-alloc.invariant.0 (all-right c.args.allowed c.loop-alloc.events.items c.loop-alloc.invariant.2 c.loop-alloc.invariant.1) few c.loop-alloc.invariant.3 c.in_ok-line.ensures.read c.in_err-end.ensures.fault found (is_event, is_allowed))

@@ -1,5 +1,5 @@
 use Rattle.std.proofs.Common.{rules, arith, ◌≡◌, ◌∙◌, sym, length}
-use Rattle.noise_vectors.specs.Expectations.{bytes_of}
+use Rattle.noise_names.specs.Lists.{bytes_of}
 use Rattle.noise_vectors.proofs.ExpectationLemmas.{all-same, lines-len, unmet-at}
 use Rattle.noise_vectors.proofs.expectations.first_unmet.Goals as goal
 use Rattle.noise_vectors.proofs.expectations.first_unmet.Goals.{else-same-lines-via-then-same-lines+else-same-expected, else-same-lines-via-else-same-lines}

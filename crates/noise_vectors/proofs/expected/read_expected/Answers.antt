@@ -1,4 +1,4 @@
-use Rattle.std.proofs.Common.{rules, refl, arith, ◌≡◌, ◌+◌, ◌∙◌, ap, sym, subst, ℕ, Vec, List, [], ◌∷◌, ◌++◌, length, ◌<◌, ◌^◌, codes}
+use Rattle.std.proofs.Common.{rules, refl, arith, ◌≡◌, ◌+◌, ◌∙◌, ap, sym, subst, ℕ, Vec, List, ◌∷◌, ◌++◌, length, ◌<◌, ◌^◌, codes, []}
 use Rattle.std.specs.Global.{Global}
 use Rattle.std.specs.Prelude.{IsTrue}
 use Rattle.std.specs.List.{All}
@@ -6,17 +6,16 @@ use Rattle.std.proofs.lemmas.List.Elements.{All-nil, All-push}
 use Rattle.noise_vectors.specs.VectorFile.{IsExpected}
 use Rattle.noise_vectors.specs.VectorText.{expect_line, expect_words, lines_of}
 use Rattle.noise_vectors.proofs.LineLemmas.{lines_of-more}
-use Rattle.std.proofs.lemmas.Result.{err_from_is_err_and}
 use Rattle.noise_vectors.specs.ReaderFaults.{expect_kind, expect_lines}
 use Rattle.noise_vectors.specs.declared.faults.LineKind.{LineKind}
 use Rattle.noise_vectors.specs.declared.faults.VectorFault.TheVariants.{Line}
-use Rattle.noise_vectors.specs.Expectations.{bytes_of}
+use Rattle.noise_names.specs.Lists.{bytes_of}
 use Rattle.std.proofs.lemmas.List.{length-append}
 use Rattle.noise_vectors.proofs.PartLemmas.{Next, next-of, reports-cut, reports-wrong}
 use Rattle.noise_vectors.proofs.ReportedLemmas.{counted-ended}
 use Rattle.noise_vectors.proofs.HeldLemmas.{expect-more, good-plain, good-stands, partial-good, partial-lines, lines-long}
 use Rattle.noise_vectors.proofs.expected.read_expected.Goals as goal
-use Rattle.noise_vectors.proofs.Results.{chosen_ok}
+use Rattle.noise_vectors.proofs.Results.{chosen_ok, err-is}
 use Rattle.std.proofs.lemmas.Bool.{false≢true}
 
 abbrev IsRight : Vec ℕ Global → Type 0
@@ -41,15 +40,13 @@ pub returns-in_default-clause-every : goal.returns-in_default-clause-every
 returns-in_default-clause-every c = λ expected right e.
     let f = next-expected c.loop-alloc.expected.items expected c.args.lines.now.rest.now c.loop-alloc.lines.rest.now c.loop-alloc.invariant.0
     c.loop-alloc.invariant.1 e right (λ stop. false≢true (sym c.loop-alloc-test.true ∙ c.is_empty.ensures.1 stop)) in
-    let read = c.in_ok-line.ensures.every (expect_line f.next) f.after (good-plain f.next f.good) f.left_is in
-    absurd (c.in_default.ensures.every f.next f.good.0 read.0 tt)
+    absurd (c.in_default.ensures.every f.next f.good.0 (c.in_ok-line.ensures.every (expect_line f.next) f.after (good-plain f.next f.good) f.left_is).0 tt)
 
 pub returns-in_err-end-clause-every : goal.returns-in_err-end-clause-every
 returns-in_err-end-clause-every c = λ expected right e.
     let f = next-expected c.loop-alloc.expected.items expected c.args.lines.now.rest.now c.loop-alloc.lines.rest.now c.loop-alloc.invariant.0
     c.loop-alloc.invariant.1 e right (λ stop. false≢true (sym c.loop-alloc-test.true ∙ c.is_empty.ensures.1 stop)) in
-    let read = c.in_ok-line.ensures.every (expect_line f.next) f.after (good-plain f.next f.good) f.left_is in
-    absurd (false≢true (c.in_err-end.ensures.ended.1 read.2))
+    absurd (false≢true (c.in_err-end.ensures.ended.1 (c.in_ok-line.ensures.every (expect_line f.next) f.after (good-plain f.next f.good) f.left_is).2))
 
 pub loop-alloc-preserved : goal.loop-alloc-preserved
 loop-alloc-preserved c =
@@ -87,6 +84,5 @@ returns-in_err-end-clause-reported c =
     let words : length c.in_ok-line.line.now ≡ 7 + length c.in-Some.words.now = ap length c.in-Some.ensures.text ∙ length-append (codes "expect ") c.in-Some.words.now in
     let last : length c.loop-alloc.lines.rest.now ≡ length c.in_ok-line.line.now = ap length (c.in_ok-line.ensures.read.last c.in_err-end.ensures.fault.0).0 in
     let short : length c.loop-alloc.lines.rest.now < 2 ^ 63 = omega arith in
-    let p = err_from_is_err_and c.from_residual-in_err-end.result c.from_residual-in_err-end.ensures.1 in
-    rw (p.1, p.2) (reports-cut expect_lines c.args.lines.now (bytes_of c.loop-alloc.expected.items) c.in-Some.words.now
+    rw (err-is c.from_residual-in_err-end.result c.from_residual-in_err-end.ensures.1) (reports-cut expect_lines c.args.lines.now (bytes_of c.loop-alloc.expected.items) c.in-Some.words.now
     text (partial-good c.loop-alloc.expected.items c.loop-alloc.invariant.1) few c.loop-alloc.invariant.3 c.in_ok-line.ensures.read c.in_err-end.ensures.fault c.in-Some.ensures.text (c.in-Some.ensures.right, omega (arith, words, last, short)))

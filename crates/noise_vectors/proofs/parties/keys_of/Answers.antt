@@ -15,26 +15,23 @@ pub returns-in_err-e-clause-every : goal.returns-in_err-e-clause-every
 returns-in_err-e-clause-every c =
     let split = strip_prefix_is Decides-eqb c.args.words.now c.args.front.now (Some c.in_ok-strip_prefix.field-0) c.in_ok-strip_prefix.ensures.cases in
     λ e s he hs is.
-    let keys = after-front c.args.words.now c.args.front.now c.in_ok-strip_prefix.field-0.now (key_words e s) split is in
-    absurd (c.in_err-e.ensures.every (key_word e) (key_word s) (lacks-key_word 32 e (lit< tt) he) keys tt)
+    absurd (c.in_err-e.ensures.every (key_word e) (key_word s) (lacks-key_word 32 e (lit< tt) he) (after-front _ _ _ split is) tt)
 
 pub returns-in_err-read_optional_key-clause-every : goal.returns-in_err-read_optional_key-clause-every
 returns-in_err-read_optional_key-clause-every c =
     let split = strip_prefix_is Decides-eqb c.args.words.now c.args.front.now (Some c.in_ok-strip_prefix.field-0) c.in_ok-strip_prefix.ensures.cases in
     λ e s he hs is.
-    let keys = after-front c.args.words.now c.args.front.now c.in_ok-strip_prefix.field-0.now (key_words e s) split is in
+    let keys = after-front _ _ _ split is in
     let words = c.in_ok-e.ensures.every (key_word e) (key_word s) (lacks-key_word 32 e (lit< tt) he) keys in
-    let none = c.in_err-read_optional_key.ensures.every e he words.0 in
-    absurd (cc (none))
+    cc (c.in_err-read_optional_key.ensures.every e he words.0)
 
 pub returns-in_err-read_optional_key-2-clause-every : goal.returns-in_err-read_optional_key-2-clause-every
 returns-in_err-read_optional_key-2-clause-every c =
     let split = strip_prefix_is Decides-eqb c.args.words.now c.args.front.now (Some c.in_ok-strip_prefix.field-0) c.in_ok-strip_prefix.ensures.cases in
     λ e s he hs is.
-    let keys = after-front c.args.words.now c.args.front.now c.in_ok-strip_prefix.field-0.now (key_words e s) split is in
+    let keys = after-front _ _ _ split is in
     let words = c.in_ok-e.ensures.every (key_word e) (key_word s) (lacks-key_word 32 e (lit< tt) he) keys in
-    let none = c.in_err-read_optional_key-2.ensures.every s hs words.1 in
-    absurd (cc (none))
+    cc (c.in_err-read_optional_key-2.ensures.every s hs words.1)
 
 pub returns-clause-text : goal.returns-clause-text
 returns-clause-text c =

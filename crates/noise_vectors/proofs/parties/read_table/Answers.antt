@@ -1,20 +1,19 @@
-use Rattle.std.proofs.Common.{rules, ℕ, List, ◌≡◌, ◌∙◌, ◌+◌, ◌≤◌, ap, subst, sym, refl, arith, [], ◌∷◌, ◌++◌, true, false, true≢false, length}
+use Rattle.std.proofs.Common.{rules, ℕ, List, ◌≡◌, ◌∙◌, ◌+◌, ◌≤◌, ap, subst, sym, refl, arith, ◌∷◌, ◌++◌, false, true≢false, length, []}
 use Rattle.std.proofs.lemmas.Bool.{false≢true}
 use Rattle.std.specs.Prelude.{IsTrue}
 use Rattle.std.specs.List.{All}
 use Rattle.std.proofs.lemmas.List.{length-append}
 use Rattle.std.proofs.lemmas.List.Elements.{All-push}
-use Rattle.noise_keys.specs.Table.{Table}
-use Rattle.noise_keys.specs.Table.{TableEntry}
+use Rattle.noise_keys.specs.Table.{Table, TableEntry}
 use Rattle.noise_vectors.specs.VectorFile.{IsEntry}
 use Rattle.noise_vectors.specs.VectorText.{answer_words, lines_of}
 use Rattle.noise_vectors.proofs.LineLemmas.{begun-by, lines_of-more}
 use Rattle.noise_vectors.proofs.PartyLemmas.{answer-stands, begins, lacks-answer_words}
-use Rattle.std.proofs.lemmas.Result.{err_from_is_err_and}
 use Rattle.noise_vectors.specs.ReaderFaults.{answer_lines}
 use Rattle.noise_vectors.proofs.PartLemmas.{Next, lines-over, next-of, reports-cut, reports-wrong}
 use Rattle.noise_vectors.proofs.ReportedLemmas.{counted-ended}
 use Rattle.noise_vectors.proofs.parties.read_table.Goals.{After-read_answer}
+use Rattle.noise_vectors.proofs.Results.{err-is}
 use Rattle.noise_vectors.proofs.parties.read_table.Goals as goal
 
 -- an answer stands there
@@ -33,8 +32,7 @@ returns-in_default-clause-every c =
     λ entries rest few are other is.
     let f = next-answer (goal.at.returns-in_default-clause-every c).After-read_answer entries rest are other is in
     let read = c.in_ok-line.ensures.every (answer_words f.next) f.after (lacks-answer_words f.next f.good) f.left_is in
-    let none = c.in_default.ensures.every f.next f.good read.0 in
-    absurd (false≢true none)
+    absurd (false≢true (c.in_default.ensures.every f.next f.good read.0))
 
 pub returns-then-is_err-clause-every : goal.returns-then-is_err-clause-every
 returns-then-is_err-clause-every c =
@@ -48,8 +46,7 @@ returns-in_err-end-clause-every c =
     λ entries rest few are other is.
     let f = next-answer (goal.at.returns-in_err-end-clause-every c).After-read_answer entries rest are other is in
     let read = c.in_ok-line.ensures.every (answer_words f.next) f.after (lacks-answer_words f.next f.good) f.left_is in
-    let bad = c.in_err-end.ensures.ended.1 read.2 in
-    absurd (false≢true bad)
+    absurd (false≢true (c.in_err-end.ensures.ended.1 read.2))
 
 pub loop-lines-preserved : goal.loop-lines-preserved
 loop-lines-preserved c =
@@ -99,6 +96,5 @@ pub returns-in_err-end-clause-reported : goal.returns-in_err-end-clause-reported
 returns-in_err-end-clause-reported c =
     let found : TableEntry = record { own = c.in-Some.found.0; remote = c.in-Some.found.1; answer = c.in-Some.found.2 } in
     let other : ¬ (length c.loop-lines.table.entries ≡ 8) = λ e. false≢true (sym c.if-is_err.false ∙ c.is_err.ensures.value ∙ c.add.ensures.full.1 e) in
-    let p = err_from_is_err_and c.from_residual-in_err-end.result c.from_residual-in_err-end.ensures.1 in
-    rw (p.1, p.2) (reports-cut answer_lines c.args.lines.now c.loop-lines.table.entries found
+    rw (err-is c.from_residual-in_err-end.result c.from_residual-in_err-end.ensures.1) (reports-cut answer_lines c.args.lines.now c.loop-lines.table.entries found
     c.loop-lines.invariant.text c.loop-lines.invariant.right (omega (arith, c.loop-lines.invariant.few, other)) c.loop-lines.invariant.counted c.in_ok-line.ensures.read c.in_err-end.ensures.fault c.in-Some.ensures.text c.in-Some.ensures.right)

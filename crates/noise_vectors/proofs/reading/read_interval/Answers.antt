@@ -1,11 +1,11 @@
 use Rattle.std.proofs.Common.{codes, decimal, refl, ◌++◌, rules}
 use Rattle.std.proofs.lemmas.Bool.{false≢true}
 use Rattle.noise_vectors.proofs.ReadingLemmas.{interval-plain}
-use Rattle.std.proofs.lemmas.Result.{err_from_is_err_and}
 use Rattle.noise_vectors.specs.ReaderFaults.{IsIntervalLine}
 use Rattle.noise_vectors.specs.declared.faults.LineKind.TheVariants as kinds
 use Rattle.noise_vectors.proofs.PartLemmas.{line-cut, line-wrong}
 use Rattle.noise_vectors.proofs.ReportedLemmas.{counted-ended}
+use Rattle.noise_vectors.proofs.Results.{err-is}
 use Rattle.noise_vectors.proofs.reading.read_interval.Goals as goal
 
 pub returns-in_default-clause-every : goal.returns-in_default-clause-every
@@ -17,13 +17,11 @@ returns-in_default-clause-every c = λ interval rest h e.
 pub returns-in_err-end-clause-every : goal.returns-in_err-end-clause-every
 returns-in_err-end-clause-every c = λ interval rest h e.
     let read = c.in_ok-line.ensures.every (codes "interval " ++ decimal interval) rest (interval-plain interval h) e in
-    let ended = c.in_err-end.ensures.ended.1 read.2 in
-    absurd (false≢true ended)
+    absurd (false≢true (c.in_err-end.ensures.ended.1 read.2))
 
 pub returns-clause-every : goal.returns-clause-every
 returns-clause-every c = λ interval rest h e.
-    let read = c.in_ok-line.ensures.every (codes "interval " ++ decimal interval) rest (interval-plain interval h) e in
-    (refl, read.1)
+    (refl, (c.in_ok-line.ensures.every (codes "interval " ++ decimal interval) rest (interval-plain interval h) e).1)
 
 pub returns-in_default-clause-reported : goal.returns-in_default-clause-reported
 returns-in_default-clause-reported c =
@@ -31,8 +29,7 @@ returns-in_default-clause-reported c =
 
 pub returns-in_err-end-clause-reported : goal.returns-in_err-end-clause-reported
 returns-in_err-end-clause-reported c =
-    let p = err_from_is_err_and c.from_residual-in_err-end.result c.from_residual-in_err-end.ensures.1 in
-    rw (p.1, p.2) (line-cut IsIntervalLine kinds.Interval c.in_ok-line.ensures.read c.in_err-end.ensures.fault (c.in-Some.interval, search rules, c.in-Some.ensures.text))
+    rw (err-is c.from_residual-in_err-end.result c.from_residual-in_err-end.ensures.1) (line-cut IsIntervalLine kinds.Interval c.in_ok-line.ensures.read c.in_err-end.ensures.fault (c.in-Some.interval, search rules, c.in-Some.ensures.text))
 
 pub returns-clause-counted : goal.returns-clause-counted
 returns-clause-counted c =

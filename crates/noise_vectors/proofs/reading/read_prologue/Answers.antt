@@ -2,11 +2,11 @@ use Rattle.std.proofs.Common.{codes, ◌++◌, refl}
 use Rattle.std.proofs.lemmas.Bool.{false≢true}
 use Rattle.noise_vectors.specs.HexWord.{hex_of}
 use Rattle.noise_vectors.proofs.ReadingLemmas.{prologue-plain}
-use Rattle.std.proofs.lemmas.Result.{err_from_is_err_and}
 use Rattle.noise_vectors.specs.ReaderFaults.{IsPrologueLine}
 use Rattle.noise_vectors.specs.declared.faults.LineKind.TheVariants as kinds
 use Rattle.noise_vectors.proofs.PartLemmas.{line-cut, line-wrong}
 use Rattle.noise_vectors.proofs.ReportedLemmas.{counted-ended}
+use Rattle.noise_vectors.proofs.Results.{err-is}
 use Rattle.noise_vectors.proofs.reading.read_prologue.Goals as goal
 
 pub returns-in_default-clause-every : goal.returns-in_default-clause-every
@@ -17,14 +17,11 @@ returns-in_default-clause-every c = λ bytes rest h e.
 
 pub returns-in_err-end-clause-every : goal.returns-in_err-end-clause-every
 returns-in_err-end-clause-every c = λ bytes rest h e.
-    let read = c.in_ok-line.ensures.every (codes "prologue " ++ hex_of bytes) rest (prologue-plain bytes h) e in
-    let ended = c.in_err-end.ensures.ended.1 read.2 in
-    absurd (false≢true ended)
+    absurd (false≢true (c.in_err-end.ensures.ended.1 (c.in_ok-line.ensures.every (codes "prologue " ++ hex_of bytes) rest (prologue-plain bytes h) e).2))
 
 pub returns-clause-every : goal.returns-clause-every
 returns-clause-every c = λ bytes rest h e.
-    let read = c.in_ok-line.ensures.every (codes "prologue " ++ hex_of bytes) rest (prologue-plain bytes h) e in
-    read.1
+    (c.in_ok-line.ensures.every (codes "prologue " ++ hex_of bytes) rest (prologue-plain bytes h) e).1
 
 pub returns-in_default-clause-reported : goal.returns-in_default-clause-reported
 returns-in_default-clause-reported c =
@@ -32,8 +29,7 @@ returns-in_default-clause-reported c =
 
 pub returns-in_err-end-clause-reported : goal.returns-in_err-end-clause-reported
 returns-in_err-end-clause-reported c =
-    let p = err_from_is_err_and c.from_residual-in_err-end.result c.from_residual-in_err-end.ensures.1 in
-    rw (p.1, p.2) (line-cut IsPrologueLine kinds.Prologue c.in_ok-line.ensures.read c.in_err-end.ensures.fault (c.in-Some.prologue.items, rw c.in-Some.is at c.in_ok-prologue.ensures.right, rw c.in-Some.is at c.in_ok-prologue.ensures.text))
+    rw (err-is c.from_residual-in_err-end.result c.from_residual-in_err-end.ensures.1) (line-cut IsPrologueLine kinds.Prologue c.in_ok-line.ensures.read c.in_err-end.ensures.fault (c.in-Some.prologue.items, rw c.in-Some.is at c.in_ok-prologue.ensures.right, rw c.in-Some.is at c.in_ok-prologue.ensures.text))
 
 pub returns-clause-counted : goal.returns-clause-counted
 returns-clause-counted c =

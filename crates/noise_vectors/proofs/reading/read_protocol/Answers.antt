@@ -2,11 +2,11 @@ use Rattle.std.proofs.Common.{codes, ◌++◌, refl}
 use Rattle.std.proofs.lemmas.Bool.{false≢true}
 use Rattle.noise_names.specs.Names.{name_bytes}
 use Rattle.noise_vectors.proofs.ReadingLemmas.{protocol-plain}
-use Rattle.std.proofs.lemmas.Result.{err_from_is_err_and}
 use Rattle.noise_vectors.specs.ReaderFaults.{IsProtocolLine}
 use Rattle.noise_vectors.specs.declared.faults.LineKind.TheVariants as kinds
 use Rattle.noise_vectors.proofs.PartLemmas.{line-cut, line-wrong}
 use Rattle.noise_vectors.proofs.ReportedLemmas.{counted-ended}
+use Rattle.noise_vectors.proofs.Results.{err-is}
 use Rattle.noise_vectors.proofs.reading.read_protocol.Goals as goal
 
 pub returns-in_default-clause-every : goal.returns-in_default-clause-every
@@ -17,9 +17,7 @@ returns-in_default-clause-every c = λ name rest h e.
 
 pub returns-in_err-end-clause-every : goal.returns-in_err-end-clause-every
 returns-in_err-end-clause-every c = λ name rest h e.
-    let read = c.in_ok-line.ensures.every (codes "protocol " ++ name_bytes name) rest (protocol-plain name h) e in
-    let ended = c.in_err-end.ensures.ended.1 read.2 in
-    absurd (false≢true ended)
+    absurd (false≢true (c.in_err-end.ensures.ended.1 (c.in_ok-line.ensures.every (codes "protocol " ++ name_bytes name) rest (protocol-plain name h) e).2))
 
 pub returns-clause-every : goal.returns-clause-every
 returns-clause-every c = λ name rest h e.
@@ -33,8 +31,7 @@ returns-in_default-clause-reported c =
 
 pub returns-in_err-end-clause-reported : goal.returns-in_err-end-clause-reported
 returns-in_err-end-clause-reported c =
-    let p = err_from_is_err_and c.from_residual-in_err-end.result c.from_residual-in_err-end.ensures.1 in
-    rw (p.1, p.2) (line-cut IsProtocolLine kinds.Protocol c.in_ok-line.ensures.read c.in_err-end.ensures.fault (c.in-Some.name, c.in-Some.ensures.right, c.in-Some.ensures.text))
+    rw (err-is c.from_residual-in_err-end.result c.from_residual-in_err-end.ensures.1) (line-cut IsProtocolLine kinds.Protocol c.in_ok-line.ensures.read c.in_err-end.ensures.fault (c.in-Some.name, c.in-Some.ensures.right, c.in-Some.ensures.text))
 
 pub returns-clause-counted : goal.returns-clause-counted
 returns-clause-counted c =

@@ -1,11 +1,10 @@
-use Rattle.std.proofs.Common.{rules, arith, ◌≡◌, ◌+◌, ◌≤◌, ◌∙◌, ap, subst, sym, refl, true, false, true≢false, List, ℕ, [], ◌∷◌, ◌++◌, codes, length}
+use Rattle.std.proofs.Common.{rules, arith, ◌≡◌, ◌+◌, ◌≤◌, ◌∙◌, ap, subst, sym, refl, false, true≢false, List, ℕ, ◌∷◌, ◌++◌, codes, length, []}
 use Rattle.std.proofs.lemmas.Bool.{false≢true}
 use Rattle.std.specs.Prelude.{IsTrue}
 use Rattle.std.specs.Bool.{nat_eq}
 use Rattle.std.specs.List.{All, starts_with}
 use Rattle.std.proofs.lemmas.List.{length-append}
 use Rattle.std.proofs.lemmas.List.Elements.{All-nil, All-push}
-use Rattle.std.proofs.lemmas.Result.{err_from_is_err_and}
 use Rattle.noise_vectors.specs.ReaderFaults.{psk_lines}
 use Rattle.noise_vectors.specs.VectorFile.{ArePsks}
 use Rattle.noise_vectors.specs.VectorText.{lines_of, psk_words}
@@ -13,7 +12,7 @@ use Rattle.noise_vectors.specs.Words.{IsKey}
 use Rattle.noise_vectors.proofs.LineLemmas.{begun-by, lines_of-more}
 use Rattle.noise_vectors.proofs.PartLemmas.{Next, lines-over, next-of, reports-cut, reports-wrong}
 use Rattle.noise_vectors.proofs.ReadingLemmas.{psk-plain, psk-stands}
-use Rattle.noise_vectors.proofs.Results.{at_ok, at_err}
+use Rattle.noise_vectors.proofs.Results.{at_ok, at_err, err-is}
 use Rattle.noise_vectors.proofs.ReportedLemmas.{counted-ended}
 use Rattle.noise_vectors.proofs.reading.read_psks.Goals.{After-read_psk}
 use Rattle.noise_vectors.proofs.reading.read_psks.Goals as goal
@@ -42,8 +41,7 @@ returns-in_default-clause-every c =
     λ psks rest h other e.
     let f = next-psk (goal.at.returns-in_default-clause-every c).After-read_psk psks rest h other e in
     let read = c.in_ok-line.ensures.every (psk_words f.next) f.after (psk-plain f.next f.good) f.left_is in
-    let some = c.in_default.ensures.every f.next f.good read.0 in
-    absurd (false≢true some)
+    absurd (false≢true (c.in_default.ensures.every f.next f.good read.0))
 
 pub returns-then-is_err-clause-every : goal.returns-then-is_err-clause-every
 returns-then-is_err-clause-every c =
@@ -56,8 +54,7 @@ pub returns-in_err-end-clause-every : goal.returns-in_err-end-clause-every
 returns-in_err-end-clause-every c =
     λ psks rest h other e.
     let f = next-psk (goal.at.returns-in_err-end-clause-every c).After-read_psk psks rest h other e in
-    let read = c.in_ok-line.ensures.every (psk_words f.next) f.after (psk-plain f.next f.good) f.left_is in
-    absurd (false≢true (c.in_err-end.ensures.ended.1 read.2))
+    absurd (false≢true (c.in_err-end.ensures.ended.1 (c.in_ok-line.ensures.every (psk_words f.next) f.after (psk-plain f.next f.good) f.left_is).2))
 
 pub loop-lines-preserved : goal.loop-lines-preserved
 loop-lines-preserved c =
@@ -107,6 +104,5 @@ returns-in_err-end-clause-reported c =
     let few : length c.try_push.new.self.items ≤ 9 = search rules in
     let more : length c.try_push.new.self.items ≡ length c.loop-lines.psks.items + 1 =
     ap length pushed ∙ length-append c.loop-lines.psks.items (c.in-Some.psk ∷ []) in
-    let p = err_from_is_err_and c.from_residual-in_err-end.result c.from_residual-in_err-end.ensures.1 in
-    rw (p.1, p.2) (reports-cut psk_lines c.args.lines.now c.loop-lines.psks.items c.in-Some.psk
+    rw (err-is c.from_residual-in_err-end.result c.from_residual-in_err-end.ensures.1) (reports-cut psk_lines c.args.lines.now c.loop-lines.psks.items c.in-Some.psk
     c.loop-lines.invariant.0 c.loop-lines.invariant.1.1 (omega (arith, few, more)) c.loop-lines.invariant.2 c.in_ok-line.ensures.read c.in_err-end.ensures.fault c.in-Some.ensures.text c.in-Some.ensures.right)

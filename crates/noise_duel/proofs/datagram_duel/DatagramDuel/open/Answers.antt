@@ -2,7 +2,7 @@ use Rattle.std.proofs.Common.{ℕ, List, refl, ap, sym, subst, ◌∙◌, slice_
 use Rattle.std.proofs.lemmas.Result.{IfOk-weaker}
 use Rattle.noise_names.specs.declared.token.Role.TheVariants.{Initiator, Responder}
 use Rattle.noise_duel.specs.DatagramReports.{DatagramDuelValue, DatagramDuelMatches}
-use Rattle.noise_duel.specs.Entries.{bytes_of}
+use Rattle.noise_names.specs.Lists.{bytes_of}
 use Rattle.noise_duel.proofs.DatagramHappening.{found-here}
 use Rattle.noise_duel.proofs.datagram_duel.DatagramDuel.open.Goals as goal
 
