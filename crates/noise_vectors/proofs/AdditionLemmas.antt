@@ -112,8 +112,7 @@ printed-line (b ∷ bs) h =
     let here : IsPrinted b = All-head IsPrinted b bs h in
     let low : 32 ≤ b = here.0 in
     let other : (b == 10) ≡ false = grind (arith, nat_tests) in
-    let more = printed-line bs (All-tail IsPrinted b bs h) in
-    rw (other, more) refl
+    rw (other, (printed-line bs (All-tail IsPrinted b bs h))) refl
 
 pub expected-line : (words : List ℕ) → IsExpected words → lacks 10 (codes "expect " ++ words) ≡ true
 expected-line words h = lacks-append 10 (codes "expect ") words refl (printed-line words h.1)
@@ -127,9 +126,7 @@ other-byte : (x y : ℕ) (text front rest : List ℕ) → nat_eq x y ≡ false �
 other-byte x y [] front rest differ h = absurd (cc h)
 other-byte x y (b ∷ bs) front rest differ h =
     let first : nat_eq x b ≡ true = (and_parts (nat_eq x b) _ h).0 in
-    let same : x ≡ b = eqb-true x b first in
-    let other : nat_eq y b ≡ false = not-same y b (λ e. true≢false (sym (eq-eqb x y (same ∙ sym e)) ∙ differ)) in
-    rw other refl
+    rw (not-same y b (λ e. true≢false (sym (eq-eqb x y ((eqb-true x b first) ∙ sym e)) ∙ differ))) refl
 
 pub after_events-no_answer : (rest : List ℕ) → AfterEvents rest → starts_with nat_eq rest (codes "answer ") ≡ false
 after_events-no_answer rest (inl none) = rw none refl

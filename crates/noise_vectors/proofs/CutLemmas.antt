@@ -99,8 +99,7 @@ lacks-comma n h = lacks-decimal 44 n (lit< tt) (omega arith)
 first-of : (all done rest first more : List ℕ) (next : ℕ) (others : List ℕ) → all ≡ done ++ next ∷ others → rest ≡ lengths_word (next ∷ others)
     → next < 65536 → All (λ n. n < 65536) others → rest ≡ first ++ 44 ∷ more → Splits rest first more → First all done first more
 first-of all done rest first more next [] all_are rest_is small others_small parts every =
-    let same : decimal next ≡ first ++ 44 ∷ more = sym rest_is ∙ parts in
-    absurd (not_lacks 44 first more (subst (λ (t : List ℕ). lacks 44 t ≡ true) same (lacks-comma next small)))
+    absurd (not_lacks 44 first more (subst (λ (t : List ℕ). lacks 44 t ≡ true) (sym rest_is ∙ parts) (lacks-comma next small)))
 first-of all done rest first more next (k ∷ ks) all_are rest_is small others_small parts every =
     let split = every (decimal next) (lengths_word (k ∷ ks)) (lacks-comma next small) rest_is in
     record {
@@ -155,8 +154,7 @@ Left-last all done rest l none = last-of all done rest l.next l.others l.all_are
 
 pub Last-done : (all done rest : List ℕ) (n : ℕ) → Last all done rest → n < 65536 → rest ≡ decimal n → done ++ n ∷ [] ≡ all
 Last-done all done rest n l h e =
-    let same : n ≡ l.last = same-number n l.last rest h l.small e l.rest_is in
-    ap (λ (m : ℕ). done ++ m ∷ []) same ∙ sym l.all_are
+    ap (λ (m : ℕ). done ++ m ∷ []) (same-number n l.last rest h l.small e l.rest_is) ∙ sym l.all_are
 
 -- ---- whole words
 
@@ -206,8 +204,7 @@ cuts-word made word ns e is = at (are_cuts ns) refl where
 pub cuts-made : (made : Option (List ℕ)) (ns cuts : List ℕ) → made ≡ (if are_cuts ns then Some ns else None) → ns ≡ cuts → AreCuts cuts
     → made ≡ Some cuts
 cuts-made made ns cuts e same h =
-    let yes = are_cuts-true cuts h in
-    rw (e, same, yes) refl
+    rw (e, same, (are_cuts-true cuts h)) refl
 
 -- what is made of such numbers is right
 pub cuts-right : (made : Option (List ℕ)) (ns : List ℕ) → made ≡ (if are_cuts ns then Some ns else None) → AreLengths ns → IfSome made AreCuts

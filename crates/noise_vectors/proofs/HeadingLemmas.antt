@@ -70,6 +70,5 @@ heading-test name text after test split value =
 pub other-name : (a b : Section) (test : Bool) → test ≡ bytes_eq a.base b.base && bytes_eq a.places b.places → test ≡ false → ¬ (a ≡ b)
 other-name a b test is differ e =
     let base = (bytes_eq-Decides a.base b.base).1 (ap (λ (s : Section). s.base) e) in
-    let places = (bytes_eq-Decides a.places b.places).1 (ap (λ (s : Section). s.places) e) in
-    let yes : test ≡ true = is ∙ rw (base, places) refl in
+    let yes : test ≡ true = is ∙ rw (base, ((bytes_eq-Decides a.places b.places).1 (ap (λ (s : Section). s.places) e))) refl in
     true≢false (sym yes ∙ differ)

@@ -57,8 +57,7 @@ digit_from c None e h = cc h
 -- a lower-case digit has a value, at which the table has it
 pub digit_of : (c : ℕ) → is_lower_digit c ≡ true → Digit c
 digit_of c h =
-    let read : is_read c ≡ true = holds_below-at is_read 103 c refl (below_103 c h) in
-    digit_from c (hex_digit_value c) refl (rw h at read)
+    digit_from c (hex_digit_value c) refl (rw h at (holds_below-at is_read 103 c refl (below_103 c h)))
 
 abbrev is_lower_at : ℕ → Bool
 is_lower_at d = is_lower_digit (slice_index lower_digits d)
@@ -134,8 +133,7 @@ word_of-decoded word bytes h e =
 pub IsHexWord-digits : (word : List ℕ) → IsDigits word → IsHexWord word
 IsHexWord-digits word h =
     let s = spelled 0 word h.1 h.2 in
-    let e = decode_of-even word h.1 ∙ s.decoded in
-    (s.bytes, s.small, word_of-decoded word s.bytes h e)
+    (s.bytes, s.small, word_of-decoded word s.bytes h (decode_of-even word h.1 ∙ s.decoded))
 
 -- a word of some bytes is a hyphen, or digits
 pub IsHexWord-cases : (word : List ℕ) → IsHexWord word → (word ≡ codes "-") ⊎ IsDigits word

@@ -22,15 +22,13 @@ pub all_weaker : (test other : ℕ → Bool) (xs : List ℕ) → ((x : ℕ) → 
 all_weaker test other [] each h = refl
 all_weaker test other (x ∷ xs) each h =
     let parts = and_parts (test x) (list_all test xs) h in
-    let more = all_weaker test other xs each parts.1 in
-    rw (each x parts.0, more) refl
+    rw (each x parts.0, (all_weaker test other xs each parts.1)) refl
 
 pub lacks-append : (byte : ℕ) (front after : List ℕ) → lacks byte front ≡ true → lacks byte after ≡ true → lacks byte (front ++ after) ≡ true
 lacks-append byte [] after h g = g
 lacks-append byte (b ∷ bs) after h g =
     let parts = and_parts (not (b == byte)) (lacks byte bs) h in
-    let more = lacks-append byte bs after parts.1 g in
-    rw (parts.0, more) refl
+    rw (parts.0, (lacks-append byte bs after parts.1 g)) refl
 
 abbrev is_digit : ℕ → Type 0
 is_digit c = is_lower_digit c ≡ true

@@ -34,8 +34,7 @@ pub Ends-whole : (text rest : List ℕ) → Ends text rest → text ≡ take (le
 Ends-whole text rest (before, e) =
     let len : length text ≡ length before + length rest = ap length e ∙ length-append before rest in
     let n : length text - length rest ≡ length before = omega arith in
-    let front : take (length before) text ≡ before = ap (take (length before)) e ∙ take-append_seam before rest in
-    let same : take (length text - length rest) text ≡ before = rw n front in
+    let same : take (length text - length rest) text ≡ before = rw n (ap (take (length before)) e ∙ take-append_seam before rest) in
     e ∙ ap (λ (t : List ℕ). t ++ rest) (sym same)
 
 -- a text begins with this front as far as the test says

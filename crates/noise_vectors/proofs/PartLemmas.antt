@@ -106,13 +106,12 @@ pub reports-cut : {A : Type 0} (of : Listed A) (from : Lines) (done : List A) (x
     → last_number before ≡ last_number from → IsRead before words after → (after.is_ended ≡ false) × (fault ≡ Line after.number kinds.Ending)
     → words ≡ of.words x → of.Good x → ReportsAfter of from.rest.now (last_number from) fault
 reports-cut of from done x {before = before} {words = words} text are few same r is found good =
-    let more : length (done ++ x ∷ []) ≡ length done + 1 = length-append done (x ∷ []) in
     inr (inl (
       ending-reported r is ∙ ap (λ (k : ℕ). Line (k + 1) kinds.Ending) same,
       record {
         done = done ++ x ∷ [];
         are = All-push of.Good done x are good;
-        few = subst of.Few (sym more) few;
+        few = subst of.Few (sym (length-append done (x ∷ []))) few;
         text_is = lines_of-cut of.words from.rest.now before.rest.now words done x text (r.last is.0).0 found;
       },
     ))

@@ -45,9 +45,8 @@ Splits text first after = (b h : List ℕ) → lacks 32 b ≡ true → text ≡ 
 pub answer-keys : {line front rest own keys : List ℕ} (entry : TableEntry) → front ≡ codes "answer " → line ≡ front ++ rest → Splits rest own keys
     → line ≡ answer_words entry → keys ≡ encode_lower entry.remote ++ 32 ∷ encode_lower entry.answer
 answer-keys {line = line} {rest = rest} entry front_is split every e =
-    let whole : line ≡ codes "answer " ++ rest = split ∙ ap (λ (t : List ℕ). t ++ rest) front_is in
     let rest_is = append_cancel_left (codes "answer ") rest (own_word entry.own ++ 32 ∷ (encode_lower entry.remote ++ 32 ∷ encode_lower entry.answer))
-    (sym whole ∙ e) in
+    (sym (split ∙ ap (λ (t : List ℕ). t ++ rest) front_is) ∙ e) in
     (every (own_word entry.own) (encode_lower entry.remote ++ 32 ∷ encode_lower entry.answer) (own_word-plain entry.own).1 rest_is).1
 
 -- whether the text begins as an answer's line does

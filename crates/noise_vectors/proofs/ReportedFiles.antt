@@ -250,8 +250,7 @@ after-block second name block other rest h k own e =
     (block_text block rest) (protocol-plain other.protocol h.protocol) (protocol-plain name k) header in
     let same = name-one other.protocol name h.protocol k
     (append_cancel_left (codes "protocol ") (name_bytes other.protocol) (name_bytes name) parts.0) in
-    let also : IsOwn name other.block = subst (λ (n : Section). IsOwn n other.block) same h.own in
-    blocks-after name other.block block (after_block other) rest also own parts.1
+    blocks-after name other.block block (after_block other) rest (subst (λ (n : Section). IsOwn n other.block) same h.own) own parts.1
 
 -- the lines of a sample as far as its prologue
 prologue-text : (alloc : Global) (second : Bool) (file : VectorFile) (text left : List ℕ) → is_second file.version ≡ second

@@ -98,9 +98,7 @@ begun-front [] rest (f ∷ fs) plain h =
     absurd (cc (rw (parts.0) at lack.0))
 begun-front (b ∷ bs) rest (f ∷ fs) plain h =
     let parts = and_parts (nat_eq f b) _ h in
-    let lack = and_parts (not (f == 10)) (lacks 10 fs) plain in
-    let more = begun-front bs rest fs lack.1 parts.1 in
-    rw (parts.0, more) refl
+    rw (parts.0, (begun-front bs rest fs (and_parts (not (f == 10)) (lacks 10 fs) plain).1 parts.1)) refl
 
 pub begun-line : (words text front : List ℕ) → IsFirstLine words text → lacks 10 front ≡ true → starts_with nat_eq text front ≡ true
     → starts_with nat_eq words front ≡ true
@@ -113,8 +111,7 @@ line-begun words rest [] h = refl
 line-begun [] rest (f ∷ fs) h = absurd (cc h)
 line-begun (b ∷ bs) rest (f ∷ fs) h =
     let parts = and_parts (nat_eq f b) _ h in
-    let more = line-begun bs rest fs parts.1 in
-    rw (parts.0, more) refl
+    rw (parts.0, (line-begun bs rest fs parts.1)) refl
 
 same-test : (a b : Bool) → (a ≡ true → b ≡ true) → (b ≡ true → a ≡ true) → a ≡ b
 same-test true false f g = absurd (true≢false (sym (f refl)))

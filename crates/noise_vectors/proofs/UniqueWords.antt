@@ -146,8 +146,7 @@ wider b h = rw h refl
 base-bytes : (base : List ℕ) → is_base base ≡ true → list_all is_base_byte base ≡ true
 base-bytes [] h = refl
 base-bytes (b ∷ bs) h =
-    let few = and_parts (is_upper b && list_all is_base_byte bs) (nat_lt (length bs) 8) h in
-    let parts = and_parts (is_upper b) (list_all is_base_byte bs) few.0 in
+    let parts = and_parts (is_upper b) (list_all is_base_byte bs) (and_parts (is_upper b && list_all is_base_byte bs) (nat_lt (length bs) 8) h).0 in
     rw (wider b parts.0, parts.1) refl
 
 -- a base ends where the next byte is of none
@@ -155,8 +154,7 @@ bases-one : (a b x y : List ℕ) → list_all is_base_byte a ≡ true → list_a
     → is_base_byte (get_or y 0 0) ≡ false → a ++ x ≡ b ++ y → (a ≡ b) × (x ≡ y)
 bases-one [] [] x y h k hx hy e = (refl, e)
 bases-one [] (c ∷ cs) x y h k hx hy e =
-    let first : get_or x 0 0 ≡ c = ap (λ (t : List ℕ). get_or t 0 0) e in
-    absurd (true≢false (sym (and_parts (is_base_byte c) (list_all is_base_byte cs) k).0 ∙ ap is_base_byte (sym first) ∙ hx))
+    absurd (true≢false (sym (and_parts (is_base_byte c) (list_all is_base_byte cs) k).0 ∙ ap is_base_byte (sym (ap (λ (t : List ℕ). get_or t 0 0) e)) ∙ hx))
 bases-one (c ∷ cs) [] x y h k hx hy e =
     let first : get_or y 0 0 ≡ c = ap (λ (t : List ℕ). get_or t 0 0) (sym e) in
     absurd (true≢false (sym (and_parts (is_base_byte c) (list_all is_base_byte cs) h).0 ∙ ap is_base_byte (sym first) ∙ hy))

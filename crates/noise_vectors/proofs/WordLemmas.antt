@@ -63,13 +63,11 @@ pub parts-at : (byte : ℕ) (text : List ℕ) (place : ℕ) → Some place ≡ p
 parts-at byte text place found =
     let at = position-Some (λ b. b == byte) text place 0 (sym found) in
     let inside : place < length text = at.0 in
-    let is : get_or text place 0 ≡ byte = eqb-true (get_or text place 0) byte at.1 in
     let first : drop place text ≡ get_or text place 0 ∷ drop (place + 1) text = rw (add-one, drop-cons text place 0) in
-    let len : length (drop (place + 1) text) ≡ length text - (place + 1) = length-drop (place + 1) text in
     let whole : take (length text - (place + 1)) (drop (place + 1) text) ≡ drop (place + 1) text =
-    rw (← len) (take-length (drop (place + 1) text)) in
+    rw (← (length-drop (place + 1) text)) (take-length (drop (place + 1) text)) in
     rw whole (sym (take-append-drop place text)
-    ∙ ap (λ (t : List ℕ). take place text ++ t) (first ∙ ap (λ (b : ℕ). b ∷ drop (place + 1) text) is))
+    ∙ ap (λ (t : List ℕ). take place text ++ t) (first ∙ ap (λ (b : ℕ). b ∷ drop (place + 1) text) (eqb-true (get_or text place 0) byte at.1)))
 
 -- a text with the byte doesn't lack it
 pub not_lacks : (byte : ℕ) (before after : List ℕ) → ¬ (lacks byte (before ++ byte ∷ after) ≡ true)

@@ -71,7 +71,6 @@ returns-in_default-clause-reported c =
 pub returns-in_err-end-clause-reported : goal.returns-in_err-end-clause-reported
 returns-in_err-end-clause-reported c =
     let other : ¬ (c.args.allowed ≡ SayOnly) = search rules in
-    let last = (c.in_ok-line.ensures.read.last c.in_err-end.ensures.fault.0).0 in
     rw (err-is c.from_residual-in_err-end.result c.from_residual-in_err-end.ensures.1) (inr (inl (
       ending-reported c.in_ok-line.ensures.read c.in_err-end.ensures.fault,
       record {
@@ -80,7 +79,7 @@ returns-in_err-end-clause-reported c =
         events = [];
         are = All-nil IsDatagramEvent;
         few = lit< tt;
-        text_is = ap (λ (t : List ℕ). t ++ codes "\n") (last ∙ c.in-Some.ensures.text);
+        text_is = ap (λ (t : List ℕ). t ++ codes "\n") (((c.in_ok-line.ensures.read.last c.in_err-end.ensures.fault.0).0) ∙ c.in-Some.ensures.text);
       },
     )))
 

@@ -37,7 +37,6 @@ returns-in_err-expected-clause-reported c =
     let second : c.args.second ≡ true = search rules in λ over.
     let n = c.in_ok-datagrams.ensures.counted in
     let after = c.read_datagrams.new.lines.rest.now in
-    let reports = c.in_err-expected.ensures.reported in
     rw (err-is c.from_residual-in_err-expected.result c.from_residual-in_err-expected.ensures.1) (inr (
       second,
       inr (record {
@@ -47,6 +46,6 @@ returns-in_err-expected-clause-reported c =
         after = after;
         text_is = c.in_ok-datagrams.ensures.text;
         stands = c.in_ok-datagrams.ensures.ended over;
-        it = subst (λ (n : ℕ). ReportsAfter expect_lines after n c.in_err-expected.field-0.0) n reports;
+        it = subst (λ (n : ℕ). ReportsAfter expect_lines after n c.in_err-expected.field-0.0) n c.in_err-expected.ensures.reported;
       }),
     ))

@@ -34,12 +34,11 @@ returns-then-eq-clause-block c =
 pub returns-then-eq-clause-every : goal.returns-then-eq-clause-every
 returns-then-eq-clause-every c =
     let last : c.in_ok-next.field-0.now ≡ codes "end" = search rules in
-    let text = c.args.lines.now.rest.now in
     let left = c.loop-lines.lines.rest.now in
     λ before rest h e.
     let l = Left-last rest left c.in_ok-next.field-0.now c.next.new.self.rest.now c.next.new.self.is_ended
     (c.loop-lines.invariant.1 before rest h e) c.in_ok-next.ensures.every last in
-    (front-is text left rest before e l.0, l.1, l.2)
+    (front-is c.args.lines.now.rest.now left rest before e l.0, l.1, l.2)
 
 pub returns-in_err-end-clause-every : goal.returns-in_err-end-clause-every
 returns-in_err-end-clause-every c =

@@ -28,8 +28,7 @@ returns-in_default-clause-every c = λ events rest right over e.
     c.loop-alloc.invariant.0 c.loop-alloc.invariant.1 e right over
     (λ stop. false≢true (sym c.loop-alloc-test.true ∙ c.is_after_datagrams.ensures.1 stop)) in
     let read = c.in_ok-line.ensures.every (datagram_event_words f.next) f.after (datagram_event_words-line f.next f.good) f.left_is in
-    let found : IsSome c.in_ok-event.field-0 = c.in_ok-event.ensures.every f.next f.good read.0 in
-    absurd (false≢true (rw c.in_default.is at found))
+    absurd (false≢true (rw c.in_default.is at (c.in_ok-event.ensures.every f.next f.good read.0)))
 
 pub returns-in_err-end-clause-every : goal.returns-in_err-end-clause-every
 returns-in_err-end-clause-every c = λ events rest right over e.
@@ -68,8 +67,7 @@ returns-in_default-clause-reported c =
     reports-wrong datagram_lines c.args.lines.now c.loop-alloc.events.items
     c.loop-alloc.invariant.0 c.loop-alloc.invariant.1 (omega (arith, few)) (λ over. false≢true (sym c.loop-alloc-test.true ∙ c.is_after_datagrams.ensures.1 over)) c.loop-alloc.invariant.2 c.in_ok-line.ensures.read c.fault.ensures
     (λ event good same.
-    let found : IsSome c.in_ok-event.field-0 = c.in_ok-event.ensures.every event good same in
-    absurd (false≢true (rw c.in_default.is at found)))
+    absurd (false≢true (rw c.in_default.is at (c.in_ok-event.ensures.every event good same))))
 
 pub returns-in_err-end-clause-reported : goal.returns-in_err-end-clause-reported
 returns-in_err-end-clause-reported c =

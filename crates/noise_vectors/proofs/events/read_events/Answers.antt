@@ -30,8 +30,7 @@ returns-in_default-clause-every c = λ events rest right allowed over e.
     c.loop-alloc.invariant.0 (all-right c.args.allowed c.loop-alloc.events.items c.loop-alloc.invariant.2 c.loop-alloc.invariant.1) e (all-right c.args.allowed events right allowed) over
     (λ stop. false≢true (sym c.loop-alloc-test.true ∙ c.is_after_events.ensures.1 stop)) in
     let read = c.in_ok-line.ensures.every (event_words f.next) f.after (right-plain c.args.allowed f.next f.good) f.left_is in
-    let found : IsSome c.in_ok-event.field-0 = c.in_ok-event.ensures.every f.next f.good.0 f.good.1 read.0 in
-    absurd (false≢true (rw c.in_default.is at found))
+    absurd (false≢true (rw c.in_default.is at (c.in_ok-event.ensures.every f.next f.good.0 f.good.1 read.0)))
 
 pub returns-in_err-end-clause-every : goal.returns-in_err-end-clause-every
 returns-in_err-end-clause-every c = λ events rest right allowed over e.
@@ -73,8 +72,7 @@ returns-in_default-clause-reported c =
     reports-wrong (event_lines c.args.allowed) c.args.lines.now c.loop-alloc.events.items
     c.loop-alloc.invariant.0 (all-right c.args.allowed c.loop-alloc.events.items c.loop-alloc.invariant.2 c.loop-alloc.invariant.1) (omega (arith, few)) (λ over. false≢true (sym c.loop-alloc-test.true ∙ c.is_after_events.ensures.1 over)) c.loop-alloc.invariant.3 c.in_ok-line.ensures.read c.fault.ensures
     (λ event good same.
-    let found : IsSome c.in_ok-event.field-0 = c.in_ok-event.ensures.every event good.0 good.1 same in
-    absurd (false≢true (rw c.in_default.is at found)))
+    absurd (false≢true (rw c.in_default.is at (c.in_ok-event.ensures.every event good.0 good.1 same))))
 
 pub returns-in_err-end-clause-reported : goal.returns-in_err-end-clause-reported
 returns-in_err-end-clause-reported c =

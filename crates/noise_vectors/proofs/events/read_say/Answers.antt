@@ -17,5 +17,4 @@ returns-in_default-read_cuts-clause-every c = λ payload cuts short h e.
 pub returns-in_default-2-clause-every : goal.returns-in_default-2-clause-every
 returns-in_default-2-clause-every c = λ payload cuts short h e.
     let words = c.in-Some.ensures.every (hex_of payload) (lengths_word cuts) (payload-word payload short) e in
-    let some : IsSome c.in_ok-payload.field-0 = c.in_ok-payload.ensures.every payload short words.0 in
-    rw c.in_default-2.is at some
+    rw c.in_default-2.is at (c.in_ok-payload.ensures.every payload short words.0)

@@ -18,5 +18,4 @@ returns-in_err-resize-clause-full c =
     let len : length (hex_of c.args.bytes.now) ≡ 2 * length c.args.bytes.now = length-hex_of c.args.bytes.now some in
     let full : vec_capacity c.args.out.now < vec_len c.args.out.now + length (hex_of c.args.bytes.now) =
     omega (arith, c.in_err-resize.ensures.full, c.in-Some.ensures) in
-    let p = err_from_is_err_and c.from_residual-in_err-resize.result c.from_residual-in_err-resize.ensures.1 in
-    rw p.1 full
+    rw (err_from_is_err_and c.from_residual-in_err-resize.result c.from_residual-in_err-resize.ensures.1).1 full

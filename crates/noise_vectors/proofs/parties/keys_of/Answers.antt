@@ -8,8 +8,7 @@ use Rattle.noise_vectors.proofs.parties.keys_of.Goals as goal
 
 pub returns-in_err-strip_prefix-clause-every : goal.returns-in_err-strip_prefix-clause-every
 returns-in_err-strip_prefix-clause-every c =
-    let none = strip_prefix_is {A = ℕ} Decides-eqb c.args.words.now c.args.front.now None c.in_err-strip_prefix.ensures.cases in
-    λ e s he hs is. absurd (none (key_words e s) is)
+    λ e s he hs is. absurd ((strip_prefix_is {A = ℕ} Decides-eqb c.args.words.now c.args.front.now None c.in_err-strip_prefix.ensures.cases) (key_words e s) is)
 
 pub returns-in_err-e-clause-every : goal.returns-in_err-e-clause-every
 returns-in_err-e-clause-every c =

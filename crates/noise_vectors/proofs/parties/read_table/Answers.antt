@@ -45,8 +45,7 @@ pub returns-in_err-end-clause-every : goal.returns-in_err-end-clause-every
 returns-in_err-end-clause-every c =
     λ entries rest few are other is.
     let f = next-answer (goal.at.returns-in_err-end-clause-every c).After-read_answer entries rest are other is in
-    let read = c.in_ok-line.ensures.every (answer_words f.next) f.after (lacks-answer_words f.next f.good) f.left_is in
-    absurd (false≢true (c.in_err-end.ensures.ended.1 read.2))
+    absurd (false≢true (c.in_err-end.ensures.ended.1 (c.in_ok-line.ensures.every (answer_words f.next) f.after (lacks-answer_words f.next f.good) f.left_is).2))
 
 pub loop-lines-preserved : goal.loop-lines-preserved
 loop-lines-preserved c =
@@ -87,10 +86,9 @@ returns-in_default-clause-reported c =
 
 pub returns-then-is_err-clause-reported : goal.returns-then-is_err-clause-reported
 returns-then-is_err-clause-reported c =
-    let full : length c.loop-lines.table.entries ≡ 8 = c.add.ensures.full.0 (sym c.if-is_err.ensures.value) in
     reports-wrong answer_lines c.args.lines.now c.loop-lines.table.entries
     c.loop-lines.invariant.text c.loop-lines.invariant.right c.loop-lines.invariant.few (stands (goal.at.returns-then-is_err-clause-reported c).After-read_answer) c.loop-lines.invariant.counted c.in_ok-line.ensures.read c.fault-then-is_err.ensures
-    (λ entry good same. full)
+    (λ entry good same. (c.add.ensures.full.0 (sym c.if-is_err.ensures.value)))
 
 pub returns-in_err-end-clause-reported : goal.returns-in_err-end-clause-reported
 returns-in_err-end-clause-reported c =

@@ -13,5 +13,4 @@ returns-then-eq-clause-reported c =
     let second : c.in-Some.second ≡ true = search rules in
     let only : c.args.allowed ≡ VersionOne = search rules in
     line-wrong (IsHeaderLine c.args.allowed) c.in_ok-line.ensures.read c.fault-then-eq.ensures (λ good.
-    let same = header-one good.0 c.in-Some.second (sym good.2 ∙ c.in-Some.ensures.text) in
-    true≢false (sym second ∙ sym same ∙ good.1 only))
+    true≢false (sym second ∙ sym (header-one good.0 c.in-Some.second (sym good.2 ∙ c.in-Some.ensures.text)) ∙ good.1 only))

@@ -16,8 +16,7 @@ returns-in_default-clause-every c = λ interval rest h e.
 
 pub returns-in_err-end-clause-every : goal.returns-in_err-end-clause-every
 returns-in_err-end-clause-every c = λ interval rest h e.
-    let read = c.in_ok-line.ensures.every (codes "interval " ++ decimal interval) rest (interval-plain interval h) e in
-    absurd (false≢true (c.in_err-end.ensures.ended.1 read.2))
+    absurd (false≢true (c.in_err-end.ensures.ended.1 (c.in_ok-line.ensures.every (codes "interval " ++ decimal interval) rest (interval-plain interval h) e).2))
 
 pub returns-clause-every : goal.returns-clause-every
 returns-clause-every c = λ interval rest h e.

@@ -12,8 +12,7 @@ use Rattle.noise_vectors.proofs.reading.read_prologue.Goals as goal
 pub returns-in_default-clause-every : goal.returns-in_default-clause-every
 returns-in_default-clause-every c = λ bytes rest h e.
     let read = c.in_ok-line.ensures.every (codes "prologue " ++ hex_of bytes) rest (prologue-plain bytes h) e in
-    let some = c.in_ok-prologue.ensures.every bytes h read.0 in
-    absurd (false≢true (rw c.in_default.is at some))
+    absurd (false≢true (rw c.in_default.is at (c.in_ok-prologue.ensures.every bytes h read.0)))
 
 pub returns-in_err-end-clause-every : goal.returns-in_err-end-clause-every
 returns-in_err-end-clause-every c = λ bytes rest h e.

@@ -40,8 +40,7 @@ pub returns-in_default-clause-every : goal.returns-in_default-clause-every
 returns-in_default-clause-every c =
     λ psks rest h other e.
     let f = next-psk (goal.at.returns-in_default-clause-every c).After-read_psk psks rest h other e in
-    let read = c.in_ok-line.ensures.every (psk_words f.next) f.after (psk-plain f.next f.good) f.left_is in
-    absurd (false≢true (c.in_default.ensures.every f.next f.good read.0))
+    absurd (false≢true (c.in_default.ensures.every f.next f.good (c.in_ok-line.ensures.every (psk_words f.next) f.after (psk-plain f.next f.good) f.left_is).0))
 
 pub returns-then-is_err-clause-every : goal.returns-then-is_err-clause-every
 returns-then-is_err-clause-every c =
@@ -92,10 +91,9 @@ returns-in_default-clause-reported c =
 
 pub returns-then-is_err-clause-reported : goal.returns-then-is_err-clause-reported
 returns-then-is_err-clause-reported c =
-    let full : length c.loop-lines.psks.items ≡ 9 = at_err c.try_push.result c.try_push.ensures.full (sym c.if-is_err.ensures.value) in
     reports-wrong psk_lines c.args.lines.now c.loop-lines.psks.items
     c.loop-lines.invariant.0 c.loop-lines.invariant.1.1 c.loop-lines.invariant.1.0 (stands (goal.at.returns-then-is_err-clause-reported c).After-read_psk) c.loop-lines.invariant.2 c.in_ok-line.ensures.read c.fault-then-is_err.ensures
-    (λ psk key same. full)
+    (λ psk key same. (at_err c.try_push.result c.try_push.ensures.full (sym c.if-is_err.ensures.value)))
 
 pub returns-in_err-end-clause-reported : goal.returns-in_err-end-clause-reported
 returns-in_err-end-clause-reported c =

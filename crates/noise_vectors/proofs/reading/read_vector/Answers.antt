@@ -85,12 +85,10 @@ pub returns-in_err-events-clause-every : goal.returns-in_err-events-clause-every
 returns-in_err-events-clause-every c =
     λ file h allowed e.
     let g = goal.at.returns-in_err-events-clause-every c in
-    let pattern = pattern-read g.After-read_prologue file h allowed e in
-    let psks = psks-read g.After-read_party file h pattern.2 in
+    let psks = psks-read g.After-read_party file h (pattern-read g.After-read_prologue file h allowed e).2 in
     let initiator = c.in_ok-initiator.ensures.every file.initiator (after_initiator file) h.initiator (initiator-ends file) psks in
-    let responder = c.in_ok-responder.ensures.every file.responder (after_responder file) h.responder (responder-ends file) initiator.1 in
     rw (err-is c.from_residual-in_err-events.result c.from_residual-in_err-events.ensures.1) (c.in_err-events.ensures.every file.events.items (version_text file.version) h.events allowed.0
-    (version-after file.version) responder.1)
+    (version-after file.version) (c.in_ok-responder.ensures.every file.responder (after_responder file) h.responder (responder-ends file) initiator.1).1)
 
 pub returns-in_err-version-clause-every : goal.returns-in_err-version-clause-every
 returns-in_err-version-clause-every c =
@@ -98,8 +96,7 @@ returns-in_err-version-clause-every c =
     let g = goal.at.returns-in_err-version-clause-every c in
     let header = c.in_ok-second.ensures.every (is_second file.version) (after_header file) (no-second c.args.allowed file.version allowed.1)
     (c.new-lines.ensures.0 ∙ e) in
-    let pattern = pattern-read g.After-read_prologue file h allowed e in
-    let psks = psks-read g.After-read_party file h pattern.2 in
+    let psks = psks-read g.After-read_party file h (pattern-read g.After-read_prologue file h allowed e).2 in
     let initiator = c.in_ok-initiator.ensures.every file.initiator (after_initiator file) h.initiator (initiator-ends file) psks in
     let responder = c.in_ok-responder.ensures.every file.responder (after_responder file) h.responder (responder-ends file) initiator.1 in
     let events = c.in_ok-events.ensures.every file.events.items (version_text file.version) h.events allowed.0 (version-after file.version) responder.1 in
@@ -123,8 +120,7 @@ returns-in_err-protocol-clause-reported c =
 
 pub returns-in_err-block-clause-reported : goal.returns-in_err-block-clause-reported
 returns-in_err-block-clause-reported c =
-    let one = c.in_ok-second.ensures.counted ∙ start c.new-lines.ensures.1 c.new-lines.ensures.0 in
-    let two = c.in_ok-protocol.ensures.counted ∙ one in
+    let two = c.in_ok-protocol.ensures.counted ∙ (c.in_ok-second.ensures.counted ∙ start c.new-lines.ensures.1 c.new-lines.ensures.0) in
     rw (err-is c.from_residual-in_err-block.result c.from_residual-in_err-block.ensures.1) (block-reported c.args.alloc c.args.allowed c.args.text.now c.read_protocol.new.lines.rest.now c.in_ok-second.second c.in_ok-protocol.protocol
     (last_number c.read_protocol.new.lines) c.in_err-block.field-0.0
     (sym c.new-lines.ensures.0 ∙ c.in_ok-second.ensures.text
@@ -141,23 +137,20 @@ front-read c = sym c.new-lines.ensures.0 ∙ c.in_ok-second.ensures.text
 -- and how many line feeds are left there
 front-counted : (c : After-read_prologue) → last_number c.read_own_pattern.new.lines ≡ line_feeds c.args.text.now
 front-counted c =
-    let one = c.in_ok-second.ensures.counted ∙ start c.new-lines.ensures.1 c.new-lines.ensures.0 in
-    c.in_ok-block.ensures.counted ∙ (c.in_ok-protocol.ensures.counted ∙ one)
+    c.in_ok-block.ensures.counted ∙ (c.in_ok-protocol.ensures.counted ∙ (c.in_ok-second.ensures.counted ∙ start c.new-lines.ensures.1 c.new-lines.ensures.0))
 
 pub returns-in_err-prologue-clause-reported : goal.returns-in_err-prologue-clause-reported
 returns-in_err-prologue-clause-reported c =
     let g = (goal.at.returns-in_err-prologue-clause-reported c).After-read_prologue in
-    let n = front-counted g in
     rw (err-is c.from_residual-in_err-prologue.result c.from_residual-in_err-prologue.ensures.1) (prologue-reported c.args.alloc c.args.allowed c.args.text.now c.read_own_pattern.new.lines.rest.now c.in_ok-second.second
     c.in_ok-protocol.protocol c.in_ok-block.block (last_number c.read_own_pattern.new.lines)
     c.in_err-prologue.field-0.0 (front-read g)
-    c.in_ok-second.ensures.allowed c.in_ok-protocol.ensures.right c.in_ok-block.ensures.right n c.in_err-prologue.ensures.reported)
+    c.in_ok-second.ensures.allowed c.in_ok-protocol.ensures.right c.in_ok-block.ensures.right (front-counted g) c.in_err-prologue.ensures.reported)
 
 pub returns-in_err-interval-clause-reported : goal.returns-in_err-interval-clause-reported
 returns-in_err-interval-clause-reported c =
     let g = (goal.at.returns-in_err-interval-clause-reported c).After-read_prologue in
-    let n = front-counted g in
-    let m = c.in_ok-prologue.ensures.counted ∙ n in
+    let m = c.in_ok-prologue.ensures.counted ∙ (front-counted g) in
     rw (err-is c.from_residual-in_err-interval.result c.from_residual-in_err-interval.ensures.1) (interval-reported c.args.alloc c.args.allowed c.args.text.now c.read_prologue.new.lines.rest.now c.in_ok-second.second
     c.in_ok-protocol.protocol c.in_ok-block.block c.in_ok-prologue.prologue c.in_ok-prologue.ensures.bound
     (last_number c.read_prologue.new.lines)
@@ -215,9 +208,8 @@ returns-in_err-initiator-clause-reported c =
 pub returns-in_err-responder-clause-reported : goal.returns-in_err-responder-clause-reported
 returns-in_err-responder-clause-reported c =
     let g = goal.at.returns-in_err-responder-clause-reported c in
-    let n = psks-counted g.After-read_party (front-counted g.After-read_prologue) in
     let b = psks-begun g.After-read_party (front-read g.After-read_prologue) in
-    let m = c.in_ok-initiator.ensures.counted ∙ n in
+    let m = c.in_ok-initiator.ensures.counted ∙ (psks-counted g.After-read_party (front-counted g.After-read_prologue)) in
     let b1 = past-initiator c.read_party.new.lines.rest.now c.in_ok-initiator.initiator b c.in_ok-initiator.ensures.right c.in_ok-initiator.ensures.text in
     rw (err-is c.from_residual-in_err-responder.result c.from_residual-in_err-responder.ensures.1) (responder-reported c.args.allowed c.in_ok-second.second c.args.text.now c.read_party.new.lines.rest.now
     (last_number c.read_party.new.lines) c.in_err-responder.field-0.0 b1 c.in_ok-initiator.ensures.ended m c.in_err-responder.ensures.reported)
@@ -227,24 +219,20 @@ returns-in_err-events-clause-reported c =
     let g = goal.at.returns-in_err-events-clause-reported c in
     let n = psks-counted g.After-read_party (front-counted g.After-read_prologue) in
     let b = psks-begun g.After-read_party (front-read g.After-read_prologue) in
-    let m = c.in_ok-initiator.ensures.counted ∙ n in
     let b1 = past-initiator c.read_party.new.lines.rest.now c.in_ok-initiator.initiator b c.in_ok-initiator.ensures.right c.in_ok-initiator.ensures.text in
-    let k = c.in_ok-responder.ensures.counted ∙ m in
     let b2 = past-responder c.read_party-2.new.lines.rest.now c.in_ok-responder.responder b1 c.in_ok-responder.ensures.right c.in_ok-responder.ensures.text in
     rw (err-is c.from_residual-in_err-events.result c.from_residual-in_err-events.ensures.1) (events-reported c.args.alloc c.args.allowed c.in_ok-second.second c.args.text.now c.read_party-2.new.lines.rest.now
     (last_number c.read_party-2.new.lines) c.in_err-events.field-0.0 b2
-    c.in_ok-responder.ensures.ended k c.in_err-events.ensures.reported)
+    c.in_ok-responder.ensures.ended (c.in_ok-responder.ensures.counted ∙ (c.in_ok-initiator.ensures.counted ∙ n)) c.in_err-events.ensures.reported)
 
 pub returns-in_err-version-clause-reported : goal.returns-in_err-version-clause-reported
 returns-in_err-version-clause-reported c =
     let g = goal.at.returns-in_err-version-clause-reported c in
     let n = psks-counted g.After-read_party (front-counted g.After-read_prologue) in
     let b = psks-begun g.After-read_party (front-read g.After-read_prologue) in
-    let m = c.in_ok-initiator.ensures.counted ∙ n in
     let b1 = past-initiator c.read_party.new.lines.rest.now c.in_ok-initiator.initiator b c.in_ok-initiator.ensures.right c.in_ok-initiator.ensures.text in
-    let k = c.in_ok-responder.ensures.counted ∙ m in
     let b2 = past-responder c.read_party-2.new.lines.rest.now c.in_ok-responder.responder b1 c.in_ok-responder.ensures.right c.in_ok-responder.ensures.text in
-    let j = c.in_ok-events.ensures.counted ∙ k in
+    let j = c.in_ok-events.ensures.counted ∙ (c.in_ok-responder.ensures.counted ∙ (c.in_ok-initiator.ensures.counted ∙ n)) in
     let b3 = past-events c.read_events.new.lines.rest.now c.in_ok-events.events b2 c.in_ok-events.ensures.right c.in_ok-events.ensures.allowed
     c.in_ok-events.ensures.text in
     rw (err-is c.from_residual-in_err-version.result c.from_residual-in_err-version.ensures.1) (version-reported c.args.alloc c.args.allowed c.in_ok-second.second c.args.text.now c.read_events.new.lines.rest.now

@@ -15,8 +15,7 @@ numeral : (word text : List ℕ) (n : ℕ) → text ≡ word → 48 ≤ get_or w
 numeral word text n same low single some digits small value =
     let plain : without_leading_plus word ≡ word = without_leading_plus_none word (λ e. absurd (omega arith)) in
     let text_is : without_leading_plus text ≡ word = ap without_leading_plus same ∙ plain in
-    let n_is : n ≡ digits_value 10 word = value ∙ ap (digits_value 10) text_is in
-    sym (ap decimal n_is ∙ decimal-digits_value (numerals_by_value (AllDigits 10) tells_digits) word
+    sym (ap decimal (value ∙ ap (digits_value 10) text_is) ∙ decimal-digits_value (numerals_by_value (AllDigits 10) tells_digits) word
     (rw text_is at digits) (rw text_is at some) single (rw text_is at small))
 
 pub returns-then-not-is_led-clause-every : goal.returns-then-not-is_led-clause-every
