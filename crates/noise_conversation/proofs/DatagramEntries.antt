@@ -57,8 +57,7 @@ get-whole (m ∷ ms) (suc n) bytes e = get-whole ms n bytes e
 low-nonce : (role : Role) (one_way : Bool) (nonce n : ℕ) → unsealed role one_way nonce n ≡ None → nonce < last_nonce
 low-nonce role one_way nonce n e =
     let last : Option SendFault = if nat_le last_nonce nonce then Some send.Exhausted else None in
-    let long : Option SendFault = if nat_lt 65543 (n + 24) then Some send.TooLong else last in
-    let a = no-fault (one_way && same_role role Responder) send.OneWay long e in
+    let a = no-fault (one_way && same_role role Responder) send.OneWay (if nat_lt 65543 (n + 24) then Some send.TooLong else last) e in
     leb-false last_nonce nonce (no-fault (nat_le last_nonce nonce) send.Exhausted None (no-fault (nat_lt 65543 (n + 24)) send.TooLong last a.1).1).0
 
 fresh : (v : DatagramState) (bytes payload : List ℕ) (w : DatagramState) → Opens v bytes (Ok payload) w → is_among v.accepted (nonce_named bytes) ≡ false
@@ -337,8 +336,7 @@ opened-now role theirs s event note t (has_opened _ _ _ _ bytes reported came ne
           | inl raw ↦ inl (bytes, ap Some raw, named, refl)
           | inr numbered ↦ (
               let found = get-whole theirs.sealed numbered.0 bytes numbered.2 in
-              let number : numbered.0 ≡ n = same_Some numbered.0 n (sym (ap nonce_of_event numbered.1) ∙ f) in
-              inr (found.0, ap (slice_get theirs.sealed) (sym number) ∙ found.1, ap (drop 8) found.2)
+              inr (found.0, ap (slice_get theirs.sealed) (sym (same_Some numbered.0 n (sym (ap nonce_of_event numbered.1) ∙ f))) ∙ found.1, ap (drop 8) found.2)
               )
         ];
       },

@@ -14,5 +14,4 @@ judged v next piece message n t (idles _ _ _ e) listens is short = absurd (cc)
 judged v next piece message n t (waits _ _ e partial) listens is short =
     absurd (frame-whole message [] short (subst (λ (bytes : List ℕ). IsPartial bytes) (is ∙ sym (append-nil (frame message))) partial))
 judged v next piece message n t (judges _ _ _ other rest _ _ e be small count j) listens is short =
-    let one = frame-same other message rest [] small short (sym be ∙ (is ∙ sym (append-nil (frame message)))) in
-    subst (λ (m : List ℕ). Judges v m t next) one.0 j
+    subst (λ (m : List ℕ). Judges v m t next) (frame-same other message rest [] small short (sym be ∙ (is ∙ sym (append-nil (frame message))))).0 j

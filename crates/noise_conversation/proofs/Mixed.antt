@@ -60,7 +60,6 @@ pub mixes-more : (name : List ℕ) (pieces texts : List (Vec ℕ Global)) (piece
     → StateMatches new (and_then (mixing name (reverse (bytes_of pieces))) (MixHash piece.items))
     → Mixes name (pieces ++ piece ∷ []) new (texts ++ text ∷ [])
 mixes-more name pieces texts piece text old new h mixes is-hash is-text matches =
-    let r : History = mixing name (reverse (bytes_of pieces)) in
     let items : Vec ℕ Global → List ℕ = λ f. f.items in
     let more : reverse (bytes_of (pieces ++ piece ∷ [])) ≡ piece.items ∷ reverse (bytes_of pieces) =
     ap (λ (xs : List (List ℕ)). reverse xs) (map-append items pieces (piece ∷ [])) ∙ reverse-append (bytes_of pieces) (piece.items ∷ []) in
@@ -69,7 +68,7 @@ mixes-more name pieces texts piece text old new h mixes is-hash is-text matches 
       texts_are =
           map-append items texts (text ∷ [])
           ∙ ap (λ (ts : List (List ℕ)). ts ++ text.items ∷ []) mixes.texts_are
-          ∙ ap (λ (t : List ℕ). hash_texts r ++ t ∷ []) (is-text ∙ ap (λ (k : List ℕ). k ++ piece.items) is-hash)
+          ∙ ap (λ (t : List ℕ). hash_texts (mixing name (reverse (bytes_of pieces))) ++ t ∷ []) (is-text ∙ ap (λ (k : List ℕ). k ++ piece.items) is-hash)
           ∙ ap (λ (xs : List (List ℕ)). hash_texts (mixing name xs)) (sym more);
     }
 

@@ -59,8 +59,7 @@ done-append _ qs _ cs e = absurd (omega (arith, e))
 -- a list in between that is empty
 moved : (xs ys zs : List (List ℕ)) → zs ≡ [] → (xs ++ ys) ++ zs ≡ (xs ++ zs) ++ ys
 moved xs ys zs e =
-    let P : List (List ℕ) → Type 0 = λ none. (xs ++ ys) ++ none ≡ (xs ++ none) ++ ys in
-    subst P (sym e) (append-nil (xs ++ ys) ∙ ap (λ (a : List (List ℕ)). a ++ ys) (sym (append-nil xs)))
+    subst (λ none. (xs ++ ys) ++ none ≡ (xs ++ none) ++ ys) (sym e) (append-nil (xs ++ ys) ∙ ap (λ (a : List (List ℕ)). a ++ ys) (sym (append-nil xs)))
 
 own-more : (role : Role) (n : ℕ) (ps : List HandshakeMessage) (p : HandshakeMessage)
     → own_payloads role n (ps ++ p ∷ []) ≡ own_payloads role n ps ++ (if same_role (turn_from Initiator (n + length ps)) role then p.payload ∷ [] else [])
@@ -103,19 +102,17 @@ module _ (plan : Plan) (role : Role) where
       → Took s u (given ++ more) (notes ++ later)
   both s t u given more notes later x y =
       let flags = flat_map-append was_written notes later in
-      let a : List (List ℕ) = done_of given (flat_map was_written notes) in
       let b : List (List ℕ) = done_of more (flat_map was_written later) in
-      let c : List (List ℕ) = flat_map payload_reported notes in
       let d : List (List ℕ) = flat_map payload_reported later in
       record {
         unchanged = y.unchanged;
         even = length-append given more
             ∙ ap (λ (n : ℕ). n + length more) x.even ∙ ap (λ (n : ℕ). length (flat_map was_written notes) + n) y.even
             ∙ sym (length-append (flat_map was_written notes) (flat_map was_written later)) ∙ ap length (sym flags);
-        written = y.written ∙ ap (λ (z : List (List ℕ)). z ++ b) x.written ∙ append_assoc (mine s) a b
+        written = y.written ∙ ap (λ (z : List (List ℕ)). z ++ b) x.written ∙ append_assoc (mine s) (done_of given (flat_map was_written notes)) b
             ∙ ap (λ (z : List (List ℕ)). mine s ++ z) (sym (done-append given more (flat_map was_written notes) (flat_map was_written later) x.even)
             ∙ ap (done_of (given ++ more)) (sym flags));
-        heard = y.heard ∙ ap (λ (z : List (List ℕ)). z ++ d) x.heard ∙ append_assoc (theirs s) c d
+        heard = y.heard ∙ ap (λ (z : List (List ℕ)). z ++ d) x.heard ∙ append_assoc (theirs s) (flat_map payload_reported notes) d
             ∙ ap (λ (z : List (List ℕ)). theirs s ++ z) (sym (flat_map-append payload_reported notes later));
       }
 
@@ -146,15 +143,13 @@ module _ (plan : Plan) (role : Role) where
         → s.state.party.passed < length s.state.party.pattern.messages → Took s (wrote_handshake s q) (q.payload ∷ []) (Wrote n ∷ [])
     wrote-took q n turn more =
         let none : s.sent ≡ [] = k.unsent more in
-        let own : List (List ℕ) = own_payloads role 0 s.passed in
-        let their : List (List ℕ) = own_payloads (other role) 0 s.passed in
         record {
           unchanged = record { role_is = k.role_is; pattern_is = k.pattern_is; count = counted q; unsent = λ h. none; unheard = λ h. k.unheard more };
           even = refl;
           written = ap (λ (z : List (List ℕ)). z ++ contents s.sent) (due-by role role true q (turn ∙ k.role_is) (same_role-self role))
-              ∙ moved own (q.payload ∷ []) (contents s.sent) (ap contents none);
+              ∙ moved (own_payloads role 0 s.passed) (q.payload ∷ []) (contents s.sent) (ap contents none);
           heard = ap (λ (z : List (List ℕ)). z ++ contents s.received)
-              (due-by (other role) role false q (turn ∙ k.role_is) (other-same_role role) ∙ append-nil their)
+              (due-by (other role) role false q (turn ∙ k.role_is) (other-same_role role) ∙ append-nil (own_payloads (other role) 0 s.passed))
               ∙ sym (append-nil (theirs s));
         }
 
@@ -162,17 +157,15 @@ module _ (plan : Plan) (role : Role) where
         → s.state.party.passed < length s.state.party.pattern.messages → Took s (accepted_handshake s q) [] (Judged (Payload q.payload) ∷ [])
     took-took q turn more =
         let none : s.received ≡ [] = k.unheard more in
-        let own : List (List ℕ) = own_payloads role 0 s.passed in
-        let their : List (List ℕ) = own_payloads (other role) 0 s.passed in
         record {
           unchanged = record { role_is = k.role_is; pattern_is = k.pattern_is; count = counted q; unsent = λ h. k.unsent more; unheard = λ h. none };
           even = refl;
           written = ap (λ (z : List (List ℕ)). z ++ contents s.sent)
-              (due-by role (other role) false q (turn ∙ ap other k.role_is) (same_role-other role) ∙ append-nil own)
+              (due-by role (other role) false q (turn ∙ ap other k.role_is) (same_role-other role) ∙ append-nil (own_payloads role 0 s.passed))
               ∙ sym (append-nil (mine s));
           heard = ap (λ (z : List (List ℕ)). z ++ contents s.received)
               (due-by (other role) (other role) true q (turn ∙ ap other k.role_is) (same_role-self (other role)))
-              ∙ moved their (q.payload ∷ []) (contents s.received) (ap contents none);
+              ∙ moved (own_payloads (other role) 0 s.passed) (q.payload ∷ []) (contents s.received) (ap contents none);
         }
 
     sent-took : (m : TransportMessage) (n : ℕ) → (s.state.party.passed < length s.state.party.pattern.messages → ⊥)
@@ -299,14 +292,12 @@ module _ (plan : Plan) (role : Role) where
       → Took plan role s t [] (notes_about role (noted_by role (notes ++ held_note (length t.state.partial))))
   hears s t bytes notes k receives =
       let all : List Note = notes ++ held_note (length t.state.partial) in
-      let P : List Note → Type 0 = λ ns. Took plan role s t [] ns in
-      subst P (sym (noted-own role all)) (comes-took plan role s t bytes notes k receives)
+      subst (λ ns. Took plan role s t [] ns) (sym (noted-own role all)) (comes-took plan role s t bytes notes k receives)
 
   joined : (s t u : Side) (given more : List (List ℕ)) (notes later : List (Role × Note)) → Took plan role s t given (notes_about role notes)
       → Took plan role t u more (notes_about role later) → Took plan role s u (given ++ more) (notes_about role (notes ++ later))
   joined s t u given more notes later x y =
-      let P : List Note → Type 0 = λ ns. Took plan role s u (given ++ more) ns in
-      subst P (sym (flat_map-append (λ (n : Role × Note). if same_role n.0 role then n.1 ∷ [] else []) notes later))
+      subst (λ ns. Took plan role s u (given ++ more) ns) (sym (flat_map-append (λ (n : Role × Note). if same_role n.0 role then n.1 ∷ [] else []) notes later))
       (both plan role s t u given more (notes_about role notes) (notes_about role later) x y)
 
   -- the other end's notes
