@@ -9,11 +9,11 @@ use Rattle.noise_handshake.specs.Late.{with_later, IsLateWhole}
 use Rattle.noise_handshake.specs.Party.{Party}
 use Rattle.noise_keys.specs.Table.{Table}
 use Rattle.noise_c.specs.declared.structs.NoiseHandshake.{NoiseHandshake}
-use Rattle.noise_handshake.specs.Parts.{IsWhole}
+use Rattle.noise_handshake.specs.Parts.{IsWholeValue}
 use Rattle.noise_handshake.specs.Setup.{psks_of}
 use Rattle.noise_handshake.specs.Matching.{Matches}
 use Rattle.noise_names.specs.Validity.{IsValid}
-use Rattle.noise_c.specs.HandshakeStructs.{public_in, agreement_in, text_in, handshake_from_c, IsGiven, IsPatternOf, IsUsable, KeepsParty}
+use Rattle.noise_c.specs.HandshakeStructs.{public_in, agreement_in, text_from_c, handshake_from_c, IsGiven, IsPatternOf, IsUsable, KeepsParty}
 
 set-first : (ws : List (List ℕ)) (y : List ℕ) → length ws ≡ 1 → slice_set ws 0 y ≡ y ∷ []
 set-first [] y e = absurd (omega (arith, e))
@@ -53,7 +53,7 @@ matches-later old new psk p v later g e k =
 
 -- where a psk lacks, one more may be there
 whole-put : (h : HandshakeValue Table) (psk : List ℕ) (later : List (List ℕ)) → length h.psks < psks_of (drop h.passed h.pattern.messages)
-    → IsWhole public_in (with_later h later) → IsLateWhole public_in (with_later h (psk ∷ []))
+    → IsWholeValue public_in (with_later h later) → IsLateWhole public_in (with_later h (psk ∷ []))
 whole-put h psk [] low w = absurd (omega (arith, low, w.psks, length-append h.psks []))
 whole-put h psk (y ∷ later) low w = (
   later,
@@ -71,8 +71,8 @@ whole-put h psk (y ∷ later) low w = (
 
 -- a psk that was lacked leaves what a handshake may hold
 pub usable-given : (old new : NoiseHandshake) (psk : List ℕ) (h : HandshakeValue Table) → IsUsable old → new.mark ≡ old.mark → new.text_len ≡ old.text_len
-    → new.answer_count ≡ old.answer_count → new.psk_count ≤ 9 → IsGiven old new psk → h ≡ handshake_from_c h.pattern old → IsPatternOf (text_in old) h.pattern
-    → ((q : Plan) → IsPatternOf (text_in old) q → q ≡ h.pattern) → length h.psks < psks_of (drop h.passed h.pattern.messages) → IsUsable new
+    → new.answer_count ≡ old.answer_count → new.psk_count ≤ 9 → IsGiven old new psk → h ≡ handshake_from_c h.pattern old → IsPatternOf (text_from_c old) h.pattern
+    → ((q : Plan) → IsPatternOf (text_from_c old) q → q ≡ h.pattern) → length h.psks < psks_of (drop h.passed h.pattern.messages) → IsUsable new
 usable-given old new psk h u m t a n g same named one low =
     let q : handshake_from_c u.pattern old ≡ h = ap (λ (z : Plan). handshake_from_c z old) (one u.pattern u.named) ∙ sym same in
     let w : IsLateWhole public_in h = subst (λ (z : HandshakeValue Table). IsLateWhole public_in z) q u.whole in

@@ -9,14 +9,14 @@ use Rattle.noise_names.specs.Placing.{none-beyond, placed-once}
 use Rattle.noise_names.specs.Plan.{Plan}
 use Rattle.noise_names.specs.Fundamental.{fundamental_of}
 use Rattle.noise_names.specs.Limits.{Placed, first_beyond}
-use Rattle.noise_c.specs.HandshakeStructs.{IsNamed}
+use Rattle.noise_c.specs.HandshakeStructs.{IsPatternOfName}
 
 ok-same : {A : Type 0} {B : Type 0} (a b : A) → ◌≡◌ {A = Result A B} (Ok a) (Ok b) → a ≡ b
 ok-same a b e = cc
 
 pub pattern-one : (name : List ℕ) (section : Section) (base places : List ℕ) (plain p q : Plan)
     → ((s : Section) → Names name s → ◌≡◌ {A = Result Section NameFault} (Ok section) (Ok s)) → base ≡ section.base → places ≡ section.places
-    → fundamental_of base ≡ Some plain → Placed plain places p → IsNamed name q → q ≡ p
+    → fundamental_of base ≡ Some plain → Placed plain places p → IsPatternOfName name q → q ≡ p
 pattern-one name section base places plain p q every b l known placed h =
     let s : section ≡ h.section = ok-same section h.section (every h.section h.names) in
     let k : fundamental_of base ≡ Some h.plain = ap fundamental_of (b ∙ ap (λ (z : Section). z.base) s) ∙ h.known in
@@ -36,7 +36,7 @@ no-places (n ∷ ns) e = absurd (omega (arith, count (length ns) e)) where
 -- the places of a name of a pattern aren't beyond its messages
 pub pattern-fits : (name : List ℕ) (section : Section) (base places : List ℕ) (plain q : Plan) (n : ℕ)
     → ((s : Section) → Names name s → ◌≡◌ {A = Result Section NameFault} (Ok section) (Ok s)) → base ≡ section.base → places ≡ section.places
-    → fundamental_of base ≡ Some plain → first_beyond plain places ≡ Some n → IsNamed name q → ⊥
+    → fundamental_of base ≡ Some plain → first_beyond plain places ≡ Some n → IsPatternOfName name q → ⊥
 pattern-fits name section base places plain q n every b l known beyond h =
     let s : section ≡ h.section = ok-same section h.section (every h.section h.names) in
     let k : fundamental_of base ≡ Some h.plain = ap fundamental_of (b ∙ ap (λ (z : Section). z.base) s) ∙ h.known in

@@ -10,7 +10,7 @@ use Rattle.noise_handshake.specs.Party.{Party}
 use Rattle.noise_handshake.specs.Matching.{Matches}
 use Rattle.noise_handshake.specs.Late.{with_later}
 use Rattle.noise_c.specs.declared.structs.NoiseHandshake.{NoiseHandshake}
-use Rattle.noise_c.specs.HandshakeStructs.{public_in, agreement_in, text_in, handshake_from_c, KeepsParty, IsPatternOf, IsPatternFault, IsNoName, IsNoText, IsNotValid, is_text, IsStartCode, fault_in, code_of, start_code}
+use Rattle.noise_c.specs.HandshakeStructs.{public_in, agreement_in, text_from_c, handshake_from_c, KeepsParty, IsPatternOf, IsPatternFault, IsNoName, IsNoText, IsNotValid, is_text, IsStartCode, fault_in, code_of, start_code}
 use Rattle.noise_handshake.specs.declared.remote.Remote.{Remote}
 use Rattle.noise_handshake.specs.Setup.{party_at_start, setup_fault}
 use Rattle.noise_names.specs.declared.token.Role.{Role}
@@ -61,7 +61,7 @@ valid-pattern bytes p n h v one none = (λ e. absurd (none e), λ i. absurd (not
   not-both (inr t) = t.broken (subst (λ (z : Plan). IsValid z) (sym (one t.pattern t.named)) v)
 
 pub keeps-start : (new : NoiseHandshake) (h : HandshakeValue Table) (p : Plan) (text : List ℕ) (later : List (List ℕ)) (v : Party)
-    → text_in new ≡ text → IsPatternOf text p → h.pattern ≡ p → handshake_from_c h.pattern new ≡ h → Matches public_in agreement_in (with_later h later) v → KeepsParty new p v
+    → text_from_c new ≡ text → IsPatternOf text p → h.pattern ≡ p → handshake_from_c h.pattern new ≡ h → Matches public_in agreement_in (with_later h later) v → KeepsParty new p v
 keeps-start new h p text later v t named q same s = record {
   pattern = subst (λ (z : List ℕ). IsPatternOf z p) (sym t) named;
   later = later;

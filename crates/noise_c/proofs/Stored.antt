@@ -15,13 +15,13 @@ use Rattle.noise_handshake.specs.Party.{Party, Accepts}
 use Rattle.noise_handshake.specs.Matching.{Matches, after_message, after_own, after_not_read, DoesNotRead}
 use Rattle.noise_handshake.specs.Writing.{Writes}
 use Rattle.noise_c.specs.declared.structs.NoiseHandshake.{NoiseHandshake}
-use Rattle.noise_c.specs.HandshakeStructs.{public_in, agreement_in, text_in, handshake_from_c, IsPatternOf, IsUsable, KeepsParty, WasRead, WasWritten, WasDeclined}
+use Rattle.noise_c.specs.HandshakeStructs.{public_in, agreement_in, text_from_c, handshake_from_c, IsPatternOf, IsUsable, KeepsParty, WasRead, WasWritten, WasDeclined}
 use Rattle.noise_c.specs.declared.codes.numbers.TheConstants.{HANDSHAKE}
 use Rattle.noise_c.specs.Codes.{read_code, token_in}
 use Rattle.noise_c.proofs.Numbers.{IsPlain}
 
-module _ (old new : NoiseHandshake) (h h2 : HandshakeValue Table) (p : Plan) (v : Party) (one : (q : Plan) → IsPatternOf (text_in old) q → q ≡ h.pattern) (same : h ≡ handshake_from_c h.pattern old)
-    (stays : h2.pattern ≡ h.pattern) (name : text_in new ≡ text_in old) (stored : handshake_from_c h2.pattern new ≡ h2) (k : KeepsParty old p v) where
+module _ (old new : NoiseHandshake) (h h2 : HandshakeValue Table) (p : Plan) (v : Party) (one : (q : Plan) → IsPatternOf (text_from_c old) q → q ≡ h.pattern) (same : h ≡ handshake_from_c h.pattern old)
+    (stays : h2.pattern ≡ h.pattern) (name : text_from_c new ≡ text_from_c old) (stored : handshake_from_c h2.pattern new ≡ h2) (k : KeepsParty old p v) where
   -- the handshake that was opened matches the state
   pub opened : Matches public_in agreement_in (with_later h k.later) v
   opened = subst (λ (z : HandshakeValue Table). Matches public_in agreement_in (with_later z k.later) v) (ap (λ (q : Plan). handshake_from_c q old) (one p k.pattern) ∙ sym same) k.matches
@@ -50,19 +50,19 @@ module _ (old new : NoiseHandshake) (h h2 : HandshakeValue Table) (p : Plan) (v 
   was-written payload message xs w s = record { carried = xs; writes = w; keeps = keeps (after_own v xs payload) s }
 
 -- a handshake that was opened matches what the struct matches
-pub matches-for : (old : NoiseHandshake) (h : HandshakeValue Table) (p : Plan) (v : Party) → ((q : Plan) → IsPatternOf (text_in old) q → q ≡ h.pattern) → h ≡ handshake_from_c h.pattern old → (k : KeepsParty old p v)
+pub matches-for : (old : NoiseHandshake) (h : HandshakeValue Table) (p : Plan) (v : Party) → ((q : Plan) → IsPatternOf (text_from_c old) q → q ≡ h.pattern) → h ≡ handshake_from_c h.pattern old → (k : KeepsParty old p v)
     → Matches public_in agreement_in (with_later h k.later) v
 matches-for old h p v one same k = subst (λ (z : HandshakeValue Table). Matches public_in agreement_in (with_later z k.later) v) (ap (λ (q : Plan). handshake_from_c q old) (one p k.pattern) ∙ sym same) k.matches
 
 -- how long its message is, if one is due
-pub length-for : (old : NoiseHandshake) (h : HandshakeValue Table) (p : Plan) (payload : ℕ) → ((q : Plan) → IsPatternOf (text_in old) q → q ≡ h.pattern) → h ≡ handshake_from_c h.pattern old
-    → IsPatternOf (text_in old) p → message_len_of (handshake_from_c p old) payload ≡ message_len_of h payload
+pub length-for : (old : NoiseHandshake) (h : HandshakeValue Table) (p : Plan) (payload : ℕ) → ((q : Plan) → IsPatternOf (text_from_c old) q → q ≡ h.pattern) → h ≡ handshake_from_c h.pattern old
+    → IsPatternOf (text_from_c old) p → message_len_of (handshake_from_c p old) payload ≡ message_len_of h payload
 length-for old h p payload one same named =
     ap (λ (z : HandshakeValue Table). message_len_of z payload) (ap (λ (q : Plan). handshake_from_c q old) (one p named) ∙ sym same)
 
 -- a struct that holds a handshake is usable
 pub usable-stored : (new : NoiseHandshake) (h : HandshakeValue Table) → new.mark ≡ HANDSHAKE → new.text_len ≤ 416 → new.answer_count ≤ 8 → new.psk_count ≤ 9
-    → IsPatternOf (text_in new) h.pattern → IsValid h.pattern → handshake_from_c h.pattern new ≡ h → IsLateWhole public_in h → IsUsable new
+    → IsPatternOf (text_from_c new) h.pattern → IsValid h.pattern → handshake_from_c h.pattern new ≡ h → IsLateWhole public_in h → IsUsable new
 usable-stored new h m t a n named valid same whole = record {
   mark = m;
   text = t;
@@ -76,11 +76,11 @@ usable-stored new h m t a n named valid same whole = record {
 
 -- the same of what a usable one becomes
 pub usable-after : (old new : NoiseHandshake) (h h2 : HandshakeValue Table) → IsUsable old → new.mark ≡ old.mark → new.text_len ≡ old.text_len → new.answer_count ≡ old.answer_count
-    → new.psk_count ≤ 9 → text_in new ≡ text_in old → IsPatternOf (text_in old) h.pattern → h2.pattern ≡ h.pattern → IsValid h2.pattern
+    → new.psk_count ≤ 9 → text_from_c new ≡ text_from_c old → IsPatternOf (text_from_c old) h.pattern → h2.pattern ≡ h.pattern → IsValid h2.pattern
     → handshake_from_c h2.pattern new ≡ h2 → IsLateWhole public_in h2 → IsUsable new
 usable-after old new h h2 u m t a n name named stays valid same whole =
     usable-stored new h2 (m ∙ u.mark) (omega (arith, t, u.text)) (omega (arith, a, u.answers)) n
-    (subst (λ (z : List ℕ). IsPatternOf z h2.pattern) (sym name) (subst (λ (q : Plan). IsPatternOf (text_in old) q) (sym stays) named)) valid same whole
+    (subst (λ (z : List ℕ). IsPatternOf z h2.pattern) (sym name) (subst (λ (q : Plan). IsPatternOf (text_from_c old) q) (sym stays) named)) valid same whole
 
 -- a handshake that has ended
 pub ended-stored : (old new : NoiseHandshake) (h h2 : HandshakeValue Table) → new ≡ record old { ended = 1 } → h ≡ handshake_from_c h.pattern old → h2 ≡ ended_as h

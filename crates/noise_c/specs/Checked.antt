@@ -34,7 +34,7 @@ abbrev pub ReportsMessages : Plan → NoisePatternResult → NoisePatternResult 
 ReportsMessages p old new = new ≡ record old { messages = length p.messages }
 
 -- The pattern's first fault was reported, and nothing else.
-pub record ReportsRule (p : Plan) (old new : NoisePatternResult) : Type 0 where
+pub record ReportsRuleFault (p : Plan) (old new : NoisePatternResult) : Type 0 where
   pub fault : first_fault p ≡ Some (record { rule = new.rule; message = new.message; token = new.token })
   pub rest : new ≡ record old { rule = new.rule; message = new.message; token = new.token }
 
@@ -44,7 +44,7 @@ pub record ChecksPattern (text : List ℕ) (old new : NoisePatternResult) (code 
   pub valid : code ≡ OK ↔ IsValidText text
   pub messages : code ≡ OK → (p : Plan) → Spells text p → ReportsMessages p old new
   pub broken : code ≡ RULE ↔ IsBrokenText text
-  pub rule : code ≡ RULE → (p : Plan) → Spells text p → ReportsRule p old new
+  pub rule : code ≡ RULE → (p : Plan) → Spells text p → ReportsRuleFault p old new
   pub none : IsTextCode code → (p : Plan) → Spells text p → ⊥
   pub line : IsTextCode code → new ≡ record old { line = new.line }
   pub reported : IsTextCode code → ReportsText text code new.line

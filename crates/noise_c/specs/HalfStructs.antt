@@ -60,8 +60,8 @@ receiver_open_refusal k message =
     else option_map open_code (receiver_fault (half_from_c k))
 
 -- one message more, which may have changed the key
-abbrev pub Counts : NoiseHalf → NoiseHalf → Type 0
-Counts old new = half_from_c new ≡ record (half_from_c old) { key = (half_from_c new).key; nonce = old.nonce + 1 }
+abbrev pub CountsOne : NoiseHalf → NoiseHalf → Type 0
+CountsOne old new = half_from_c new ≡ record (half_from_c old) { key = (half_from_c new).key; nonce = old.nonce + 1 }
 
 -- the message is the next one that is sealed, of this payload
 abbrev pub SealsNext : NoiseHalf → NoiseHalf → List ℕ → List ℕ → Type 0
@@ -92,13 +92,13 @@ pub record Seals (n : ℕ) (payload : List ℕ) (old new : NoiseHalf) (out after
   pub place : code ≡ OK → next ≡ record results { from = 0; len = n + 16 }
   pub seals : code ≡ OK → SealsNext old new payload (take (n + 16) after)
   pub beyond : drop (n + 16) after ≡ drop (n + 16) out
-  pub counted : code ≡ OK → Counts old new
+  pub counted : code ≡ OK → CountsOne old new
   pub known : code ≡ OK → is_half SENDER new ≡ true
   pub unchanged : OK < code → (new ≡ old) × (after ≡ out) × (next ≡ results)
   pub codes : IsSealCode code
 
 -- A message is opened in place, or what is wrong is the number.
-pub record OpensInPlace (old new : NoiseHalf) (message after : List ℕ)
+pub record HalfOpensInPlace (old new : NoiseHalf) (message after : List ℕ)
     (results next : NoiseResult) (code : ℕ) : Type 0 where
   pub code_is : MatchOption (receiver_open_refusal old (length message))
       ((code ≡ OK) ⊎ (code ≡ open_code (unopened_fault (length message)))) (λ refusal. code ≡ refusal)
@@ -106,7 +106,7 @@ pub record OpensInPlace (old new : NoiseHalf) (message after : List ℕ)
   pub opens : code ≡ OK → OpensNext old new message (slice_range after next.from (next.from + next.len))
   pub forged : (code ≡ SHORT) ⊎ (code ≡ TAG) → IsForged old message
   pub beyond : code ≡ OK → drop next.len after ≡ drop next.len message
-  pub counted : code ≡ OK → Counts old new
+  pub counted : code ≡ OK → CountsOne old new
   pub known : code ≡ OK → is_half RECEIVER new ≡ true
   pub unchanged : OK < code → (new ≡ old) × (after ≡ message) × (next ≡ results)
   pub codes : IsOpenCode code

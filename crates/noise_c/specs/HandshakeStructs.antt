@@ -38,16 +38,16 @@ use Rattle.noise_c.specs.declared.structs.NoiseResult.{NoiseResult}
 use Rattle.noise_c.specs.Codes.{read_code, token_in, write_code, setup_code}
 
 -- a key, if there is one
-abbrev pub key_in : NoiseKey → Option (List ℕ)
-key_in k = if k.present == 0 then None else Some k.bytes
+abbrev pub key_from_c : NoiseKey → Option (List ℕ)
+key_from_c k = if k.present == 0 then None else Some k.bytes
 
 -- no key: zeros
-abbrev pub no_key : NoiseKey
-no_key = record { present = 0; bytes = replicate 32 0 }
+abbrev pub zero_key : NoiseKey
+zero_key = record { present = 0; bytes = replicate 32 0 }
 
 -- how C has a key
 abbrev pub key_to_c : Option (List ℕ) → NoiseKey
-key_to_c None = no_key
+key_to_c None = zero_key
 key_to_c (Some bytes) = record { present = 1; bytes = bytes }
 
 abbrev pub own_in : ℕ → Own
@@ -61,7 +61,7 @@ entry_in a = record { own = own_in a.of_static; remote = a.remote; answer = a.an
 
 -- the public keys, and the DH results that were handed in
 abbrev pub table_in : NoiseHandshake → Table
-table_in k = record { e = key_in k.e; s = key_in k.s; entries = map entry_in (take k.answer_count k.answers) }
+table_in k = record { e = key_from_c k.e; s = key_from_c k.s; entries = map entry_in (take k.answer_count k.answers) }
 
 abbrev pub public_in : Table → Own → Option (List ℕ)
 public_in t own = key_of own t.e t.s
@@ -69,11 +69,11 @@ public_in t own = key_of own t.e t.s
 abbrev pub agreement_in : Table → Own → List ℕ → Option (List ℕ)
 agreement_in t own remote = dh_result_in t.entries own remote
 
-abbrev pub text_in : NoiseHandshake → List ℕ
-text_in k = take k.text_len k.text
+abbrev pub text_from_c : NoiseHandshake → List ℕ
+text_from_c k = take k.text_len k.text
 
 -- the pattern of a protocol name (8): a fundamental one (7.4 and 7.5), with psk tokens at the name's places (9.4)
-pub record IsNamed (name : List ℕ) (p : Plan) : Type 0 where
+pub record IsPatternOfName (name : List ℕ) (p : Plan) : Type 0 where
   pub section : Section
   pub names : Names name section
   pub plain : Plan
@@ -87,7 +87,7 @@ is_text bytes = ends_with nat_eq bytes (10 ∷ [])
 -- the pattern of a pattern text (7.1), or else of a protocol name
 abbrev pub IsOfKind : Bool → List ℕ → Plan → Type 0
 IsOfKind true bytes p = Spells bytes p
-IsOfKind false bytes p = IsNamed bytes p
+IsOfKind false bytes p = IsPatternOfName bytes p
 
 abbrev pub IsPatternOf : List ℕ → Plan → Type 0
 IsPatternOf bytes p = IsOfKind (is_text bytes) bytes p
@@ -114,8 +114,8 @@ IsPatternFault bytes code = ((code ≡ NAME) × IsNoName bytes) ⊎ ((code ≡ P
 
 -- why these bytes are of no valid pattern, where they are a protocol name, and where they are a pattern text
 abbrev pub IsNameFault : List ℕ → ℕ → Type 0
-IsNameFault name code = ((code ≡ NAME) × ((q : Plan) → IsNamed name q → ⊥))
-    ⊎ ((code ≡ PATTERN) × ((q : Plan) × IsNamed name q × (IsValid q → ⊥)))
+IsNameFault name code = ((code ≡ NAME) × ((q : Plan) → IsPatternOfName name q → ⊥))
+    ⊎ ((code ≡ PATTERN) × ((q : Plan) × IsPatternOfName name q × (IsValid q → ⊥)))
 
 abbrev pub IsSpellingFault : List ℕ → ℕ → Type 0
 IsSpellingFault text code = (code ≡ PATTERN)
@@ -138,11 +138,12 @@ handshake_from_c p k = record {
   pattern = p;
   role = role_in k.responder;
   keys = table_in k;
-  remote = record { e = key_in k.remote_e; s = key_in k.remote_s };
+  remote = record { e = key_from_c k.remote_e; s = key_from_c k.remote_s };
   psks = drop (9 - k.psk_count) k.psks;
   passed = k.passed;
   ended = not (k.ended == 0);
-  state = state_of (record { chaining_key = k.chaining_key; hash = k.hash; key = key_in k.cipher; nonce = k.nonce });
+  state = state_of
+      (record { chaining_key = k.chaining_key; hash = k.hash; key = key_from_c k.cipher; nonce = k.nonce });
 }
 
 -- A call has left this: its mark is that of a handshake of this layout; no more text, DH results and psks than there is
@@ -153,13 +154,13 @@ pub record IsUsable (k : NoiseHandshake) : Type 0 where
   pub answers : k.answer_count ≤ 8
   pub psks : k.psk_count ≤ 9
   pub pattern : Plan
-  pub named : IsPatternOf (text_in k) pattern
+  pub named : IsPatternOf (text_from_c k) pattern
   pub valid : IsValid pattern
   pub whole : IsLateWhole public_in (handshake_from_c pattern k)
 
 -- The struct matches the state, by a pattern of its name: with the state's later psks, which it may lack.
 pub record KeepsParty (k : NoiseHandshake) (p : Plan) (v : Party) : Type 0 where
-  pub pattern : IsPatternOf (text_in k) p
+  pub pattern : IsPatternOf (text_from_c k) p
   pub later : List (List ℕ)
   pub matches : Matches public_in agreement_in (with_later (handshake_from_c p k) later) v
 
@@ -169,7 +170,7 @@ ForParty k P = (p : Plan) (v : Party) → KeepsParty k p v → P p v
 
 -- for the pattern of its name
 abbrev pub ForPattern : NoiseHandshake → (Plan → Type 0) → Type 0
-ForPattern k P = (p : Plan) → IsPatternOf (text_in k) p → P p
+ForPattern k P = (p : Plan) → IsPatternOf (text_from_c k) p → P p
 
 -- the length of its next message with a payload of this length, if one is due
 abbrev pub HasMessageLen : NoiseHandshake → ℕ → Option ℕ → Type 0
@@ -187,7 +188,7 @@ pub record ReportsMessageLen (k : NoiseHandshake) (payload old new code : ℕ) :
 -- that of the struct.
 pub record StoresProgress (progress : Progress) (left : ℕ) (old new : NoiseHandshake) : Type 0 where
   pub mark : new.mark ≡ old.mark
-  pub text : text_in new ≡ text_in old
+  pub text : text_from_c new ≡ text_from_c old
   pub same : (h : HandshakeValue Table) → HasProgress h progress → h.keys ≡ table_in old
       → h.role ≡ role_in old.responder
       → h.psks ≡ drop (9 - left) old.psks → handshake_from_c h.pattern new ≡ h
@@ -223,7 +224,7 @@ pub record WasWritten (p : Plan) (v : Party) (payload message : List ℕ) (k : N
 
 -- the struct has this DH result after the others, and is otherwise unchanged
 pub record IsAdded (old new : NoiseHandshake) (entry : TableEntry) : Type 0 where
-  pub text : text_in new ≡ text_in old
+  pub text : text_from_c new ≡ text_from_c old
   pub handshake : (p : Plan) → handshake_from_c p new
       ≡ record (handshake_from_c p old) {
         keys = record (table_in old) { entries = (table_in old).entries ++ entry ∷ [] };
@@ -231,7 +232,7 @@ pub record IsAdded (old new : NoiseHandshake) (entry : TableEntry) : Type 0 wher
 
 -- the struct has this psk after the others, and is otherwise unchanged
 pub record IsGiven (old new : NoiseHandshake) (psk : List ℕ) : Type 0 where
-  pub text : text_in new ≡ text_in old
+  pub text : text_from_c new ≡ text_from_c old
   pub handshake : (p : Plan) → handshake_from_c p new ≡ with_later (handshake_from_c p old) (psk ∷ [])
 
 -- a DH result is supplied where there is room, and a struct that a call has left remains one
@@ -286,10 +287,10 @@ pub record ReportsRemote (old new : NoiseResult) : Type 0 where
 
 -- the public keys that are handed in, with no DH result yet
 abbrev pub table_of : NoiseSetup → Table
-table_of setup = record { e = key_in setup.e; s = key_in setup.s; entries = [] }
+table_of setup = record { e = key_from_c setup.e; s = key_from_c setup.s; entries = [] }
 
 abbrev pub remote_of : NoiseSetup → Remote
-remote_of setup = record { e = key_in setup.remote_e; s = key_in setup.remote_s }
+remote_of setup = record { e = key_from_c setup.remote_e; s = key_from_c setup.remote_s }
 
 -- the psks that are handed in
 abbrev pub psks_in : NoiseSetup → List (List ℕ)
@@ -321,7 +322,7 @@ start_code p prologue setup =
 -- the struct holds what a handshake doesn't change: the text, the role, the public keys, no DH result yet, and the psks
 pub record StoresStart (text : List ℕ) (setup : NoiseSetup) (new : NoiseHandshake) : Type 0 where
   pub mark : new.mark ≡ HANDSHAKE
-  pub text_is : text_in new ≡ text
+  pub text_is : text_from_c new ≡ text
   pub len : new.text_len ≤ 416
   pub answers : new.answer_count ≤ 8
   pub role : new.responder ≡ setup.responder
@@ -333,7 +334,7 @@ pub record IsStarted (text prologue : List ℕ) (setup : NoiseSetup) (new : Nois
   pub begun_is : (p : Plan) → IsPatternOf text p → (later : List (List ℕ))
       → KeepsParty new p (begun_in p prologue setup later)
   pub usable : IsUsable new
-  pub text_is : text_in new ≡ text
+  pub text_is : text_from_c new ≡ text
 
 -- one of the numbers of a start
 abbrev pub IsStartCode : ℕ → Type 0

@@ -9,7 +9,7 @@ use Rattle.noise_c.specs.declared.codes.numbers.TheConstants.{AGREEMENT, DONE, L
 use Rattle.noise_c.specs.declared.structs.NoiseHandshake.{NoiseHandshake}
 use Rattle.noise_c.specs.declared.structs.NoiseResult.{NoiseResult}
 use Rattle.noise_c.specs.HalfStructs.{IsAround}
-use Rattle.noise_c.specs.HandshakeStructs.{handshake_from_c, own_in, remote_reported, text_in, ForParty, HasMessageLen, IsPatternOf, IsUsable, KeepsParty, ReportsDhResult, ReportsRemote, WasDeclined, WasRead, WasWithheld, WasWritten}
+use Rattle.noise_c.specs.HandshakeStructs.{handshake_from_c, own_in, remote_reported, text_from_c, ForParty, HasMessageLen, IsPatternOf, IsUsable, KeepsParty, ReportsDhResult, ReportsRemote, WasDeclined, WasRead, WasWithheld, WasWritten}
 
 -- What `noise_write` leaves of the struct, the buffer and the struct of results, by what they were before and by the
 -- payload, and the number that it returns.
@@ -60,7 +60,7 @@ pub data ReadOutcome (old : NoiseHandshake) (message : List ℕ) (results : Nois
 
 -- what there is too little room for isn't written
 abbrev pub RefusesRoom : NoiseHandshake → ℕ → ℕ → ℕ → Type 0
-RefusesRoom old payload room code = (p : Plan) → IsPatternOf (text_in old) p → (n : ℕ)
+RefusesRoom old payload room code = (p : Plan) → IsPatternOf (text_from_c old) p → (n : ℕ)
     → message_len_of (handshake_from_c p old) payload ≡ Some n → room < n → (code ≡ ROOM) ⊎ (code ≡ STRUCT)
 
 -- Where a psk lacks first, it is asked for: to write a message that there is room for, and to read one, with the

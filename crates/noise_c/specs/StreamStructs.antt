@@ -3,18 +3,18 @@ use Rattle.std.specs.Prelude.{◌≡◌, ◌≢◌, ◌↔◌, ◌⊎◌, ◌≤
 use Rattle.noise_channel.specs.declared.fault.StreamFault.{StreamFault}
 use Rattle.noise_channel.specs.declared.next.StreamState.{StreamState}
 use Rattle.noise_channel.specs.declared.next.StreamState.TheVariants.{Open, Ended, Broken}
-use Rattle.noise_channel.specs.Halves.{WriterValue, ReaderValue, WriterMatches, ReaderMatches, is_writer, is_reader, write_fault, end_fault, Counted}
+use Rattle.noise_channel.specs.Halves.{WriterValue, ReaderValue, WriterMatches, ReaderMatches, is_writer, is_reader, writer_fault, end_fault, Counted}
 use Rattle.noise_session.specs.TransportValue.{TransportState}
 use Rattle.noise_session.specs.Frames.{frame, frame_length, IsPartial}
 use Rattle.noise_channel.specs.Framing.{Begins}
 use Rattle.noise_channel.specs.Streams.{incoming, outgoing}
-use Rattle.noise_channel.specs.Writing.{Asked, Writes, WriterState}
+use Rattle.noise_channel.specs.Writing.{Asked, ChannelWrites, WriterState}
 use Rattle.noise_channel.specs.Writing.Asked.{ToWrite, ToEnd}
 use Rattle.noise_channel.specs.Writing.WriterState.{Speaks}
 use Rattle.noise_channel.specs.Writing.Put.{Wrote}
-use Rattle.noise_channel.specs.Reading.{Given, ReaderState, Reads}
+use Rattle.noise_channel.specs.Reading.{NextValue, ReaderState, ChannelReads}
 use Rattle.noise_channel.specs.Reading.ReaderState.{Listens}
-use Rattle.noise_channel.specs.Reading.Given.{Wants, Payload, End, Refused, Closed}
+use Rattle.noise_channel.specs.Reading.NextValue.{Wants, Payload, End, Refused, Closed}
 use Rattle.noise_c.specs.declared.structs.NoiseStreamSender.{NoiseStreamSender}
 use Rattle.noise_c.specs.declared.structs.NoiseStreamReceiver.{NoiseStreamReceiver}
 use Rattle.noise_c.specs.declared.structs.NoiseStreamResult.{NoiseStreamResult}
@@ -60,7 +60,7 @@ abbrev pub stream_write_code : NoiseStreamSender → ℕ → ℕ → ℕ
 stream_write_code k payload room =
     if not (is_stream_sender k) then STRUCT
     else if nat_lt room (frame_of payload) then ROOM
-    else writing_code (write_fault (stream_sender_from_c k) payload)
+    else writing_code (writer_fault (stream_sender_from_c k) payload)
 
 abbrev pub stream_end_code : NoiseStreamSender → ℕ → ℕ
 stream_end_code k room =
@@ -69,7 +69,7 @@ stream_end_code k room =
     else writing_code (end_fault (stream_sender_from_c k))
 
 -- what reading gave, as the number and the places report it
-abbrev pub ReportsGiven : ℕ → NoiseStreamResult → List ℕ → Given → Type 0
+abbrev pub ReportsGiven : ℕ → NoiseStreamResult → List ℕ → NextValue → Type 0
 ReportsGiven code results buffer (Wants count) = (code ≡ MORE) × (results.wanted ≡ count)
 ReportsGiven code results buffer (Payload payload used) =
     (code ≡ OK) × (results.used ≡ used) × (payload ≡ slice_range buffer results.from (results.from + results.len))
@@ -82,8 +82,8 @@ abbrev pub frame_code : ℕ → ℕ → ℕ
 frame_code message buffer = if nat_lt 65535 message then LENGTH else if nat_lt buffer (message + 2) then ROOM else OK
 
 -- the number of a refused frame
-abbrev pub IsRefusal : ℕ → Type 0
-IsRefusal code = (code ≡ SHORT) ⊎ (code ≡ TAG) ⊎ (code ≡ EXHAUSTED) ⊎ (code ≡ ONE_WAY)
+abbrev pub IsRefusalCode : ℕ → Type 0
+IsRefusalCode code = (code ≡ SHORT) ⊎ (code ≡ TAG) ⊎ (code ≡ EXHAUSTED) ⊎ (code ≡ ONE_WAY)
 
 -- What reading reports by its number: where the payload stands in a buffer of this length; how much is used, or wanted;
 -- else nothing.
@@ -92,14 +92,14 @@ pub record ReportsPlace (code : ℕ) (old new : NoiseStreamResult) (buffer : ℕ
       × (new.len + 18 ≤ buffer)
   pub end : code ≡ END → (new ≡ record old { used = 18 }) × (18 ≤ buffer)
   pub more : code ≡ MORE → (new ≡ record old { wanted = new.wanted }) × (1 ≤ new.wanted) × (new.wanted ≤ 65535)
-  pub nothing : (IsRefusal code ⊎ (code ≡ CLOSED) ⊎ (code ≡ STRUCT)) → new ≡ old
+  pub nothing : (IsRefusalCode code ⊎ (code ≡ CLOSED) ⊎ (code ≡ STRUCT)) → new ≡ old
 
 -- What reading leaves of the half by its number: what is opened counts, what is refused breaks the stream, and nothing
 -- else changes it.
 pub record LeavesReader (code : ℕ) (old new : NoiseStreamReceiver) : Type 0 where
   pub payload : code ≡ OK → Counted (half_from_c old.half) (half_from_c new.half) × (state_in new.state ≡ Open)
   pub end : code ≡ END → Counted (half_from_c old.half) (half_from_c new.half) × (state_in new.state ≡ Ended)
-  pub refused : IsRefusal code → (half_from_c new.half ≡ half_from_c old.half) × (state_in new.state ≡ Broken)
+  pub refused : IsRefusalCode code → (half_from_c new.half ≡ half_from_c old.half) × (state_in new.state ≡ Broken)
   pub same : ((code ≡ MORE) ⊎ (code ≡ CLOSED) ⊎ (code ≡ STRUCT)) → new ≡ old
 
 -- nothing is written, or read, yet
@@ -113,7 +113,7 @@ BeginsToRead k v = ReaderMatches (stream_receiver_from_c k) v (Listens 0)
 abbrev pub WritesNext : NoiseStreamSender → Asked → ℕ → List ℕ → NoiseStreamSender → Type 0
 WritesNext old asked taken bytes new =
     (v : TransportState) (s : WriterState) → WriterMatches (stream_sender_from_c old) v s → (t : WriterState)
-    × Writes (outgoing v) s asked (Wrote taken bytes) t × WriterMatches (stream_sender_from_c new) v t
+    × ChannelWrites (outgoing v) s asked (Wrote taken bytes) t × WriterMatches (stream_sender_from_c new) v t
 
 -- one frame more, and whether the stream is ended
 abbrev pub CountsFrame : NoiseStreamSender → NoiseStreamSender → Bool → Type 0
@@ -124,7 +124,7 @@ CountsFrame old new ended =
 abbrev pub ReadsNext : NoiseStreamReceiver → List ℕ → ℕ → NoiseStreamResult → List ℕ → NoiseStreamReceiver → Type 0
 ReadsNext old buffer code results after new =
     (v : TransportState) (s : ReaderState) → ReaderMatches (stream_receiver_from_c old) v s
-    → (g : Given) × (t : ReaderState) × ReportsGiven code results after g × Reads (incoming v) s buffer g t
+    → (g : NextValue) × (t : ReaderState) × ReportsGiven code results after g × ChannelReads (incoming v) s buffer g t
     × ReaderMatches (stream_receiver_from_c new) v t
 
 -- the numbers of writing and of reading
@@ -132,7 +132,7 @@ abbrev pub IsStreamCode : ℕ → Type 0
 IsStreamCode n = (n ≡ OK) ⊎ (n ≡ STRUCT) ⊎ (n ≡ ROOM) ⊎ (n ≡ CLOSED) ⊎ (n ≡ ONE_WAY) ⊎ (n ≡ EXHAUSTED)
 
 abbrev pub IsStreamReadCode : ℕ → Type 0
-IsStreamReadCode n = (n ≡ OK) ⊎ (n ≡ MORE) ⊎ (n ≡ END) ⊎ (n ≡ CLOSED) ⊎ (n ≡ STRUCT) ⊎ IsRefusal n
+IsStreamReadCode n = (n ≡ OK) ⊎ (n ≡ MORE) ⊎ (n ≡ END) ⊎ (n ≡ CLOSED) ⊎ (n ≡ STRUCT) ⊎ IsRefusalCode n
 
 -- The frame of the first bytes of a payload is written into a buffer, or what is wrong is the number.
 pub record WritesFrame (payload : List ℕ) (old new : NoiseStreamSender) (out after : List ℕ)

@@ -2,7 +2,7 @@
 
 ghost use Rattle.std.specs.Prelude.{◌≡◌};
 ghost use Rattle.noise_state.specs.History.{hash};
-ghost use Rattle.noise_c.specs.HandshakeStructs.{key_in, key_to_c, handshake_from_c, ForPattern, ForParty, IsQuery, IsUsable, ReportsMessageLen, ReportsStage};
+ghost use Rattle.noise_c.specs.HandshakeStructs.{key_from_c, key_to_c, handshake_from_c, ForPattern, ForParty, IsQuery, IsUsable, ReportsMessageLen, ReportsStage};
 
 use crate::codes::numbers::{NOT_DUE, OK, STRUCT};
 use crate::codes::some_or;
@@ -40,7 +40,7 @@ pub extern "C" fn noise_hash(handshake: &NoiseHandshake, out: &mut [u8; 32]) -> 
 #[unsafe(no_mangle)]
 pub extern "C" fn noise_remote_static(handshake: &NoiseHandshake, key: &mut NoiseKey) -> u32
     ensures code { IsQuery (IsUsable handshake.now) result (key.new ≡ key.old) }
-    ensures value { result ≡ OK → key.new ≡ key_to_c (key_in handshake.now.remote_s) }
+    ensures value { result ≡ OK → key.new ≡ key_to_c (key_from_c handshake.now.remote_s) }
     ensures key { result ≡ OK → ForParty handshake.now (λ _ v. key.new ≡ key_to_c v.remote.s) }
 {
     let state = some_or!(handshake_from_c(handshake), STRUCT);

@@ -4,7 +4,7 @@ ghost use Rattle.std.specs.Prelude.{◌≡◌, ◌≤◌, ◌-◌, ◌↔◌, le
 ghost use Rattle.noise_handshake.specs.Parts.{held_of};
 ghost use Rattle.noise_handshake.specs.Late.{IsLateWhole};
 ghost use Rattle.noise_names.specs.Plan.{Plan};
-ghost use Rattle.noise_c.specs.HandshakeStructs.{public_in, role_in, text_in, handshake_from_c, IsPatternOf, IsUsable, StoresProgress};
+ghost use Rattle.noise_c.specs.HandshakeStructs.{public_in, role_in, text_from_c, handshake_from_c, IsPatternOf, IsUsable, StoresProgress};
 
 use crate::codes::numbers::HANDSHAKE;
 use crate::patterns::pattern_of;
@@ -77,8 +77,8 @@ pub(crate) fn handshake_from_c<'a>(
     handshake: &'a NoiseHandshake,
 ) -> Option<LateHandshake<SuppliedKeys<'a>>>
     ensures usable { IsSome result ↔ IsUsable handshake.now }
-    ensures named { IfSome result (λ h. IsPatternOf (text_in handshake.now) h.pattern) }
-    ensures one { IfSome result (λ h. (q : Plan) → IsPatternOf (text_in handshake.now) q → q ≡ h.pattern) }
+    ensures named { IfSome result (λ h. IsPatternOf (text_from_c handshake.now) h.pattern) }
+    ensures one { IfSome result (λ h. (q : Plan) → IsPatternOf (text_from_c handshake.now) q → q ≡ h.pattern) }
     ensures value { IfSome result (λ h. h ≡ handshake_from_c h.pattern handshake.now) }
     ensures count { IfSome result (λ h. length h.psks ≡ handshake.now.psk_count) }
 {

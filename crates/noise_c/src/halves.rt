@@ -1,7 +1,7 @@
 //! Exports: the two halves of a session whose messages come in order.
 
 ghost use Rattle.std.specs.Prelude.{length, take};
-ghost use Rattle.noise_c.specs.HalfStructs.{is_half, OpensInPlace, ReportsNonce, Seals};
+ghost use Rattle.noise_c.specs.HalfStructs.{is_half, HalfOpensInPlace, ReportsNonce, Seals};
 ghost use Rattle.noise_c.specs.declared.codes.numbers.TheConstants.{RECEIVER, SENDER};
 
 use crate::codes::numbers::{LENGTH, OK, RECEIVER, ROOM, SENDER, STRUCT};
@@ -64,7 +64,7 @@ pub extern "C" fn noise_open(
     message: &mut [u8],
     results: &mut NoiseResult,
 ) -> u32
-    ensures { OpensInPlace half.old half.new message.old message.new results.old results.new result }
+    ensures { HalfOpensInPlace half.old half.new message.old message.new results.old results.new result }
 {
     let parts = some_or!(half_from_c(half, RECEIVER), STRUCT);
     if message.len() > MAX_LEN {

@@ -2,7 +2,7 @@
 
 ghost use Rattle.std.specs.Prelude.{length};
 ghost use Rattle.noise_names.specs.Text.{Spells};
-ghost use Rattle.noise_c.specs.HandshakeStructs.{FindsPattern, IsNamed, IsNameFault, IsPatternFault, IsPatternOf, IsSpellingFault};
+ghost use Rattle.noise_c.specs.HandshakeStructs.{FindsPattern, IsPatternOfName, IsNameFault, IsPatternFault, IsPatternOf, IsSpellingFault};
 ghost use Rattle.noise_c.specs.Checked.{ChecksPattern};
 
 use crate::codes::numbers::{NAME, OK, PATTERN, RULE};
@@ -13,7 +13,7 @@ use noise_names::{Pattern, ProtocolName, ValidPattern, fundamental};
 
 // The pattern of a protocol name, if it is valid. Else the number of the fault: NAME or PATTERN.
 fn named(name: &[u8]) -> Result<ValidPattern, u32>
-    ensures { FindsPattern (IsNamed name.now) 82 (length name.now) (IsNameFault name.now) result }
+    ensures { FindsPattern (IsPatternOfName name.now) 82 (length name.now) (IsNameFault name.now) result }
 {
     names_are_short();
     let Ok(name) = ProtocolName::parse(name) else {

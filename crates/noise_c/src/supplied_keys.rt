@@ -3,7 +3,7 @@
 ghost use Rattle.std.specs.Prelude.{◌≡◌, ◌≤◌, map};
 ghost use Rattle.noise_keys.specs.Keys.{key_of};
 ghost use Rattle.noise_keys.specs.Table.{Table, dh_result_in, is_for};
-ghost use Rattle.noise_c.specs.HandshakeStructs.{entry_in, key_in, key_to_c, own_in};
+ghost use Rattle.noise_c.specs.HandshakeStructs.{entry_in, key_from_c, key_to_c, own_in};
 
 use crate::structs::{NoiseAnswer, NoiseKey};
 use noise_handshake::{Keys, Own};
@@ -21,8 +21,8 @@ impl<'a> Model for SuppliedKeys<'a> {
     ghost Value = { Table };
 
     ghost view = { λ keys. record {
-      e = key_in keys.e.now;
-      s = key_in keys.s.now;
+      e = key_from_c keys.e.now;
+      s = key_from_c keys.s.now;
       entries = map entry_in keys.answers.now;
     } };
 }
@@ -46,7 +46,7 @@ impl<'a> Keys for SuppliedKeys<'a> {
 
 // The key, if there is one.
 pub(crate) fn key_of(key: &NoiseKey) -> Option<[u8; 32]>
-    ensures { result ≡ key_in key.now }
+    ensures { result ≡ key_from_c key.now }
 {
     if key.present == 0 {
         None
@@ -85,7 +85,7 @@ fn result_for(answers: &[NoiseAnswer], own: Own, remote: &[u8; 32]) -> Option<[u
 
 // How C has a key.
 pub(crate) fn key_to_c(key: Option<[u8; 32]>) -> NoiseKey
-    ensures value { key_in result ≡ key }
+    ensures value { key_from_c result ≡ key }
     ensures exact { result ≡ key_to_c key }
 {
     match key {

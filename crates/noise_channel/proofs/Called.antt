@@ -9,7 +9,7 @@ use Rattle.noise_channel.specs.Writing.{WriterState, Call, WritesAll, taken_from
 use Rattle.noise_channel.specs.Writing.WriterState.{Speaks, HasEnded}
 use Rattle.noise_channel.specs.Writing.Asked.{ToWrite}
 use Rattle.noise_channel.specs.Writing.Put.{Wrote}
-use Rattle.noise_channel.specs.Writing.Writes.{skips, writes, ends, one_way, exhausted, over}
+use Rattle.noise_channel.specs.Writing.ChannelWrites.{skips, writes, ends, one_way, exhausted, over}
 use Rattle.noise_channel.specs.Writing.WritesAll.{stops, goes_on}
 use Rattle.noise_channel.specs.Runs.{IsWritten}
 

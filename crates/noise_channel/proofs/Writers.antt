@@ -8,16 +8,16 @@ use Rattle.noise_session.specs.TransportValue.{TransportState, SenderMatches, ne
 use Rattle.noise_session.specs.Transport.{last_nonce}
 use Rattle.noise_channel.specs.declared.fault.StreamFault.TheVariants as fault
 use Rattle.noise_channel.specs.Streams.{outgoing, frame_at}
-use Rattle.noise_channel.specs.Writing.{WriterState, Asked, Put, Writes, taken_from}
+use Rattle.noise_channel.specs.Writing.{WriterState, Asked, Put, ChannelWrites, taken_from}
 use Rattle.noise_channel.specs.Writing.WriterState.{Speaks, HasEnded}
 use Rattle.noise_channel.specs.Writing.Asked.{ToWrite, ToEnd}
 use Rattle.noise_channel.specs.Writing.Put.{Wrote, Failed}
-use Rattle.noise_channel.specs.Writing.Writes.{skips, writes, ends, one_way, exhausted, over}
+use Rattle.noise_channel.specs.Writing.ChannelWrites.{skips, writes, ends, one_way, exhausted, over}
 use Rattle.noise_channel.specs.Halves.{WriterValue, WriterMatches}
 
 -- what a call came to, and what the writer matches after it
 abbrev pub Comes : TransportState → WriterState → Asked → Put → WriterValue → Type 0
-Comes v s asked put after = (t : WriterState) × Writes (outgoing v) s asked put t × WriterMatches after v t
+Comes v s asked put after = (t : WriterState) × ChannelWrites (outgoing v) s asked put t × WriterMatches after v t
 
 both : (b : Bool) → b ≡ true → b ≡ false → ⊥
 both b on off = let e : true ≡ false = sym on ∙ off in cc
@@ -88,11 +88,11 @@ module _ (w : WriterValue) (v : TransportState) where
             let below : n + 1 < last_nonce = subst (λ (k : ℕ). k + 1 < last_nonce) here room in
             let framed : frame_at (outgoing v) n (take (taken_from p) p) ≡ bytes =
             sym (o.0 ∙ ap (frame_at (outgoing v) n) (part ∙ ap (λ (k : ℕ). take k p) is)) in
-            let call : Writes (outgoing v) (Speaks n) (ToWrite p) (Wrote (taken_from p) bytes) (Speaks (n + 1)) =
-            subst (λ (bs : List ℕ). Writes (outgoing v) (Speaks n) (ToWrite p) (Wrote (taken_from p) bs) (Speaks (n + 1))) framed
+            let call : ChannelWrites (outgoing v) (Speaks n) (ToWrite p) (Wrote (taken_from p) bytes) (Speaks (n + 1)) =
+            subst (λ (bs : List ℕ). ChannelWrites (outgoing v) (Speaks n) (ToWrite p) (Wrote (taken_from p) bs) (Speaks (n + 1))) framed
             (writes (outgoing v) n p some (same-silent n matches.1 ∙ heard) below) in (
               Speaks (n + 1),
-              subst (λ (k : ℕ). Writes (outgoing v) (Speaks n) (ToWrite p) (Wrote k bytes) (Speaks (n + 1))) (sym is) call,
+              subst (λ (k : ℕ). ChannelWrites (outgoing v) (Speaks n) (ToWrite p) (Wrote k bytes) (Speaks (n + 1))) (sym is) call,
               (open_now, o.1),
             )
         writes-as HasEnded p taken some room is part matches = absurd (both w.ended matches open_now)
@@ -105,7 +105,7 @@ module _ (w : WriterValue) (v : TransportState) where
             let below : n < last_nonce = subst (λ (k : ℕ). k < last_nonce) here room in
             let framed : frame_at (outgoing v) n [] ≡ bytes = sym (o.0 ∙ ap (frame_at (outgoing v) n) none) in (
               HasEnded,
-              subst (λ (bs : List ℕ). Writes (outgoing v) (Speaks n) ToEnd (Wrote 0 bs) HasEnded) framed
+              subst (λ (bs : List ℕ). ChannelWrites (outgoing v) (Speaks n) ToEnd (Wrote 0 bs) HasEnded) framed
                   (ends (outgoing v) n (same-silent n matches.1 ∙ heard) below),
               refl,
             )

@@ -30,18 +30,18 @@ first_part payload = take (taken_from payload) payload
 
 -- One call. An empty payload is nothing, and no end; each other one, and the end, is a frame at the next nonce, of
 -- which the last is left for the end.
-pub data Writes : Direction → WriterState → Asked → Put → WriterState → Type 0 where
-  skips : (d : Direction) (n : ℕ) → Writes d (Speaks n) (ToWrite []) (Wrote 0 []) (Speaks n)
+pub data ChannelWrites : Direction → WriterState → Asked → Put → WriterState → Type 0 where
+  skips : (d : Direction) (n : ℕ) → ChannelWrites d (Speaks n) (ToWrite []) (Wrote 0 []) (Speaks n)
   writes : (d : Direction) (n : ℕ) (payload : List ℕ) → payload ≢ [] → d.silent ≡ false → n + 1 < last_nonce
-      → Writes d (Speaks n) (ToWrite payload) (Wrote (taken_from payload) (frame_at d n (first_part payload)))
+      → ChannelWrites d (Speaks n) (ToWrite payload) (Wrote (taken_from payload) (frame_at d n (first_part payload)))
       (Speaks (n + 1))
   ends : (d : Direction) (n : ℕ) → d.silent ≡ false → n < last_nonce
-      → Writes d (Speaks n) ToEnd (Wrote 0 (frame_at d n [])) HasEnded
+      → ChannelWrites d (Speaks n) ToEnd (Wrote 0 (frame_at d n [])) HasEnded
   one_way : (d : Direction) (n : ℕ) (asked : Asked) → asked ≢ ToWrite [] → d.silent ≡ true
-      → Writes d (Speaks n) asked (Failed fault.OneWay) (Speaks n)
+      → ChannelWrites d (Speaks n) asked (Failed fault.OneWay) (Speaks n)
   exhausted : (d : Direction) (n : ℕ) (payload : List ℕ) → payload ≢ [] → d.silent ≡ false → n + 1 ≡ last_nonce
-      → Writes d (Speaks n) (ToWrite payload) (Failed fault.Exhausted) (Speaks n)
-  over : (d : Direction) (asked : Asked) → Writes d HasEnded asked (Failed fault.Ended) HasEnded
+      → ChannelWrites d (Speaks n) (ToWrite payload) (Failed fault.Exhausted) (Speaks n)
+  over : (d : Direction) (asked : Asked) → ChannelWrites d HasEnded asked (Failed fault.Ended) HasEnded
 
 -- what a call of `write` or `end` returns, with the bytes of its output
 abbrev pub put_by_write : List ℕ → Result (ℕ × ℕ) StreamFault → Put
@@ -61,17 +61,17 @@ pub record Call : Type 0 where
 pub data WritesAll : Direction → WriterState → List Call → WriterState → Type 0 where
   stops : (d : Direction) (s : WriterState) → WritesAll d s [] s
   goes_on : (d : Direction) (s t u : WriterState) (asked : Asked) (put : Put) (more : List Call)
-      → Writes d s asked put t → WritesAll d t more u
+      → ChannelWrites d s asked put t → WritesAll d t more u
       → WritesAll d s (record { asked = asked; put = put } ∷ more) u
 
 -- the bytes that calls put out
-abbrev pub bytes_in : Put → List ℕ
-bytes_in (Wrote taken bytes) = bytes
-bytes_in (Failed why) = []
+abbrev pub written_bytes : Put → List ℕ
+written_bytes (Wrote taken bytes) = bytes
+written_bytes (Failed why) = []
 
 abbrev pub bytes_put : List Call → List ℕ
 bytes_put [] = []
-bytes_put (one ∷ more) = bytes_in one.put ++ bytes_put more
+bytes_put (one ∷ more) = written_bytes one.put ++ bytes_put more
 
 -- the payloads that they took, each as far as it was taken
 abbrev pub payload_in : Put → Asked → List (List ℕ)

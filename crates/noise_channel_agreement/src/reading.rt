@@ -7,7 +7,7 @@ ghost use Rattle.noise_channel.specs.Streams.{incoming};
 ghost use Rattle.noise_channel.specs.Reading.{ReaderState};
 ghost use Rattle.noise_channel.specs.Reading.ReaderState.{Listens, AtEnd};
 ghost use Rattle.noise_channel.specs.Halves.{ReaderMatches};
-ghost use Rattle.noise_channel.specs.Runs.{Run, Rests};
+ghost use Rattle.noise_channel.specs.Runs.{ReaderRun, Rests};
 ghost use Rattle.noise_channel_agreement.specs.Agreement.{ComesWhole, IsWholeOrForged};
 
 use noise_channel::{Next, StreamReceiver};
@@ -17,7 +17,7 @@ use noise_channel::{Next, StreamReceiver};
 pub fn read_all(receiver: &mut StreamReceiver, came: &mut [u8]) -> usize
     ensures left { result ≤ length came.old }
     ensures run { (v : TransportState) (s : ReaderState) → ReaderMatches receiver.old v s
-        → (out : List (List ℕ)) × (left : List ℕ) × (t : ReaderState) × Run (incoming v) s came.old [] out t left
+        → (out : List (List ℕ)) × (left : List ℕ) × (t : ReaderState) × ReaderRun (incoming v) s came.old [] out t left
         × Rests (incoming v) t left × (length left ≡ result) × ReaderMatches receiver.new v t }
 {
     match receiver.read(came) {
@@ -31,7 +31,7 @@ pub fn read_all(receiver: &mut StreamReceiver, came: &mut [u8]) -> usize
 /// ends, with nothing after it. Between the parties of a session, as of the law `channel_agrees`, it is whole then.
 pub fn came_whole(receiver: &mut StreamReceiver, came: &mut [u8]) -> bool
     ensures exactly { (v : TransportState) (s : ReaderState) → ReaderMatches receiver.old v s
-        → (out : List (List ℕ)) × (left : List ℕ) × (t : ReaderState) × Run (incoming v) s came.old [] out t left
+        → (out : List (List ℕ)) × (left : List ℕ) × (t : ReaderState) × ReaderRun (incoming v) s came.old [] out t left
         × Rests (incoming v) t left × ((result ≡ true) ↔ ((t ≡ AtEnd) × (left ≡ []))) }
     ensures whole { (v w : TransportState) → IsWholeOrForged v w → ReaderMatches receiver.old w (Listens 0)
         → result ≡ true → ComesWhole v w came.old }

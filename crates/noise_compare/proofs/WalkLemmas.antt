@@ -5,7 +5,7 @@ use Rattle.std.proofs.lemmas.List.Elements.{All-cons, All-nil}
 use Rattle.std.proofs.lemmas.List.Folds.{fold_stays}
 use Rattle.noise_compare.specs.Differences.{Agrees, AreMatched, IsMatched, after_match, is_of_responder, of_role}
 use Rattle.noise_compare.specs.Lines.{has_values, is_of_place}
-use Rattle.noise_compare.specs.Walk.{Left, both, left_after, left_by, left_for, step}
+use Rattle.noise_compare.specs.Walk.{Left, both, left_after, left_by, left_for, left_after_logged}
 use Rattle.noise_compare.specs.declared.line.Line.{Line}
 
 after_match-is : (logged : Line) (right rest : List Line) → after_match logged right ≡ Some rest → IsMatched logged right rest
@@ -78,7 +78,7 @@ one-passed : (role : Bool) (line : Line) (more right left : List Line) → is_of
     → AreMatched (of_role role more) right left → AreMatched (of_role role (line ∷ more)) right left
 one-passed role line more right left e h = subst (λ (lines : List Line). AreMatched lines right left) (sym (one-other role line more e)) h
 
-pub walked : (log : List Line) (from to : Left) → fold step (Some from) log ≡ Some to → (role : Bool)
+pub walked : (log : List Line) (from to : Left) → fold left_after_logged (Some from) log ≡ Some to → (role : Bool)
     → AreMatched (of_role role log) (left_of role from) (left_of role to)
 walked [] from to e true = let same : to ≡ from = cc e in ap (left_of true) same
 walked [] from to e false = let same : to ≡ from = cc e in ap (left_of false) same
@@ -86,13 +86,13 @@ walked (line ∷ more) from to e role = at (λ next. walked more next to) (is_of
   where
     stops : left_after from line ≡ None → ⊥
     stops none =
-        let stopped : fold step (Some from) (line ∷ more) ≡ None = ap (λ (s : Option Left). fold step s more) none ∙ fold_stays step None (λ x. refl) more in
+        let stopped : fold left_after_logged (Some from) (line ∷ more) ≡ None = ap (λ (s : Option Left). fold left_after_logged s more) none ∙ fold_stays left_after_logged None (λ x. refl) more in
         cc (stopped, e)
 
-    goes : (next : Left) → left_after from line ≡ Some next → fold step (Some next) more ≡ Some to
-    goes next is = sym (ap (λ (s : Option Left). fold step s more) is) ∙ e
+    goes : (next : Left) → left_after from line ≡ Some next → fold left_after_logged (Some next) more ≡ Some to
+    goes next is = sym (ap (λ (s : Option Left). fold left_after_logged s more) is) ∙ e
 
-    at : ((next : Left) → fold step (Some next) more ≡ Some to → (role : Bool) → AreMatched (of_role role more) (left_of role next) (left_of role to))
+    at : ((next : Left) → fold left_after_logged (Some next) more ≡ Some to → (role : Bool) → AreMatched (of_role role more) (left_of role next) (left_of role to))
         → (b : Bool) → is_of_responder line ≡ b → (r : Option (List Line)) → after_match line from.responder ≡ r
         → (i : Option (List Line)) → after_match line from.initiator ≡ i → (role : Bool)
         → AreMatched (of_role role (line ∷ more)) (left_of role from) (left_of role to)

@@ -5,8 +5,8 @@ use Rattle.std.specs.Str.{bytes_eq}
 use Rattle.noise_compare.specs.declared.line.Line.{Line}
 
 -- the words between spaces
-abbrev pub words_of : List ℕ → List (List ℕ)
-words_of text = slice_split (λ b. b == 32) text
+abbrev pub line_words : List ℕ → List (List ℕ)
+line_words text = slice_split (λ b. b == 32) text
 
 -- the words of a line that is held
 abbrev pub words_in : Line → List (List ℕ)

@@ -1,7 +1,7 @@
 -- The lines of a key schedule in a text.
 use Rattle.std.specs.Prelude.{⊤, ◌≡◌, ℕ, ◌+◌, ◌==◌, ◌&&◌, Bool, true, not, List, [], ◌∷◌, ◌++◌, Option, Some, None, length, map, if◌then◌else◌}
 use Rattle.std.specs.List.{slice_split}
-use Rattle.noise_compare.specs.Lines.{is_of_schedule, words_in, words_of}
+use Rattle.noise_compare.specs.Lines.{is_of_schedule, words_in, line_words}
 use Rattle.noise_compare.specs.declared.line.Line.{Line}
 use Rattle.noise_compare.specs.declared.reading.LogFault.{LogFault}
 use Rattle.noise_compare.specs.declared.reading.LogFault.TheVariants.{Line as LineFault, Memory}
@@ -14,17 +14,17 @@ abbrev pub numbered : Line → Numbered
 numbered line = (line.number, words_in line)
 
 -- a line of a text, if it is one of a party's key schedule
-abbrev pub line_at : ℕ → List ℕ → List Numbered
-line_at number text = if is_of_schedule (words_of text) then (number, words_of text) ∷ [] else []
+abbrev pub schedule_line : ℕ → List ℕ → List Numbered
+schedule_line number text = if is_of_schedule (line_words text) then (number, line_words text) ∷ [] else []
 
 -- those of these lines, whose first has this number
 abbrev pub lines_from : ℕ → List (List ℕ) → List Numbered
 lines_from number [] = []
-lines_from number (text ∷ more) = line_at number text ++ lines_from (number + 1) more
+lines_from number (text ∷ more) = schedule_line number text ++ lines_from (number + 1) more
 
 -- those of a text
-abbrev pub lines_of : List ℕ → List Numbered
-lines_of text = lines_from 1 (slice_split (λ b. b == 10) text)
+abbrev pub schedule_lines : List ℕ → List Numbered
+schedule_lines text = lines_from 1 (slice_split (λ b. b == 10) text)
 
 -- lines that are held are these
 abbrev pub views : List Line → List Numbered
@@ -32,7 +32,7 @@ views lines = map numbered lines
 
 -- a line that begins as one of a key schedule, and has more or fewer than twelve words
 abbrev pub is_wrong : List ℕ → Bool
-is_wrong text = is_of_schedule (words_of text) && not (length (words_of text) == 12)
+is_wrong text = is_of_schedule (line_words text) && not (length (line_words text) == 12)
 
 -- the number of the first such of these lines, whose first has this number
 abbrev pub wrong_from : ℕ → List (List ℕ) → Option ℕ

@@ -10,13 +10,13 @@ ended text = text ++ 10 ∷ []
 unfoldable pub is_number : List ℕ → Bool
 is_number part = nat_lt (unwrap_or (slice_get part 0) 97) 58
 
-abbrev pub part_text : List ℕ → List ℕ
-part_text part = if is_number part then codes "message " ++ part else part
+abbrev pub part_name : List ℕ → List ℕ
+part_name part = if is_number part then codes "message " ++ part else part
 
 -- the role, the part and the name of a line
 abbrev pub place_text : Line → List ℕ
 place_text line = word_at (words_in line) 1
-    ++ (codes ", " ++ (part_text (word_at (words_in line) 2) ++ (codes ", " ++ word_at (words_in line) 4)))
+    ++ (codes ", " ++ (part_name (word_at (words_in line) 2) ++ (codes ", " ++ word_at (words_in line) 4)))
 
 -- two lines with a value that differs: the right one, and that of the log
 unfoldable pub value_text : List ℕ → ℕ → Line → Line → List ℕ

@@ -24,10 +24,10 @@ left_after left logged = if is_of_responder logged
     then option_map (λ more. both left.initiator more) (after_match logged left.responder)
     else option_map (λ more. both more left.responder) (after_match logged left.initiator)
 
-abbrev pub step : Option Left → Line → Option Left
-step None logged = None
-step (Some left) logged = left_after left logged
+abbrev pub left_after_logged : Option Left → Line → Option Left
+left_after_logged None logged = None
+left_after_logged (Some left) logged = left_after left logged
 
 -- what is left of the right lines after all lines of a log, or None where one isn't matched
 abbrev pub left_by : List Line → List Line → Option Left
-left_by right log = fold step (Some (both right right)) log
+left_by right log = fold left_after_logged (Some (both right right)) log

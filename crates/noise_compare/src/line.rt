@@ -3,7 +3,7 @@
 ghost use Rattle.std.specs.Prelude.{◌≡◌, ◌==◌, IfOk, length, map};
 ghost use Rattle.std.specs.List.{slice_split};
 ghost use Rattle.std.specs.Str.{bytes_eq};
-ghost use Rattle.noise_compare.specs.Lines.{has_values, is_of_place, is_of_schedule, is_same_word, word_at, words_in, words_of};
+ghost use Rattle.noise_compare.specs.Lines.{has_values, is_of_place, is_of_schedule, is_same_word, word_at, words_in, line_words};
 
 use std::alloc::{AllocError, Global};
 
@@ -20,7 +20,7 @@ impl<'a> Line<'a> {
     /// The line of this text, which has no LF.
     pub fn new(alloc: Global, number: usize, text: &'a [u8]) -> Result<Line<'a>, AllocError>
         ensures number { IfOk result (λ line. line.number ≡ number) }
-        ensures words { IfOk result (λ line. words_in line ≡ words_of text.now) }
+        ensures words { IfOk result (λ line. words_in line ≡ line_words text.now) }
     {
         let words = parts(alloc, text, b' ')?;
         Ok(Line { number, words })

@@ -1,8 +1,8 @@
 //! Reading the lines of a log, and those of a key schedule.
 
 ghost use Rattle.std.specs.Prelude.{◌≡◌, ◌++◌, ℕ, false, None, IfErr, IfOk, OnOk, map};
-ghost use Rattle.noise_compare.specs.Lines.{words_in, words_of};
-ghost use Rattle.noise_compare.specs.Reading.{IsLineFault, IsLogFault, first_wrong, is_wrong, line_at, lines_of, views};
+ghost use Rattle.noise_compare.specs.Lines.{words_in, line_words};
+ghost use Rattle.noise_compare.specs.Reading.{IsLineFault, IsLogFault, first_wrong, is_wrong, schedule_line, schedule_lines, views};
 ghost use Rattle.noise_compare.specs.declared.reading.LogFault.TheVariants.{Memory};
 
 use crate::line::{Line, parts};
@@ -32,7 +32,7 @@ impl From<AllocError> for LogFault {
 /// The lines of a log that are of a party's key schedule: those that begin with `trace initiator` or `trace
 /// responder`. All others are passed over.
 pub fn read_log(alloc: Global, text: &[u8]) -> Result<Vec<Line<'_>>, LogFault>
-    ensures lines { IfOk result (λ lines. views lines.items ≡ lines_of text.now) }
+    ensures lines { IfOk result (λ lines. views lines.items ≡ schedule_lines text.now) }
     ensures right { IfOk result (λ _. first_wrong text.now ≡ None) }
     ensures fault { IfErr result (IsLogFault text.now) }
 {
@@ -51,7 +51,7 @@ fn push_line<'a>(
     text: &'a [u8],
     lines: &mut Vec<Line<'a>>,
 ) -> Result<(), LogFault>
-    ensures lines { OnOk result (views lines.new.items ≡ views lines.old.items ++ line_at number text.now) }
+    ensures lines { OnOk result (views lines.new.items ≡ views lines.old.items ++ schedule_line number text.now) }
     ensures right { OnOk result (is_wrong text.now ≡ false) }
     ensures fault { IfErr result (IsLineFault number text.now) }
 {
@@ -73,7 +73,7 @@ pub fn push_schedule<'a>(
     lines: &mut Vec<Line<'a>>,
 ) -> Result<(), AllocError>
     ensures { OnOk result (map words_in lines.new.items
-        ≡ map words_in lines.old.items ++ map words_of (map (λ text. text.items) texts.now)) }
+        ≡ map words_in lines.old.items ++ map line_words (map (λ text. text.items) texts.now)) }
 {
     for (index, text) in texts.iter().enumerate() {
         lines.push(Line::new(alloc, index + 1, text)?)?;

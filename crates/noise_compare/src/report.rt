@@ -1,7 +1,7 @@
 //! What is printed of a log.
 
 ghost use Rattle.std.specs.Prelude.{◌≡◌, ◌++◌, ◌∷◌, [], IfOk, OnOk, codes, decimal, option_copied};
-ghost use Rattle.noise_compare.specs.Report.{agreement_text, right_text, difference_text, ended, ending_text, is_number, part_text, place_text};
+ghost use Rattle.noise_compare.specs.Report.{agreement_text, right_text, difference_text, ended, ending_text, is_number, part_name, place_text};
 ghost use Rattle.noise_compare.specs.Report.{value_text, values_text};
 
 use crate::line::Line;
@@ -67,7 +67,7 @@ fn push_place(line: &Line<'_>, text: &mut Vec<u8>) -> Result<(), AllocError>
 }
 
 fn push_part(part: &[u8], text: &mut Vec<u8>) -> Result<(), AllocError>
-    ensures { OnOk result (text.new.items ≡ text.old.items ++ part_text part.now) }
+    ensures { OnOk result (text.new.items ≡ text.old.items ++ part_name part.now) }
 {
     if is_number(part) {
         text.extend_from_slice(b"message ".as_slice())?;

@@ -12,7 +12,7 @@ use Rattle.noise_state.specs.History.{History}
 use Rattle.noise_session.specs.declared.faults.SendFault.{SendFault}
 use Rattle.noise_session.specs.declared.faults.SendFault.TheVariants as send
 use Rattle.noise_session.specs.Transport.{transport_message, split_key, last_nonce}
-use Rattle.noise_session.specs.Windows.{is_among}
+use Rattle.noise_session.specs.Windows.{is_accepted}
 use Rattle.noise_session.specs.Datagrams.{DatagramState, Opens, accepting, datagram, nonce_named, unsealed}
 use Rattle.noise_session.specs.Datagrams.Opens.{opened}
 use Rattle.noise_events.specs.DatagramEvents.{DatagramEvent, Seal, Open, Raw}
@@ -60,7 +60,7 @@ low-nonce role one_way nonce n e =
     let a = no-fault (one_way && same_role role Responder) send.OneWay (if nat_lt 65543 (n + 24) then Some send.TooLong else last) e in
     leb-false last_nonce nonce (no-fault (nat_le last_nonce nonce) send.Exhausted None (no-fault (nat_lt 65543 (n + 24)) send.TooLong last a.1).1).0
 
-fresh : (v : DatagramState) (bytes payload : List ℕ) (w : DatagramState) → Opens v bytes (Ok payload) w → is_among v.accepted (nonce_named bytes) ≡ false
+fresh : (v : DatagramState) (bytes payload : List ℕ) (w : DatagramState) → Opens v bytes (Ok payload) w → is_accepted v.accepted (nonce_named bytes) ≡ false
 fresh v bytes payload w (opened _ _ _ none is) = (fault-free v bytes none).fresh
 
 first-of : (m : NonceMessage) (ms : List NonceMessage) (n : ℕ) → m.nonce ≡ n → of_nonce (m ∷ ms) n ≡ Some m.message
@@ -93,7 +93,7 @@ data OneStep : Role → DatagramSide → DatagramSide → DatagramEvent → Role
       → OneStep role theirs s (Seal role payload) (role, Sealed (length s.sealed) (datagram s.state.history s.state.role s.state.sent payload))
       (sealing s payload)
   has_opened : (role : Role) (theirs s : DatagramSide) (event : DatagramEvent) (bytes payload : List ℕ) → Came role theirs event bytes
-      → is_among s.state.accepted (nonce_named bytes) ≡ false → OneStep role theirs s event (role, Payload payload) (opening s bytes payload)
+      → is_accepted s.state.accepted (nonce_named bytes) ≡ false → OneStep role theirs s event (role, Payload payload) (opening s bytes payload)
 
 roles-apart : (role : Role) → other role ≡ role → ⊥
 roles-apart Initiator e = cc
@@ -181,7 +181,7 @@ unchanged-step role theirs s event note t _ n m e = e
 
 -- a nonce that was opened, with its message
 record Has (s : DatagramSide) (n : ℕ) (m : TransportMessage) : Type 0 where
-  pub among : is_among s.state.accepted n ≡ true
+  pub among : is_accepted s.state.accepted n ≡ true
   pub message : of_nonce s.opened n ≡ Some m
 
 has-step : (role : Role) (theirs s : DatagramSide) (event : DatagramEvent) (note : Role × DatagramNote) (t : DatagramSide)
@@ -189,17 +189,17 @@ has-step : (role : Role) (theirs s : DatagramSide) (event : DatagramEvent) (note
 has-step role theirs s event note t (stays _ _ _ _ _ _ _) n m h = h
 has-step role theirs s event note t (has_sealed _ _ _ payload _) n m h = record { among = h.among; message = h.message }
 has-step role theirs s event note t (has_opened _ _ _ _ bytes payload came new) n m h =
-    let apart : nonce_named bytes ≢ n = λ same. false≢true (sym new ∙ ap (is_among s.state.accepted) same ∙ h.among) in
+    let apart : nonce_named bytes ≢ n = λ same. false≢true (sym new ∙ ap (is_accepted s.state.accepted) same ∙ h.among) in
     record {
-      among = or_right (nonce_named bytes == n) (is_among s.state.accepted n) h.among;
+      among = or_right (nonce_named bytes == n) (is_accepted s.state.accepted n) h.among;
       message = later-of (at_nonce (nonce_named bytes) (drop 8 bytes) payload) s.opened n apart ∙ h.message;
     }
 
 -- a nonce that isn't accepted yet wasn't before
 less-step : (role : Role) (theirs s : DatagramSide) (event : DatagramEvent) (note : Role × DatagramNote) (t : DatagramSide)
-    → OneStep role theirs s event note t → (n : ℕ) → is_among t.state.accepted n ≡ false → is_among s.state.accepted n ≡ false
+    → OneStep role theirs s event note t → (n : ℕ) → is_accepted t.state.accepted n ≡ false → is_accepted s.state.accepted n ≡ false
 less-step role theirs s event note t (has_opened _ _ _ _ bytes payload came new) n e =
-    (or_parts (nonce_named bytes == n) (is_among s.state.accepted n) e).1
+    (or_parts (nonce_named bytes == n) (is_accepted s.state.accepted n) e).1
 less-step role theirs s event note t _ n e = e
 
 -- ---- what a run keeps
@@ -318,7 +318,7 @@ record OpenedAs (role : Role) (theirs s : DatagramSide) (event : Option Datagram
 
 opened-now : (role : Role) (theirs s : DatagramSide) (event : DatagramEvent) (note : Role × DatagramNote) (t : DatagramSide)
     → OneStep role theirs s event note t → Numbered theirs → (n : ℕ) (payload : List ℕ) → note ≡ (role, Payload payload) → nonce_of_event event ≡ Some n
-    → OpenedAs role theirs t (Some event) n payload × (is_among s.state.accepted n ≡ false)
+    → OpenedAs role theirs t (Some event) n payload × (is_accepted s.state.accepted n ≡ false)
 opened-now role theirs s event note t (stays _ _ _ _ _ _ none) h n payload e f = absurd (none payload e)
 opened-now role theirs s event note t (has_sealed _ _ _ given _) h n payload e f =
     cc (ap (λ (z : Role × DatagramNote). z.1) e)
@@ -328,7 +328,7 @@ opened-now role theirs s event note t (has_opened _ _ _ _ bytes reported came ne
       record {
         message = drop 8 bytes;
         has = record {
-          among = or_left (nonce_named bytes == n) (is_among s.state.accepted n) (eq-eqb (nonce_named bytes) n named);
+          among = or_left (nonce_named bytes == n) (is_accepted s.state.accepted n) (eq-eqb (nonce_named bytes) n named);
           message = first-of (at_nonce (nonce_named bytes) (drop 8 bytes) reported) s.opened n named
               ∙ ap (λ (p : List ℕ). Some (record { message = drop 8 bytes; payload = p })) same;
         };
@@ -340,7 +340,7 @@ opened-now role theirs s event note t (has_opened _ _ _ _ bytes reported came ne
               )
         ];
       },
-      ap (is_among s.state.accepted) (sym named) ∙ new,
+      ap (is_accepted s.state.accepted) (sym named) ∙ new,
     )
 
 later : (events : List DatagramEvent) (notes : List (Role × DatagramNote)) (event : DatagramEvent) (note : Role × DatagramNote) (i : ℕ) (role : Role)
@@ -350,7 +350,7 @@ later events notes event note i role n payload h = record { event = h.event; at 
 first-now : (role : Role) (d next : DatagramSides) (event : DatagramEvent) (note : Role × DatagramNote) (events : List DatagramEvent)
     (notes : List (Role × DatagramNote)) → DatagramHappens d event note next → Numbered (party d (other role)) → (n : ℕ) (payload : List ℕ)
     → OpenedAt (event ∷ events) (note ∷ notes) 0 role n payload
-    → OpenedAs role (party d (other role)) (party next role) (Some event) n payload × (is_among (party d role).state.accepted n ≡ false)
+    → OpenedAs role (party d (other role)) (party next role) (Some event) n payload × (is_accepted (party d role).state.accepted n ≡ false)
 first-now role d next event note events notes now h n payload o =
     opened-now role (party d (other role)) (party d role) event note (party next role) (step-of role d next event note now) h n payload
     (same_Some note (role, Payload payload) o.entry) (ap nonce_of_event (same_Some event o.event o.at) ∙ o.nonce)
@@ -382,7 +382,7 @@ opened-at role d last events notes (begins _ next _ event more note rest now run
 -- before it is opened a nonce isn't accepted
 not-before : (role : Role) (d last : DatagramSides) (events : List DatagramEvent) (notes : List (Role × DatagramNote)) → DatagramRun d events notes last
     → Numbered (party d (other role)) → (i n : ℕ) (payload : List ℕ) → OpenedAt events notes i role n payload
-    → is_among (party d role).state.accepted n ≡ false
+    → is_accepted (party d role).state.accepted n ≡ false
 not-before role d last events notes (ends _) h i n payload o = cc
 not-before role d last events notes (begins _ next _ event more note rest now run) h zero n payload o =
     (first-now role d next event note more rest now h n payload o).1

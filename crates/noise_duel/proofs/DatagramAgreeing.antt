@@ -8,7 +8,7 @@ use Rattle.noise_names.specs.Tokens.{other}
 use Rattle.noise_state.specs.History.{History}
 use Rattle.noise_handshake.specs.Party.{Party}
 use Rattle.noise_session.specs.Transport.{transport_message}
-use Rattle.noise_session.specs.Windows.{is_among}
+use Rattle.noise_session.specs.Windows.{is_accepted}
 use Rattle.noise_session.specs.Datagrams.{AreOnce, DatagramState, IsSealed, Opens, datagram_fault, nonce_named}
 use Rattle.noise_session.specs.Datagrams.Opens.{opened}
 use Rattle.noise_session.specs.DatagramFaults.{fault-free}
@@ -100,7 +100,7 @@ holds-opened role r s bytes next note (opens _ _ payload o) h =
           c.opened,
         );
       };
-      once = (ap (λ (ns : List ℕ). is_among ns n) (sym c.accepted) ∙ (fault-free s.state bytes is.0).fresh, h.once);
+      once = (ap (λ (ns : List ℕ). is_accepted ns n) (sym c.accepted) ∙ (fault-free s.state bytes is.0).fresh, h.once);
     }
 
 hold-happened : (r : History) (d next : DatagramSides) (event : DatagramEvent) (note : Role × DatagramNote) → DatagramHappens d event note next

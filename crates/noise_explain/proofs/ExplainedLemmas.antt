@@ -9,7 +9,7 @@ use Rattle.noise_names.specs.declared.faults.TextFault.{TextFault}
 use Rattle.noise_names.specs.Plan.{Plan}
 use Rattle.noise_names.specs.Text.{Spells}
 use Rattle.noise_names.specs.Validity.{IsValid}
-use Rattle.noise_explain.specs.Explained.{Begins, IsExplained, SaysWrong}
+use Rattle.noise_explain.specs.Explained.{TextBeginsWith, IsExplained, SaysWrong}
 use Rattle.noise_explain.specs.Places.{IsColumn, line_at}
 use Rattle.noise_explain.specs.RulePlaces.{IsRulePlace}
 use Rattle.noise_explain.specs.Shown.{right_head, wrong_head}
@@ -18,7 +18,7 @@ use Rattle.noise_explain.specs.declared.place.Place.{Place}
 
 -- a valid pattern is reported
 pub right-said : (name text : List ℕ) (p valid : Plan) (r : Result Explained AllocError) → Spells text p → valid ≡ p → IsValid p
-    → IfOk r (λ e. e.status ≡ 0) → IfOk r (Begins (right_head name valid)) → IfOk r (IsExplained name text)
+    → IfOk r (λ e. e.status ≡ 0) → IfOk r (TextBeginsWith (right_head name valid)) → IfOk r (IsExplained name text)
 right-said name text p valid (Ok e) spells same is_valid status begins = inl (record {
   p = p;
   spells = spells;

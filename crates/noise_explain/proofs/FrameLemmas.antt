@@ -18,7 +18,7 @@ use Rattle.noise_vectors.specs.HexWord.{IsHexWord, hex_of}
 use Rattle.noise_explain.specs.FramePieces.{IsPieceAt, bytes_before, makes_key, piece_len, sender_of}
 use Rattle.noise_explain.specs.FramePieces.IsPieceAt.{in_key, in_payload}
 use Rattle.noise_explain.specs.declared.frame_piece.Piece.TheVariants as pieces
-use Rattle.noise_explain.specs.RulePlaces.{message_at}
+use Rattle.noise_explain.specs.RulePlaces.{message_tokens}
 use Rattle.noise_explain.specs.Shown.{shown_start}
 
 -- ---- what is shown of a line
@@ -197,7 +197,7 @@ pub or-else : (has makes x : Bool) → has ≡ false → x ≡ makes → x ≡ (
 or-else has makes x h e = rw (h, e) refl
 
 -- the piece that is found
-pub key-at : (p : Plan) (n : ℕ) (tokens : List Token) (i end next at : ℕ) → tokens ≡ message_at p n → i < length tokens
+pub key-at : (p : Plan) (n : ℕ) (tokens : List Token) (i end next at : ℕ) → tokens ≡ message_tokens p n → i < length tokens
     → end ≡ 2 + overhead_from p (first_places p (n - 1)) (front_places n tokens i) → end ≤ at
     → next ≡ 2 + overhead_from p (first_places p (n - 1)) (front_places n tokens (i + 1)) → at < next
     → IsPieceAt p n at (pieces.Key (get_or tokens i E))
@@ -206,13 +206,13 @@ key-at p n tokens i end next at here less end_is past next_is under = subst
     → next ≡ 2 + overhead_from p (first_places p (n - 1)) (front_places n ts (i + 1))
     → IsPieceAt p n at (pieces.Key (get_or ts i E)))
     (sym here)
-    (λ l e f. in_key i _ (slice_get-get_or (message_at p n) i E l) (omega (arith, e, past)) (omega (arith, f, under)))
+    (λ l e f. in_key i _ (slice_get-get_or (message_tokens p n) i E l) (omega (arith, e, past)) (omega (arith, f, under)))
     less end_is next_is
 
-pub payload-at : (p : Plan) (n : ℕ) (tokens : List Token) (i end at : ℕ) → tokens ≡ message_at p n → i ≡ length tokens
+pub payload-at : (p : Plan) (n : ℕ) (tokens : List Token) (i end at : ℕ) → tokens ≡ message_tokens p n → i ≡ length tokens
     → end ≡ 2 + overhead_from p (first_places p (n - 1)) (front_places n tokens i) → end ≤ at → IsPieceAt p n at pieces.Payload
 payload-at p n tokens i end at here all end_is past =
-    let end_at : end ≡ bytes_before p n (length (message_at p n)) =
+    let end_at : end ≡ bytes_before p n (length (message_tokens p n)) =
     end_is ∙ ap₂ (λ (k : ℕ) (ts : List Token). 2 + overhead_from p (first_places p (n - 1)) (front_places n ts k))
     (all ∙ ap (λ (ts : List Token). length ts) here) here in
     in_payload (omega (arith, end_at, past))

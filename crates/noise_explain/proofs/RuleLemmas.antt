@@ -19,7 +19,7 @@ use Rattle.noise_names.specs.Text.{arrow_of, line, message_lines, pre_lines, tok
 use Rattle.noise_names.specs.Tokens.{other}
 use Rattle.noise_names.specs.WrongText.{line_feeds}
 use Rattle.noise_explain.specs.Places.{words_before}
-use Rattle.noise_explain.specs.RulePlaces.{IsRulePlace, lines_before, list_before, message_at, message_of, token_of}
+use Rattle.noise_explain.specs.RulePlaces.{IsRulePlace, lines_before, list_before, message_tokens, fault_message, fault_token}
 
 -- ---- line feeds
 
@@ -133,13 +133,13 @@ pub rule-place : (p : Plan) (fault : RuleFault) (message token index at pre len 
     → IsRulePlace p fault (record { line = at + pre + 2; column = len + 6 })
 rule-place p fault message token index at pre len messages tokens right same message_is token_is index_is at_is pre_is tokens_are len_is =
     let count : ℕ → ℕ = λ (n : ℕ). if nat_le fault.message n then fault.message else n in
-    let number : message ≡ message_of p fault = message_is ∙ ap (λ (ms : List (List Token)). count (length ms)) same in
-    let place : token ≡ token_of p fault =
+    let number : message ≡ fault_message p fault = message_is ∙ ap (λ (ms : List (List Token)). count (length ms)) same in
+    let place : token ≡ fault_token p fault =
     token_is ∙ ap (λ (ms : List (List Token)). if nat_le fault.message (length ms) then fault.token else 10) same in
-    let tokens_at : tokens ≡ message_at p (message_of p fault) =
+    let tokens_at : tokens ≡ message_tokens p (fault_message p fault) =
     tokens_are ∙ ap₂ (λ (ms : List (List Token)) (n : ℕ). unwrap_or (slice_get ms n) []) same (index_is ∙ ap (λ (n : ℕ). n - 1) number) in
-    let within : message_of p fault ≤ length p.messages = within-count fault.message (length p.messages) in
+    let within : fault_message p fault ≤ length p.messages = within-count fault.message (length p.messages) in
     record {
-      line_is = line-number p (message_of p fault) at pre right within (at_is ∙ ap (λ (n : ℕ). n - 1) number) pre_is;
+      line_is = line-number p (fault_message p fault) at pre right within (at_is ∙ ap (λ (n : ℕ). n - 1) number) pre_is;
       column_is = ap (λ (n : ℕ). n + 6) (len_is ∙ ap₂ (λ (ts : List Token) (i : ℕ). length (list_before ts i)) tokens_at place);
     }

@@ -14,8 +14,8 @@ use Rattle.noise_explain.specs.declared.explanation.Explained.{Explained}
 use Rattle.noise_explain.specs.declared.place.Place.{Place}
 
 -- its text begins with these bytes
-abbrev pub Begins : List ℕ → Explained → Type 0
-Begins front e = (rest : List ℕ) × (e.text.items ≡ front ++ rest)
+abbrev pub TextBeginsWith : List ℕ → Explained → Type 0
+TextBeginsWith front e = (rest : List ℕ) × (e.text.items ≡ front ++ rest)
 
 -- a fault of a pattern text stands at this place of it
 abbrev pub IsAt : List ℕ → Fault → Place → Type 0
@@ -30,7 +30,7 @@ pub record SaysRight (name text : List ℕ) (e : Explained) : Type 0 where
   pub spells : Spells text p
   pub valid : IsValid p
   pub status_is : e.status ≡ 0
-  pub begins : Begins (right_head name p) e
+  pub begins : TextBeginsWith (right_head name p) e
 
 -- the text has the fault that `check` reports, and it is reported with its place
 pub record SaysWrong (name text : List ℕ) (e : Explained) : Type 0 where
@@ -39,7 +39,7 @@ pub record SaysWrong (name text : List ℕ) (e : Explained) : Type 0 where
   pub place : Place
   pub at : IsAt text fault place
   pub status_is : e.status ≡ status_of fault
-  pub begins : Begins (wrong_head name place fault) e
+  pub begins : TextBeginsWith (wrong_head name place fault) e
 
 abbrev pub IsExplained : List ℕ → List ℕ → Explained → Type 0
 IsExplained name text e = SaysRight name text e ⊎ SaysWrong name text e
@@ -47,4 +47,4 @@ IsExplained name text e = SaysRight name text e ⊎ SaysWrong name text e
 -- a file of too many bytes is reported as such
 pub record SaysLong (name : List ℕ) (e : Explained) : Type 0 where
   pub status_is : e.status ≡ 2
-  pub begins : Begins (unread_head name TooLong) e
+  pub begins : TextBeginsWith (unread_head name TooLong) e

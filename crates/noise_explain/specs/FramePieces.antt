@@ -10,7 +10,7 @@ use Rattle.noise_names.specs.Plan.{Plan, first_places, token_places}
 use Rattle.noise_names.specs.Text.{word_of}
 use Rattle.noise_vectors.specs.HexWord.{hex_of}
 use Rattle.noise_vectors.specs.VectorText.{role_word}
-use Rattle.noise_explain.specs.RulePlaces.{message_at}
+use Rattle.noise_explain.specs.RulePlaces.{message_tokens}
 use Rattle.noise_explain.specs.declared.frame_piece.Piece.{Piece}
 use Rattle.noise_explain.specs.declared.frame_piece.Piece.TheVariants as pieces
 
@@ -24,14 +24,14 @@ sender_of n = if n % 2 == 0 then Responder else Initiator
 -- count of its tokens: 2 bytes of length, and what the tokens before add.
 abbrev pub bytes_before : Plan → ℕ → ℕ → ℕ
 bytes_before p n i =
-    2 + overhead_from p (first_places p (n - 1)) (token_places (sender_of n) n 0 (take i (message_at p n)))
+    2 + overhead_from p (first_places p (n - 1)) (token_places (sender_of n) n 0 (take i (message_tokens p n)))
 
 -- the piece that stands at a byte of the frame of message n, from 0
 pub data IsPieceAt (p : Plan) (n at : ℕ) : Piece → Type 0 where
   in_length : at < 2 → IsPieceAt p n at pieces.Length
-  in_key : (i : ℕ) (t : Token) → slice_get (message_at p n) i ≡ Some t
+  in_key : (i : ℕ) (t : Token) → slice_get (message_tokens p n) i ≡ Some t
       → bytes_before p n i ≤ at → at < bytes_before p n (i + 1) → IsPieceAt p n at (pieces.Key t)
-  in_payload : bytes_before p n (length (message_at p n)) ≤ at → IsPieceAt p n at pieces.Payload
+  in_payload : bytes_before p n (length (message_tokens p n)) ≤ at → IsPieceAt p n at pieces.Payload
 
 -- what a token adds, where there is a key or none, and whether there is one after it in any case (5.2, 9.2)
 abbrev pub piece_len : Token → Bool → ℕ

@@ -17,8 +17,8 @@ lines_before p n =
     ++ message_lines Initiator (take (n - 1) p.messages)
 
 -- the tokens of this message
-abbrev pub message_at : Plan → ℕ → List Token
-message_at p n = unwrap_or (slice_get p.messages (n - 1)) []
+abbrev pub message_tokens : Plan → ℕ → List Token
+message_tokens p n = unwrap_or (slice_get p.messages (n - 1)) []
 
 -- what stands before this token in the list of its message; before the place after the last token the whole list
 abbrev pub list_before : List Token → ℕ → List ℕ
@@ -26,14 +26,15 @@ list_before tokens i = if nat_lt i (length tokens) then words_before (take i tok
 
 -- The message of a fault and its token there. The transport counts as the place after the last token of the last
 -- message; a message has at most 10 tokens.
-abbrev pub message_of : Plan → RuleFault → ℕ
-message_of p fault = if nat_le fault.message (length p.messages) then fault.message else length p.messages
+abbrev pub fault_message : Plan → RuleFault → ℕ
+fault_message p fault = if nat_le fault.message (length p.messages) then fault.message else length p.messages
 
-abbrev pub token_of : Plan → RuleFault → ℕ
-token_of p fault = if nat_le fault.message (length p.messages) then fault.token else 10
+abbrev pub fault_token : Plan → RuleFault → ℕ
+fault_token p fault = if nat_le fault.message (length p.messages) then fault.token else 10
 
 -- The fault is at this place of the pattern's text: in the line of its message, where its token begins; an arrow and
 -- the spaces round it, five bytes, stand before the tokens.
 pub record IsRulePlace (p : Plan) (fault : RuleFault) (place : Place) : Type 0 where
-  pub line_is : place.line ≡ line_feeds (lines_before p (message_of p fault)) + 1
-  pub column_is : place.column ≡ length (list_before (message_at p (message_of p fault)) (token_of p fault)) + 6
+  pub line_is : place.line ≡ line_feeds (lines_before p (fault_message p fault)) + 1
+  pub column_is : place.column
+      ≡ length (list_before (message_tokens p (fault_message p fault)) (fault_token p fault)) + 6

@@ -4,7 +4,7 @@ ghost use Rattle.std.specs.Prelude.{◌≡◌, ◌≤◌, IfOk};
 ghost use Rattle.noise_lines.specs.Output.{IsCheckFault};
 ghost use Rattle.noise_lines.specs.declared.faults.Fault.TheVariants.{Rule, Text};
 ghost use Rattle.noise_names.specs.Text.{Spells};
-ghost use Rattle.noise_explain.specs.Explained.{Begins, IsExplained, SaysLong, SaysWrong};
+ghost use Rattle.noise_explain.specs.Explained.{TextBeginsWith, IsExplained, SaysLong, SaysWrong};
 ghost use Rattle.noise_explain.specs.Shown.{right_head};
 
 use crate::advice::Advice;
@@ -79,7 +79,7 @@ pub(crate) fn explain_valid(
     pattern: &ValidPattern,
 ) -> Result<Explained, AllocError>
     ensures status { IfOk result (λ e. e.status ≡ 0) }
-    ensures begins { IfOk result (Begins (right_head name.now pattern.now)) }
+    ensures begins { IfOk result (TextBeginsWith (right_head name.now pattern.now)) }
 {
     let mut text = right_head(alloc, name, pattern.pattern())?;
     text.extend_from_slice(&fact_lines(alloc, pattern)?)?;

@@ -6,7 +6,7 @@ use Rattle.std.proofs.lemmas.List.{append-nil, append_assoc, drop-append-le, len
 use Rattle.std.proofs.lemmas.Bool.{cond-false, cond-true, eqb-true}
 use Rattle.std.proofs.lemmas.List.Sums.{take_while-cons}
 use Rattle.noise_vectors.specs.Words.{lacks}
-use Rattle.noise_explain_vectors.specs.VectorColumns.{HasShape, HaveShapes, IsWrongWord, first_word, spaced, word_at}
+use Rattle.noise_explain_vectors.specs.VectorColumns.{HasShape, HaveShapes, IsWrongWord, first_word, spaced, word_from}
 use Rattle.noise_explain_vectors.specs.declared.shapes.Shape.{Shape}
 use Rattle.noise_explain_vectors.specs.declared.shapes.Shape.TheVariants.{First}
 
@@ -80,10 +80,10 @@ pub record Walked (ss : List Shape) (line : List ℕ) (count at : ℕ) : Type 0 
   pub few : at ≤ length line + 1
 
 pub Walked-step : (ss : List Shape) (line : List ℕ) (count at : ℕ) → Walked ss line count at → count < length ss
-    → at ≤ length line → HasShape (get_or ss count First) (word_at line at) → length (word_at line at) ≤ length line - at
-    → Walked ss line (count + 1) (at + (length (word_at line at) + 1))
+    → at ≤ length line → HasShape (get_or ss count First) (word_from line at) → length (word_from line at) ≤ length line - at
+    → Walked ss line (count + 1) (at + (length (word_from line at) + 1))
 Walked-step ss line count at h less within has short =
-    let word = word_at line at in
+    let word = word_from line at in
     record {
       words = h.words ++ word ∷ [];
       right = HaveShapes-push ss h.words word (get_or ss count First) (drop (suc count) ss) h.right
@@ -100,7 +100,7 @@ front : (ss : List Shape) (line : List ℕ) (count at : ℕ) → (h : Walked ss 
 front ss line count at h within = sym (take-append-le at line (codes " ") within) ∙ h.taken
 
 wrong-word : (ss : List Shape) (line : List ℕ) (count at : ℕ) (h : Walked ss line count at) → at ≤ length line
-    → ¬ HaveShapes ss (h.words ++ word_at line at ∷ []) → IsWrongWord ss line (at + 1)
+    → ¬ HaveShapes ss (h.words ++ word_from line at ∷ []) → IsWrongWord ss line (at + 1)
 wrong-word ss line count at h within wrong =
     let is = front ss line count at h within in
     record {
@@ -113,13 +113,13 @@ wrong-word ss line count at h within wrong =
     }
 
 pub Walked-wrong : (ss : List Shape) (line : List ℕ) (count at : ℕ) → Walked ss line count at → count < length ss
-    → at ≤ length line → ¬ HasShape (get_or ss count First) (word_at line at) → IsWrongWord ss line (at + 1)
+    → at ≤ length line → ¬ HasShape (get_or ss count First) (word_from line at) → IsWrongWord ss line (at + 1)
 Walked-wrong ss line count at h less within lacks_it =
     wrong-word ss line count at h within
-    (λ all. lacks_it (HaveShapes-last ss h.words (word_at line at) (get_or ss count First) (drop (suc count) ss)
+    (λ all. lacks_it (HaveShapes-last ss h.words (word_from line at) (get_or ss count First) (drop (suc count) ss)
     (rw h.counted (drop-cons ss count First less)) all))
 
 pub Walked-over : (ss : List Shape) (line : List ℕ) (count at : ℕ) → Walked ss line count at → count ≡ length ss → at ≤ length line
     → IsWrongWord ss line (at + 1)
 Walked-over ss line count at h all within =
-    wrong-word ss line count at h within (HaveShapes-over ss h.words (word_at line at) (h.counted ∙ all))
+    wrong-word ss line count at h within (HaveShapes-over ss h.words (word_from line at) (h.counted ∙ all))

@@ -86,8 +86,8 @@ abbrev pub first_word : List ℕ → List ℕ
 first_word text = take_while (λ b. not (b == 32)) text
 
 -- the word that begins so many bytes after the line's begin
-abbrev pub word_at : List ℕ → ℕ → List ℕ
-word_at line at = first_word (drop at line)
+abbrev pub word_from : List ℕ → ℕ → List ℕ
+word_from line at = first_word (drop at line)
 
 -- words, each with a space after it
 abbrev pub spaced : List (List ℕ) → List ℕ

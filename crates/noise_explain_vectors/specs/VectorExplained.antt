@@ -9,7 +9,7 @@ use Rattle.noise_lines.specs.Named.{IsNamed, IsUnnamed}
 use Rattle.noise_names.specs.Names.{Section, name_bytes}
 use Rattle.noise_names.specs.Plan.{Plan}
 use Rattle.noise_vectors.specs.declared.faults.LineKind.{LineKind}
-use Rattle.noise_explain.specs.Explained.{Begins}
+use Rattle.noise_explain.specs.Explained.{TextBeginsWith}
 use Rattle.noise_explain.specs.Shown.{unread_head, wrong_head}
 use Rattle.noise_lines.specs.Shown.{shown_text}
 use Rattle.noise_explain_vectors.specs.VectorColumns.{IsLineColumn}
@@ -34,17 +34,17 @@ abbrev pub LacksPattern : Option Plan → Section → Type 0
 LacksPattern block protocol = (block ≡ None) × (fault : Fault) × IsUnnamed protocol fault
 
 -- the line of this number, wrong as one of this kind, is reported with its place
-pub record ReportsLine (name text : List ℕ) (number : ℕ) (kind : LineKind) (e : Explained) : Type 0 where
+pub record ExplainsLine (name text : List ℕ) (number : ℕ) (kind : LineKind) (e : Explained) : Type 0 where
   pub place : Place
   pub line_is : place.line ≡ number
   pub at : IsLineColumn kind text number place.column
   pub status_is : e.status ≡ 2
-  pub begins : Begins (wrong_head name place (Line number kind)) e
+  pub begins : TextBeginsWith (wrong_head name place (Line number kind)) e
 
 -- a fault of a file as a whole is reported
 pub record ReportsFault (name : List ℕ) (fault : Fault) (e : Explained) : Type 0 where
   pub status_is : e.status ≡ status_of fault
-  pub begins : Begins (unread_head name fault) e
+  pub begins : TextBeginsWith (unread_head name fault) e
 
 -- the first two lines of what is said of a right vector file: its name, and its protocol's
 abbrev pub vector_head : List ℕ → Section → List ℕ
@@ -54,4 +54,4 @@ vector_head name protocol =
 -- a right file of this protocol is reported
 pub record ReportsVector (name : List ℕ) (protocol : Section) (e : Explained) : Type 0 where
   pub status_is : e.status ≡ 0
-  pub begins : Begins (vector_head name protocol) e
+  pub begins : TextBeginsWith (vector_head name protocol) e

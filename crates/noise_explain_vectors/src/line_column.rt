@@ -2,7 +2,7 @@
 
 ghost use Rattle.std.specs.Prelude.{◌≡◌, ◌⊎◌, ◌+◌, ◌-◌, ◌≤◌, ℕ, List, length, IfSome, MatchOption};
 ghost use Rattle.noise_explain_vectors.specs.VectorColumns.{HasNoBlockFault, IsBlock, IsBlockColumn, IsBlockFault, IsLineColumn, IsWordColumn, first_word};
-ghost use Rattle.noise_explain_vectors.specs.VectorColumns.{IsShortLine, IsWholeLine, IsWrongWord, word_at};
+ghost use Rattle.noise_explain_vectors.specs.VectorColumns.{IsShortLine, IsWholeLine, IsWrongWord, word_from};
 
 use crate::line_shapes::shapes_of;
 use crate::shapes::{Shape, has_shape};
@@ -53,17 +53,17 @@ pub(crate) fn wrong_at(shapes: &[Shape], line: &[u8]) -> Option<usize>
         if at > len {
             return Some(len);
         }
-        if !has_shape(*shape, word_at(line, at)) {
+        if !has_shape(*shape, word_from(line, at)) {
             return Some(at);
         }
-        at += word_at(line, at).len() + 1;
+        at += word_from(line, at).len() + 1;
     }
     if at > len { None } else { Some(at) }
 }
 
 // The word that begins so many bytes after the line's begin.
-pub(crate) fn word_at(line: &[u8], at: usize) -> &[u8]
-    ensures value { result.now ≡ word_at line.now at }
+pub(crate) fn word_from(line: &[u8], at: usize) -> &[u8]
+    ensures value { result.now ≡ word_from line.now at }
     ensures few { length result.now ≤ length line.now - at }
 {
     let (_, rest) = line.split_at(at.min(line.len()));

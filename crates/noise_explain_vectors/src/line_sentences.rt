@@ -1,6 +1,6 @@
 //! The sentences on wrong lines of vector files.
 
-use crate::line_column::{first_word, word_at, wrong_at};
+use crate::line_column::{first_word, word_from, wrong_at};
 use crate::line_place::{NeededRole, is_after_datagrams, is_first_version, needed_role};
 use crate::line_shapes::shapes_of;
 use crate::sentences::Sentences;
@@ -48,7 +48,7 @@ const EXPECT_EMPTY: Sentences = Sentences {
 fn place_reported(shapes: &[Shape], line: &[u8], at: usize) -> Sentences {
     let (before, _) = line.split_at(at.min(line.len()));
     let index = before.iter().filter(|b| **b == b' ').count();
-    let word = word_at(line, at);
+    let word = word_from(line, at);
     match shapes.get(index).copied() {
         Some(shape) if !word.is_empty() => word_reported(shape, word),
         _ if at >= line.len() => Sentences::new(

@@ -1,6 +1,6 @@
 //! The sentences on what the events of a vector file come to.
 
-use crate::line_column::{first_word, word_at};
+use crate::line_column::{first_word, word_from};
 use crate::run_counts::Counts;
 use noise_explain::{Spot, push_fact, push_sentence, token_at};
 use noise_lines::{role_word, token_word};
@@ -53,15 +53,15 @@ fn counted(counts: Counts, line: &[u8], pattern: &Pattern, is_ended: bool) -> Co
 
 // Whether it is the last state of an open session.
 fn is_open(line: &[u8]) -> bool {
-    let role = word_at(line, 6);
-    let stage = word_at(line, role.len().saturating_add(7));
+    let role = word_from(line, 6);
+    let stage = word_from(line, role.len().saturating_add(7));
     first_word(line) == b"state".as_slice()
         && (stage == b"transport".as_slice() || stage == b"datagrams".as_slice())
 }
 
 // The role that a line is about: its second word.
 fn role_of(line: &[u8]) -> Option<Role> {
-    let word = word_at(line, first_word(line).len().saturating_add(1));
+    let word = word_from(line, first_word(line).len().saturating_add(1));
     if word == b"initiator".as_slice() {
         Some(Role::Initiator)
     } else if word == b"responder".as_slice() {
@@ -164,8 +164,8 @@ fn push_refusal(
     if first_word(line) != b"refused".as_slice() {
         return Ok(());
     }
-    let number = word_at(line, 18);
-    let cause = word_at(line, number.len().saturating_add(19));
+    let number = word_from(line, 18);
+    let cause = word_from(line, number.len().saturating_add(19));
     let (Ok(number), Ok(cause)) = (str::from_utf8(number), str::from_utf8(cause)) else {
         return Ok(());
     };

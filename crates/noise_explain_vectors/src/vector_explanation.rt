@@ -2,7 +2,7 @@
 
 ghost use Rattle.std.specs.Prelude.{◌≡◌, ◌++◌, IfOk, MatchOption, OnOk};
 ghost use Rattle.noise_names.specs.Names.{name_bytes};
-ghost use Rattle.noise_explain_vectors.specs.VectorExplained.{IsPatternIn, LacksPattern, ReportsFault, ReportsLine, ReportsVector};
+ghost use Rattle.noise_explain_vectors.specs.VectorExplained.{IsPatternIn, LacksPattern, ReportsFault, ExplainsLine, ReportsVector};
 ghost use Rattle.noise_explain_vectors.specs.VectorExplained.{is_vector_text, vector_head, without_mark};
 
 use crate::block_sentences::{block_reported, ending_reported};
@@ -49,7 +49,7 @@ pub fn explain_line(
     number: usize,
     kind: LineKind,
 ) -> Result<Explained, AllocError>
-    ensures { IfOk result (ReportsLine name.now text.now number kind) }
+    ensures { IfOk result (ExplainsLine name.now text.now number kind) }
 {
     let place = Place {
         line: number,

@@ -20,8 +20,8 @@ use Rattle.noise_handshake.specs.Matching.{Matches, DoesNotRead, DoesNotWrite, a
 use Rattle.noise_handshake.specs.Party.{Party, Accepts, BeginsAs, Listens, CanBegin, Refuses, Speaks, remote_after, reader, tokens_at, tokens_now}
 use Rattle.noise_handshake.specs.Wanting.{LacksDhResultFor, WantsToRead, WantsToWrite}
 use Rattle.noise_handshake.specs.Writing.{Writes, LacksDhResult, LacksDhResultAt, writer}
-use Rattle.noise_handshake.specs.Opening.{Opening, Opens}
-use Rattle.noise_handshake.specs.Parts.{IsWhole}
+use Rattle.noise_handshake.specs.Opening.{Opening, IsOpeningOf}
+use Rattle.noise_handshake.specs.Parts.{IsWholeValue}
 use Rattle.noise_handshake.proofs.Fronts.{lacks-all, lacks-first, lacks-for-all}
 use Rattle.noise_handshake.specs.inner.Late.{without_last, IsPskAfter}
 use Rattle.noise_handshake.specs.inner.Listening.{BeginsBefore}
@@ -256,7 +256,7 @@ module _ {K : Type 0} (h : HandshakeValue K) (lacking : ℕ) (w : lacking ≤ le
 -- ---- what a handshake may hold
 
 pub whole-late : {K : Type 0} (public_of : K → Own → Option (List ℕ)) (h : HandshakeValue K) (u : List (List ℕ)) → length u ≡ length h.psks
-    → IsWhole public_of h → IsWhole public_of (record h { psks = u })
+    → IsWholeValue public_of h → IsWholeValue public_of (record h { psks = u })
 whole-late public_of h u e w = record {
   within = w.within;
   psks = e ∙ w.psks;
@@ -268,7 +268,7 @@ whole-late public_of h u e w = record {
   nonce = w.nonce;
 }
 
-pub opens-partial : (o : Opening) (v : Party) (u : List (List ℕ)) → Opens o (holding v u) → Opens o v
+pub opens-partial : (o : Opening) (v : Party) (u : List (List ℕ)) → IsOpeningOf o (holding v u) → IsOpeningOf o v
 opens-partial o v u p = record {
   going = p.going;
   whole = p.whole;

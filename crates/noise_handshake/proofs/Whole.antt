@@ -12,7 +12,7 @@ use Rattle.noise_keys.specs.declared.keys.Own.{Own}
 use Rattle.noise_keys.specs.declared.keys.Own.TheVariants.{Ephemeral, Static}
 use Rattle.noise_handshake.specs.HandshakeValue.{HandshakeValue}
 use Rattle.noise_handshake.specs.Nonces.{nonce_due}
-use Rattle.noise_handshake.specs.Parts.{IsWhole}
+use Rattle.noise_handshake.specs.Parts.{IsWholeValue}
 use Rattle.noise_handshake.specs.Passed.{passed_places}
 use Rattle.noise_handshake.specs.Setup.{lacks_own, psks_of}
 use Rattle.noise_handshake.specs.inner.Known.{KnowsRemote}
@@ -46,7 +46,7 @@ module _ {K : Type 0} (public_of : K → Own → Option (List ℕ)) (h : Handsha
   abbrev pub Keyed : Type 0
   Keyed = (keyed h.state ≡ has_key h.pattern (passed_places h.pattern h.passed)) × (nonce_now h.state ≡ nonce_due h.pattern h.passed)
 
-  pub is-whole : Counted → owns ≡ true → Known → Keyed → IsWhole public_of h
+  pub is-whole : Counted → owns ≡ true → Known → Keyed → IsWholeValue public_of h
   is-whole a b c d = record {
     within = a.0;
     psks = a.1;
@@ -58,21 +58,21 @@ module _ {K : Type 0} (public_of : K → Own → Option (List ℕ)) (h : Handsha
     nonce = d.1;
   }
 
-  pub whole-counted : IsWhole public_of h → Counted
+  pub whole-counted : IsWholeValue public_of h → Counted
   whole-counted w = (w.within, w.psks)
 
-  pub whole-owns : IsWhole public_of h → owns ≡ true
+  pub whole-owns : IsWholeValue public_of h → owns ≡ true
   whole-owns w =
       both (lacks_own h.pattern h.role E (public_of h.keys Ephemeral)) (lacks_own h.pattern h.role S (public_of h.keys Static)) w.own_e w.own_s
 
-  pub whole-knows : IsWhole public_of h → Known
+  pub whole-knows : IsWholeValue public_of h → Known
   whole-knows w = (w.remote_e, w.remote_s)
 
-  pub whole-keyed : IsWhole public_of h → Keyed
+  pub whole-keyed : IsWholeValue public_of h → Keyed
   whole-keyed w = (w.key, w.nonce)
 
   -- the same as a handshake keeps it
-  pub whole-sound : length h.pattern.messages ≤ 8 → nonce_now h.state ≤ 11 * h.passed → IsWhole public_of h → IsSound public_of h
+  pub whole-sound : length h.pattern.messages ≤ 8 → nonce_now h.state ≤ 11 * h.passed → IsWholeValue public_of h → IsSound public_of h
   whole-sound few bound w = record {
     within = w.within;
     few = few;
@@ -84,10 +84,10 @@ module _ {K : Type 0} (public_of : K → Own → Option (List ℕ)) (h : Handsha
     bound = bound;
   }
 
-  pub whole-known : IsWhole public_of h → KnowsRemote h
+  pub whole-known : IsWholeValue public_of h → KnowsRemote h
   whole-known w = record { e = w.remote_e; s = w.remote_s }
 
-  pub sound-whole : IsSound public_of h → KnowsRemote h → IsWhole public_of h
+  pub sound-whole : IsSound public_of h → KnowsRemote h → IsWholeValue public_of h
   sound-whole s k = record {
     within = s.within;
     psks = s.psks;

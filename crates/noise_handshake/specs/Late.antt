@@ -18,7 +18,7 @@ use Rattle.noise_handshake.specs.declared.late_faults.LateUnread.TheVariants as 
 use Rattle.noise_handshake.specs.declared.late_faults.LateUnwritten.{LateUnwritten}
 use Rattle.noise_handshake.specs.declared.late_faults.LateUnwritten.TheVariants as unwritten
 use Rattle.noise_handshake.specs.HandshakeValue.{HandshakeValue, after_read_fault, after_write_fault, IsRefusal, IsAgreement}
-use Rattle.noise_handshake.specs.Parts.{IsWhole}
+use Rattle.noise_handshake.specs.Parts.{IsWholeValue}
 use Rattle.noise_handshake.specs.Matching.{Matches, DoesNotRead, DoesNotWrite, after_not_read}
 use Rattle.noise_handshake.specs.Setup.{psks_of, setup_fault}
 use Rattle.noise_handshake.specs.Party.{Party, BeginsAs, Listens, Refuses, Speaks, remote_after, reader, tokens_now}
@@ -36,7 +36,7 @@ late_fault p role own remote psks =
 
 -- A handshake may hold this and the missing psks.
 abbrev pub IsLateWhole : {K : Type 0} → (K → Own → Option (List ℕ)) → HandshakeValue K → Type 0
-IsLateWhole public_of h = (later : List (List ℕ)) × IsWhole public_of (with_later h later)
+IsLateWhole public_of h = (later : List (List ℕ)) × IsWholeValue public_of (with_later h later)
 
 -- The message begins as some sender's tokens would before a psk token, the first after n others; this static key of the
 -- other party is known there.

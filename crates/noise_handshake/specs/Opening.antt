@@ -22,7 +22,7 @@ pub record IsFresh (c : CipherState) : Type 0 where
   pub nonce : nonce_in c ≡ 0
 
 -- they are those of the party, of which all messages have passed and none was refused
-pub record Opens (o : Opening) (v : Party) : Type 0 where
+pub record IsOpeningOf (o : Opening) (v : Party) : Type 0 where
   pub going : v.ended ≡ false
   pub whole : v.passed ≡ length v.pattern.messages
   pub role : o.role ≡ v.role

@@ -39,7 +39,7 @@ pub record HasProgress {K : Type 0} (h : HandshakeValue K) (g : Progress) : Type
 -- other party's are known whose tokens stand in its pre-message or in a message that has passed (5.3), there is a
 -- cipher key exactly where the pattern says so (5.2), and its nonce counts the texts that were encrypted under it
 -- (5.1), 0 without a key.
-pub record IsWhole {K : Type 0} (public_of : K → Own → Option (List ℕ)) (h : HandshakeValue K) : Type 0 where
+pub record IsWholeValue {K : Type 0} (public_of : K → Own → Option (List ℕ)) (h : HandshakeValue K) : Type 0 where
   pub within : h.passed ≤ length h.pattern.messages
   pub psks : length h.psks ≡ psks_of (drop h.passed h.pattern.messages)
   pub own_e : lacks_own h.pattern h.role E (public_of h.keys Ephemeral) ≡ false

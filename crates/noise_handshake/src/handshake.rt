@@ -69,8 +69,8 @@ impl<K: Keys> Handshake<K> {
     ghost use Rattle.noise_handshake.specs.Calls.{HasBegun, HasNotRead, HasNotWritten, HasRead, HasReadAt, HasWrittenTo, IsPlaceIn, IsSameAround, ReadingWants, WritingWants, speaks_now};
     ghost use Rattle.noise_handshake.specs.inner.Speaking.{WriterWants};
     ghost use Rattle.noise_handshake.specs.declared.faults.Unread.{Unread};
-    ghost use Rattle.noise_handshake.specs.Opening.{Opens};
-    ghost use Rattle.noise_handshake.specs.Parts.{held_of, HasProgress, IsWhole};
+    ghost use Rattle.noise_handshake.specs.Opening.{IsOpeningOf};
+    ghost use Rattle.noise_handshake.specs.Parts.{held_of, HasProgress, IsWholeValue};
     ghost use Rattle.noise_handshake.specs.Setup.{party_at_start, psks_of, setup_fault};
     ghost use Rattle.noise_handshake.specs.Writing.{Writes, writer};
     ghost use Rattle.noise_handshake.specs.Matching.{Matches, DoesNotWrite};
@@ -156,7 +156,7 @@ impl<K: Keys> Handshake<K> {
     /// given up.
     pub fn progress(&self) -> Progress
         ensures value { HasProgress self.now result }
-        ensures whole { IsWhole K.public_of self.now }
+        ensures whole { IsWholeValue K.public_of self.now }
         ensures valid { IsValid self.now.pattern }
     {
         Progress {
@@ -171,7 +171,7 @@ impl<K: Keys> Handshake<K> {
     /// them before.
     pub fn into_parts(self) -> Parts<K>
         ensures value { held_of result self.psks ≡ self }
-        ensures whole { IsWhole K.public_of self }
+        ensures whole { IsWholeValue K.public_of self }
     {
         let progress = self.progress();
         Parts {
@@ -190,7 +190,7 @@ impl<K: Keys> Handshake<K> {
     ///
     /// A handshake that was taken apart is put together once: two of them would encrypt at the same nonce.
     pub fn from_parts(parts: Parts<K>, psks: &[[u8; 32]]) -> Option<Handshake<K>>
-        ensures whole { IsSome result ↔ IsWhole K.public_of (held_of parts psks.now) }
+        ensures whole { IsSome result ↔ IsWholeValue K.public_of (held_of parts psks.now) }
         ensures value { IfSome result (λ h. h ≡ held_of parts psks.now) }
     {
         if psks.len() != parts.psks_due()? {
@@ -203,7 +203,7 @@ impl<K: Keys> Handshake<K> {
 
     // The handshake that holds these parts and psks.
     pub(crate) fn of_parts(parts: Parts<K>, psks: ArrayVec<[u8; 32], 9>) -> Handshake<K>
-        requires whole { IsWhole K.public_of (held_of parts psks.items) }
+        requires whole { IsWholeValue K.public_of (held_of parts psks.items) }
         requires bound { parts.progress.state.nonce ≤ 11 * parts.progress.passed }
         ensures { result ≡ held_of parts psks.items }
     {
@@ -643,7 +643,7 @@ impl<K: Keys> Handshake<K> {
     /// What the handshake leaves once all messages have passed and it hasn't ended; else it comes back as it was.
     pub fn finish(self) -> Result<Opened, Handshake<K>>
         ensures when { IsOk result ↔ ((self.ended ≡ false) × (self.passed ≡ length self.pattern.messages)) }
-        ensures opened { (v : Party) → Matches K.public_of K.agreement self v → IfOk result (λ o. Opens o v) }
+        ensures opened { (v : Party) → Matches K.public_of K.agreement self v → IfOk result (λ o. IsOpeningOf o v) }
         ensures back { IfErr result (λ h. h ≡ self) }
     {
         if self.ended || (self.passed as usize) < self.pattern.pattern().messages().len() {

@@ -65,7 +65,7 @@ impl<K: Keys> LateHandshake<K> {
     ghost use Rattle.noise_handshake.specs.declared.faults.ReadFault.TheVariants.{Refused};
     ghost use Rattle.noise_handshake.specs.inner.Late.{IsPskAfter};
     ghost use Rattle.noise_handshake.specs.HandshakeValue.{is_turn, read_fault, write_fault, message_len_of, Advances};
-    ghost use Rattle.noise_handshake.specs.Opening.{Opens};
+    ghost use Rattle.noise_handshake.specs.Opening.{IsOpeningOf};
     ghost use Rattle.noise_handshake.specs.Parts.{held_of, HasProgress};
     ghost use Rattle.noise_handshake.specs.Setup.{party_at_start, psks_of};
     ghost use Rattle.noise_handshake.specs.Writing.{Writes, LacksDhResult};
@@ -407,7 +407,7 @@ impl<K: Keys> LateHandshake<K> {
     pub fn finish(self) -> Result<Opened, LateHandshake<K>>
         ensures when { IsOk result ↔ ((self.ended ≡ false) × (self.passed ≡ length self.pattern.messages)) }
         ensures opened { (v : Party) (later : List (List ℕ)) → MatchesWith K.public_of K.agreement self later v
-            → IfOk result (λ o. Opens o v) }
+            → IfOk result (λ o. IsOpeningOf o v) }
         ensures back { IfErr result (λ h. h ≡ self) }
     {
         let lacking = self.lacking;

@@ -9,7 +9,7 @@ ghost use Rattle.noise_names.specs.Overhead.{has_key};
 ghost use Rattle.noise_handshake.specs.Nonces.{nonce_due};
 ghost use Rattle.noise_handshake.specs.Passed.{passed_places};
 ghost use Rattle.noise_handshake.specs.Setup.{lacks_own, psks_of};
-ghost use Rattle.noise_handshake.specs.Parts.{held_of, IsWhole};
+ghost use Rattle.noise_handshake.specs.Parts.{held_of, IsWholeValue};
 ghost use Rattle.noise_handshake.specs.inner.Parts.{HasDueState, HasShownKeys};
 
 use crate::nonces::count_due;
@@ -93,9 +93,9 @@ impl<K: Keys> Parts<K> {
 
     // How many psks a handshake that holds them has; None where none holds them.
     pub(crate) fn psks_due(&self) -> Option<usize>
-        ensures { MatchOption result ((psks : List (List ℕ)) → IsWhole K.public_of (held_of self.now psks) → ⊥)
+        ensures { MatchOption result ((psks : List (List ℕ)) → IsWholeValue K.public_of (held_of self.now psks) → ⊥)
             (λ n. (n ≤ 9) × (self.now.progress.state.nonce ≤ 11 * self.now.progress.passed)
-            × ((psks : List (List ℕ)) → IsWhole K.public_of (held_of self.now psks) ↔ (length psks ≡ n))) }
+            × ((psks : List (List ℕ)) → IsWholeValue K.public_of (held_of self.now psks) ↔ (length psks ≡ n))) }
     {
         let due = self.due()?;
         if !self.has_own() {

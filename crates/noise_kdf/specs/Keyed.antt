@@ -5,6 +5,6 @@ use Rattle.noise_kdf.specs.Hkdf.{block_key}
 use Rattle.noise_kdf.specs.declared.keyed.Hmac.{Hmac}
 
 -- each hasher holds the padded key under its pad
-pub record IsKeyed (h : Hmac) (key : List ℕ) : Type 0 where
+pub record HasHmacKey (h : Hmac) (key : List ℕ) : Type 0 where
   pub inner : Holds256 h.inner (map (λ b. bit_xor b 0x36) (block_key key))
   pub outer : Holds256 h.outer (map (λ b. bit_xor b 0x5c) (block_key key))

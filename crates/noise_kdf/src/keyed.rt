@@ -50,11 +50,11 @@ pub struct Hmac {
 }
 
 impl Hmac {
-    ghost use Rattle.noise_kdf.specs.Keyed.{IsKeyed};
+    ghost use Rattle.noise_kdf.specs.Keyed.{HasHmacKey};
 
     pub fn new(key: &[u8]) -> Hmac
         requires { length key.now ≤ 64 }
-        ensures { IsKeyed result key.now }
+        ensures { HasHmacKey result key.now }
     {
         let block = key_block(key);
         Hmac {
@@ -65,7 +65,7 @@ impl Hmac {
 
     // The code of the parts joined.
     pub fn code(&self, parts: &[&[u8]]) -> [u8; 32]
-        ensures { (key : List ℕ) → IsKeyed self.now key
+        ensures { (key : List ℕ) → HasHmacKey self.now key
             → result ≡ hmac_of key (flat_map (λ p. p.now) parts.now) }
     {
         let mut inner = self.inner.clone().unwrap();

@@ -12,7 +12,7 @@
 ghost use Rattle.std.specs.Prelude.{◌≡◌, ◌≤◌, ◌++◌, ℕ, List, [], ◌∷◌, length};
 ghost use Rattle.std.specs.List.{flat_map};
 ghost use Rattle.noise_kdf.specs.Hkdf.{hmac_of, first_output, second_output, third_output};
-ghost use Rattle.noise_kdf.specs.Keyed.{IsKeyed};
+ghost use Rattle.noise_kdf.specs.Keyed.{HasHmacKey};
 
 use keyed::Hmac;
 
@@ -29,7 +29,7 @@ pub fn hmac(key: &[u8], parts: &[&[u8]]) -> [u8; 32]
 
 // The two outputs that follow from HKDF's temporary key.
 fn two_outputs(temporary: &Hmac) -> ([u8; 32], [u8; 32])
-    ensures { (key : List ℕ) → IsKeyed temporary.now key →
+    ensures { (key : List ℕ) → HasHmacKey temporary.now key →
         (result.0 ≡ hmac_of key (1 ∷ [])) × (result.1 ≡ hmac_of key (result.0 ++ 2 ∷ [])) }
 {
     let first = temporary.code(&[&[1]]);

@@ -13,20 +13,20 @@ key_of Ephemeral e s = e
 key_of Static e s = s
 
 -- the xor of two texts, byte by byte
-abbrev pub xored : List ℕ → List ℕ → List ℕ
-xored xs ys = map (λ pair. bit_xor pair.0 pair.1) (zip xs ys)
+abbrev pub xored_bytes : List ℕ → List ℕ → List ℕ
+xored_bytes xs ys = map (λ pair. bit_xor pair.0 pair.1) (zip xs ys)
 
 -- the DH result of a key, where there is one
 abbrev pub xor_dh_result : Option (List ℕ) → List ℕ → Option (List ℕ)
 xor_dh_result None remote = None
-xor_dh_result (Some key) remote = Some (xored key remote)
+xor_dh_result (Some key) remote = Some (xored_bytes key remote)
 
-xored-comm : (xs ys : List ℕ) → xored xs ys ≡ xored ys xs
+xored-comm : (xs ys : List ℕ) → xored_bytes xs ys ≡ xored_bytes ys xs
 xored-comm [] [] = refl
 xored-comm [] (y ∷ ys) = refl
 xored-comm (x ∷ xs) [] = refl
 xored-comm (x ∷ xs) (y ∷ ys) =
-    ap (λ (b : ℕ). b ∷ xored xs ys) (xor_comm x y) ∙ ap (λ (bs : List ℕ). bit_xor y x ∷ bs) (xored-comm xs ys)
+    ap (λ (b : ℕ). b ∷ xored_bytes xs ys) (xor_comm x y) ∙ ap (λ (bs : List ℕ). bit_xor y x ∷ bs) (xored-comm xs ys)
 
 -- two keys' DH results are alike
 pub xor_dh_result-commutes : (k l : Option (List ℕ)) (p q : List ℕ) → k ≡ Some p → l ≡ Some q

@@ -2,7 +2,7 @@
 #![tactic(auto)]
 
 ghost use Rattle.std.specs.Prelude.{◌≡◌};
-ghost use Rattle.noise_keys.specs.Keys.{xored};
+ghost use Rattle.noise_keys.specs.Keys.{xored_bytes};
 
 use crate::{Agreeing, Keys, Own};
 
@@ -48,7 +48,7 @@ impl Agreeing for XorKeys {
 
 // The xor of two keys, byte by byte.
 fn xor(key: &[u8; 32], other: &[u8; 32]) -> [u8; 32]
-    ensures { result ≡ xored key.now other.now }
+    ensures { result ≡ xored_bytes key.now other.now }
 {
     let mut answer = *key;
     for i in 0..32 {

@@ -2,7 +2,7 @@
 
 ghost use Rattle.std.specs.Prelude.{◌≡◌, ◌⊎◌, ◌<◌, ◌≤◌, ◌++◌, [], IfErr, IfOk, OnOk, length};
 ghost use Rattle.noise_names.specs.Lists.{bytes_of};
-ghost use Rattle.noise_vectors.specs.VectorText.{expect_line, lines_of, text_of};
+ghost use Rattle.noise_vectors.specs.VectorText.{expect_line, lines_of, file_text};
 ghost use Rattle.noise_vectors.specs.declared.vector.VectorFile.{VectorFile};
 ghost use Rattle.noise_vectors.specs.declared.vector.Version.TheVariants.{One};
 ghost use Rattle.noise_lines.specs.Converted.{converted_text};
@@ -15,12 +15,12 @@ use std::alloc::{AllocError, Global};
 /// The text of a version 1 file with the header of version 2 and, after it, lines that expect these. `TooLong` is for a
 /// result of more than 4194304 bytes.
 pub fn convert(alloc: Global, text: &[u8], lines: &[Vec<u8>]) -> Result<Vec<u8>, Fault>
-    requires { (file : VectorFile) × (file.version ≡ One) × (text.now ≡ text_of file) }
-    ensures converted { (file : VectorFile) → file.version ≡ One → text.now ≡ text_of file
+    requires { (file : VectorFile) × (file.version ≡ One) × (text.now ≡ file_text file) }
+    ensures converted { (file : VectorFile) → file.version ≡ One → text.now ≡ file_text file
         → IfOk result (λ converted. converted.items ≡ converted_text file (bytes_of lines.now)) }
     ensures short { IfOk result (λ converted. length converted.items ≤ 4194304) }
     ensures fault { IfErr result (λ fault. (fault ≡ Memory)
-        ⊎ ((fault ≡ TooLong) × ((file : VectorFile) → file.version ≡ One → text.now ≡ text_of file
+        ⊎ ((fault ≡ TooLong) × ((file : VectorFile) → file.version ≡ One → text.now ≡ file_text file
         → 4194304 < length (converted_text file (bytes_of lines.now))))) }
 {
     let mut converted = Vec::new(alloc);

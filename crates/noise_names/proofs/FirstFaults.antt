@@ -11,7 +11,7 @@ use Rattle.noise_names.specs.declared.faults.TextFaultKind.TheVariants as kinds
 use Rattle.noise_names.specs.declared.token.Role.{Role}
 use Rattle.noise_names.specs.declared.token.Role.TheVariants.{Initiator, Responder}
 use Rattle.noise_names.specs.declared.token.Token.{Token}
-use Rattle.noise_names.specs.Judging.{IsFirstLine, IsNextOf, IsWrong, Passed, Matches, passed_lines}
+use Rattle.noise_names.specs.Judging.{IsLineBefore, IsNextOf, IsWrong, Passed, Matches, passed_lines}
 use Rattle.noise_names.specs.Names.{Section, IsSection, section_bytes}
 use Rattle.noise_names.specs.Text.{line, message_lines, pre_line, pre_lines, words}
 use Rattle.noise_names.specs.WrongText.{BeginsRight, IsAfter, IsLike, IsTextFault, IsTextFaultAt, IsWrongLine}
@@ -313,13 +313,13 @@ line-fault places s lines rest bytes number j kind fault h same r some is w e =
     (λ q v. fault-in-line s lines rest number j kind h q (extended s.places (has_dots lines) q.passed h.places q.are) (λ f. some (ap length f)) v)
     r (subst (λ (b : List ℕ). IsWrong places r.passed b kind) is w))
 
-cut-line : (text bytes after : List ℕ) (ended : Bool) → IsFirstLine text bytes ended after → ended ≡ false → text ≡ bytes
+cut-line : (text bytes after : List ℕ) (ended : Bool) → IsLineBefore text bytes ended after → ended ≡ false → text ≡ bytes
 cut-line text bytes after true whole e = absurd (cc)
 cut-line text bytes after false whole e = whole.0
 
 pub cut-fault : (places : List ℕ) (s : Section) (lines rest bytes after : List ℕ) (ended : Bool) (number : ℕ) (j next : Judged) (fault : TextFault)
     → IsSection s → s.places ≡ places → (r : AreRight places lines rest number j) → length rest ≢ 0 → bytes ≡ first_line rest
-    → IsFirstLine rest bytes ended after → ended ≡ false → IsNextOf places (has_dots lines) r.passed bytes next
+    → IsLineBefore rest bytes ended after → ended ≡ false → IsNextOf places (has_dots lines) r.passed bytes next
     → fault ≡ fault_at number kinds.Ending → IsTextFault (text_with s lines) fault
 cut-fault places s lines rest bytes after ended number j next fault h same r some is whole no_end n e =
     subst (λ (f : TextFault). IsTextFault (text_with s lines) f) (sym e)
@@ -329,12 +329,12 @@ cut-fault places s lines rest bytes after ended number j next fault h same r som
     (λ q m. cut-in-line s lines rest bytes number j next h q (λ f. some (ap length f)) is (cut-line rest bytes after ended whole no_end) m)
     r n)
 
-ended-line : (text bytes after : List ℕ) (ended : Bool) → IsFirstLine text bytes ended after → ended ≡ true → text ≡ line bytes ++ after
+ended-line : (text bytes after : List ℕ) (ended : Bool) → IsLineBefore text bytes ended after → ended ≡ true → text ≡ line bytes ++ after
 ended-line text bytes after true whole e = whole
 ended-line text bytes after false whole e = absurd (cc)
 
 pub next-right : (places lines rest bytes after : List ℕ) (ended : Bool) (number : ℕ) (j next : Judged) (r : AreRight places lines rest number j)
-    → bytes ≡ first_line rest → IsFirstLine rest bytes ended after → ended ≡ true → IsNextOf places (has_dots lines) r.passed bytes next
+    → bytes ≡ first_line rest → IsLineBefore rest bytes ended after → ended ≡ true → IsNextOf places (has_dots lines) r.passed bytes next
     → AreRight places lines after (number + 1) next
 next-right places lines rest bytes after ended number j next r is whole end n =
     line-more places lines rest bytes after number j next r is (ended-line rest bytes after ended whole end) n

@@ -8,7 +8,7 @@ use Rattle.std.proofs.lemmas.Bool.Decides.{nat_tests}
 use Rattle.std.proofs.lemmas.List.Sums.{take_while-cons}
 use Rattle.noise_names.proofs.Sections.{front_is, take-front}
 use Rattle.std.proofs.lemmas.List.Splits.{slice_split_none, slice_split_at}
-use Rattle.noise_names.specs.Judging.{IsFirstLine}
+use Rattle.noise_names.specs.Judging.{IsLineBefore}
 use Rattle.noise_names.specs.Text.{line}
 use Rattle.noise_names.specs.WrongText.{first_line, dots, has_dots}
 use Rattle.std.proofs.lemmas.List.{append_cancel_left, nil_from_length}
@@ -90,21 +90,21 @@ dots-last bytes h =
     ap (list_any (λ words. bytes_eq words dots)) (slice_split_none (λ b. eqb b 10) bytes (none_feeds bytes h)) ∙ or-false (bytes_eq bytes dots)
 
 -- what a first line adds
-pub dots-first : (text bytes after : List ℕ) (ended : Bool) → bytes ≡ first_line text → IsFirstLine text bytes ended after
+pub dots-first : (text bytes after : List ℕ) (ended : Bool) → bytes ≡ first_line text → IsLineBefore text bytes ended after
     → has_dots text ≡ bytes_eq bytes dots || has_dots after
 dots-first text bytes after true is whole = ap has_dots whole ∙ dots-line bytes after (ap no_feed is ∙ take-while-all is_other text)
 dots-first text bytes after false is whole =
     ap has_dots (whole.0) ∙ dots-last bytes (ap no_feed is ∙ take-while-all is_other text) ∙ sym (or-false (bytes_eq bytes dots))
     ∙ ap (λ (x : List ℕ). bytes_eq bytes dots || has_dots x) (sym whole.1)
 
-pub shorter : (text bytes after : List ℕ) (ended : Bool) → IsFirstLine text bytes ended after → length text ≢ 0 → length after < length text
+pub shorter : (text bytes after : List ℕ) (ended : Bool) → IsLineBefore text bytes ended after → length text ≢ 0 → length after < length text
 shorter text bytes after true whole some = let count = simp length-append at (ap length whole) in omega arith
 shorter text bytes after false whole some = let count : length after ≡ 0 = ap length whole.1 in omega arith
 
-pub dots-more : (text rest bytes after : List ℕ) (ended : Bool) → bytes ≡ first_line rest → IsFirstLine rest bytes ended after
+pub dots-more : (text rest bytes after : List ℕ) (ended : Bool) → bytes ≡ first_line rest → IsLineBefore rest bytes ended after
     → has_dots text ≡ has_dots rest → bytes_eq bytes dots ≡ false → has_dots text ≡ has_dots after
 dots-more text rest bytes after ended is whole so none = so ∙ dots-first rest bytes after ended is whole ∙ ap (λ (b : Bool). b || has_dots after) none
 
-pub dots-found : (text rest bytes after : List ℕ) (ended : Bool) → bytes ≡ first_line rest → IsFirstLine rest bytes ended after
+pub dots-found : (text rest bytes after : List ℕ) (ended : Bool) → bytes ≡ first_line rest → IsLineBefore rest bytes ended after
     → has_dots text ≡ has_dots rest → bytes_eq bytes dots ≡ true → true ≡ has_dots text
 dots-found text rest bytes after ended is whole so here = sym (so ∙ dots-first rest bytes after ended is whole ∙ ap (λ (b : Bool). b || has_dots after) here)

@@ -22,9 +22,9 @@ pub record HasTokens (w : Words) (tokens : List Token) : Type 0 where
   pub own : w.own.items ≡ take 9 (own_tokens tokens)
 
 -- a text is its first line, its line feed where it has one, and what follows
-abbrev pub IsFirstLine : List ℕ → List ℕ → Bool → List ℕ → Type 0
-IsFirstLine text bytes true after = text ≡ line bytes ++ after
-IsFirstLine text bytes false after = (text ≡ bytes) × (after ≡ [])
+abbrev pub IsLineBefore : List ℕ → List ℕ → Bool → List ℕ → Type 0
+IsLineBefore text bytes true after = text ≡ line bytes ++ after
+IsLineBefore text bytes false after = (text ≡ bytes) × (after ≡ [])
 
 -- The right lines so far: the tokens of the pre-messages and messages, and whether the line after the pre-messages is
 -- still ahead.
@@ -96,6 +96,6 @@ pub record IsNextOf (places : List ℕ) (dotted : Bool) (s : Passed) (bytes : Li
   pub lines : passed_lines passed ≡ passed_lines s ++ line bytes
 
 -- a line after those is right, and this is what was judged then; or it is wrong, and this is what is wrong in it
-abbrev pub IsJudged : List ℕ → Bool → Passed → List ℕ → Result Judged TextFaultKind → Type 0
-IsJudged places dotted s bytes result =
+abbrev pub IsNextJudged : List ℕ → Bool → Passed → List ℕ → Result Judged TextFaultKind → Type 0
+IsNextJudged places dotted s bytes result =
     MatchResult result (λ j. IsNextOf places dotted s bytes j) (λ kind. IsWrong places s bytes kind)

@@ -16,7 +16,7 @@ use Rattle.noise_session.specs.declared.faults.SendFault.TheVariants as send
 use Rattle.noise_session.specs.declared.datagram_fault.DatagramFault.{DatagramFault}
 use Rattle.noise_session.specs.declared.datagram_fault.DatagramFault.TheVariants as fault
 use Rattle.noise_session.specs.Transport.{transport_key, transport_message, last_nonce}
-use Rattle.noise_session.specs.Windows.{is_among, window_fault}
+use Rattle.noise_session.specs.Windows.{is_accepted, window_fault}
 use Rattle.noise_session.specs.Datagrams.{DatagramState, Opens, Runs, AreOnce, AreParties, IsSealed, datagram, nonce_named, accepting, unsealed, datagram_fault}
 use Rattle.noise_session.specs.Datagrams.Opens.{opened, refused, forged}
 use Rattle.noise_session.specs.Datagrams.Runs.{ends, seals, opens, refuses}
@@ -34,25 +34,25 @@ refused-as v w bytes why (refused _ _ _ is) = refl
 refused-as v w bytes why (forged _ _ none never) = refl
 
 -- a nonce that was opened isn't opened again
-not-again : (v w : DatagramState) (nonces : List ℕ) → Runs v nonces w → (n : ℕ) → is_among v.accepted n ≡ true → is_among nonces n ≡ false
+not-again : (v w : DatagramState) (nonces : List ℕ) → Runs v nonces w → (n : ℕ) → is_accepted v.accepted n ≡ true → is_accepted nonces n ≡ false
 not-again v w nonces (ends _) n there = refl
 not-again v w nonces (seals _ _ _ r) n there = not-again (record v { sent = v.sent + 1 }) w nonces r n there
 not-again v w nonces (opens _ x _ bytes payload rest o r) n there =
     let is = opened-as v bytes payload x o in
-    let set = ap (λ (u : DatagramState). is_among u.accepted n) is.1 in
-    let apart : nonce_named bytes ≢ n = λ same. false≢true (sym (fault-free v bytes is.0).fresh ∙ ap (is_among v.accepted) same ∙ there) in
-    rw (ne_eqb (nonce_named bytes) n apart) (not-again x w rest r n (set ∙ or_right (eqb (nonce_named bytes) n) (is_among v.accepted n) there))
+    let set = ap (λ (u : DatagramState). is_accepted u.accepted n) is.1 in
+    let apart : nonce_named bytes ≢ n = λ same. false≢true (sym (fault-free v bytes is.0).fresh ∙ ap (is_accepted v.accepted) same ∙ there) in
+    rw (ne_eqb (nonce_named bytes) n apart) (not-again x w rest r n (set ∙ or_right (eqb (nonce_named bytes) n) (is_accepted v.accepted n) there))
 not-again v w nonces (refuses _ x _ bytes _ why o r) n there =
-    not-again x w nonces r n (ap (λ (u : DatagramState). is_among u.accepted n) (refused-as v x bytes why o) ∙ there)
+    not-again x w nonces r n (ap (λ (u : DatagramState). is_accepted u.accepted n) (refused-as v x bytes why o) ∙ there)
 
 pub once : (v w : DatagramState) (nonces : List ℕ) → Runs v nonces w → AreOnce nonces
 once v w nonces (ends _) = tt
 once v w nonces (seals _ _ _ r) = once (record v { sent = v.sent + 1 }) w nonces r
 once v w nonces (opens _ x _ bytes payload rest o r) =
     let is = opened-as v bytes payload x o in
-    let set = ap (λ (u : DatagramState). is_among u.accepted (nonce_named bytes)) is.1 in
+    let set = ap (λ (u : DatagramState). is_accepted u.accepted (nonce_named bytes)) is.1 in
     let n = nonce_named bytes in
-    let here = or_left (eqb n n) (is_among v.accepted n) (eq-eqb n n refl) in
+    let here = or_left (eqb n n) (is_accepted v.accepted n) (eq-eqb n n refl) in
     (not-again x w rest r n (set ∙ here), once x w rest r)
 once v w nonces (refuses _ x _ bytes _ why o r) = once x w nonces r
 

@@ -10,7 +10,7 @@ use Rattle.noise_events.specs.declared.window.Window.{Window}
 use Rattle.noise_events.specs.declared.window.Window.TheVariants.{W64, W256, W1024}
 use Rattle.noise_session.specs.declared.window.Ring.{Ring}
 use Rattle.noise_events.specs.Windows.{width_of}
-use Rattle.noise_session.specs.Windows.{words_of, is_among, is_old, bit_of, Recalls}
+use Rattle.noise_session.specs.Windows.{bitmap_len, is_accepted, is_old, bit_of, Recalls}
 
 -- ---- places of blocks
 further : (r a b : ℕ) → a < b → r * a + r ≤ r * b
@@ -26,18 +26,18 @@ place-apart r a b less near same =
     ]
 
 -- ---- old nonces
-old-witness : (width : ℕ) (accepted : List ℕ) (n : ℕ) → is_old width accepted n ≡ true → (m : ℕ) × (is_among accepted m ≡ true) × (n + width ≤ m)
+old-witness : (width : ℕ) (accepted : List ℕ) (n : ℕ) → is_old width accepted n ≡ true → (m : ℕ) × (is_accepted accepted m ≡ true) × (n + width ≤ m)
 old-witness width [] n e = absurd (false≢true e)
 old-witness width (m ∷ ms) n e =
     elim (or_cases (leb (n + width) m) (is_old width ms n) e) [
-      | inl here ↦ (m, or_left (eqb m m) (is_among ms m) (eq-eqb m m refl), leb-true (n + width) m here)
-      | inr there ↦ let w = old-witness width ms n there in (w.0, or_right (eqb m w.0) (is_among ms w.0) w.1, w.2)
+      | inl here ↦ (m, or_left (eqb m m) (is_accepted ms m) (eq-eqb m m refl), leb-true (n + width) m here)
+      | inr there ↦ let w = old-witness width ms n there in (w.0, or_right (eqb m w.0) (is_accepted ms w.0) w.1, w.2)
     ]
 
-old-from : (width : ℕ) (accepted : List ℕ) (n m : ℕ) → is_among accepted m ≡ true → n + width ≤ m → is_old width accepted n ≡ true
+old-from : (width : ℕ) (accepted : List ℕ) (n m : ℕ) → is_accepted accepted m ≡ true → n + width ≤ m → is_old width accepted n ≡ true
 old-from width [] n m e far = absurd (false≢true e)
 old-from width (k ∷ ks) n m e far =
-    elim (or_cases (eqb k m) (is_among ks m) e) [
+    elim (or_cases (eqb k m) (is_accepted ks m) e) [
       | inl here ↦ let same = eqb-true k m here in or_left (leb (n + width) k) (is_old width ks n) (le-leb (n + width) k (omega arith))
       | inr there ↦ or_right (leb (n + width) k) (is_old width ks n) (old-from width ks n m there far)
     ]
@@ -47,13 +47,13 @@ width-some W64 = omega arith
 width-some W256 = omega arith
 width-some W1024 = omega arith
 
-pub words-some : (window : Window) → (0 < words_of window) × (words_of window ≤ 17)
+pub words-some : (window : Window) → (0 < bitmap_len window) × (bitmap_len window ≤ 17)
 words-some W64 = (omega arith, omega arith)
 words-some W256 = (omega arith, omega arith)
 words-some W1024 = (omega arith, omega arith)
 
 -- the blocks that the window touches have a word each
-pub touched : (window : Window) (n g : ℕ) → g < n + width_of window → g / 64 < n / 64 + words_of window
+pub touched : (window : Window) (n g : ℕ) → g < n + width_of window → g / 64 < n / 64 + bitmap_len window
 touched W64 n g near = omega arith
 touched W256 n g near = omega arith
 touched W1024 n g near = omega arith
@@ -75,7 +75,7 @@ old-reported r accepted n h =
 
 -- a nonce that isn't old is near the greatest
 pub near-reported : (r : Ring) (accepted : List ℕ) (n : ℕ) → Recalls r accepted → is_old (width_of r.window) accepted n ≡ false
-    → r.greatest / 64 < n / 64 + words_of r.window
+    → r.greatest / 64 < n / 64 + bitmap_len r.window
 near-reported r accepted n h not =
     let some = width-some r.window in
     touched r.window n r.greatest (elim (cases_lt r.greatest (n + width_of r.window)) [
@@ -86,40 +86,40 @@ near-reported r accepted n h not =
 -- ---- a nonce more
 -- the ring with a greatest nonce that is at least n, when n isn't marked yet
 pub record Ready (r : Ring) (accepted : List ℕ) (n : ℕ) : Type 0 where
-  pub most : (m : ℕ) → is_among accepted m ≡ true → m ≤ r.greatest
+  pub most : (m : ℕ) → is_accepted accepted m ≡ true → m ≤ r.greatest
   pub above : n ≤ r.greatest
-  pub reached : 0 < r.greatest → is_among (n ∷ accepted) r.greatest ≡ true
-  pub near : r.greatest / 64 < n / 64 + words_of r.window
-  pub bits : (m : ℕ) → m / 64 ≤ r.greatest / 64 → r.greatest / 64 < m / 64 + words_of r.window → eqb (bit_of r m) 1 ≡ is_among accepted m
+  pub reached : 0 < r.greatest → is_accepted (n ∷ accepted) r.greatest ≡ true
+  pub near : r.greatest / 64 < n / 64 + bitmap_len r.window
+  pub bits : (m : ℕ) → m / 64 ≤ r.greatest / 64 → r.greatest / 64 < m / 64 + bitmap_len r.window → eqb (bit_of r m) 1 ≡ is_accepted accepted m
 
 pub ready-unchanged : (r : Ring) (accepted : List ℕ) (n : ℕ) → Recalls r accepted → is_old (width_of r.window) accepted n ≡ false
     → n ≤ r.greatest → Ready r accepted n
 ready-unchanged r accepted n h not below = record {
   most = h.greatest;
   above = below;
-  reached = λ some. or_right (eqb n r.greatest) (is_among accepted r.greatest) (h.reached some);
+  reached = λ some. or_right (eqb n r.greatest) (is_accepted accepted r.greatest) (h.reached some);
   near = near-reported r accepted n h not;
   bits = h.bits;
 }
 
-beyond : (accepted : List ℕ) (g m : ℕ) → ((k : ℕ) → is_among accepted k ≡ true → k ≤ g) → g < m → is_among accepted m ≡ false
+beyond : (accepted : List ℕ) (g m : ℕ) → ((k : ℕ) → is_accepted accepted k ≡ true → k ≤ g) → g < m → is_accepted accepted m ≡ false
 beyond accepted g m most more =
-    elim (cases_Bool (is_among accepted m)) [
+    elim (cases_Bool (is_accepted accepted m)) [
       | inl there ↦ let low = most m there in absurd (omega arith)
       | inr none ↦ none
     ]
 
 module _ (r : Ring) (accepted : List ℕ) (n : ℕ) (words : List ℕ) where
   pub ready-moved : Recalls r accepted → r.greatest < n
-      → ((b : ℕ) → r.greatest / 64 < b → b ≤ n / 64 → n / 64 < b + words_of r.window → get_or words (b % words_of r.window) 0 ≡ 0)
-      → ((b : ℕ) → b ≤ r.greatest / 64 → n / 64 < b + words_of r.window → get_or words (b % words_of r.window) 0 ≡ get_or r.words (b % words_of r.window) 0)
+      → ((b : ℕ) → r.greatest / 64 < b → b ≤ n / 64 → n / 64 < b + bitmap_len r.window → get_or words (b % bitmap_len r.window) 0 ≡ 0)
+      → ((b : ℕ) → b ≤ r.greatest / 64 → n / 64 < b + bitmap_len r.window → get_or words (b % bitmap_len r.window) 0 ≡ get_or r.words (b % bitmap_len r.window) 0)
       → Ready (record { window = r.window; greatest = n; words = words }) accepted n
   ready-moved h more fresh unchanged =
       let some = words-some r.window in
       record {
         most = λ m e. let low = h.greatest m e in omega arith;
         above = omega arith;
-        reached = λ _. or_left (eqb n n) (is_among accepted n) (eq-eqb n n refl);
+        reached = λ _. or_left (eqb n n) (is_accepted accepted n) (eq-eqb n n refl);
         near = omega arith;
         bits = λ m low near. elim (cases_lt (r.greatest / 64) (m / 64)) [
           | inl above ↦
@@ -133,39 +133,39 @@ module _ (r : Ring) (accepted : List ℕ) (n : ℕ) (words : List ℕ) where
 
 module _ (r : Ring) (accepted : List ℕ) (n : ℕ) (room : length r.words ≡ 17) (h : Ready r accepted n) where
   place : ℕ
-  place = n / 64 % words_of r.window
+  place = n / 64 % bitmap_len r.window
 
   marked : ℕ
-  marked = bit_or (get_or r.words (n / 64 % words_of r.window) 0) (1 * 2 ^ (n % 64) % 2 ^ 64)
+  marked = bit_or (get_or r.words (n / 64 % bitmap_len r.window) 0) (1 * 2 ^ (n % 64) % 2 ^ 64)
 
   words : List ℕ
-  words = set r.words (n / 64 % words_of r.window) (bit_or (get_or r.words (n / 64 % words_of r.window) 0) (1 * 2 ^ (n % 64) % 2 ^ 64))
+  words = set r.words (n / 64 % bitmap_len r.window) (bit_or (get_or r.words (n / 64 % bitmap_len r.window) 0) (1 * 2 ^ (n % 64) % 2 ^ 64))
 
-  same-block : (m : ℕ) → m / 64 ≡ n / 64 → get_or words (m / 64 % words_of r.window) 0 ≡ marked
+  same-block : (m : ℕ) → m / 64 ≡ n / 64 → get_or words (m / 64 % bitmap_len r.window) 0 ≡ marked
   unfolding words marked
   same-block m same =
       let some = words-some r.window in
-      let within : n / 64 % words_of r.window < length r.words = omega arith in
-      ap (λ (b : ℕ). get_or words (b % words_of r.window) 0) same
-      ∙ get_or-set_same r.words (n / 64 % words_of r.window) marked 0 within
+      let within : n / 64 % bitmap_len r.window < length r.words = omega arith in
+      ap (λ (b : ℕ). get_or words (b % bitmap_len r.window) 0) same
+      ∙ get_or-set_same r.words (n / 64 % bitmap_len r.window) marked 0 within
 
-  other-block : (m : ℕ) → m / 64 ≢ n / 64 → m / 64 ≤ r.greatest / 64 → r.greatest / 64 < m / 64 + words_of r.window
-      → get_or words (m / 64 % words_of r.window) 0 ≡ get_or r.words (m / 64 % words_of r.window) 0
+  other-block : (m : ℕ) → m / 64 ≢ n / 64 → m / 64 ≤ r.greatest / 64 → r.greatest / 64 < m / 64 + bitmap_len r.window
+      → get_or words (m / 64 % bitmap_len r.window) 0 ≡ get_or r.words (m / 64 % bitmap_len r.window) 0
   unfolding words marked
   other-block m other low near =
       let above = h.above in
       let reach = h.near in
-      let apart : m / 64 % words_of r.window ≢ n / 64 % words_of r.window = elim (cases_lt (m / 64) (n / 64)) [
-        | inl less ↦ place-apart (words_of r.window) (m / 64) (n / 64) less (omega arith)
-        | inr more ↦ λ e. place-apart (words_of r.window) (n / 64) (m / 64) (omega arith) (omega arith) (sym e)
+      let apart : m / 64 % bitmap_len r.window ≢ n / 64 % bitmap_len r.window = elim (cases_lt (m / 64) (n / 64)) [
+        | inl less ↦ place-apart (bitmap_len r.window) (m / 64) (n / 64) less (omega arith)
+        | inr more ↦ λ e. place-apart (bitmap_len r.window) (n / 64) (m / 64) (omega arith) (omega arith) (sym e)
       ] in
-      get_or-set_other r.words (n / 64 % words_of r.window) (m / 64 % words_of r.window) marked 0 apart
+      get_or-set_other r.words (n / 64 % bitmap_len r.window) (m / 64 % bitmap_len r.window) marked 0 apart
 
-  unlike : (m : ℕ) → n ≢ m → is_among accepted m ≡ is_among (n ∷ accepted) m
+  unlike : (m : ℕ) → n ≢ m → is_accepted accepted m ≡ is_accepted (n ∷ accepted) m
   unlike m ne = rw (ne_eqb n m ne) refl
 
-  bit-reported : (m : ℕ) → m / 64 ≤ r.greatest / 64 → r.greatest / 64 < m / 64 + words_of r.window
-      → eqb (bit_at (get_or words (m / 64 % words_of r.window) 0) (m % 64)) 1 ≡ is_among (n ∷ accepted) m
+  bit-reported : (m : ℕ) → m / 64 ≤ r.greatest / 64 → r.greatest / 64 < m / 64 + bitmap_len r.window
+      → eqb (bit_at (get_or words (m / 64 % bitmap_len r.window) 0) (m % 64)) 1 ≡ is_accepted (n ∷ accepted) m
   unfolding marked
   bit-reported m low near = elim (cases_eq (m / 64) (n / 64)) [
     | inl same ↦
@@ -174,12 +174,12 @@ module _ (r : Ring) (accepted : List ℕ) (n : ℕ) (room : length r.words ≡ 1
           | inl bit ↦
               let is : n ≡ m = omega arith in
               word ∙ ap (λ (i : ℕ). eqb (bit_at marked i) 1) bit
-              ∙ ap (λ (b : ℕ). eqb b 1) (bit_at_set_same w64 (get_or r.words (n / 64 % words_of r.window) 0) (n % 64) (omega arith))
-              ∙ sym (or_left (eqb n m) (is_among accepted m) (eq-eqb n m is))
+              ∙ ap (λ (b : ℕ). eqb b 1) (bit_at_set_same w64 (get_or r.words (n / 64 % bitmap_len r.window) 0) (n % 64) (omega arith))
+              ∙ sym (or_left (eqb n m) (is_accepted accepted m) (eq-eqb n m is))
           | inr other ↦
-              let old = ap (λ (b : ℕ). get_or r.words (b % words_of r.window) 0) same in
+              let old = ap (λ (b : ℕ). get_or r.words (b % bitmap_len r.window) 0) same in
               word
-              ∙ ap (λ (b : ℕ). eqb b 1) (bit_at_set_other w64 (get_or r.words (n / 64 % words_of r.window) 0) (n % 64) (omega arith) (m % 64) other)
+              ∙ ap (λ (b : ℕ). eqb b 1) (bit_at_set_other w64 (get_or r.words (n / 64 % bitmap_len r.window) 0) (n % 64) (omega arith) (m % 64) other)
               ∙ ap (λ (w : ℕ). eqb (bit_at w (m % 64)) 1) (sym old)
               ∙ h.bits m low near
               ∙ unlike m (λ e. other (ap (λ (k : ℕ). k % 64) (sym e)))
@@ -193,11 +193,11 @@ module _ (r : Ring) (accepted : List ℕ) (n : ℕ) (room : length r.words ≡ 1
   pub recalls-marked : Recalls (record {
     window = r.window;
     greatest = r.greatest;
-    words = set r.words (n / 64 % words_of r.window) (bit_or (get_or r.words (n / 64 % words_of r.window) 0) (1 * 2 ^ (n % 64) % 2 ^ 64));
+    words = set r.words (n / 64 % bitmap_len r.window) (bit_or (get_or r.words (n / 64 % bitmap_len r.window) 0) (1 * 2 ^ (n % 64) % 2 ^ 64));
   }) (n ∷ accepted)
   unfolding words
   recalls-marked = record {
-    greatest = λ m e. elim (or_cases (eqb n m) (is_among accepted m) e) [
+    greatest = λ m e. elim (or_cases (eqb n m) (is_accepted accepted m) e) [
       | inl here ↦ let same = eqb-true n m here in let above = h.above in omega arith
       | inr there ↦ h.most m there
     ];

@@ -11,7 +11,7 @@ use Rattle.std.proofs.lemmas.Nat.{or_shr, pow_pos, shr-shr}
 use Rattle.noise_session.specs.declared.window.Ring.{Ring}
 use Rattle.noise_events.specs.Windows.{width_of}
 use Rattle.noise_session.specs.Transport.{last_nonce}
-use Rattle.noise_session.specs.Windows.{words_of, top_word, begun_words, ends_at_greatest, is_ring}
+use Rattle.noise_session.specs.Windows.{bitmap_len, top_word, begun_words, ends_at_greatest, is_ring}
 use Rattle.noise_session.proofs.Ringing.{place-apart, width-some, words-some, touched}
 
 -- ---- what the test says
@@ -111,9 +111,9 @@ open-unchanged r n h near low = record {
 }
 
 module _ (r : Ring) (n : ℕ) (words : List ℕ) (h : IsRing r) (more : r.greatest < n) where
-  unmarked : ((b : ℕ) → r.greatest / 64 < b → b ≤ n / 64 → n / 64 < b + words_of r.window → get_or words (b % words_of r.window) 0 ≡ 0)
-      → ((b : ℕ) → b ≤ r.greatest / 64 → n / 64 < b + words_of r.window → get_or words (b % words_of r.window) 0 ≡ get_or r.words (b % words_of r.window) 0)
-      → get_or words (n / 64 % words_of r.window) 0 / 2 ^ (n % 64) ≡ 0
+  unmarked : ((b : ℕ) → r.greatest / 64 < b → b ≤ n / 64 → n / 64 < b + bitmap_len r.window → get_or words (b % bitmap_len r.window) 0 ≡ 0)
+      → ((b : ℕ) → b ≤ r.greatest / 64 → n / 64 < b + bitmap_len r.window → get_or words (b % bitmap_len r.window) 0 ≡ get_or r.words (b % bitmap_len r.window) 0)
+      → get_or words (n / 64 % bitmap_len r.window) 0 / 2 ^ (n % 64) ≡ 0
   unmarked fresh unchanged =
       let some = words-some r.window in
       elim (cases_lt (r.greatest / 64) (n / 64)) [
@@ -121,8 +121,8 @@ module _ (r : Ring) (n : ℕ) (words : List ℕ) (h : IsRing r) (more : r.greate
         | inr back ↦
             let same : n / 64 ≡ r.greatest / 64 = omega arith in
             let less : r.greatest % 64 < n % 64 = omega arith in
-            let is : get_or words (n / 64 % words_of r.window) 0 ≡ top_word r =
-            unchanged (n / 64) back (omega arith) ∙ ap (λ (b : ℕ). get_or r.words (b % words_of r.window) 0) same in
+            let is : get_or words (n / 64 % bitmap_len r.window) 0 ≡ top_word r =
+            unchanged (n / 64) back (omega arith) ∙ ap (λ (b : ℕ). get_or r.words (b % bitmap_len r.window) 0) same in
             ap (λ (w : ℕ). w / 2 ^ (n % 64)) is ∙ elim h.top [
               | inl one ↦ above (top_word r) (r.greatest % 64) (n % 64) less one
               | inr none ↦ ap (λ (w : ℕ). w / 2 ^ (n % 64)) none.1 ∙ nothing (n % 64)
@@ -130,9 +130,9 @@ module _ (r : Ring) (n : ℕ) (words : List ℕ) (h : IsRing r) (more : r.greate
       ]
 
   pub open-moved : n < last_nonce
-      → ((b : ℕ) → r.greatest / 64 < b → b ≤ n / 64 → n / 64 < b + words_of r.window → get_or words (b % words_of r.window) 0 ≡ 0)
-      → ((b : ℕ) → b ≤ r.greatest / 64 → n / 64 < b + words_of r.window → get_or words (b % words_of r.window) 0 ≡ get_or r.words (b % words_of r.window) 0)
-      → drop (min (words_of r.window) (n / 64 + 1)) words ≡ drop (min (words_of r.window) (n / 64 + 1)) r.words
+      → ((b : ℕ) → r.greatest / 64 < b → b ≤ n / 64 → n / 64 < b + bitmap_len r.window → get_or words (b % bitmap_len r.window) 0 ≡ 0)
+      → ((b : ℕ) → b ≤ r.greatest / 64 → n / 64 < b + bitmap_len r.window → get_or words (b % bitmap_len r.window) 0 ≡ get_or r.words (b % bitmap_len r.window) 0)
+      → drop (min (bitmap_len r.window) (n / 64 + 1)) words ≡ drop (min (bitmap_len r.window) (n / 64 + 1)) r.words
       → IsOpen (record { window = r.window; greatest = n; words = words }) n
   open-moved small fresh unchanged beyond =
       let some = width-some r.window in
@@ -143,46 +143,46 @@ module _ (r : Ring) (n : ℕ) (words : List ℕ) (h : IsRing r) (more : r.greate
         top = inr (unmarked fresh unchanged, refl);
         beyond =
             ap are_zeros beyond
-            ∙ zeros-more (begun_words r) (min (words_of r.window) (n / 64 + 1)) r.words
-            (min-more (words_of r.window) (r.greatest / 64 + 1) (n / 64 + 1) (omega arith)) h.beyond;
+            ∙ zeros-more (begun_words r) (min (bitmap_len r.window) (n / 64 + 1)) r.words
+            (min-more (bitmap_len r.window) (r.greatest / 64 + 1) (n / 64 + 1) (omega arith)) h.beyond;
       }
 
 module _ (r : Ring) (n : ℕ) (room : length r.words ≡ 17) (h : IsOpen r n) where
   marked : ℕ
-  marked = bit_or (get_or r.words (n / 64 % words_of r.window) 0) (1 * 2 ^ (n % 64) % 2 ^ 64)
+  marked = bit_or (get_or r.words (n / 64 % bitmap_len r.window) 0) (1 * 2 ^ (n % 64) % 2 ^ 64)
 
   words : List ℕ
-  words = set r.words (n / 64 % words_of r.window) (bit_or (get_or r.words (n / 64 % words_of r.window) 0) (1 * 2 ^ (n % 64) % 2 ^ 64))
+  words = set r.words (n / 64 % bitmap_len r.window) (bit_or (get_or r.words (n / 64 % bitmap_len r.window) 0) (1 * 2 ^ (n % 64) % 2 ^ 64))
 
-  same-top : n / 64 ≡ r.greatest / 64 → get_or words (r.greatest / 64 % words_of r.window) 0 / 2 ^ (r.greatest % 64) ≡ 1
+  same-top : n / 64 ≡ r.greatest / 64 → get_or words (r.greatest / 64 % bitmap_len r.window) 0 / 2 ^ (r.greatest % 64) ≡ 1
   unfolding words marked
   same-top same =
       let some = words-some r.window in
       let low = h.within in
-      let within : n / 64 % words_of r.window < length r.words = omega arith in
-      let old : get_or r.words (n / 64 % words_of r.window) 0 ≡ top_word r = ap (λ (b : ℕ). get_or r.words (b % words_of r.window) 0) same in
-      ap (λ (b : ℕ). get_or words (b % words_of r.window) 0 / 2 ^ (r.greatest % 64)) (sym same)
-      ∙ ap (λ (w : ℕ). w / 2 ^ (r.greatest % 64)) (get_or-set_same r.words (n / 64 % words_of r.window) marked 0 within)
-      ∙ lifted (get_or r.words (n / 64 % words_of r.window) 0) (n % 64) (r.greatest % 64) (omega arith) (elim h.top [
+      let within : n / 64 % bitmap_len r.window < length r.words = omega arith in
+      let old : get_or r.words (n / 64 % bitmap_len r.window) 0 ≡ top_word r = ap (λ (b : ℕ). get_or r.words (b % bitmap_len r.window) 0) same in
+      ap (λ (b : ℕ). get_or words (b % bitmap_len r.window) 0 / 2 ^ (r.greatest % 64)) (sym same)
+      ∙ ap (λ (w : ℕ). w / 2 ^ (r.greatest % 64)) (get_or-set_same r.words (n / 64 % bitmap_len r.window) marked 0 within)
+      ∙ lifted (get_or r.words (n / 64 % bitmap_len r.window) 0) (n % 64) (r.greatest % 64) (omega arith) (elim h.top [
         | inl one ↦ inl (ap (λ (w : ℕ). w / 2 ^ (r.greatest % 64)) old ∙ one, omega arith)
         | inr none ↦ inr (ap (λ (w : ℕ). w / 2 ^ (r.greatest % 64)) old ∙ none.0, ap (λ (m : ℕ). m % 64) none.1)
       ])
 
-  other-top : n / 64 ≢ r.greatest / 64 → get_or words (r.greatest / 64 % words_of r.window) 0 / 2 ^ (r.greatest % 64) ≡ 1
+  other-top : n / 64 ≢ r.greatest / 64 → get_or words (r.greatest / 64 % bitmap_len r.window) 0 / 2 ^ (r.greatest % 64) ≡ 1
   unfolding words marked
   other-top other =
       let low = h.within in
       let reach = touched r.window n r.greatest h.near in
-      let apart : r.greatest / 64 % words_of r.window ≢ n / 64 % words_of r.window =
-      λ e. place-apart (words_of r.window) (n / 64) (r.greatest / 64) (omega arith) reach (sym e) in
+      let apart : r.greatest / 64 % bitmap_len r.window ≢ n / 64 % bitmap_len r.window =
+      λ e. place-apart (bitmap_len r.window) (n / 64) (r.greatest / 64) (omega arith) reach (sym e) in
       ap (λ (w : ℕ). w / 2 ^ (r.greatest % 64))
-      (get_or-set_other r.words (n / 64 % words_of r.window) (r.greatest / 64 % words_of r.window) marked 0 apart)
+      (get_or-set_other r.words (n / 64 % bitmap_len r.window) (r.greatest / 64 % bitmap_len r.window) marked 0 apart)
       ∙ elim h.top [
         | inl one ↦ one
         | inr none ↦ absurd (other (ap (λ (m : ℕ). m / 64) none.1))
       ]
 
-  begun : n / 64 % words_of r.window < begun_words r
+  begun : n / 64 % bitmap_len r.window < begun_words r
   begun =
       let some = words-some r.window in
       let low = h.within in
@@ -191,7 +191,7 @@ module _ (r : Ring) (n : ℕ) (room : length r.words ≡ 17) (h : IsOpen r n) wh
   pub ring-marked : is_ring (record {
     window = r.window;
     greatest = r.greatest;
-    words = set r.words (n / 64 % words_of r.window) (bit_or (get_or r.words (n / 64 % words_of r.window) 0) (1 * 2 ^ (n % 64) % 2 ^ 64));
+    words = set r.words (n / 64 % bitmap_len r.window) (bit_or (get_or r.words (n / 64 % bitmap_len r.window) 0) (1 * 2 ^ (n % 64) % 2 ^ 64));
   }) ≡ true
   unfolding words marked
   ring-marked =
@@ -200,4 +200,4 @@ module _ (r : Ring) (n : ℕ) (room : length r.words ≡ 17) (h : IsOpen r n) wh
         | inl same ↦ same-top same
         | inr other ↦ other-top other
       ])
-      (ap are_zeros (drop-set-lt (begun_words r) r.words (n / 64 % words_of r.window) marked begun) ∙ h.beyond)
+      (ap are_zeros (drop-set-lt (begun_words r) r.words (n / 64 % bitmap_len r.window) marked begun) ∙ h.beyond)

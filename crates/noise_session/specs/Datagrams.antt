@@ -16,7 +16,7 @@ use Rattle.noise_events.specs.declared.window.Window.{Window}
 use Rattle.noise_session.specs.declared.window.Ring.{Ring}
 use Rattle.noise_session.specs.Transport.{split_key, transport_message, last_nonce}
 use Rattle.noise_events.specs.Windows.{width_of}
-use Rattle.noise_session.specs.Windows.{is_among, window_fault, Recalls}
+use Rattle.noise_session.specs.Windows.{is_accepted, window_fault, Recalls}
 
 -- Datagram n of a writer: the nonce in 8 bytes, the highest first, and the transport message of that nonce. Its key is
 -- never renewed.
@@ -148,7 +148,7 @@ pub data Runs : DatagramState → List ℕ → DatagramState → Type 0 where
 -- no number stands in the list twice
 abbrev pub AreOnce : List ℕ → Type 0
 AreOnce [] = Unit {0}
-AreOnce (n ∷ ns) = (is_among ns n ≡ false) × AreOnce ns
+AreOnce (n ∷ ns) = (is_accepted ns n ≡ false) × AreOnce ns
 
 -- They are the two parties of one handshake.
 pub record AreParties (v w : DatagramState) : Type 0 where

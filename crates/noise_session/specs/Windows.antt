@@ -11,15 +11,15 @@ use Rattle.noise_session.specs.declared.datagram_fault.DatagramFault.TheVariants
 use Rattle.noise_session.specs.Transport.{last_nonce}
 
 -- how many words a ring uses: one more than the width has
-abbrev pub words_of : Window → ℕ
-words_of window = width_of window / 64 + 1
+abbrev pub bitmap_len : Window → ℕ
+bitmap_len window = width_of window / 64 + 1
 
 -- The accepted nonces are a set: of the list it counts only which nonces stand in it.
 
 -- whether a nonce is one of them
-abbrev pub is_among : List ℕ → ℕ → Bool
-is_among [] nonce = false
-is_among (n ∷ accepted) nonce = (n == nonce) || is_among accepted nonce
+abbrev pub is_accepted : List ℕ → ℕ → Bool
+is_accepted [] nonce = false
+is_accepted (n ∷ accepted) nonce = (n == nonce) || is_accepted accepted nonce
 
 -- whether one of them is at least the width above this nonce
 abbrev pub is_old : ℕ → List ℕ → ℕ → Bool
@@ -30,26 +30,26 @@ is_old width (n ∷ accepted) nonce = nat_le (nonce + width) n || is_old width a
 abbrev pub window_fault : ℕ → List ℕ → ℕ → Option DatagramFault
 window_fault width accepted nonce =
     if is_old width accepted nonce then Some fault.Old
-    else if is_among accepted nonce then Some fault.Repeated
+    else if is_accepted accepted nonce then Some fault.Repeated
     else None
 
 -- the bit of a nonce in a ring: that of its place in the word of its block of 64
 abbrev pub bit_of : Ring → ℕ → ℕ
-bit_of r nonce = bit_at (slice_index r.words (nonce / 64 % words_of r.window)) (nonce % 64)
+bit_of r nonce = bit_at (slice_index r.words (nonce / 64 % bitmap_len r.window)) (nonce % 64)
 
 -- Of the accepted nonces the ring has the greatest, and which there are in its block and in as many blocks below as the
 -- width has.
 pub record Recalls (r : Ring) (accepted : List ℕ) : Type 0 where
-  pub greatest : (n : ℕ) → is_among accepted n ≡ true → n ≤ r.greatest
-  pub reached : 0 < r.greatest → is_among accepted r.greatest ≡ true
-  pub bits : (n : ℕ) → n / 64 ≤ r.greatest / 64 → r.greatest / 64 < n / 64 + words_of r.window
-      → (bit_of r n == 1) ≡ is_among accepted n
+  pub greatest : (n : ℕ) → is_accepted accepted n ≡ true → n ≤ r.greatest
+  pub reached : 0 < r.greatest → is_accepted accepted r.greatest ≡ true
+  pub bits : (n : ℕ) → n / 64 ≤ r.greatest / 64 → r.greatest / 64 < n / 64 + bitmap_len r.window
+      → (bit_of r n == 1) ≡ is_accepted accepted n
 
 -- ---- rings that some accepted nonces have
 
 -- the word of the greatest nonce's block
 abbrev pub top_word : Ring → ℕ
-top_word r = slice_index r.words (r.greatest / 64 % words_of r.window)
+top_word r = slice_index r.words (r.greatest / 64 % bitmap_len r.window)
 
 -- The highest bit of that word is the greatest nonce's. Where the greatest is 0 it may be that none was accepted: then
 -- there is no bit.
@@ -58,7 +58,7 @@ ends_at_greatest r = (top_word r / 2 ^ (r.greatest % 64) == 1) || ((r.greatest =
 
 -- how many words have had a block: one for each up to the greatest nonce's, and no more than the ring uses
 abbrev pub begun_words : Ring → ℕ
-begun_words r = min (words_of r.window) (r.greatest / 64 + 1)
+begun_words r = min (bitmap_len r.window) (r.greatest / 64 + 1)
 
 -- Some accepted nonces have this ring: the greatest isn't the nonce that no message has, its bit is there, and none
 -- above it.

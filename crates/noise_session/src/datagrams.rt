@@ -3,7 +3,7 @@
 
 ghost use Rattle.std.specs.Prelude.{◌≡◌, ◌≤◌, ◌+◌, length, take, drop, is_some, true, None, IfOk, IfSome};
 ghost use Rattle.noise_handshake.specs.Party.{Party};
-ghost use Rattle.noise_handshake.specs.Opening.{Opens};
+ghost use Rattle.noise_handshake.specs.Opening.{IsOpeningOf};
 ghost use Rattle.noise_session.specs.TransportValue.{TransportState, TransportMatches};
 ghost use Rattle.noise_session.specs.EndDatagrams.{datagrams_after};
 ghost use Rattle.noise_session.specs.Windows.{is_ring};
@@ -59,14 +59,14 @@ impl Model for Datagrams {
 impl Datagrams {
     /// The datagrams after a handshake, with a window of 64 nonces: none is sealed or opened yet.
     pub fn new(opened: Opened) -> Datagrams
-        ensures { (v : Party) → Opens opened v → DatagramsMatch result (datagrams_of v Window.W64) }
+        ensures { (v : Party) → IsOpeningOf opened v → DatagramsMatch result (datagrams_of v Window.W64) }
     {
         Datagrams::with_window(opened, Window::W64)
     }
 
     /// The datagrams after a handshake, with this window: none is sealed or opened yet.
     pub fn with_window(opened: Opened, window: Window) -> Datagrams
-        ensures { (v : Party) → Opens opened v → DatagramsMatch result (datagrams_of v window) }
+        ensures { (v : Party) → IsOpeningOf opened v → DatagramsMatch result (datagrams_of v window) }
     {
         Datagrams::after(Transport::new(opened, 0), window)
     }

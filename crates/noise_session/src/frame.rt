@@ -6,7 +6,7 @@ ghost use Rattle.noise_session.specs.Frames.{IsPartial, IsWhole, frame_length};
 ghost use Rattle.byteorder.specs.Endian.{big_bytes};
 ghost use Rattle.std.specs.Io.KnownBytes.{Consumes, IsAtEnd};
 ghost use Rattle.noise_session.specs.Counting.{inner_of, failures_of};
-ghost use Rattle.noise_session.specs.inner.Filling.{Leaves, after_filling};
+ghost use Rattle.noise_session.specs.inner.Filling.{FillingLeaves, after_filling};
 ghost use Rattle.noise_session.specs.declared.counted.Filling.TheVariants.{Filled, End};
 
 use crate::Counted;
@@ -132,7 +132,7 @@ impl Frame {
         ensures bytes { (piece : List ℕ)
             × Consumes (R.remaining (inner_of from.old)) (R.remaining (inner_of from.new)) piece
             × (partial_of self.new ≡ partial_of self.old ++ piece) }
-        ensures leaves { Leaves result (partial_of self.new) }
+        ensures leaves { FillingLeaves result (partial_of self.new) }
         ensures end { result ≡ End → IsAtEnd (R.remaining (inner_of from.new)) }
         ensures failures { failures_of from.new ≡ after_filling (failures_of from.old) result }
     {

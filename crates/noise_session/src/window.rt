@@ -6,7 +6,7 @@ ghost use Rattle.std.specs.Prelude.{IfNone, IfSome, is_some};
 ghost use Rattle.std.specs.List.{list_all};
 ghost use Rattle.noise_events.specs.Windows.{width_of};
 ghost use Rattle.noise_session.specs.Transport.{last_nonce};
-ghost use Rattle.noise_session.specs.Windows.{words_of, is_among, is_old, window_fault, Recalls, ends_at_greatest, begun_words, is_ring};
+ghost use Rattle.noise_session.specs.Windows.{bitmap_len, is_accepted, is_old, window_fault, Recalls, ends_at_greatest, begun_words, is_ring};
 
 use crate::DatagramFault;
 use crate::limits::LAST_NONCE;
@@ -94,7 +94,7 @@ impl Ring {
         ensures value { result ≡ begun_words self.now }
         ensures within { result ≤ 17 }
     {
-        words_of(self.window).min(self.greatest / WORD_BITS + 1) as usize
+        bitmap_len(self.window).min(self.greatest / WORD_BITS + 1) as usize
     }
 
     // Why no datagram of this nonce is opened.
@@ -125,7 +125,7 @@ impl Ring {
     fn contains(&self, nonce: u64) -> bool
         ensures { (accepted : List ℕ) → Recalls self.now accepted
             → is_old (width_of self.now.window) accepted nonce ≡ false
-            → result ≡ is_among accepted nonce }
+            → result ≡ is_accepted accepted nonce }
     {
         let word = self.words[place(self.window, nonce / WORD_BITS)];
         nonce <= self.greatest && word >> (nonce % WORD_BITS) & 1 == 1
@@ -155,8 +155,8 @@ impl Ring {
 }
 
 // How many words the ring of a window uses.
-fn words_of(window: Window) -> u64
-    ensures value { result ≡ words_of window }
+fn bitmap_len(window: Window) -> u64
+    ensures value { result ≡ bitmap_len window }
     ensures within { (0 < result) × (result ≤ 17) }
 {
     window.width() / WORD_BITS + 1
@@ -170,23 +170,23 @@ fn are_zeros(words: &[u64]) -> bool
 
 // Where the word of a block stands.
 fn place(window: Window, block: u64) -> usize
-    ensures value { result ≡ block % words_of window }
+    ensures value { result ≡ block % bitmap_len window }
     ensures within { result < 17 }
 {
-    (block % words_of(window)) as usize
+    (block % bitmap_len(window)) as usize
 }
 
 // Clears the words of the blocks after `top` up to `block`: each word once at most.
 fn clear(window: Window, words: &mut [u64; MOST_WORDS], top: u64, block: u64)
     requires { top ≤ block }
-    ensures fresh { (b : ℕ) → top < b → b ≤ block → block < b + words_of window
-        → slice_index words.new (b % words_of window) ≡ 0 }
-    ensures unchanged { (b : ℕ) → b ≤ top → block < b + words_of window
-        → slice_index words.new (b % words_of window) ≡ slice_index words.old (b % words_of window) }
-    ensures beyond { drop (min (words_of window) (block + 1)) words.new
-        ≡ drop (min (words_of window) (block + 1)) words.old }
+    ensures fresh { (b : ℕ) → top < b → b ≤ block → block < b + bitmap_len window
+        → slice_index words.new (b % bitmap_len window) ≡ 0 }
+    ensures unchanged { (b : ℕ) → b ≤ top → block < b + bitmap_len window
+        → slice_index words.new (b % bitmap_len window) ≡ slice_index words.old (b % bitmap_len window) }
+    ensures beyond { drop (min (bitmap_len window) (block + 1)) words.new
+        ≡ drop (min (bitmap_len window) (block + 1)) words.old }
 {
-    let count = (block - top).min(words_of(window));
+    let count = (block - top).min(bitmap_len(window));
     for back in 0..count {
         words[place(window, block - back)] = 0;
     }

@@ -28,12 +28,12 @@ use Rattle.noise_events.specs.declared.event.Event.TheVariants.{Say}
 use Rattle.noise_vectors.specs.HexWord.{hex_of}
 use Rattle.noise_vectors.specs.SameFile.{cuts_of}
 use Rattle.noise_vectors.specs.VectorFile.{AreKeys, IsEntry, IsEvent, IsOwn, IsVectorFile}
-use Rattle.noise_vectors.specs.VectorText.{answer_words, block_text, event_words, key_words, line, lines_of, party_text, psk_words, role_word, text_of}
+use Rattle.noise_vectors.specs.VectorText.{answer_words, block_text, event_words, key_words, line_then, lines_of, party_text, psk_words, role_word, file_text}
 use Rattle.noise_vectors.specs.Words.{IsKey}
 use Rattle.noise_vectors.specs.declared.file_keys.FileKeys.TheVariants.{Table}
 use Rattle.noise_vectors.specs.declared.vector.VectorFile.{VectorFile}
 use Rattle.noise_vectors.specs.declared.vector.Version.TheVariants.{One}
-use Rattle.noise_template.specs.Template.{IsTemplate, IsTemplateText, dh_byte, entries_for, entry, key_byte, key_in, keys_in, keys_text, name_of, occurs_in}
+use Rattle.noise_template.specs.Template.{IsTemplate, IsTemplateText, dh_byte, entries_for, entry, key_byte, template_key, template_keys, keys_text, name_of, occurs_in}
 use Rattle.noise_handshake.specs.Party.{own_at}
 use Rattle.noise_handshake.specs.Setup.{token_of}
 use Rattle.noise_template.specs.Template.{placeholder, psk_key, psks_text, say_words, speakers, template_text, unless_known, writers}
@@ -63,8 +63,8 @@ made p v few = record {
   prologue = empty v;
   interval = 0;
   psks = record { items = map psk_key p.places };
-  initiator = Table (keys_in p Initiator);
-  responder = Table (keys_in p Responder);
+  initiator = Table (template_keys p Initiator);
+  responder = Table (template_keys p Responder);
   events = says_vec v (speakers p.messages) few;
   version = One;
   short = omega arith;
@@ -94,25 +94,25 @@ is-made p v few = record {
 
 -- ---- its text
 
-line-after : (t a b : List ℕ) → line t (a ++ b) ≡ line t a ++ b
+line-after : (t a b : List ℕ) → line_then t (a ++ b) ≡ line_then t a ++ b
 line-after t a b = sym (append_assoc t (10 ∷ a) b)
 
 lines-after : {A : Type 0} (words : A → List ℕ) (xs : List A) (a b : List ℕ) → lines_of words xs (a ++ b) ≡ lines_of words xs a ++ b
 lines-after words [] a b = refl
-lines-after words (x ∷ xs) a b = ap (line (words x)) (lines-after words xs a b) ∙ line-after (words x) (lines_of words xs a) b
+lines-after words (x ∷ xs) a b = ap (line_then (words x)) (lines-after words xs a b) ∙ line-after (words x) (lines_of words xs a) b
 
 party-after : (role : Role) (keys : table.Table) (b : List ℕ) → party_text role (Table keys) b ≡ party_text role (Table keys) [] ++ b
 party-after role keys b =
     let first : List ℕ = role_word role ++ (codes " table " ++ key_words keys.e keys.s) in
-    ap (λ (t : List ℕ). line first t) (lines-after answer_words keys.entries [] b) ∙ line-after first (lines_of answer_words keys.entries []) b
+    ap (λ (t : List ℕ). line_then first t) (lines-after answer_words keys.entries [] b) ∙ line-after first (lines_of answer_words keys.entries []) b
 
 block-after : (block : Option Plan) (b : List ℕ) → block_text block b ≡ block_text block [] ++ b
 block-after None b = refl
-block-after (Some p) b = sym (append_assoc (PatternText.text_of p) (line (codes "end") []) b)
+block-after (Some p) b = sym (append_assoc (PatternText.text_of p) (line_then (codes "end") []) b)
 
 says-text : (v : Vec ℕ Global) (roles : List Role) → lines_of event_words (says v roles) [] ≡ lines_of say_words roles []
 says-text v [] = refl
-says-text v (r ∷ rs) = ap (λ (t : List ℕ). line (say_words r) t) (says-text v rs)
+says-text v (r ∷ rs) = ap (λ (t : List ℕ). line_then (say_words r) t) (says-text v rs)
 
 no-renewal : decimal 0 ≡ 48 ∷ []
 unfolding digits
@@ -120,25 +120,25 @@ no-renewal = refl
 
 whole : (n b psks first second last : List ℕ)
     → codes "vector 1\nprotocol " ++ n ++ codes "\n" ++ b ++ codes "prologue -\ninterval 0\n" ++ psks ++ first ++ second ++ last
-    ≡ line (codes "vector 1") (line (codes "protocol " ++ n)
-    (b ++ line (codes "prologue " ++ hex_of []) (line (codes "interval " ++ decimal 0) (psks ++ (first ++ (second ++ last))))))
+    ≡ line_then (codes "vector 1") (line_then (codes "protocol " ++ n)
+    (b ++ line_then (codes "prologue " ++ hex_of []) (line_then (codes "interval " ++ decimal 0) (psks ++ (first ++ (second ++ last))))))
 whole n b psks first second last = rw no-renewal (simp append_assoc)
 
-text-made : (p : Plan) (v : Vec ℕ Global) (few : length (says v (speakers p.messages)) < 2 ^ 63) → template_text p ≡ text_of (made p v few)
+text-made : (p : Plan) (v : Vec ℕ Global) (few : length (says v (speakers p.messages)) < 2 ^ 63) → template_text p ≡ file_text (made p v few)
 text-made p v few =
     let block : Option Plan = unless_known (fundamental_of p.base) p in
     let rest : List ℕ = lines_of say_words (speakers p.messages) [] in
-    let e1 : party_text Responder (Table (keys_in p Responder)) (lines_of event_words (says v (speakers p.messages)) []) ≡ keys_text p Responder ++ rest =
-    ap (party_text Responder (Table (keys_in p Responder))) (says-text v (speakers p.messages)) ∙ party-after Responder (keys_in p Responder) rest in
-    let e2 : party_text Initiator (Table (keys_in p Initiator)) (party_text Responder (Table (keys_in p Responder)) (lines_of event_words (says v (speakers p.messages)) []))
+    let e1 : party_text Responder (Table (template_keys p Responder)) (lines_of event_words (says v (speakers p.messages)) []) ≡ keys_text p Responder ++ rest =
+    ap (party_text Responder (Table (template_keys p Responder))) (says-text v (speakers p.messages)) ∙ party-after Responder (template_keys p Responder) rest in
+    let e2 : party_text Initiator (Table (template_keys p Initiator)) (party_text Responder (Table (template_keys p Responder)) (lines_of event_words (says v (speakers p.messages)) []))
     ≡ keys_text p Initiator ++ (keys_text p Responder ++ rest) =
-    ap (party_text Initiator (Table (keys_in p Initiator))) e1 ∙ party-after Initiator (keys_in p Initiator) (keys_text p Responder ++ rest) in
+    ap (party_text Initiator (Table (template_keys p Initiator))) e1 ∙ party-after Initiator (template_keys p Initiator) (keys_text p Responder ++ rest) in
     let e3 = ap (lines_of psk_words (map psk_key p.places)) e2 ∙ lines-after psk_words (map psk_key p.places) [] (keys_text p Initiator ++ (keys_text p Responder ++ rest)) in
-    let e4 = ap (λ (t : List ℕ). block_text block (line (codes "prologue " ++ hex_of []) (line (codes "interval " ++ decimal 0) t))) e3
-    ∙ block-after block (line (codes "prologue " ++ hex_of []) (line (codes "interval " ++ decimal 0)
+    let e4 = ap (λ (t : List ℕ). block_text block (line_then (codes "prologue " ++ hex_of []) (line_then (codes "interval " ++ decimal 0) t))) e3
+    ∙ block-after block (line_then (codes "prologue " ++ hex_of []) (line_then (codes "interval " ++ decimal 0)
     (psks_text p.places ++ (keys_text p Initiator ++ (keys_text p Responder ++ rest))))) in
     whole (name_bytes (name_of p)) (block_text block []) (psks_text p.places) (keys_text p Initiator) (keys_text p Responder) rest
-    ∙ sym (ap (λ (t : List ℕ). line (codes "vector 1") (line (codes "protocol " ++ name_bytes (name_of p)) t)) e4)
+    ∙ sym (ap (λ (t : List ℕ). line_then (codes "vector 1") (line_then (codes "protocol " ++ name_bytes (name_of p)) t)) e4)
 
 -- ---- it is a right one
 
@@ -160,7 +160,7 @@ dh_byte-small Se = omega arith
 dh_byte-small Ss = omega arith
 dh_byte-small Psk = omega arith
 
-key-in-right : (p : Plan) (role : Role) (own : Own) → IfSome (key_in p role own) IsKey
+key-in-right : (p : Plan) (role : Role) (own : Own) → IfSome (template_key p role own) IsKey
 key-in-right p role own = by (is_among role (token_of own) (places_of p)) where
   by : (b : Bool) → IfSome (if b then Some (placeholder (key_byte role own)) else None) IsKey
   by true = key-right (key_byte role own) (key_byte-small role own)
@@ -178,7 +178,7 @@ entries-right p role t = by (occurs_in t p.messages) where
   by true = (omega arith, All-cons IsEntry (entry role t) [] (entry-right role t) (All-nil IsEntry))
   by false = (omega arith, All-nil IsEntry)
 
-keys-right : (p : Plan) (role : Role) → AreKeys (Table (keys_in p role))
+keys-right : (p : Plan) (role : Role) → AreKeys (Table (template_keys p role))
 keys-right p role =
     let a = entries-right p role Ee in
     let b = entries-right p role Es in

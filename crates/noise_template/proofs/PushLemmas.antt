@@ -8,13 +8,13 @@ use Rattle.noise_names.specs.Fundamental.{fundamental_of}
 use Rattle.noise_names.specs.Names.{name_bytes}
 use Rattle.noise_names.specs.Plan.{Plan}
 use Rattle.noise_keys.specs.Table.{TableEntry}
-use Rattle.noise_vectors.specs.VectorText.{answer_words, block_text, line, lines_of}
+use Rattle.noise_vectors.specs.VectorText.{answer_words, block_text, line_then, lines_of}
 use Rattle.noise_template.specs.Template.{head_text, name_of, say_words, speakers, unless_known, writers}
 
 lines-join : {A : Type 0} (words : A → List ℕ) (xs ys : List A) → lines_of words (xs ++ ys) [] ≡ lines_of words xs [] ++ lines_of words ys []
 lines-join words [] ys = refl
 lines-join words (x ∷ xs) ys =
-    ap (line (words x)) (lines-join words xs ys) ∙ sym (append_assoc (words x) (10 ∷ lines_of words xs []) (lines_of words ys []))
+    ap (line_then (words x)) (lines-join words xs ys) ∙ sym (append_assoc (words x) (10 ∷ lines_of words xs []) (lines_of words ys []))
 
 abbrev answers : List TableEntry → List ℕ
 answers entries = lines_of answer_words entries []
@@ -43,16 +43,16 @@ head-pushed p old n1 n2 n3 n4 n5 a b e ea eb ee e1 e2 e3 e4 e5 =
 -- the line of a party's keys, and its answers
 pub party-pushed : (first : List ℕ) (es fs gs hs : List TableEntry) (old n1 n2 n3 n4 n5 : List ℕ) → n1 ≡ old ++ (first ++ 10 ∷ []) → n2 ≡ n1 ++ answers es
     → n3 ≡ n2 ++ answers fs → n4 ≡ n3 ++ answers gs → n5 ≡ n4 ++ answers hs
-    → n5 ≡ old ++ line first (lines_of answer_words (es ++ fs ++ gs ++ hs) [])
+    → n5 ≡ old ++ line_then first (lines_of answer_words (es ++ fs ++ gs ++ hs) [])
 party-pushed first es fs gs hs old n1 n2 n3 n4 n5 e1 e2 e3 e4 e5 =
     let join : answers (es ++ fs ++ gs ++ hs) ≡ answers es ++ answers fs ++ answers gs ++ answers hs =
     lines-join answer_words (es ++ fs ++ gs) hs
     ∙ ap (λ (t : List ℕ). t ++ answers hs) (lines-join answer_words (es ++ fs) gs ∙ ap (λ (t : List ℕ). t ++ answers gs) (lines-join answer_words es fs)) in
     five old n1 n2 n3 n4 n5 (first ++ 10 ∷ []) (answers es) (answers fs) (answers gs) (answers hs) e1 e2 e3 e4 e5
     ∙ five-line old first (answers es) (answers fs) (answers gs) (answers hs)
-    ∙ ap (λ (t : List ℕ). old ++ line first t) (sym join)
+    ∙ ap (λ (t : List ℕ). old ++ line_then first t) (sym join)
   where
-    five-line : (old first b c d e : List ℕ) → old ++ ((first ++ 10 ∷ []) ++ b ++ c ++ d ++ e) ≡ old ++ line first (b ++ c ++ d ++ e)
+    five-line : (old first b c d e : List ℕ) → old ++ ((first ++ 10 ∷ []) ++ b ++ c ++ d ++ e) ≡ old ++ line_then first (b ++ c ++ d ++ e)
     five-line old first b c d e = simp append_assoc
 
 -- what is said in a one-way pattern

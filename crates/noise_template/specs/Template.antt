@@ -21,7 +21,7 @@ use Rattle.noise_events.specs.Events.{Say, events_of}
 use Rattle.noise_vectors.specs.HexWord.{hex_of}
 use Rattle.noise_vectors.specs.SameFile.{cuts_of}
 use Rattle.noise_vectors.specs.VectorFile.{IsVectorFile}
-use Rattle.noise_vectors.specs.VectorText.{block_text, key_words, lengths_word, lines_of, party_text, psk_words, role_word, text_of}
+use Rattle.noise_vectors.specs.VectorText.{block_text, key_words, lengths_word, lines_of, party_text, psk_words, role_word, file_text}
 use Rattle.noise_vectors.specs.declared.file_keys.FileKeys.TheVariants.{Table}
 use Rattle.noise_vectors.specs.declared.vector.VectorFile.{VectorFile}
 use Rattle.noise_vectors.specs.declared.vector.Version.TheVariants.{One}
@@ -58,8 +58,9 @@ psk_key place = placeholder (160 + place)
 -- ---- what a pattern needs
 
 -- a party's public key, where the pattern has a token that sends it, pre-messages counted
-abbrev pub key_in : Plan → Role → Own → Option (List ℕ)
-key_in p role own = if is_among role (token_of own) (places_of p) then Some (placeholder (key_byte role own)) else None
+abbrev pub template_key : Plan → Role → Own → Option (List ℕ)
+template_key p role own =
+    if is_among role (token_of own) (places_of p) then Some (placeholder (key_byte role own)) else None
 
 -- whether a message has the token
 abbrev pub occurs_in : Token → List (List Token) → Bool
@@ -78,10 +79,10 @@ abbrev pub entries_for : Plan → Role → Token → List table.TableEntry
 entries_for p role t = if occurs_in t p.messages then entry role t ∷ [] else []
 
 -- a party's public keys, and an answer for each DH token of the messages
-abbrev pub keys_in : Plan → Role → table.Table
-keys_in p role = record {
-  e = key_in p role Ephemeral;
-  s = key_in p role Static;
+abbrev pub template_keys : Plan → Role → table.Table
+template_keys p role = record {
+  e = template_key p role Ephemeral;
+  s = template_key p role Static;
   entries = entries_for p role Ee ++ entries_for p role Es ++ entries_for p role Se ++ entries_for p role Ss;
 }
 
@@ -111,8 +112,8 @@ pub record IsTemplate (p : Plan) (file : VectorFile) : Type 0 where
   pub prologue : file.prologue.items ≡ []
   pub interval : file.interval ≡ 0
   pub psks : file.psks.items ≡ map psk_key p.places
-  pub initiator : file.initiator ≡ Table (keys_in p Initiator)
-  pub responder : file.responder ≡ Table (keys_in p Responder)
+  pub initiator : file.initiator ≡ Table (template_keys p Initiator)
+  pub responder : file.responder ≡ Table (template_keys p Responder)
   pub events : events_of file.events.items ≡ map (λ role. Say role []) (speakers p.messages)
   pub cuts : map cuts_of file.events.items ≡ map (λ role. []) (speakers p.messages)
   pub version : file.version ≡ One
@@ -123,7 +124,7 @@ pub record IsTemplateText (p : Plan) (text : List ℕ) : Type 0 where
   pub file : VectorFile
   pub right : IsVectorFile file
   pub is : IsTemplate p file
-  pub spelled : text ≡ text_of file
+  pub spelled : text ≡ file_text file
 
 -- ---- its text
 
@@ -141,12 +142,13 @@ abbrev pub say_words : Role → List ℕ
 say_words role = codes "say " ++ (role_word role ++ 32 ∷ (hex_of [] ++ 32 ∷ lengths_word []))
 
 abbrev pub keys_text : Plan → Role → List ℕ
-keys_text p role = party_text role (Table (keys_in p role)) []
+keys_text p role = party_text role (Table (template_keys p role)) []
 
 -- the line of a party's keys
 abbrev pub keys_line : Plan → Role → List ℕ
 keys_line p role =
-    role_word role ++ (codes " table " ++ key_words (key_in p role Ephemeral) (key_in p role Static)) ++ 10 ∷ []
+    role_word role
+    ++ (codes " table " ++ key_words (template_key p role Ephemeral) (template_key p role Static)) ++ 10 ∷ []
 
 abbrev pub template_text : Plan → List ℕ
 template_text p = head_text p ++ psks_text p.places ++ keys_text p Initiator ++ keys_text p Responder

@@ -4,7 +4,7 @@ ghost use Rattle.std.specs.Prelude.{◌≡◌, ◌≤◌, ◌++◌, ◌∷◌, [
 ghost use Rattle.std.specs.List.{list_all};
 ghost use Rattle.hex.specs.Hex.{encode_lower};
 ghost use Rattle.noise_vectors.specs.VectorText.{answer_words, key_word, lines_of, own_word, psk_words};
-ghost use Rattle.noise_template.specs.Template.{dh_byte, entries_for, entry, key_byte, key_in, keys_line, keys_text, placeholder, psk_key, psks_text};
+ghost use Rattle.noise_template.specs.Template.{dh_byte, entries_for, entry, key_byte, template_key, keys_line, keys_text, placeholder, psk_key, psks_text};
 
 use crate::needs::mixes;
 use noise_handshake::own_keys::{sends, token_of};
@@ -68,7 +68,7 @@ fn push_keys(pattern: &Pattern, role: Role, text: &mut Vec<u8>) -> Result<(), Al
 
 // Appends a party's key, or a hyphen where it needs none.
 fn push_own(pattern: &Pattern, role: Role, own: Own, text: &mut Vec<u8>) -> Result<(), AllocError>
-    ensures { OnOk result (text.new.items ≡ text.old.items ++ key_word (key_in pattern.now role own)) }
+    ensures { OnOk result (text.new.items ≡ text.old.items ++ key_word (template_key pattern.now role own)) }
 {
     if sends(pattern, role, token_of(own)) {
         return push_key(key_byte(role, own), text);

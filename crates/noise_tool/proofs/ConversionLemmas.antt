@@ -4,11 +4,11 @@ use Rattle.std.specs.Global.{Global}
 use Rattle.std.specs.List.{All}
 use Rattle.noise_names.specs.Lists.{bytes_of}
 use Rattle.noise_vectors.specs.VectorFile.{IsExpected, IsVectorFile}
-use Rattle.noise_vectors.specs.VectorText.{expect_line, expect_words, line, lines_of, text_body, text_of}
+use Rattle.noise_vectors.specs.VectorText.{expect_line, expect_words, line_then, lines_of, text_body, file_text}
 use Rattle.noise_vectors.specs.declared.vector.VectorFile.{VectorFile}
 use Rattle.noise_vectors.specs.declared.vector.Version.{Version}
 use Rattle.noise_vectors.specs.declared.vector.Version.TheVariants.{One, Two}
-use Rattle.noise_vectors.specs.SameFile.{SaySame, VectorTextsAreUnique, datagrams_of, expected_of, held_datagrams}
+use Rattle.noise_vectors.specs.SameFile.{SaySame, VectorTextsAreUnique, version_datagrams, expected_of, held_datagrams}
 use Rattle.noise_tool.specs.Conversion.{ConversionsMeetThemselves}
 use Rattle.noise_tool.specs.OneRun.{OneRun, RunAlike}
 use Rattle.noise_tool.specs.Running.{IsRunOf, datagrams_of_version, expected_in}
@@ -35,10 +35,10 @@ converted-right file lines right printed = record {
 
 expect-lines : (lines : List (Vec ℕ Global)) → lines_of expect_words lines [] ≡ lines_of expect_line (bytes_of lines) []
 expect-lines [] = refl
-expect-lines (l ∷ ls) = ap (λ (rest : List ℕ). line (expect_line l.items) rest) (expect-lines ls)
+expect-lines (l ∷ ls) = ap (λ (rest : List ℕ). line_then (expect_line l.items) rest) (expect-lines ls)
 
-converted-text : (file : VectorFile) (lines : Vec (Vec ℕ Global) Global) → text_of (converted file lines) ≡ converted_text file (bytes_of lines.items)
-converted-text file lines = ap (λ (rest : List ℕ). line (codes "vector 2") (text_body file rest)) (expect-lines lines.items)
+converted-text : (file : VectorFile) (lines : Vec (Vec ℕ Global) Global) → file_text (converted file lines) ≡ converted_text file (bytes_of lines.items)
+converted-text file lines = ap (λ (rest : List ℕ). line_then (codes "vector 2") (text_body file rest)) (expect-lines lines.items)
 
 -- ---- the two ways to name what a version has
 
@@ -46,7 +46,7 @@ expected-same : (v : Version) → expected_of v ≡ expected_in v
 expected-same One = refl
 expected-same (Two additions) = refl
 
-datagrams-same : (v : Version) → datagrams_of v ≡ held_datagrams (datagrams_of_version v)
+datagrams-same : (v : Version) → version_datagrams v ≡ held_datagrams (datagrams_of_version v)
 datagrams-same One = refl
 datagrams-same (Two additions) = refl
 
@@ -66,7 +66,7 @@ run-alike file other lines one same = record {
 }
 
 says-same : VectorTextsAreUnique → (file other : VectorFile) (lines : Vec (Vec ℕ Global) Global) → IsVectorFile file
-    → All (λ words. IsExpected words.items) lines.items → IsVectorFile other → converted_text file (bytes_of lines.items) ≡ text_of other
+    → All (λ words. IsExpected words.items) lines.items → IsVectorFile other → converted_text file (bytes_of lines.items) ≡ file_text other
     → SaySame (converted file lines) other
 says-same unique file other lines right printed also e =
     unique (converted file lines) other (converted-right file lines right printed) also (converted-text file lines ∙ e)

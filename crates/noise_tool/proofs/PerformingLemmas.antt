@@ -27,7 +27,7 @@ use Rattle.noise_vectors.specs.VectorFile.{IsAllowedFile, IsReadFault, IsVectorF
 use Rattle.noise_vectors.specs.WrongLine.{IsReported}
 use Rattle.noise_vectors.specs.declared.faults.VectorFault.{VectorFault}
 use Rattle.noise_vectors.specs.declared.faults.VectorFault.TheVariants as vector
-use Rattle.noise_vectors.specs.VectorText.{text_of}
+use Rattle.noise_vectors.specs.VectorText.{file_text}
 use Rattle.noise_vectors.specs.declared.vector.AllowedEvents.{AllowedEvents}
 use Rattle.noise_vectors.specs.declared.vector.AllowedEvents.TheVariants.{VersionOne}
 use Rattle.noise_vectors.specs.declared.vector.VectorFile.{VectorFile}
@@ -48,13 +48,13 @@ stopped-known P known text why h (inr p) = inr (at-known P known text h p)
 -- ---- a text that isn't read
 
 no-file : (allowed : AllowedEvents) (text : List ℕ) (why : VectorFault)
-    → ((file : VectorFile) → IsVectorFile file → IsAllowedFile allowed file → text ≡ text_of file → why ≡ vector.Memory) → IsReadFault allowed text why
+    → ((file : VectorFile) → IsVectorFile file → IsAllowedFile allowed file → text ≡ file_text file → why ≡ vector.Memory) → IsReadFault allowed text why
 no-file allowed text (vector.Line n kind) every = λ file right allow e. let bad = every file right allow e in absurd (cc (bad))
 no-file allowed text vector.Memory every = tt
 
 -- the fault of its reader is one of a run
 pub unread : (allowed : AllowedEvents) (known : Option (List ℕ)) (text items : List ℕ) (why : VectorFault) → IfSome known (λ bytes. items ≡ bytes)
-    → text ≡ items → ((file : VectorFile) → IsVectorFile file → IsAllowedFile allowed file → text ≡ text_of file → why ≡ vector.Memory)
+    → text ≡ items → ((file : VectorFile) → IsVectorFile file → IsAllowedFile allowed file → text ≡ file_text file → why ≡ vector.Memory)
     → IsReported allowed text why → IfSome known (λ bytes. IsRunFault allowed bytes (of_vector why))
 unread allowed known text items why h e every reported =
     at-known (λ (bytes : List ℕ). IsRunFault allowed bytes (of_vector why)) known items h
@@ -123,7 +123,7 @@ module _ {allowed : AllowedEvents} {known : Option (List ℕ)} {text : List ℕ}
 -- ---- of a converted file
 
 pub converts-of : (text : List ℕ) (file : VectorFile) (outcome : Outcome) (lines : List (Vec ℕ Global)) (result : Result (Vec ℕ Global) Fault)
-    → IsVectorFile file → file.version ≡ One → text ≡ text_of file → lines ≡ outcome.lines.items → IsRunOf file (bytes_of outcome.lines.items)
+    → IsVectorFile file → file.version ≡ One → text ≡ file_text file → lines ≡ outcome.lines.items → IsRunOf file (bytes_of outcome.lines.items)
     → MeetsItself file (bytes_of outcome.lines.items) → IfOk result (λ converted. converted.items ≡ converted_text file (bytes_of lines))
     → IfOk result (λ converted. length converted.items ≤ 4194304) → IfOk result (λ converted. Converts text converted.items)
 converts-of text file outcome lines (Ok converted) right one spelled same run meets is short = record {
@@ -141,8 +141,8 @@ converts-of text file outcome lines (Err why) right one spelled same run meets i
 
 -- why there is none
 pub no-converted : (text : List ℕ) (file : VectorFile) (outcome : Outcome) (lines : List (Vec ℕ Global)) (result : Result (Vec ℕ Global) Fault)
-    → IsVectorFile file → file.version ≡ One → text ≡ text_of file → lines ≡ outcome.lines.items → IsRunOf file (bytes_of outcome.lines.items)
-    → IfErr result (λ why. (why ≡ fault.Memory) ⊎ ((why ≡ fault.TooLong) × ((other : VectorFile) → other.version ≡ One → text ≡ text_of other
+    → IsVectorFile file → file.version ≡ One → text ≡ file_text file → lines ≡ outcome.lines.items → IsRunOf file (bytes_of outcome.lines.items)
+    → IfErr result (λ why. (why ≡ fault.Memory) ⊎ ((why ≡ fault.TooLong) × ((other : VectorFile) → other.version ≡ One → text ≡ file_text other
     → 4194304 < length (converted_text other (bytes_of lines)))))
     → IfErr result (λ why. (status_of why ≡ 3) ⊎ IsRunFault VersionOne text why ⊎ IsTooLongConverted text why)
 no-converted text file outcome lines (Ok converted) right one spelled same run h = tt

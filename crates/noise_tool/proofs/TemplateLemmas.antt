@@ -216,13 +216,13 @@ none-unexpected true true key = refl
 none-unexpected true false key = refl
 none-unexpected false b key = refl
 
-keys-are : (p : Plan) (file : VectorFile) → IsTemplate p file → (role : Role) → keys_of_role file role ≡ Table (template.keys_in p role)
+keys-are : (p : Plan) (file : VectorFile) → IsTemplate p file → (role : Role) → keys_of_role file role ≡ Table (template.template_keys p role)
 keys-are p file t Initiator = t.initiator
 keys-are p file t Responder = t.responder
 
 whole-setup : (p : Plan) → BeforeMatches p → (role : Role) (n : ℕ) → n ≡ psks_of p.messages
-    → setup_fault p role (public_of (Table (template.keys_in p role)))
-    (shown_before p (other role) (public_of (Table (template.keys_in p (other role))))) n ≡ None
+    → setup_fault p role (public_of (Table (template.template_keys p role)))
+    (shown_before p (other role) (public_of (Table (template.template_keys p (other role))))) n ≡ None
 whole-setup p matches role n count =
     let e = own-there (is_among role E (places_of p)) (placeholder (key_byte role Ephemeral)) in
     let s = own-there (is_among role S (places_of p)) (placeholder (key_byte role Static)) in

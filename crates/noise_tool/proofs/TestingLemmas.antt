@@ -21,7 +21,7 @@ use Rattle.noise_lines.specs.declared.faults.Fault.{Fault}
 use Rattle.noise_lines.specs.declared.faults.Fault.TheVariants as fault
 use Rattle.noise_names.specs.Lists.{bytes_of}
 use Rattle.noise_vectors.specs.VectorFile.{IsVectorFile}
-use Rattle.noise_vectors.specs.VectorText.{text_of}
+use Rattle.noise_vectors.specs.VectorText.{file_text}
 use Rattle.noise_vectors.specs.declared.vector.AllowedEvents.TheVariants.{Any}
 use Rattle.noise_vectors.specs.declared.vector.VectorFile.{VectorFile}
 use Rattle.noise_lines.specs.Verdicts.{IsJudged, is_met, verdict_text}
@@ -42,7 +42,7 @@ use Rattle.noise_lines.specs.declared.verdict.Verdict.TheVariants.{Differs, Cann
 -- ---- the verdict on a file
 
 -- what came of the run of a text, with a trace
-pub runs-traced : (traces : Bool) (text : List ℕ) (file : VectorFile) (result : Result Traced Fault) → IsVectorFile file → text ≡ text_of file
+pub runs-traced : (traces : Bool) (text : List ℕ) (file : VectorFile) (result : Result Traced Fault) → IsVectorFile file → text ≡ file_text file
     → IfOk result (λ t. HasTraces all_lines file (bytes_of t.outcome.lines.items) (bytes_of t.start.items) (traces_of t.traces.items))
     → IfOk result (λ t. bytes_of t.outcome.expected.items ≡ expected_in file.version) → length text ≤ 4194304 → IfOk result (RunsTo traces text)
 runs-traced traces text file (Ok t) right spelled shown expected short = record {
@@ -58,7 +58,7 @@ runs-traced traces text file (Err why) right spelled shown expected short = tt
 
 -- and without one
 pub runs-untraced : (traces : Bool) (text : List ℕ) (file : VectorFile) (result : Result Traced Fault) → traces ≡ false → IsVectorFile file
-    → text ≡ text_of file → IfOk result (λ t. IsRunOf file (bytes_of t.outcome.lines.items))
+    → text ≡ file_text file → IfOk result (λ t. IsRunOf file (bytes_of t.outcome.lines.items))
     → IfOk result (λ t. bytes_of t.outcome.expected.items ≡ expected_in file.version) → length text ≤ 4194304 → IfOk result (RunsTo traces text)
 runs-untraced traces text file (Ok t) none right spelled run expected short = record {
   file = file;
@@ -72,7 +72,7 @@ runs-untraced traces text file (Ok t) none right spelled run expected short = re
 runs-untraced traces text file (Err why) none right spelled run expected short = tt
 
 -- why a text isn't run
-pub start-fault : {T : Type 0} (text : List ℕ) (file : VectorFile) (result : Result T Fault) → IsVectorFile file → text ≡ text_of file
+pub start-fault : {T : Type 0} (text : List ℕ) (file : VectorFile) (result : Result T Fault) → IsVectorFile file → text ≡ file_text file
     → IfErr result (λ why. IsStartFault file why) → IfErr result (λ why. (status_of why ≡ 3) ⊎ IsRunFault Any text why)
 start-fault text file (Ok t) right spelled is = tt
 start-fault text file (Err why) right spelled is = inr (inr (inr (file, right, spelled, is)))

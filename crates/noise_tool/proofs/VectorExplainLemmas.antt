@@ -5,12 +5,12 @@ use Rattle.noise_explain_vectors.specs.VectorExplained.{is_vector_text}
 use Rattle.noise_explain.specs.declared.explanation.Explained.{Explained}
 use Rattle.noise_lines.specs.declared.faults.Fault.{Fault}
 use Rattle.noise_vectors.specs.VectorFile.{IsVectorFile}
-use Rattle.noise_vectors.specs.VectorText.{text_of}
+use Rattle.noise_vectors.specs.VectorText.{file_text}
 use Rattle.noise_vectors.specs.declared.vector.VectorFile.{VectorFile}
 use Rattle.noise_tool.specs.Explaining.{IsExplainedFile, IsExplainedRun, IsExplainedText, IsExplainedVector}
 
 -- a right file is reported
-pub file-said : (name text : List ℕ) (file : VectorFile) (r : Result Explained Fault) → IsVectorFile file → text ≡ text_of file
+pub file-said : (name text : List ℕ) (file : VectorFile) (r : Result Explained Fault) → IsVectorFile file → text ≡ file_text file
     → IfOk r (IsExplainedRun name file) → IfOk r (IsExplainedVector name text)
 file-said name text file (Ok e) right is said = inl (record { file = file; right = right; text_is = is; said = said })
 file-said name text file (Err why) right is said = tt

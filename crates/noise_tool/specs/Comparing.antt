@@ -2,8 +2,8 @@
 use Rattle.std.specs.Prelude.{⊤, ◌≡◌, ◌<◌, ◌≤◌, ℕ, true, List, [], ◌++◌, Option, Some, IfSome, codes, decimal, flat_map, length, map, string_bytes}
 use Rattle.std.specs.Io.KnownBytes.{Appends}
 use Rattle.noise_compare.specs.Findings.{IsReport}
-use Rattle.noise_compare.specs.Lines.{words_in, words_of}
-use Rattle.noise_compare.specs.Reading.{first_wrong, lines_of, views}
+use Rattle.noise_compare.specs.Lines.{words_in, line_words}
+use Rattle.noise_compare.specs.Reading.{first_wrong, schedule_lines, views}
 use Rattle.noise_compare.specs.declared.comparison.Finding.{Finding}
 use Rattle.noise_compare.specs.declared.comparison.Finding.TheVariants.{Agrees, Ends, Differs}
 use Rattle.noise_compare.specs.declared.line.Line.{Line}
@@ -13,7 +13,7 @@ use Rattle.noise_lines.specs.Reported.{fault_line}
 use Rattle.noise_lines.specs.Verdicts.{named_fault}
 use Rattle.noise_lines.specs.declared.faults.Fault.TheVariants.{TooLong}
 use Rattle.noise_vectors.specs.VectorFile.{IsVectorFile}
-use Rattle.noise_vectors.specs.VectorText.{text_of}
+use Rattle.noise_vectors.specs.VectorText.{file_text}
 use Rattle.noise_vectors.specs.declared.vector.AllowedEvents.TheVariants.{Any}
 use Rattle.noise_vectors.specs.declared.vector.VectorFile.{VectorFile}
 use Rattle.noise_words.specs.declared.orders.Compared.{Compared}
@@ -36,12 +36,12 @@ schedule_of start traces = start ++ flat_map (λ trace. trace) traces
 pub record IsScheduleOf (text : List ℕ) (right : List Line) : Type 0 where
   pub file : VectorFile
   pub is_right : IsVectorFile file
-  pub text_is : text ≡ text_of file
+  pub text_is : text ≡ file_text file
   pub lines : List (List ℕ)
   pub start : List (List ℕ)
   pub traces : List (List (List ℕ))
   pub shown : HasTraces all_lines file lines start traces
-  pub words_are : map words_in right ≡ map words_of (schedule_of start traces)
+  pub words_are : map words_in right ≡ map line_words (schedule_of start traces)
 
 abbrev pub finding_status : Finding → ℕ
 finding_status Agrees = 0
@@ -51,7 +51,7 @@ finding_status Differs = 1
 -- this is the report on the log of this text, by the key schedule of the file of this text
 pub record Compares (log file : List ℕ) (report : LogReport) : Type 0 where
   pub logged : List Line
-  pub logged_are : views logged ≡ lines_of log
+  pub logged_are : views logged ≡ schedule_lines log
   pub right : List Line
   pub right_are : IsScheduleOf file right
   pub reported : IsReport right logged report.finding report.text.items
@@ -93,7 +93,7 @@ NamesInputTwice names = (is_input (string_bytes names.log) ≡ true) × (is_inpu
 
 -- why it isn't, by its text
 abbrev pub IsWrongLog : List ℕ → Uncompared → Type 0
-IsWrongLog log NoLine = lines_of log ≡ []
+IsWrongLog log NoLine = schedule_lines log ≡ []
 IsWrongLog log (WrongLine number) = first_wrong log ≡ Some number
 IsWrongLog log LongLog = 4194304 < length log
 IsWrongLog log _ = ⊥

@@ -3,7 +3,7 @@ use Rattle.std.specs.Prelude.{◌≡◌, ◌↔◌, ℕ, List, Vec}
 use Rattle.std.specs.Global.{Global}
 use Rattle.noise_names.specs.Lists.{bytes_of}
 use Rattle.noise_vectors.specs.VectorFile.{IsVectorFile}
-use Rattle.noise_vectors.specs.VectorText.{text_of}
+use Rattle.noise_vectors.specs.VectorText.{file_text}
 use Rattle.noise_vectors.specs.declared.vector.VectorFile.{VectorFile}
 use Rattle.noise_vectors.specs.declared.vector.Version.TheVariants.{One}
 use Rattle.noise_lines.specs.PrintedWords.{AreExpected}
@@ -13,10 +13,10 @@ use Rattle.noise_lines.specs.Converted.{converted_text}
 -- The conversion of a file of version 1 with these lines is the text of a right file. Every right file of that text
 -- expects these lines, and they are the lines of its run.
 pub record MeetsItself (file : VectorFile) (lines : List (List ℕ)) : Type 0 where
-  pub readable : (converted : VectorFile) × IsVectorFile converted × (converted_text file lines ≡ text_of converted)
-  pub expects : (converted : VectorFile) → IsVectorFile converted → converted_text file lines ≡ text_of converted
+  pub readable : (converted : VectorFile) × IsVectorFile converted × (converted_text file lines ≡ file_text converted)
+  pub expects : (converted : VectorFile) → IsVectorFile converted → converted_text file lines ≡ file_text converted
       → expected_in converted.version ≡ lines
-  pub runs : (converted : VectorFile) → IsVectorFile converted → converted_text file lines ≡ text_of converted
+  pub runs : (converted : VectorFile) → IsVectorFile converted → converted_text file lines ≡ file_text converted
       → (others : List (List ℕ)) → IsRunOf converted others ↔ (others ≡ lines)
 
 -- so does every conversion of a right file with the lines of its run, where each of these may be expected

@@ -5,7 +5,7 @@ use Rattle.std.specs.Io.KnownBytes.{Appends}
 use Rattle.noise_explain.specs.Explained.{IsExplained, SaysLong}
 use Rattle.noise_explain.specs.Shown.{unread_head}
 use Rattle.noise_explain.specs.declared.explanation.Explained.{Explained}
-use Rattle.noise_explain_vectors.specs.VectorExplained.{ReportsFault, ReportsLine, ReportsVector, is_vector_text}
+use Rattle.noise_explain_vectors.specs.VectorExplained.{ReportsFault, ExplainsLine, ReportsVector, is_vector_text}
 use Rattle.noise_lines.specs.Prefixes.{AppendsPrefix}
 use Rattle.noise_lines.specs.Reported.{error_text}
 use Rattle.noise_lines.specs.declared.faults.Fault.{Fault}
@@ -15,7 +15,7 @@ use Rattle.noise_tool.specs.Performing.{IsUnread}
 use Rattle.noise_tool.specs.Running.{IsRunOf}
 use Rattle.noise_tool.specs.Testing.{EndsTest}
 use Rattle.noise_vectors.specs.VectorFile.{IsVectorFile}
-use Rattle.noise_vectors.specs.VectorText.{text_of}
+use Rattle.noise_vectors.specs.VectorText.{file_text}
 use Rattle.noise_vectors.specs.declared.faults.LineKind.{LineKind}
 use Rattle.noise_vectors.specs.declared.vector.AllowedEvents.TheVariants.{Any}
 use Rattle.noise_vectors.specs.declared.vector.VectorFile.{VectorFile}
@@ -38,7 +38,7 @@ IsExplainedRun name file e = SaysRun name file e ⊎ SaysNoEnds name file e
 pub record SaysFile (name text : List ℕ) (e : Explained) : Type 0 where
   pub file : VectorFile
   pub right : IsVectorFile file
-  pub text_is : text ≡ text_of file
+  pub text_is : text ≡ file_text file
   pub said : IsExplainedRun name file e
 
 -- the text is that of no vector file, and the line that `replay` reports is reported with its place
@@ -46,7 +46,7 @@ pub record SaysWrongLine (name text : List ℕ) (e : Explained) : Type 0 where
   pub number : ℕ
   pub kind : LineKind
   pub wrong : IsUnread Any text (Line number kind)
-  pub reports : ReportsLine name text number kind e
+  pub reports : ExplainsLine name text number kind e
 
 abbrev pub IsExplainedVector : List ℕ → List ℕ → Explained → Type 0
 IsExplainedVector name text e = SaysFile name text e ⊎ SaysWrongLine name text e

@@ -21,7 +21,7 @@ use Rattle.noise_names.specs.Lists.{bytes_of}
 use Rattle.noise_vectors.specs.Expectations.{IsFirstUnmet}
 use Rattle.noise_vectors.specs.VectorFile.{IsAllowedFile, IsReadFault, IsVectorFile}
 use Rattle.noise_vectors.specs.WrongLine.{IsReported}
-use Rattle.noise_vectors.specs.VectorText.{text_of}
+use Rattle.noise_vectors.specs.VectorText.{file_text}
 use Rattle.noise_lines.specs.declared.faults.Fault.{Fault}
 use Rattle.noise_lines.specs.declared.faults.Fault.TheVariants.{TooLong, Unmet}
 use Rattle.noise_tool.specs.declared.running.Outcome.{Outcome}
@@ -50,7 +50,7 @@ pub record HasPrinted (Prints : Printing) (ComeTo : VectorFile → List (List �
     (before after : Option (List ℕ)) : Type 0 where
   pub file : VectorFile
   pub right : IsVectorFile file
-  pub text_is : text ≡ text_of file
+  pub text_is : text ≡ file_text file
   pub lines : List (List ℕ)
   pub printed : List (List ℕ)
   pub run : Prints file lines printed
@@ -78,7 +78,7 @@ pub record Converts (text converted : List ℕ) : Type 0 where
   pub file : VectorFile
   pub right : IsVectorFile file
   pub first : file.version ≡ One
-  pub text_is : text ≡ text_of file
+  pub text_is : text ≡ file_text file
   pub lines : List (List ℕ)
   pub run : IsRunOf file lines
   pub meets : MeetsItself file lines
@@ -118,7 +118,7 @@ pub record IsReadVector (allowed : AllowedEvents) (known : Option (List ℕ)) (t
   pub short : length text ≤ 4194304
   pub right : IsVectorFile file
   pub is_allowed : IsAllowedFile allowed file
-  pub text_is : text ≡ text_of file
+  pub text_is : text ≡ file_text file
 
 -- so it is, but where the fault has status 2 or 3
 abbrev pub UnlessTwo : {A : Type 0} → Type 0 → Result A Fault → Type 0
@@ -136,7 +136,7 @@ IsTooLong text fault = (fault ≡ TooLong) × (4194304 < length text)
 
 -- a right vector file has this text, and its pattern or a setup has this fault
 abbrev pub HasNoEnds : List ℕ → Fault → Type 0
-HasNoEnds text fault = (file : VectorFile) × IsVectorFile file × (text ≡ text_of file) × IsStartFault file fault
+HasNoEnds text fault = (file : VectorFile) × IsVectorFile file × (text ≡ file_text file) × IsStartFault file fault
 
 -- why this text isn't read, and which of its lines is reported
 abbrev pub IsUnread : AllowedEvents → List ℕ → Fault → Type 0
@@ -165,7 +165,7 @@ IsNotMet Prints allowed file before after fault =
 -- the converted text of a right vector file of version 1 has too many bytes
 abbrev pub IsTooLongConverted : List ℕ → Fault → Type 0
 IsTooLongConverted text fault =
-    (fault ≡ TooLong) × (file : VectorFile) × IsVectorFile file × (file.version ≡ One) × (text ≡ text_of file)
+    (fault ≡ TooLong) × (file : VectorFile) × IsVectorFile file × (file.version ≡ One) × (text ≡ file_text file)
     × (lines : List (List ℕ)) × IsRunOf file lines × (4194304 < length (converted_text file lines))
 
 -- why a command ends before its work is done, where the fault is in what it was given; the file's bytes and the

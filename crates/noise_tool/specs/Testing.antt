@@ -14,7 +14,7 @@ use Rattle.noise_lines.specs.declared.faults.Fault.{Fault}
 use Rattle.noise_lines.specs.declared.faults.Fault.TheVariants.{Memory, Unreadable, Unwritable}
 use Rattle.noise_names.specs.Lists.{bytes_of}
 use Rattle.noise_vectors.specs.VectorFile.{IsVectorFile}
-use Rattle.noise_vectors.specs.VectorText.{text_of}
+use Rattle.noise_vectors.specs.VectorText.{file_text}
 use Rattle.noise_vectors.specs.declared.vector.AllowedEvents.TheVariants.{Any}
 use Rattle.noise_vectors.specs.declared.vector.VectorFile.{VectorFile}
 use Rattle.noise_lines.specs.TracedLines.{traces_of}
@@ -56,7 +56,7 @@ tested_names names = tested_names_after false names
 -- a right vector file has this text, and this is its pattern
 abbrev pub IsPatternOfText : List ℕ → Plan → Type 0
 IsPatternOfText text plan =
-    (file : VectorFile) × IsVectorFile file × (text ≡ text_of file) × IsFilePattern file.block file.protocol plan
+    (file : VectorFile) × IsVectorFile file × (text ≡ file_text file) × IsFilePattern file.block file.protocol plan
 
 -- of two lines that differ: where both are of the frame of one handshake message, a line of the first byte at which the
 -- frames differ, and of the piece of the message that stands there
@@ -101,7 +101,7 @@ IsBelowVerdict traces text file lines verdict below = ⊤
 pub record IsOfRun (traces : Bool) (text : List ℕ) (verdict : Verdict) (below : List (List ℕ)) : Type 0 where
   pub file : VectorFile
   pub right : IsVectorFile file
-  pub text_is : text ≡ text_of file
+  pub text_is : text ≡ file_text file
   pub short : length text ≤ 4194304
   pub lines : List (List ℕ)
   pub run : IsRunOf file lines
@@ -112,7 +112,7 @@ pub record IsOfRun (traces : Bool) (text : List ℕ) (verdict : Verdict) (below 
 pub record RunsTo (traces : Bool) (text : List ℕ) (traced : Traced) : Type 0 where
   pub file : VectorFile
   pub right : IsVectorFile file
-  pub text_is : text ≡ text_of file
+  pub text_is : text ≡ file_text file
   pub short : length text ≤ 4194304
   pub run : IsRunOf file (bytes_of traced.outcome.lines.items)
   pub expected : bytes_of traced.outcome.expected.items ≡ expected_in file.version

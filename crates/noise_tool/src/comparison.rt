@@ -2,7 +2,7 @@
 
 ghost use Rattle.std.specs.Prelude.{◌≡◌, ◌⊎◌, ◌++◌, ◌≤◌, ℕ, List, true, IfErr, IfOk, IfSome, MatchResult, OnOk, map, string_bytes};
 ghost use Rattle.std.specs.Io.KnownBytes.{Appends};
-ghost use Rattle.noise_compare.specs.Lines.{words_in, words_of};
+ghost use Rattle.noise_compare.specs.Lines.{words_in, line_words};
 ghost use Rattle.noise_lines.specs.Faults.{status_of};
 ghost use Rattle.noise_lines.specs.Prefixes.{AppendsPrefix};
 ghost use Rattle.noise_lines.specs.Reported.{error_text};
@@ -158,7 +158,7 @@ fn compare_traced(alloc: Global, log: &[u8], traced: &Traced) -> Result<Comparis
 // The lines of the key schedule of a run.
 fn schedule(alloc: Global, traced: &Traced) -> Result<Vec<Line<'_>>, AllocError>
     ensures { IfOk result (λ lines. map words_in lines.items
-        ≡ map words_of (schedule_of (bytes_of traced.now.start.items) (traces_of traced.now.traces.items))) }
+        ≡ map line_words (schedule_of (bytes_of traced.now.start.items) (traces_of traced.now.traces.items))) }
 {
     let mut lines = Vec::new(alloc);
     push_schedule(alloc, &traced.start, &mut lines)?;

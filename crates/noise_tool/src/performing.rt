@@ -5,7 +5,7 @@ ghost use Rattle.noise_lines.specs.Faults.{status_of};
 ghost use Rattle.std.specs.Io.KnownBytes.{Appends};
 ghost use Rattle.noise_names.specs.Lists.{bytes_of};
 ghost use Rattle.noise_vectors.specs.VectorFile.{IsVectorFile};
-ghost use Rattle.noise_vectors.specs.VectorText.{text_of};
+ghost use Rattle.noise_vectors.specs.VectorText.{file_text};
 ghost use Rattle.noise_vectors.specs.declared.vector.AllowedEvents.TheVariants.{VersionOne};
 ghost use Rattle.noise_vectors.specs.declared.vector.Version.TheVariants.{One};
 ghost use Rattle.noise_tool.specs.Performing.{Converts, HasConverted, IsDone, IsFault, IsNotMet, IsOfLines, IsPlain, IsReadVector, IsRunFault, IsStopped, IsTooLongConverted, IsUnlike};
@@ -265,7 +265,7 @@ fn convert_file<R: Read, O: Write>(alloc: Global, file: &mut R, out: &mut O) -> 
 fn convert_vector(alloc: Global, text: &[u8], file: VectorFile) -> Result<Vec<u8>, Fault>
     requires right { IsVectorFile file }
     requires first { file.version ≡ One }
-    requires text { text.now ≡ text_of file }
+    requires text { text.now ≡ file_text file }
     ensures converted { IfOk result (λ converted. Converts text.now converted.items) }
     ensures fault { IfErr result
         (λ fault. (status_of fault ≡ 3) ⊎ IsRunFault VersionOne text.now fault ⊎ IsTooLongConverted text.now fault) }

@@ -19,7 +19,7 @@ ghost use Rattle.noise_lines.specs.Lines.{lines_text};
 ghost use Rattle.noise_lines.specs.Verdicts.{bytes_in, verdict_text};
 ghost use Rattle.noise_lines.specs.declared.verdict.Verdict.TheVariants.{CannotRun};
 ghost use Rattle.noise_vectors.specs.VectorFile.{IsVectorFile};
-ghost use Rattle.noise_vectors.specs.VectorText.{text_of};
+ghost use Rattle.noise_vectors.specs.VectorText.{file_text};
 
 use crate::ends::valid_pattern;
 use crate::key_use_lines::ALL_LINES;
@@ -410,7 +410,7 @@ fn same_block(block: &Option<Pattern>) -> Result<Option<Pattern>, AllocError>
 // What comes of the run of the file that this text is of.
 fn run_read(alloc: Global, text: &[u8], vector: VectorFile, traces: bool) -> Result<Traced, Fault>
     requires right { IsVectorFile vector }
-    requires text { text.now ≡ text_of vector }
+    requires text { text.now ≡ file_text vector }
     ensures runs { length text.now ≤ 4194304 → IfOk result (RunsTo traces text.now) }
     ensures read { IfErr result (λ fault. ¬ (fault ≡ Unreadable)) }
     ensures fault { IfErr result (λ fault. (status_of fault ≡ 3) ⊎ IsRunFault Any text.now fault) }

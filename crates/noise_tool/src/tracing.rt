@@ -11,7 +11,7 @@ ghost use Rattle.noise_lines.specs.Faults.{status_of};
 ghost use Rattle.noise_lines.specs.TracedLines.{traces_of};
 ghost use Rattle.noise_lines.specs.declared.faults.Fault.TheVariants.{Unreadable};
 ghost use Rattle.noise_vectors.specs.VectorFile.{IsVectorFile};
-ghost use Rattle.noise_vectors.specs.VectorText.{text_of};
+ghost use Rattle.noise_vectors.specs.VectorText.{file_text};
 ghost use Rattle.noise_vectors.specs.declared.vector.AllowedEvents.TheVariants.{Any};
 ghost use Rattle.noise_tool.specs.Performing.{IsRunFault};
 ghost use Rattle.noise_tool.specs.Ends.{FileDuelMatches, IsStartFault};
@@ -88,7 +88,7 @@ pub(crate) fn trace_text(
     file: VectorFile,
 ) -> Result<Traced, Fault>
     requires right { IsVectorFile file }
-    requires text { text.now ≡ text_of file }
+    requires text { text.now ≡ file_text file }
     ensures lines { IfOk result (λ traced. HasTraces selection file (bytes_of traced.outcome.lines.items)
         (bytes_of traced.start.items) (traces_of traced.traces.items)) }
     ensures expected { IfOk result (λ traced. bytes_of traced.outcome.expected.items ≡ expected_in file.version) }

@@ -17,7 +17,7 @@ use Rattle.noise_trace.specs.declared.values.StateValues.{StateValues}
 use Rattle.noise_trace.specs.declared.step.Part.TheVariants as part
 use Rattle.noise_trace.specs.declared.step.Step.{Step}
 use Rattle.noise_trace.specs.Values.{values_of}
-use Rattle.noise_trace.specs.inner.Carried.{Carries, IsNextMessage}
+use Rattle.noise_trace.specs.inner.Carried.{CarriesAll, IsNextMessage}
 use Rattle.noise_trace.specs.Steps.{token_steps, message_steps}
 
 pub tokens_at-read : (ms : List (List Token)) (i : ℕ) (d : List Token) → i < length ms → get_or ms i d ≡ tokens_at ms i
@@ -38,7 +38,7 @@ psks-due (ts ∷ ms) (suc n) = psks-due ms n
 
 -- what a message of the other party carries
 pub fit-carries : (v : Reader) (known : Remote) (psks : List (List ℕ)) (ts : List Token) (xs : List (List ℕ))
-    → Fit v known psks ts xs → Carries true v known psks ts xs
+    → Fit v known psks ts xs → CarriesAll true v known psks ts xs
 fit-carries v known psks [] [] f = tt
 fit-carries v known psks [] (x ∷ xs) f = f
 fit-carries v known psks (t ∷ ts) [] f = f
@@ -60,7 +60,7 @@ gives-fits w known psks Psk x g = g
 
 -- what a message of its own carries
 pub given-carries : (w : Writer) (known : Remote) (psks : List (List ℕ)) (ts : List Token) (xs : List (List ℕ))
-    → Given w known psks ts xs → Carries false (as_reader w) known psks ts xs
+    → Given w known psks ts xs → CarriesAll false (as_reader w) known psks ts xs
 given-carries w known psks [] [] f = tt
 given-carries w known psks [] (x ∷ xs) f = f
 given-carries w known psks (t ∷ ts) [] f = f
@@ -91,7 +91,7 @@ pub accepted-next : (v : Party) (message : List ℕ) (xs : List (List ℕ)) (pay
     → IsNextMessage v xs payload message
 accepted-next v message xs payload a = record {
   more = a.listens.more;
-  carries = subst (λ (b : Bool). Carries b (reader v) v.remote v.psks (tokens_now v) xs) (sym (reads v a.listens))
+  carries = subst (λ (b : Bool). CarriesAll b (reader v) v.remote v.psks (tokens_now v) xs) (sym (reads v a.listens))
       (fit-carries (reader v) v.remote v.psks (tokens_now v) xs a.reads.fit);
   spelled = a.reads.spelled;
 }
@@ -100,7 +100,7 @@ pub written-next : (v : Party) (message : List ℕ) (xs : List (List ℕ)) (payl
     → IsNextMessage v xs payload message
 written-next v message xs payload w = record {
   more = w.speaks.more;
-  carries = subst (λ (b : Bool). Carries b (reader v) v.remote v.psks (tokens_now v) xs) (sym (writes v w.speaks))
+  carries = subst (λ (b : Bool). CarriesAll b (reader v) v.remote v.psks (tokens_now v) xs) (sym (writes v w.speaks))
       (given-carries (writer v) v.remote v.psks (tokens_now v) xs w.given);
   spelled = w.spelled;
 }

@@ -10,7 +10,7 @@ use Rattle.noise_handshake.specs.Message.{token_bytes, after_token, before_paylo
 use Rattle.noise_handshake.specs.Party.{Reader, Fits, psks_after}
 use Rattle.noise_trace.specs.declared.step.Part.TheVariants as part
 use Rattle.noise_trace.specs.declared.step.Step.{Step}
-use Rattle.noise_trace.specs.inner.Carried.{known_next, known_through, Carries}
+use Rattle.noise_trace.specs.inner.Carried.{known_next, known_through, CarriesAll}
 use Rattle.noise_trace.specs.inner.Means.{IsFollowed}
 use Rattle.noise_trace.specs.Steps.{step, token_steps}
 
@@ -21,12 +21,12 @@ pub record Parted (reads : Bool) (v : Reader) (known : Remote) (psks : List (Lis
   pub others : List (List ℕ)
   pub parts : xs ≡ first ∷ others
   pub fits : Fits v known psks t first
-  pub carries : Carries reads v (known_next reads known t first) (psks_after psks t) ts others
+  pub carries : CarriesAll reads v (known_next reads known t first) (psks_after psks t) ts others
   pub spelled : rest ≡ token_bytes r t first ++ (before_payload v.has_psks (after_token v.has_psks r t first) ts others ++ more)
 
 parted-first : (reads : Bool) (v : Reader) (known : Remote) (psks : List (List ℕ)) (r : History) (t : Token) (ts : List Token)
     (xs : List (List ℕ)) (more rest : List ℕ)
-    → Carries reads v known psks (t ∷ ts) xs → rest ≡ before_payload v.has_psks r (t ∷ ts) xs ++ more → Parted reads v known psks r t ts xs more rest
+    → CarriesAll reads v known psks (t ∷ ts) xs → rest ≡ before_payload v.has_psks r (t ∷ ts) xs ++ more → Parted reads v known psks r t ts xs more rest
 parted-first reads v known psks r t ts [] more rest c e = absurd c
 parted-first reads v known psks r t ts (x ∷ xs) more rest c e = record {
   first = x;
@@ -39,10 +39,10 @@ parted-first reads v known psks r t ts (x ∷ xs) more rest c e = record {
 
 pub parted : (reads : Bool) (v : Reader) (known : Remote) (psks : List (List ℕ)) (r : History) (tokens : List Token) (t : Token) (ts : List Token)
     (xs : List (List ℕ)) (more rest : List ℕ) → tokens ≡ t ∷ ts
-    → Carries reads v known psks tokens xs → rest ≡ before_payload v.has_psks r tokens xs ++ more → Parted reads v known psks r t ts xs more rest
+    → CarriesAll reads v known psks tokens xs → rest ≡ before_payload v.has_psks r tokens xs ++ more → Parted reads v known psks r t ts xs more rest
 parted reads v known psks r tokens t ts xs more rest split c e =
     parted-first reads v known psks r t ts xs more rest
-    (subst (λ (us : List Token). Carries reads v known psks us xs) split c)
+    (subst (λ (us : List Token). CarriesAll reads v known psks us xs) split c)
     (subst (λ (us : List Token). rest ≡ before_payload v.has_psks r us xs ++ more) split e)
 
 -- the step of the first token, and then those of the others

@@ -69,7 +69,7 @@ impl BeforeMessage {
     ghost use Rattle.noise_trace.specs.Before.{MatchesBefore};
     ghost use Rattle.noise_trace.specs.inner.BeforeMessage.{IsBefore, IsNext};
     ghost use Rattle.noise_trace.specs.inner.Carried.{CarriesNext, IsNextMessage};
-    ghost use Rattle.noise_trace.specs.inner.Front.{IsFront, IsWhole};
+    ghost use Rattle.noise_trace.specs.inner.Front.{IsFront, IsWholeFront};
     ghost use Rattle.noise_trace.specs.Steps.{next_steps, steps_before};
     ghost use Rattle.noise_trace.specs.Values.{values_of};
 
@@ -182,7 +182,8 @@ impl BeforeMessage {
     pub(crate) fn whole<K: Keys>(&self, keys: &K, message: &[u8]) -> Whole
         ensures nonce { IfSome result.left (λ left. nonce_now left.1 ≤ nonce_now self.now.state + 11) }
         ensures whole { (v : Party) (xs : List (List ℕ)) (payload : List ℕ) → MatchesBefore self.now v
-            → K.agreement keys.now ≡ v.agree → IsNextMessage v xs payload message.now → IsWhole result v xs payload }
+            → K.agreement keys.now ≡ v.agree → IsNextMessage v xs payload message.now
+            → IsWholeFront result v xs payload }
     {
         let Front {
             mut steps,

@@ -8,7 +8,7 @@ ghost use Rattle.noise_state.specs.History.{History};
 ghost use Rattle.noise_state.specs.Standing.{StateMatches};
 ghost use Rattle.noise_handshake.specs.Setup.{has_token, keys_of, public_keys, setup_fault};
 ghost use Rattle.noise_handshake.specs.Party.{with_premessage};
-ghost use Rattle.noise_trace.specs.inner.PreMessages.{HasKeys, Mixes};
+ghost use Rattle.noise_trace.specs.inner.PreMessages.{HasKeysFor, Mixes};
 ghost use Rattle.noise_trace.specs.Start.{key_steps, pre_steps, start_step, start_steps};
 
 use crate::values::values_of;
@@ -74,7 +74,7 @@ fn mix_keys(
     requires room { length steps.old.items + length tokens.now ≤ 6 }
     ensures many { length steps.new.items ≤ length steps.old.items + length tokens.now }
     ensures mixed { (r : History) → StateMatches state.old r
-        → HasKeys keys.now tokens.now
+        → HasKeysFor keys.now tokens.now
         → Mixes has_psks party keys.now tokens.now r state.new steps.old.items steps.new.items }
 {
     let Some((token, later)) = tokens.split_first() else {

@@ -8,7 +8,7 @@ use Rattle.noise_names.specs.Plan.{Plan}
 use Rattle.noise_vectors.specs.Expectations.{IsFirstUnmet}
 use Rattle.noise_vectors.specs.SameFile.{VectorTextsAreUnique}
 use Rattle.noise_vectors.specs.VectorFile.{IsVectorFile}
-use Rattle.noise_vectors.specs.VectorText.{text_of}
+use Rattle.noise_vectors.specs.VectorText.{file_text}
 use Rattle.noise_vectors.specs.declared.vector.AllowedEvents.TheVariants.{SayOnly}
 use Rattle.noise_vectors.specs.declared.vector.VectorFile.{VectorFile}
 use Rattle.noise_lines.specs.Faults.{status_of}
@@ -41,15 +41,15 @@ abbrev pub Met : VectorFile → Plan → List (Role × List ℕ) → Type 0
 Met f p lines = IsMet (expected_in f.version) (talked_lines f p lines)
 
 module _ (laws : Once) (f : VectorFile) (p : Plan) (lines : List (Role × List ℕ)) (fits : HasFittingLines f p lines) where
-  lines-of : (g : VectorFile) (printed : List (List ℕ)) → IsVectorFile g → text_of f ≡ text_of g → IsRunOf g printed → printed ≡ talked_lines f p lines
+  lines-of : (g : VectorFile) (printed : List (List ℕ)) → IsVectorFile g → file_text f ≡ file_text g → IsRunOf g printed → printed ≡ talked_lines f p lines
   lines-of g printed right same run =
       sym (laws.once f g (talked_lines f p lines) printed (run-alike f g (laws.unique f g fits.right right same)) (laws.runs f p lines fits) run)
 
-  expected-of : (g : VectorFile) → IsVectorFile g → text_of f ≡ text_of g → expected_in g.version ≡ expected_in f.version
+  expected-of : (g : VectorFile) → IsVectorFile g → file_text f ≡ file_text g → expected_in g.version ≡ expected_in f.version
   expected-of g right same =
       sym (expected-are g.version) ∙ sym ((laws.unique f g fits.right right same).expected) ∙ expected-are f.version
 
-  run-printed : (before after : Option (List ℕ)) → HasRun IsPlain (text_of f) before after → Printed f p lines before after × Met f p lines
+  run-printed : (before after : Option (List ℕ)) → HasRun IsPlain (file_text f) before after → Printed f p lines before after × Met f p lines
   run-printed before after h =
       let lines_are = lines-of h.file h.lines h.right h.text_is h.run.0 in
       let expected = expected-of h.file h.right h.text_is in (
@@ -62,7 +62,7 @@ module _ (laws : Once) (f : VectorFile) (p : Plan) (lines : List (Role × List �
   never-met expected printed n some unmet (inl none) = some none
   never-met expected printed n some unmet (inr same) = unmet.differ (ap (λ (ls : List (List ℕ)). slice_get ls unmet.before) same)
 
-  unmet-printed : (before after : Option (List ℕ)) (n : ℕ) → HasUnmet IsPlain (text_of f) before after n → Printed f p lines before after × ¬ (Met f p lines)
+  unmet-printed : (before after : Option (List ℕ)) (n : ℕ) → HasUnmet IsPlain (file_text f) before after n → Printed f p lines before after × ¬ (Met f p lines)
   unmet-printed before after n h =
       let same = lines-of h.file h.lines h.right h.text_is h.run.0 in
       let expected = expected-of h.file h.right h.text_is in (
@@ -77,7 +77,7 @@ module _ (laws : Once) (f : VectorFile) (p : Plan) (lines : List (Role × List �
   Outcome before after status =
       ((status ≡ 0) × Printed f p lines before after × Met f p lines)
       ⊎ ((status ≡ 1) × Printed f p lines before after × ¬ (Met f p lines))
-      ⊎ ((status ≡ 2) × (4194304 < length (text_of f)))
+      ⊎ ((status ≡ 2) × (4194304 < length (file_text f)))
       ⊎ (status ≡ 3)
 
   of-fault : (before after : Option (List ℕ)) (why : Fault) (status : ℕ) → status_of why ≡ status → IsLeft f before after why → Outcome before after status
@@ -87,7 +87,7 @@ module _ (laws : Once) (f : VectorFile) (p : Plan) (lines : List (Role × List �
       let both = unmet-printed before after n h in
       inr (inl (sym is ∙ ap status_of e, both.0, both.1))
 
-  pub outcome : (known before after : Option (List ℕ)) (status : ℕ) → known ≡ Some (text_of f)
+  pub outcome : (known before after : Option (List ℕ)) (status : ℕ) → known ≡ Some (file_text f)
       → (status ≡ 0 → IfSome known (λ text. HasRun IsPlain text before after))
       → (1 ≤ status → (status ≡ 3) ⊎ ((why : Fault) × (status_of why ≡ status)
       × IfSome known (λ text. IsRunFault SayOnly text why ⊎ IsUnmet IsPlain text before after why)))
@@ -117,7 +117,7 @@ module _ (laws : Once) (f : VectorFile) (p : Plan) (lines : List (Role × List �
   met-at before after status (inr (inr (inl h))) low = absurd (omega (arith, h.0, low))
   met-at before after status (inr (inr (inr e))) low = absurd (omega (arith, e, low))
 
-  pub long-at : (before after : Option (List ℕ)) (status : ℕ) → Outcome before after status → status ≡ 2 → 4194304 < length (text_of f)
+  pub long-at : (before after : Option (List ℕ)) (status : ℕ) → Outcome before after status → status ≡ 2 → 4194304 < length (file_text f)
   long-at before after status (inl h) two = absurd (omega (arith, h.0, two))
   long-at before after status (inr (inl h)) two = absurd (omega (arith, h.0, two))
   long-at before after status (inr (inr (inl h))) two = h.1
@@ -125,24 +125,24 @@ module _ (laws : Once) (f : VectorFile) (p : Plan) (lines : List (Role × List �
 
   -- ---- a prefix of the lines, whatever the status
 
-  whole-fault : (name : String Global) (text : List ℕ) (why : Fault) → PrintsFault (Talk name) (Some (text_of f)) (Some []) (Some text) why
+  whole-fault : (name : String Global) (text : List ℕ) (why : Fault) → PrintsFault (Talk name) (Some (file_text f)) (Some []) (Some text) why
       → IsLeft f (Some []) (Some text) why → text ≡ lines_text (talked_lines f p lines)
-  whole-fault name text why h (inl e) = absurd (subst (λ (w : Fault). PrintsFault (Talk name) (Some (text_of f)) (Some []) (Some text) w) e h)
+  whole-fault name text why h (inl e) = absurd (subst (λ (w : Fault). PrintsFault (Talk name) (Some (file_text f)) (Some []) (Some text) w) e h)
   whole-fault name text why h (inr (inl (e, long))) =
-      absurd (subst (λ (w : Fault). PrintsFault (Talk name) (Some (text_of f)) (Some []) (Some text) w) e h)
+      absurd (subst (λ (w : Fault). PrintsFault (Talk name) (Some (file_text f)) (Some []) (Some text) w) e h)
   whole-fault name text why h (inr (inr (n, e, unmet))) = (unmet-printed (Some []) (Some text) n unmet).0
 
-  is-fault : (name : String Global) (text : List ℕ) (why : Fault) → PrintsFault (Talk name) (Some (text_of f)) (Some []) (Some text) why
-      → IsRunFault SayOnly (text_of f) why ⊎ IsUnmet IsPlain (text_of f) (Some []) (Some text) why
+  is-fault : (name : String Global) (text : List ℕ) (why : Fault) → PrintsFault (Talk name) (Some (file_text f)) (Some []) (Some text) why
+      → IsRunFault SayOnly (file_text f) why ⊎ IsUnmet IsPlain (file_text f) (Some []) (Some text) why
   is-fault name text (fault.Rule r) h = h.0
   is-fault name text (fault.Unmet n) h = h
   is-fault name text _ h = absurd h
 
-  whole : (name : String Global) (text : List ℕ) → PrintsWhole (Talk name) (Some (text_of f)) text → text ≡ lines_text (talked_lines f p lines)
+  whole : (name : String Global) (text : List ℕ) → PrintsWhole (Talk name) (Some (file_text f)) text → text ≡ lines_text (talked_lines f p lines)
   whole name text (inl done) = (run-printed (Some []) (Some text) done).0
   whole name text (inr (why, h)) = whole-fault name text why h (left-why laws.unique f p lines (Some []) (Some text) why fits (is-fault name text why h))
 
-  pub prefix-at : (name : String Global) (known before after : Option (List ℕ)) → known ≡ Some (text_of f) → PrintsPrefix (Talk name) known before after
+  pub prefix-at : (name : String Global) (known before after : Option (List ℕ)) → known ≡ Some (file_text f) → PrintsPrefix (Talk name) known before after
       → AppendsPrefix before after (lines_text (talked_lines f p lines))
   prefix-at name known before after is (text, h, grew) =
       subst (λ (t : List ℕ). AppendsPrefix before after t) (whole name text (subst (λ (o : Option (List ℕ)). PrintsWhole (Talk name) o text) is h)) grew

@@ -19,7 +19,7 @@ use Rattle.noise_duel.specs.Conversation.{say_events}
 use Rattle.noise_vectors.specs.FileKeys.{public_of}
 use Rattle.noise_vectors.specs.SameFile.{SaySame, VectorTextsAreUnique, held_datagrams}
 use Rattle.noise_vectors.specs.VectorFile.{IsAllowed, IsAllowedFile, IsAllowedVersion, IsVectorFile}
-use Rattle.noise_vectors.specs.VectorText.{text_of}
+use Rattle.noise_vectors.specs.VectorText.{file_text}
 use Rattle.noise_vectors.specs.declared.faults.VectorFault.TheVariants as vector
 use Rattle.noise_vectors.specs.declared.file_keys.FileKeys.{FileKeys}
 use Rattle.noise_vectors.specs.declared.vector.AllowedEvents.TheVariants.{SayOnly}
@@ -132,14 +132,14 @@ unmet-of text before after _ h = absurd h
 
 -- memory, a text that is too long, or lines that aren't those that the file expects
 abbrev pub IsLeft : VectorFile → Option (List ℕ) → Option (List ℕ) → Fault → Type 0
-IsLeft f before after why = (why ≡ fault.Memory) ⊎ ((why ≡ fault.TooLong) × (4194304 < length (text_of f)))
-    ⊎ ((n : ℕ) × (why ≡ fault.Unmet n) × HasUnmet IsPlain (text_of f) before after n)
+IsLeft f before after why = (why ≡ fault.Memory) ⊎ ((why ≡ fault.TooLong) × (4194304 < length (file_text f)))
+    ⊎ ((n : ℕ) × (why ≡ fault.Unmet n) × HasUnmet IsPlain (file_text f) before after n)
 
 pub left-why : VectorTextsAreUnique → (f : VectorFile) (p : Plan) (lines : List (Role × List ℕ)) (before after : Option (List ℕ)) (why : Fault)
-    → HasFittingLines f p lines → IsRunFault SayOnly (text_of f) why ⊎ IsUnmet IsPlain (text_of f) before after why → IsLeft f before after why
+    → HasFittingLines f p lines → IsRunFault SayOnly (file_text f) why ⊎ IsUnmet IsPlain (file_text f) before after why → IsLeft f before after why
 left-why unique f p lines before after why fits (inl (inl long)) = inr (inl long)
 left-why unique f p lines before after why fits (inl (inr (inl (vector.Memory, e, h, reported)))) = inl e
 left-why unique f p lines before after why fits (inl (inr (inl (vector.Line n k, e, h, reported)))) = absurd (h f fits.right (allowed f p lines fits) refl)
 left-why unique f p lines before after why fits (inl (inr (inr (g, right, same, start)))) =
     inl (no-start-fault g p lines why (fits-too f g p lines (unique f g fits.right right same) right fits) start)
-left-why unique f p lines before after why fits (inr h) = inr (inr (unmet-of (text_of f) before after why h))
+left-why unique f p lines before after why fits (inr h) = inr (inr (unmet-of (file_text f) before after why h))

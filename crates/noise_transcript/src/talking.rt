@@ -5,7 +5,7 @@ ghost use Rattle.std.specs.Prelude.{◌≡◌, ◌⊎◌, ◌↔◌, ◌<◌, �
 ghost use Rattle.std.specs.Io.KnownBytes.{Appends};
 ghost use Rattle.noise_names.specs.declared.token.Role.{Role};
 ghost use Rattle.noise_names.specs.Plan.{Plan};
-ghost use Rattle.noise_vectors.specs.VectorText.{text_of};
+ghost use Rattle.noise_vectors.specs.VectorText.{file_text};
 ghost use Rattle.noise_vectors.specs.declared.vector.VectorFile.{VectorFile};
 ghost use Rattle.noise_lines.specs.Lines.{lines_text};
 ghost use Rattle.noise_lines.specs.Prefixes.{AppendsPrefix};
@@ -38,15 +38,15 @@ pub fn talk<R: Read, O: Write, E: Write>(
 ) -> u8
     ensures status { result ≤ 3 }
     ensures printed { (f : VectorFile) (p : Plan) (lines : List (Role × List ℕ)) → HasFittingLines f p lines
-        → R.remaining file.old ≡ Some (text_of f) → result ≤ 1
+        → R.remaining file.old ≡ Some (file_text f) → result ≤ 1
         → Appends (O.contents out.old) (O.contents out.new) (lines_text (talked_lines f p lines)) }
     ensures met { (f : VectorFile) (p : Plan) (lines : List (Role × List ℕ)) → HasFittingLines f p lines
-        → R.remaining file.old ≡ Some (text_of f) → result ≤ 1
+        → R.remaining file.old ≡ Some (file_text f) → result ≤ 1
         → (result ≡ 0 ↔ IsMet (expected_in f.version) (talked_lines f p lines)) }
     ensures taken { (f : VectorFile) (p : Plan) (lines : List (Role × List ℕ)) → HasFittingLines f p lines
-        → R.remaining file.old ≡ Some (text_of f) → result ≡ 2 → 4194304 < length (text_of f) }
+        → R.remaining file.old ≡ Some (file_text f) → result ≡ 2 → 4194304 < length (file_text f) }
     ensures prefix { (f : VectorFile) (p : Plan) (lines : List (Role × List ℕ)) → HasFittingLines f p lines
-        → R.remaining file.old ≡ Some (text_of f) → (out.new ≡ out.old)
+        → R.remaining file.old ≡ Some (file_text f) → (out.new ≡ out.old)
         ⊎ AppendsPrefix (O.contents out.old) (O.contents out.new) (lines_text (talked_lines f p lines)) }
 {
     fitting_lines_run();

@@ -8,7 +8,7 @@ ghost use Rattle.noise_names.specs.Limits.{IsPattern};
 ghost use Rattle.noise_names.specs.Validity.{IsValid};
 ghost use Rattle.noise_vectors.specs.VectorFile.{IsAllowedFile, IsVectorFile};
 ghost use Rattle.noise_vectors.specs.declared.vector.AllowedEvents.TheVariants.{SayOnly};
-ghost use Rattle.noise_vectors.specs.VectorText.{text_of};
+ghost use Rattle.noise_vectors.specs.VectorText.{file_text};
 ghost use Rattle.noise_vectors.specs.declared.file_keys.FileKeys.TheVariants.{Xor};
 ghost use Rattle.noise_vectors.specs.declared.vector.VectorFile.{VectorFile};
 ghost use Rattle.noise_lines.specs.Lines.{lines_text};
@@ -70,7 +70,7 @@ fn pattern_of(rt: &impl Abort, block: Option<Pattern>, name: &ProtocolName) -> V
 
 // What a text says, which has to be that of a right file with the event `say` alone.
 fn read(rt: &impl Abort, alloc: Global, text: &[u8]) -> VectorFile
-    ensures text { text.now ≡ text_of result }
+    ensures text { text.now ≡ file_text result }
     ensures right { IsVectorFile result }
     ensures allowed { IsAllowedFile SayOnly result }
 {
@@ -118,7 +118,7 @@ fn fits(rt: &impl Abort, alloc: Global, file: VectorFile)
 // What `talk` prints of this text, which has to be that of a file whose lines fit.
 fn printed(rt: &impl Abort, alloc: Global, text: &[u8]) -> Vec<u8>
     ensures { (f : VectorFile) × (p : Plan) × (lines : List (Role × List ℕ))
-        × (text.now ≡ text_of f) × (result.items ≡ lines_text (talked_lines f p lines)) }
+        × (text.now ≡ file_text f) × (result.items ≡ lines_text (talked_lines f p lines)) }
 {
     let read = read(rt, alloc, text);
     fits(rt, alloc, read);

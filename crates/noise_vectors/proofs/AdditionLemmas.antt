@@ -17,7 +17,7 @@ use Rattle.noise_events.specs.declared.event.Event.{Event}
 use Rattle.noise_events.specs.declared.event.Event.TheVariants as event
 use Rattle.noise_vectors.specs.HexWord.{hex_of}
 use Rattle.noise_vectors.specs.VectorFile.{IsAllowedVersion, IsDatagramEvent, IsExpected}
-use Rattle.noise_vectors.specs.VectorText.{AfterDatagrams, AfterEvents, datagram_event_words, datagram_kind_word, event_words, expect_words, datagrams_text, is_second, line, lines_of, role_word, version_text, window_words}
+use Rattle.noise_vectors.specs.VectorText.{AfterDatagrams, AfterEvents, datagram_event_words, datagram_kind_word, event_words, expect_words, datagrams_text, is_second, line_then, lines_of, role_word, version_text, window_words}
 use Rattle.noise_vectors.specs.Words.{lacks}
 use Rattle.noise_vectors.specs.declared.vector.Additions.{Additions}
 use Rattle.noise_vectors.specs.declared.vector.AllowedEvents.{AllowedEvents}
@@ -33,7 +33,7 @@ use Rattle.noise_vectors.proofs.WordLemmas.{lacks-decimal}
 -- ---- what comes next
 
 -- the line of an event isn't after the events
-pub event-stands : (e : Event) (after : List ℕ) → ¬ AfterEvents (line (event_words e) after)
+pub event-stands : (e : Event) (after : List ℕ) → ¬ AfterEvents (line_then (event_words e) after)
 event-stands (event.Say role payload cuts) after (inl none) = absurd (cc none)
 event-stands (event.Say role payload cuts) after (inr (inl begun)) = absurd (cc begun)
 event-stands (event.Say role payload cuts) after (inr (inr begun)) = absurd (cc begun)
@@ -48,7 +48,7 @@ event-stands (event.Raw role bytes) after (inr (inl begun)) = absurd (cc begun)
 event-stands (event.Raw role bytes) after (inr (inr begun)) = absurd (cc begun)
 
 -- nor is that of one of the datagrams' after them
-pub datagram_event-stands : (e : DatagramEvent) (after : List ℕ) → ¬ AfterDatagrams (line (datagram_event_words e) after)
+pub datagram_event-stands : (e : DatagramEvent) (after : List ℕ) → ¬ AfterDatagrams (line_then (datagram_event_words e) after)
 datagram_event-stands (Seal role payload) after (inl none) = absurd (cc none)
 datagram_event-stands (Seal role payload) after (inr begun) = absurd (cc begun)
 datagram_event-stands (Open role number) after (inl none) = absurd (cc none)

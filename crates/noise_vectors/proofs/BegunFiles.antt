@@ -12,7 +12,7 @@ use Rattle.noise_vectors.specs.HexWord.{hex_of}
 use Rattle.noise_vectors.specs.ReaderFaults.{answer_lines, event_lines, psk_lines}
 use Rattle.noise_vectors.specs.SameFile.{expected_of}
 use Rattle.noise_vectors.specs.VectorFile.{AreKeys, IsAllowed, IsAllowedFile, IsEntry, IsEvent, IsVectorFile, IsVersion}
-use Rattle.noise_vectors.specs.VectorText.{AfterEvents, answer_words, event_words, header_words, is_second, line, lines_of, party_text, psk_words, text_of, version_text}
+use Rattle.noise_vectors.specs.VectorText.{AfterEvents, answer_words, event_words, header_words, is_second, line_then, lines_of, party_text, psk_words, file_text, version_text}
 use Rattle.noise_vectors.specs.Words.{IsKey, lacks}
 use Rattle.noise_vectors.specs.WrongLine.{is_answer_line, is_psk_line, up_to_events, up_to_initiator, up_to_responder}
 use Rattle.noise_vectors.specs.declared.file_keys.FileKeys.{FileKeys}
@@ -34,31 +34,31 @@ use Rattle.noise_vectors.proofs.UniqueTexts.{first-apart, party-one, party-parts
 -- ---- what another right file has
 
 -- after the lines up to the psks' last one
-after-interval : (file other : VectorFile) (rest : List ℕ) → IsVectorFile file → IsVectorFile other → text_of other ≡ up_to_initiator file rest
+after-interval : (file other : VectorFile) (rest : List ℕ) → IsVectorFile file → IsVectorFile other → file_text other ≡ up_to_initiator file rest
     → after_interval other ≡ lines_of psk_words file.psks.items rest
 after-interval file other rest h k e =
     let psks = lines_of psk_words file.psks.items rest in
     let here = codes "prologue " ++ hex_of file.prologue.items in
     let there = codes "interval " ++ decimal file.interval in
-    let after = after-block (is_second file.version) file.protocol file.block other (line here (line there psks)) k h.protocol h.own e in
-    let parts = parted-one 10 (codes "prologue " ++ hex_of other.prologue.items) here (after_prologue other) (line there psks)
+    let after = after-block (is_second file.version) file.protocol file.block other (line_then here (line_then there psks)) k h.protocol h.own e in
+    let parts = parted-one 10 (codes "prologue " ++ hex_of other.prologue.items) here (after_prologue other) (line_then there psks)
     (prologue-plain other.prologue.items k.prologue) (prologue-plain file.prologue.items h.prologue) after in
     (parted-one 10 (codes "interval " ++ decimal other.interval) there (after_interval other) psks
     (interval-plain other.interval k.interval) (interval-plain file.interval h.interval) parts.1).1
 
 pub at-initiator : (file other : VectorFile) (rest : List ℕ) → IsVectorFile file → IsVectorFile other → is_psk_line rest ≡ false
-    → text_of other ≡ up_to_initiator file rest → after_psks other ≡ rest
+    → file_text other ≡ up_to_initiator file rest → after_psks other ≡ rest
 at-initiator file other rest h k over e =
     lines-over psk_lines psk-plain psk-stands other.psks.items file.psks.items (after_psks other) rest k.psks.1 h.psks.1 (psks-end other) over
     (after-interval file other rest h k e)
 
 -- a psk more is among the other file's
 pub psk-more : (file other : VectorFile) (reported rest : List ℕ) → IsVectorFile file → IsVectorFile other → lacks 10 reported ≡ true
-    → ¬ (is_psk_line (line reported rest) ≡ false) → text_of other ≡ up_to_initiator file (line reported rest)
+    → ¬ (is_psk_line (line_then reported rest) ≡ false) → file_text other ≡ up_to_initiator file (line_then reported rest)
     → (psk : List ℕ) × IsKey psk × (reported ≡ psk_words psk) × (length file.psks.items < length other.psks.items)
 psk-more file other reported rest h k plain bad e =
     goes-on psk_lines psk-plain psk-stands file.psks.items other.psks.items reported rest (after_psks other) h.psks.1 k.psks.1 plain (psks-end other) bad
-    (after-interval file other (line reported rest) h k e)
+    (after-interval file other (line_then reported rest) h k e)
 
 -- after a party's lines
 pub party-goes : (role : Role) (a b : FileKeys) (u v : List ℕ) → AreKeys a → AreKeys b → begins u ≡ false → is_answer_line b v ≡ false
@@ -67,7 +67,7 @@ party-goes role a b u v h k hu hv e =
     (party-one role a b u v h k (no-answer a u hu) hv e).1
 
 keys-more : (a : FileKeys) (table : Tables.Table) (u reported rest : List ℕ) → AreKeys a → AreKeys (Table table) → begins u ≡ false → lacks 10 reported ≡ true
-    → ¬ (begins (line reported rest) ≡ false) → words_of a ≡ words_of (Table table) → after_of a u ≡ after_of (Table table) (line reported rest)
+    → ¬ (begins (line_then reported rest) ≡ false) → words_of a ≡ words_of (Table table) → after_of a u ≡ after_of (Table table) (line_then reported rest)
     → (entry : TableEntry) × IsEntry entry × (reported ≡ answer_words entry) × (length table.entries < 8)
 keys-more (Xor a) table u reported rest h k hu plain bad e after = absurd (first-apart (words_of (Xor a)) (words_of (Table table)) e refl)
 keys-more (Table a) table u reported rest h k hu plain bad e after =
@@ -77,31 +77,31 @@ keys-more (Table a) table u reported rest h k hu plain bad e after =
 
 -- an answer more is among the other party's
 pub party-more : (role : Role) (a : FileKeys) (table : Tables.Table) (u reported rest : List ℕ) → AreKeys a → AreKeys (Table table) → begins u ≡ false
-    → lacks 10 reported ≡ true → ¬ (begins (line reported rest) ≡ false) → party_text role a u ≡ party_text role (Table table) (line reported rest)
+    → lacks 10 reported ≡ true → ¬ (begins (line_then reported rest) ≡ false) → party_text role a u ≡ party_text role (Table table) (line_then reported rest)
     → (entry : TableEntry) × IsEntry entry × (reported ≡ answer_words entry) × (length table.entries < 8)
 party-more role a table u reported rest h k hu plain bad e =
-    let parts = party-parts role a (Table table) u (line reported rest) h k e in
+    let parts = party-parts role a (Table table) u (line_then reported rest) h k e in
     keys-more a table u reported rest h k hu plain bad parts.0 parts.1
 
 -- the initiator's lines, with whatever follows them
-pub after-psks : (file other : VectorFile) (rest : List ℕ) → IsVectorFile file → IsVectorFile other → text_of other ≡ up_to_responder file rest
+pub after-psks : (file other : VectorFile) (rest : List ℕ) → IsVectorFile file → IsVectorFile other → file_text other ≡ up_to_responder file rest
     → after_psks other ≡ party_text Initiator file.initiator rest
 after-psks file other rest h k e =
     at-initiator file other (party_text Initiator file.initiator rest) h k (initiator-no_psk file.initiator rest) e
 
 pub at-responder : (file other : VectorFile) (rest : List ℕ) → IsVectorFile file → IsVectorFile other → is_answer_line file.initiator rest ≡ false
-    → text_of other ≡ up_to_responder file rest → after_initiator other ≡ rest
+    → file_text other ≡ up_to_responder file rest → after_initiator other ≡ rest
 at-responder file other rest h k over e =
     party-goes Initiator other.initiator file.initiator (after_initiator other) rest k.initiator h.initiator (initiator-ends other) over
     (after-psks file other rest h k e)
 
-pub after-initiator : (file other : VectorFile) (rest : List ℕ) → IsVectorFile file → IsVectorFile other → text_of other ≡ up_to_events file rest
+pub after-initiator : (file other : VectorFile) (rest : List ℕ) → IsVectorFile file → IsVectorFile other → file_text other ≡ up_to_events file rest
     → after_initiator other ≡ party_text Responder file.responder rest
 after-initiator file other rest h k e =
     at-responder file other (party_text Responder file.responder rest) h k (no-answer file.initiator (party_text Responder file.responder rest) (responder-no_answer file.responder rest)) e
 
 pub at-events : (file other : VectorFile) (rest : List ℕ) → IsVectorFile file → IsVectorFile other → is_answer_line file.responder rest ≡ false
-    → text_of other ≡ up_to_events file rest → after_responder other ≡ rest
+    → file_text other ≡ up_to_events file rest → after_responder other ≡ rest
 at-events file other rest h k over e =
     party-goes Responder other.responder file.responder (after_responder other) rest k.responder h.responder (responder-ends other) over
     (after-initiator file other rest h k e)
@@ -118,7 +118,7 @@ after-no_answer keys rest h = no-answer keys rest (after_events-no_answer rest h
 
 -- after the events
 pub at-version : (allowed : AllowedEvents) (file other : VectorFile) (rest : List ℕ) → IsVectorFile file → IsVectorFile other
-    → IsAllowedFile allowed file → IsAllowedFile allowed other → AfterEvents rest → text_of other ≡ up_to_version file rest → version_text other.version ≡ rest
+    → IsAllowedFile allowed file → IsAllowedFile allowed other → AfterEvents rest → file_text other ≡ up_to_version file rest → version_text other.version ≡ rest
 at-version allowed file other rest h k allow also over e =
     let events = at-events file other (lines_of event_words file.events.items rest) h k
     (events-other file.responder file.events.items rest (after-no_answer file.responder rest over)) e in
@@ -127,17 +127,17 @@ at-version allowed file other rest h k allow also over e =
 
 -- an event more is among the other file's
 pub event-more : (allowed : AllowedEvents) (file other : VectorFile) (reported rest : List ℕ) → IsVectorFile file → IsVectorFile other
-    → IsAllowedFile allowed file → IsAllowedFile allowed other → is_answer_line file.responder (lines_of event_words file.events.items (line reported rest)) ≡ false
-    → lacks 10 reported ≡ true → ¬ AfterEvents (line reported rest) → text_of other ≡ up_to_version file (line reported rest)
+    → IsAllowedFile allowed file → IsAllowedFile allowed other → is_answer_line file.responder (lines_of event_words file.events.items (line_then reported rest)) ≡ false
+    → lacks 10 reported ≡ true → ¬ AfterEvents (line_then reported rest) → file_text other ≡ up_to_version file (line_then reported rest)
     → (event : Event) × IsRight allowed event × (reported ≡ event_words event)
 event-more allowed file other reported rest h k allow also none plain bad e =
     let found = goes-on (event_lines allowed) (right-plain allowed) event-stands file.events.items other.events.items reported rest (version_text other.version)
     (all-right allowed file.events.items h.events allow.0) (all-right allowed other.events.items k.events also.0) plain (version-after other.version) bad
-    (at-events file other (lines_of event_words file.events.items (line reported rest)) h k none e) in
+    (at-events file other (lines_of event_words file.events.items (line_then reported rest)) h k none e) in
     (found.0, found.1, found.2)
 
 -- the header of both is one
-pub same-header : (file other : VectorFile) (rest : List ℕ) → text_of other ≡ line (header_words (is_second file.version)) rest
+pub same-header : (file other : VectorFile) (rest : List ℕ) → file_text other ≡ line_then (header_words (is_second file.version)) rest
     → is_second other.version ≡ is_second file.version
 same-header file other rest e =
     header-one (is_second other.version) (is_second file.version)

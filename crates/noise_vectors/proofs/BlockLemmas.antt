@@ -19,7 +19,7 @@ use Rattle.noise_vectors.specs.Block.{IsInner, itself}
 use Rattle.noise_vectors.specs.Lines.{IsRead}
 use Rattle.noise_vectors.specs.OwnPattern.{HasName}
 use Rattle.noise_vectors.specs.ReaderFaults.{IsCutBlock}
-use Rattle.noise_vectors.specs.VectorText.{line, lines_of}
+use Rattle.noise_vectors.specs.VectorText.{line_then, lines_of}
 use Rattle.noise_vectors.specs.Words.{lacks}
 use Rattle.noise_vectors.specs.WrongLine.{Block, IsFirstLine}
 use Rattle.noise_vectors.specs.declared.faults.LineKind.TheVariants as kinds
@@ -36,12 +36,12 @@ use Rattle.noise_vectors.proofs.UniqueWords.{parted-one}
 
 lines_of-append : (xs ys : List (List ℕ)) (rest : List ℕ) → lines_of itself (xs ++ ys) rest ≡ lines_of itself xs (lines_of itself ys rest)
 lines_of-append [] ys rest = refl
-lines_of-append (x ∷ xs) ys rest = ap (λ (t : List ℕ). line x t) (lines_of-append xs ys rest)
+lines_of-append (x ∷ xs) ys rest = ap (λ (t : List ℕ). line_then x t) (lines_of-append xs ys rest)
 
 lines_of-after : (xs : List (List ℕ)) (rest after : List ℕ) → lines_of itself xs rest ++ after ≡ lines_of itself xs (rest ++ after)
 lines_of-after [] rest after = refl
 lines_of-after (x ∷ xs) rest after =
-    append_assoc x (10 ∷ lines_of itself xs rest) after ∙ ap (λ (t : List ℕ). line x t) (lines_of-after xs rest after)
+    append_assoc x (10 ∷ lines_of itself xs rest) after ∙ ap (λ (t : List ℕ). line_then x t) (lines_of-after xs rest after)
 
 -- the text is that of lines which aren't the block's last one
 pub record Lined (text : List ℕ) : Type 0 where
@@ -130,11 +130,11 @@ lined-pattern p h =
     (lined-message_lines Initiator p.messages)
 
 -- and with `end` after it
-pub block-lines : (p : Plan) (h : IsPattern p) (rest start : List ℕ) → start ≡ pattern_text p ++ line (codes "end") rest
-    → start ≡ lines_of itself (lined-pattern p h).before (line (codes "end") rest)
+pub block-lines : (p : Plan) (h : IsPattern p) (rest start : List ℕ) → start ≡ pattern_text p ++ line_then (codes "end") rest
+    → start ≡ lines_of itself (lined-pattern p h).before (line_then (codes "end") rest)
 block-lines p h rest start e =
     let l = lined-pattern p h in
-    e ∙ ap (λ (t : List ℕ). t ++ line (codes "end") rest) l.lines_are ∙ lines_of-after l.before [] (line (codes "end") rest)
+    e ∙ ap (λ (t : List ℕ). t ++ line_then (codes "end") rest) l.lines_are ∙ lines_of-after l.before [] (line_then (codes "end") rest)
 
 -- ---- the lines before `end`, as they are read
 
@@ -142,52 +142,52 @@ block-lines p h rest start e =
 pub record Left (rest left : List ℕ) : Type 0 where
   pub others : List (List ℕ)
   pub inner : All IsInner others
-  pub left_is : left ≡ lines_of itself others (line (codes "end") rest)
+  pub left_is : left ≡ lines_of itself others (line_then (codes "end") rest)
 
 pub Left-start : (rest : List ℕ) (before : List (List ℕ)) (left : List ℕ) → All IsInner before
-    → left ≡ lines_of itself before (line (codes "end") rest) → Left rest left
+    → left ≡ lines_of itself before (line_then (codes "end") rest) → Left rest left
 Left-start rest before left h e = record { others = before; inner = h; left_is = e }
 
 -- what the next line is
 abbrev pub IsNext : List ℕ → List ℕ → List ℕ → Bool → Type 0
 IsNext left text after is_ended =
-    (words more : List ℕ) → lacks 10 words ≡ true → left ≡ line words more → (text ≡ words) × (after ≡ more) × (is_ended ≡ true)
+    (words more : List ℕ) → lacks 10 words ≡ true → left ≡ line_then words more → (text ≡ words) × (after ≡ more) × (is_ended ≡ true)
 
 abbrev pub NoNext : List ℕ → Type 0
-NoNext left = (words more : List ℕ) → lacks 10 words ≡ true → ¬ (left ≡ line words more)
+NoNext left = (words more : List ℕ) → lacks 10 words ≡ true → ¬ (left ≡ line_then words more)
 
 -- there is a next line
-next-of : (rest left : List ℕ) (others : List (List ℕ)) → All IsInner others → left ≡ lines_of itself others (line (codes "end") rest)
+next-of : (rest left : List ℕ) (others : List (List ℕ)) → All IsInner others → left ≡ lines_of itself others (line_then (codes "end") rest)
     → ¬ (NoNext left)
 next-of rest left [] inner e none = none (codes "end") rest refl e
-next-of rest left (x ∷ xs) inner e none = none x (lines_of itself xs (line (codes "end") rest)) (All-head IsInner x xs inner).0 e
+next-of rest left (x ∷ xs) inner e none = none x (lines_of itself xs (line_then (codes "end") rest)) (All-head IsInner x xs inner).0 e
 
 pub Left-next : (rest left : List ℕ) → Left rest left → ¬ (NoNext left)
 Left-next rest left l none = next-of rest left l.others l.inner l.left_is none
 
 -- `end` is the last one
 last-of : (rest left text after : List ℕ) (is_ended : Bool) (others : List (List ℕ)) → All IsInner others
-    → left ≡ lines_of itself others (line (codes "end") rest) → IsNext left text after is_ended → text ≡ codes "end"
-    → (left ≡ line (codes "end") rest) × (after ≡ rest) × (is_ended ≡ true)
+    → left ≡ lines_of itself others (line_then (codes "end") rest) → IsNext left text after is_ended → text ≡ codes "end"
+    → (left ≡ line_then (codes "end") rest) × (after ≡ rest) × (is_ended ≡ true)
 last-of rest left text after is_ended [] inner e next is =
     let n = next (codes "end") rest refl e in
     (e, n.1, n.2)
 last-of rest left text after is_ended (x ∷ xs) inner e next is =
     let first = All-head IsInner x xs inner in
-    absurd (first.1 (sym (next x (lines_of itself xs (line (codes "end") rest)) first.0 e).0 ∙ is))
+    absurd (first.1 (sym (next x (lines_of itself xs (line_then (codes "end") rest)) first.0 e).0 ∙ is))
 
 pub Left-last : (rest left text after : List ℕ) (is_ended : Bool) → Left rest left → IsNext left text after is_ended → text ≡ codes "end"
-    → (left ≡ line (codes "end") rest) × (after ≡ rest) × (is_ended ≡ true)
+    → (left ≡ line_then (codes "end") rest) × (after ≡ rest) × (is_ended ≡ true)
 Left-last rest left text after is_ended l next is = last-of rest left text after is_ended l.others l.inner l.left_is next is
 
 -- after any other line the further ones are left
 step-of : (rest left text after : List ℕ) (is_ended : Bool) (others : List (List ℕ)) → All IsInner others
-    → left ≡ lines_of itself others (line (codes "end") rest) → IsNext left text after is_ended → ¬ (text ≡ codes "end")
+    → left ≡ lines_of itself others (line_then (codes "end") rest) → IsNext left text after is_ended → ¬ (text ≡ codes "end")
     → Left rest after × (is_ended ≡ true)
 step-of rest left text after is_ended [] inner e next is =
     absurd (is (next (codes "end") rest refl e).0)
 step-of rest left text after is_ended (x ∷ xs) inner e next is =
-    let n = next x (lines_of itself xs (line (codes "end") rest)) (All-head IsInner x xs inner).0 e in
+    let n = next x (lines_of itself xs (line_then (codes "end") rest)) (All-head IsInner x xs inner).0 e in
     (record { others = xs; inner = All-tail IsInner x xs inner; left_is = n.1 }, n.2)
 
 pub Left-step : (rest left text after : List ℕ) (is_ended : Bool) → Left rest left → IsNext left text after is_ended → ¬ (text ≡ codes "end")
@@ -205,8 +205,8 @@ front-before text left before e =
     ap (take (length (lines_of itself before []))) whole ∙ take-append_seam (lines_of itself before []) left in
     rw n front
 
-pub front-is : (text left rest : List ℕ) (before : List (List ℕ)) → text ≡ lines_of itself before (line (codes "end") rest)
-    → left ≡ line (codes "end") rest → take (length text - length left) text ≡ lines_of itself before []
+pub front-is : (text left rest : List ℕ) (before : List (List ℕ)) → text ≡ lines_of itself before (line_then (codes "end") rest)
+    → left ≡ line_then (codes "end") rest → take (length text - length left) text ≡ lines_of itself before []
 front-is text left rest before e is = front-before text left before (e ∙ ap (lines_of itself before) (sym is))
 
 -- ---- the lines that were read
@@ -220,7 +220,7 @@ pub record Read (start left : List ℕ) : Type 0 where
 pub Read-none : (start : List ℕ) → Read start start
 Read-none start = record { lines = []; inner = All-nil IsInner; start_is = refl }
 
-pub Read-step : (start left words after : List ℕ) → Read start left → IsInner words → left ≡ line words after → Read start after
+pub Read-step : (start left words after : List ℕ) → Read start left → IsInner words → left ≡ line_then words after → Read start after
 Read-step start left words after r h e = record {
   lines = r.lines ++ words ∷ [];
   inner = All-push IsInner r.lines words r.inner h;
@@ -230,12 +230,12 @@ Read-step start left words after r h e = record {
 -- with `end` after them they are the block's
 pub Read-end : (start : List ℕ) {before after : Lines} {text : List ℕ} → Read start before.rest.now → IsRead before text after → text ≡ codes "end"
     → (block : Block start) × (take (length start - length before.rest.now) start ≡ lines_of itself block.lines [])
-Read-end start {before = before} r line is = (
+Read-end start {before = before} r line_then is = (
   record {
     lines = r.lines;
     inner = r.inner;
     after = before.rest.now;
-    ends = subst (λ (t : List ℕ). IsFirstLine t before.rest.now) is (first-line line);
+    ends = subst (λ (t : List ℕ). IsFirstLine t before.rest.now) is (first-line line_then);
     left_is = r.start_is;
   },
   front-before start before.rest.now r.lines r.start_is,
@@ -244,28 +244,28 @@ Read-end start {before = before} r line is = (
 -- ---- where no line `end` is left
 
 -- a line is no empty text
-pub no-line : (words rest : List ℕ) → ¬ ([] ≡ line words rest)
+pub no-line : (words rest : List ℕ) → ¬ ([] ≡ line_then words rest)
 no-line [] rest e = absurd (cc e)
 no-line (b ∷ bs) rest e = absurd (cc e)
 
 -- nor one without a line feed
-no-feed : (words other rest : List ℕ) → lacks 10 words ≡ true → ¬ (words ≡ line other rest)
+no-feed : (words other rest : List ℕ) → lacks 10 words ≡ true → ¬ (words ≡ line_then other rest)
 no-feed [] other rest plain e = no-line other rest e
 no-feed (b ∷ bs) [] rest plain e =
     let first : b ≡ 10 = cc (e) in
     let parts = and_parts (not (b == 10)) (lacks 10 bs) plain in
     absurd (cc (rw first at parts.0))
 no-feed (b ∷ bs) (d ∷ ds) rest plain e =
-    let more : bs ≡ line ds rest = cc (e) in
+    let more : bs ≡ line_then ds rest = cc (e) in
     no-feed bs ds rest (and_parts (not (b == 10)) (lacks 10 bs) plain).1 more
 
 -- the block's last line is another than this one
-end-next : (left words after : List ℕ) → left ≡ line words after → IsInner words → ¬ IsFirstLine (codes "end") left
+end-next : (left words after : List ℕ) → left ≡ line_then words after → IsInner words → ¬ IsFirstLine (codes "end") left
 end-next left words after e h (plain, inl (is, some)) = no-feed (codes "end") words after refl (sym is ∙ e)
 end-next left words after e h (plain, inr (rest, is)) = h.1 (sym (parted-one 10 (codes "end") words rest after refl h.0 (sym is ∙ e)).0)
 
 -- what is left of a block after one line more
-block-step : (left words after : List ℕ) (lines : List (List ℕ)) (end_ : List ℕ) → left ≡ line words after → IsInner words → All IsInner lines
+block-step : (left words after : List ℕ) (lines : List (List ℕ)) (end_ : List ℕ) → left ≡ line_then words after → IsInner words → All IsInner lines
     → IsFirstLine (codes "end") end_ → left ≡ lines_of itself lines end_ → Block after
 block-step left words after [] end_ e h inner ends is =
     absurd (end-next left words after e h (subst (IsFirstLine (codes "end")) (sym is) ends))
@@ -300,7 +300,7 @@ pub Read-open : (start left : List ℕ) → Read start left → lacks 10 left �
 Read-open start left r plain other b = no-block left plain other (block-left start left r.lines r.inner r.start_is b)
 
 -- where `end` has no line feed the lines before it are the text's others
-cut-end : (from text : List ℕ) (b : Block from) → text ≡ lines_of itself b.lines [] → ((rest : List ℕ) → ¬ (b.after ≡ line (codes "end") rest))
+cut-end : (from text : List ℕ) (b : Block from) → text ≡ lines_of itself b.lines [] → ((rest : List ℕ) → ¬ (b.after ≡ line_then (codes "end") rest))
     → from ≡ text ++ codes "end"
 cut-end from text b is none = at b.ends
   where
@@ -311,7 +311,7 @@ cut-end from text b is none = at b.ends
 
 pub block-cut : (name : Section) (from text : List ℕ) (total number : ℕ) (fault : VectorFault) (p : Plan) → IsPattern p → HasName p name
     → text ≡ pattern_text p → (block : Block from) × (text ≡ lines_of itself block.lines [])
-    → ((before : List (List ℕ)) (rest : List ℕ) → All IsInner before → ¬ (from ≡ lines_of itself before (line (codes "end") rest)))
+    → ((before : List (List ℕ)) (rest : List ℕ) → All IsInner before → ¬ (from ≡ lines_of itself before (line_then (codes "end") rest)))
     → fault ≡ Line number kinds.Ending → number ≡ total + 1 → IsCutBlock name from total fault
 block-cut name from text total number fault p right named spelled (b, is) none reported n = record {
   pattern = p;

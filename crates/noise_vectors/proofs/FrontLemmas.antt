@@ -10,9 +10,9 @@ use Rattle.noise_names.specs.Plan.{Plan}
 use Rattle.noise_names.specs.Text.{text_of as pattern_text}
 use Rattle.noise_vectors.specs.HexWord.{hex_of}
 use Rattle.noise_vectors.specs.VectorFile.{IsAllowedFile, IsVectorFile}
-use Rattle.noise_vectors.specs.VectorText.{answer_words, block_text, datagram_event_words, datagrams_text, event_words, header_words, is_second, key_words, line, lines_of, party_text, psk_words, role_word, text_of, window_words}
-use Rattle.noise_names.specs.WrongText.{line_feeds}
-use Rattle.noise_vectors.specs.WrongLine.{IsCutShort, IsEnded, IsReportedLine, up_to_end, up_to_events, up_to_initiator, up_to_interval, up_to_prologue, up_to_protocol, up_to_responder}
+use Rattle.noise_vectors.specs.VectorText.{answer_words, block_text, datagram_event_words, datagrams_text, event_words, header_words, is_second, key_words, line_then, lines_of, party_text, psk_words, role_word, file_text, window_words}
+use Rattle.noise_names.specs.WrongText.{line_feeds, IsEnded}
+use Rattle.noise_vectors.specs.WrongLine.{IsCutFile, IsReportedLine, up_to_end, up_to_events, up_to_initiator, up_to_interval, up_to_prologue, up_to_protocol, up_to_responder}
 use Rattle.noise_vectors.specs.ReaderFaults.{IsWrongFirst}
 use Rattle.noise_vectors.specs.declared.faults.LineKind.{LineKind}
 use Rattle.noise_vectors.specs.declared.faults.VectorFault.{VectorFault}
@@ -31,7 +31,7 @@ pub front-both : (f g : List ℕ → List ℕ) → IsFront f → IsFront g → I
 front-both f g hf hg rest =
     ap f (hg rest) ∙ hf (g [] ++ rest) ∙ sym (append_assoc (f []) (g []) rest) ∙ ap (λ (t : List ℕ). t ++ rest) (sym (hf (g [])))
 
-pub front-line : (words : List ℕ) → IsFront (line words)
+pub front-line : (words : List ℕ) → IsFront (line_then words)
 front-line words rest = sym (append_assoc words (10 ∷ []) rest)
 
 pub front-lines : {A : Type 0} (words : A → List ℕ) (xs : List A) → IsFront (lines_of words xs)
@@ -40,13 +40,13 @@ front-lines words xs rest = sym (lines_of-after words xs [] rest)
 pub front-block : (block : Option Plan) → IsFront (block_text block)
 front-block None rest = refl
 front-block (Some p) rest =
-    ap (λ (t : List ℕ). pattern_text p ++ t) (front-line (codes "end") rest) ∙ sym (append_assoc (pattern_text p) (line (codes "end") []) rest)
+    ap (λ (t : List ℕ). pattern_text p ++ t) (front-line (codes "end") rest) ∙ sym (append_assoc (pattern_text p) (line_then (codes "end") []) rest)
 
 pub front-party : (role : Role) (keys : FileKeys) → IsFront (party_text role keys)
 front-party role (Xor keys) = front-line (role_word role ++ (codes " xor " ++ key_words keys.e keys.s))
 front-party role (Table keys) =
     let words = role_word role ++ (codes " table " ++ key_words keys.e keys.s) in
-    front-both (line words) (lines_of answer_words keys.entries) (front-line words) (front-lines answer_words keys.entries)
+    front-both (line_then words) (lines_of answer_words keys.entries) (front-line words) (front-lines answer_words keys.entries)
 
 pub front-protocol : (file : VectorFile) → IsFront (up_to_protocol file)
 front-protocol file = front-line (header_words (is_second file.version))
@@ -54,19 +54,19 @@ front-protocol file = front-line (header_words (is_second file.version))
 pub front-prologue : (file : VectorFile) → IsFront (up_to_prologue file)
 front-prologue file =
     let words = codes "protocol " ++ name_bytes file.protocol in
-    front-both (up_to_protocol file) (λ rest. line words (block_text file.block rest)) (front-protocol file)
-    (front-both (line words) (block_text file.block) (front-line words) (front-block file.block))
+    front-both (up_to_protocol file) (λ rest. line_then words (block_text file.block rest)) (front-protocol file)
+    (front-both (line_then words) (block_text file.block) (front-line words) (front-block file.block))
 
 pub front-interval : (file : VectorFile) → IsFront (up_to_interval file)
 front-interval file =
     let words = codes "prologue " ++ hex_of file.prologue.items in
-    front-both (up_to_prologue file) (line words) (front-prologue file) (front-line words)
+    front-both (up_to_prologue file) (line_then words) (front-prologue file) (front-line words)
 
 pub front-initiator : (file : VectorFile) → IsFront (up_to_initiator file)
 front-initiator file =
     let words = codes "interval " ++ decimal file.interval in
-    front-both (up_to_interval file) (λ rest. line words (lines_of psk_words file.psks.items rest)) (front-interval file)
-    (front-both (line words) (lines_of psk_words file.psks.items) (front-line words) (front-lines psk_words file.psks.items))
+    front-both (up_to_interval file) (λ rest. line_then words (lines_of psk_words file.psks.items rest)) (front-interval file)
+    (front-both (line_then words) (lines_of psk_words file.psks.items) (front-line words) (front-lines psk_words file.psks.items))
 
 pub front-responder : (file : VectorFile) → IsFront (up_to_responder file)
 front-responder file =
@@ -77,7 +77,7 @@ front-events file =
     front-both (up_to_responder file) (party_text Responder file.responder) (front-responder file) (front-party Responder file.responder)
 
 pub front-end : (file : VectorFile) → IsFront (up_to_end file)
-front-end file rest = ap (λ (t : List ℕ). t ++ rest) (sym (append-nil (text_of file)))
+front-end file rest = ap (λ (t : List ℕ). t ++ rest) (sym (append-nil (file_text file)))
 
 -- the lines up to the events' last one
 abbrev pub up_to_version : VectorFile → List ℕ → List ℕ
@@ -90,7 +90,7 @@ front-version file =
 pub front-datagrams : (over : Option FileDatagrams) → IsFront (datagrams_text over)
 front-datagrams None rest = refl
 front-datagrams (Some over) rest =
-    front-both (line (window_words over.window)) (lines_of datagram_event_words over.events.items) (front-line (window_words over.window))
+    front-both (line_then (window_words over.window)) (lines_of datagram_event_words over.events.items) (front-line (window_words over.window))
     (front-lines datagram_event_words over.events.items) rest
 
 -- ---- the line that is reported
@@ -107,8 +107,8 @@ counted-front front text left number total h e all n =
 -- a line that no right file has there is reported
 abbrev pub reported-line : (allowed : AllowedEvents) (text left : List ℕ) (total : ℕ) (kind : LineKind) (fault : VectorFault)
     (up_to : VectorFile → List ℕ → List ℕ) (file : VectorFile) (rest : List ℕ) → IsVectorFile file → IsAllowedFile allowed file → IsFront (up_to file)
-    → text_of file ≡ up_to file rest → text ≡ up_to file left → total ≡ line_feeds text → (it : IsWrongFirst left total kind fault)
-    → ((other : VectorFile) (more : List ℕ) → IsVectorFile other → IsAllowedFile allowed other → ¬ (text_of other ≡ up_to file (line it.reported more)))
+    → file_text file ≡ up_to file rest → text ≡ up_to file left → total ≡ line_feeds text → (it : IsWrongFirst left total kind fault)
+    → ((other : VectorFile) (more : List ℕ) → IsVectorFile other → IsAllowedFile allowed other → ¬ (file_text other ≡ up_to file (line_then it.reported more)))
     → IsReportedLine allowed text it.number up_to
 reported-line allowed text left total kind fault up_to file rest right allow front begun text_is all it wrong = record {
   file = file;
@@ -125,10 +125,10 @@ reported-line allowed text left total kind fault up_to file rest right allow fro
 
 -- ---- the text's end
 
-pub ended-line : (words rest : List ℕ) → IsEnded rest → IsEnded (line words rest)
-ended-line words rest (inl e) = inr (words, ap (line words) e)
+pub ended-line : (words rest : List ℕ) → IsEnded rest → IsEnded (line_then words rest)
+ended-line words rest (inl e) = inr (words, ap (line_then words) e)
 ended-line words rest (inr (front, e)) =
-    inr (words ++ 10 ∷ front, ap (line words) e ∙ sym (append_assoc words (10 ∷ front) (10 ∷ [])))
+    inr (words ++ 10 ∷ front, ap (line_then words) e ∙ sym (append_assoc words (10 ∷ front) (10 ∷ [])))
 
 pub ended-lines : {A : Type 0} (words : A → List ℕ) (xs : List A) (rest : List ℕ) → IsEnded rest → IsEnded (lines_of words xs rest)
 ended-lines words [] rest h = h
@@ -148,27 +148,27 @@ ended-party role (Table keys) rest h =
 pub ended-prologue : (file : VectorFile) (rest : List ℕ) → IsEnded rest → IsEnded (up_to_prologue file rest)
 ended-prologue file rest h =
     let here = codes "protocol " ++ name_bytes file.protocol in
-    ended-line (header_words (is_second file.version)) (line here (block_text file.block rest))
+    ended-line (header_words (is_second file.version)) (line_then here (block_text file.block rest))
     (ended-line here (block_text file.block rest) (ended-block file.block rest h))
 
 pub ended-interval : (file : VectorFile) (rest : List ℕ) → IsEnded rest → IsEnded (up_to_interval file rest)
 ended-interval file rest h =
     let here = codes "prologue " ++ hex_of file.prologue.items in
-    ended-prologue file (line here rest) (ended-line here rest h)
+    ended-prologue file (line_then here rest) (ended-line here rest h)
 
 pub ended-initiator : (file : VectorFile) (rest : List ℕ) → IsEnded rest → IsEnded (up_to_initiator file rest)
 ended-initiator file rest h =
     let here = codes "interval " ++ decimal file.interval in
     let psks = lines_of psk_words file.psks.items rest in
-    ended-interval file (line here psks) (ended-line here psks (ended-lines psk_words file.psks.items rest h))
+    ended-interval file (line_then here psks) (ended-line here psks (ended-lines psk_words file.psks.items rest h))
 
 pub ended-responder : (file : VectorFile) (rest : List ℕ) → IsEnded rest → IsEnded (up_to_responder file rest)
 ended-responder file rest h = ended-initiator file (party_text Initiator file.initiator rest) (ended-party Initiator file.initiator rest h)
 
 -- the text ends before a line
 pub cut-before : (allowed : AllowedEvents) (text left : List ℕ) (number : ℕ) (file : VectorFile) (front : List ℕ → List ℕ) (next : ℕ) (rest : List ℕ)
-    → IsVectorFile file → IsAllowedFile allowed file → IsFront front → text ≡ front left → left ≡ [] → text_of file ≡ front (next ∷ rest)
-    → IsEnded (front []) → number ≡ line_feeds text + 1 → IsCutShort allowed text number
+    → IsVectorFile file → IsAllowedFile allowed file → IsFront front → text ≡ front left → left ≡ [] → file_text file ≡ front (next ∷ rest)
+    → IsEnded (front []) → number ≡ line_feeds text + 1 → IsCutFile allowed text number
 cut-before allowed text left number file front next rest right allow h text_is none goes_on ended n =
     let e : text ≡ front [] = text_is ∙ ap front none in
     record {
@@ -185,7 +185,7 @@ cut-before allowed text left number file front next rest right allow h text_is n
 -- or within one
 pub cut-within : (allowed : AllowedEvents) (text from : List ℕ) (number : ℕ) (file : VectorFile) (front part : List ℕ → List ℕ) (rest : List ℕ)
     → IsVectorFile file → IsAllowedFile allowed file → IsFront front → IsFront part → text ≡ front from → from ++ codes "\n" ≡ part []
-    → text_of file ≡ front (part rest) → number ≡ line_feeds text + 1 → IsCutShort allowed text number
+    → file_text file ≡ front (part rest) → number ≡ line_feeds text + 1 → IsCutFile allowed text number
 cut-within allowed text from number file front part rest right allow h k text_is last goes_on n =
     let here : part rest ≡ from ++ 10 ∷ rest = k rest ∙ ap (λ (t : List ℕ). t ++ rest) (sym last) ∙ append_assoc from (10 ∷ []) rest in
     let whole : front (from ++ 10 ∷ rest) ≡ text ++ 10 ∷ rest = h (from ++ 10 ∷ rest) ∙ sym (append_assoc (front []) from (10 ∷ rest))

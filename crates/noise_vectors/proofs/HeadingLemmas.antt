@@ -13,7 +13,7 @@ use Rattle.noise_names.specs.Names.{IsSection, Section, is_section_byte, prefix,
 use Rattle.noise_names.specs.Plan.{Plan}
 use Rattle.noise_names.specs.Text.{message_lines, pre_lines, text_of as pattern_text}
 use Rattle.noise_names.specs.WrongText.{heading_of}
-use Rattle.noise_vectors.specs.VectorText.{line}
+use Rattle.noise_vectors.specs.VectorText.{line_then}
 use Rattle.noise_vectors.specs.Words.{lacks}
 use Rattle.noise_vectors.specs.WrongLine.{HasHeading}
 use Rattle.noise_vectors.proofs.BlockLemmas.{heading-plain}
@@ -34,7 +34,7 @@ own_name p = record { base = p.base; places = p.places }
 
 -- the text of a pattern begins with the heading of no other name
 pub heading-one : (p : Plan) (name : Section) (text : List ℕ) → IsPattern p → IsSection name → text ≡ pattern_text p → (rest : List ℕ)
-    → text ≡ line (heading_of name) rest → own_name p ≡ name
+    → text ≡ line_then (heading_of name) rest → own_name p ≡ name
 heading-one p name text h k e rest begun =
     let own = own_name p in
     let right : IsSection own = record { base = h.base; places = h.places } in
@@ -49,7 +49,7 @@ heading-one p name text h k e rest begun =
     name-one own name right k (ap (λ (s : List ℕ). prefix ++ s ++ suffix) sections)
 
 -- it is the section, a colon and a line feed
-pub heading-parts : (name : Section) (text rest : List ℕ) → text ≡ line (heading_of name) rest
+pub heading-parts : (name : Section) (text rest : List ℕ) → text ≡ line_then (heading_of name) rest
     → text ≡ section_bytes name.base name.places ++ (codes ":\n" ++ rest)
 heading-parts name text rest e = e ∙ append_assoc (section_bytes name.base name.places) (codes ":") (10 ∷ rest)
 

@@ -7,7 +7,7 @@ use Rattle.std.proofs.lemmas.List.Elements.{All-cons, All-head, All-nil, All-tai
 use Rattle.noise_names.specs.Lists.{bytes_of}
 use Rattle.noise_vectors.specs.ReaderFaults.{expect_kind}
 use Rattle.noise_vectors.specs.VectorFile.{IsExpected}
-use Rattle.noise_vectors.specs.VectorText.{expect_line, expect_words, line, lines_of}
+use Rattle.noise_vectors.specs.VectorText.{expect_line, expect_words, line_then, lines_of}
 use Rattle.noise_vectors.specs.Words.{lacks}
 use Rattle.noise_vectors.specs.declared.faults.LineKind.TheVariants as kinds
 use Rattle.noise_vectors.proofs.AdditionLemmas.{expected-line}
@@ -17,7 +17,7 @@ Good words = IsExpected words × (length words < 2 ^ 63)
 
 pub partial-lines : (vs : List (Vec ℕ Global)) (rest : List ℕ) → lines_of expect_words vs rest ≡ lines_of expect_line (bytes_of vs) rest
 partial-lines [] rest = refl
-partial-lines (v ∷ vs) rest = ap (line (expect_line v.items)) (partial-lines vs rest)
+partial-lines (v ∷ vs) rest = ap (line_then (expect_line v.items)) (partial-lines vs rest)
 
 pub partial-good : (vs : List (Vec ℕ Global)) → All (λ (words : Vec ℕ Global). IsExpected words.items) vs → All Good (bytes_of vs)
 partial-good [] h = All-nil Good
@@ -32,7 +32,7 @@ partial-good (v ∷ vs) h =
 pub good-plain : (words : List ℕ) → Good words → lacks 10 (expect_line words) ≡ true
 good-plain words h = expected-line words h.0
 
-pub good-stands : (words rest : List ℕ) → ¬ (line (expect_line words) rest ≡ [])
+pub good-stands : (words rest : List ℕ) → ¬ (line_then (expect_line words) rest ≡ [])
 good-stands words rest e = absurd (cc e)
 
 -- after a line more, a wrong one is reported as one of what is expected

@@ -4,25 +4,25 @@ use Rattle.std.specs.Bool.{nat_eq}
 use Rattle.std.specs.List.{starts_with}
 use Rattle.std.proofs.lemmas.List.{append_assoc, length-append}
 use Rattle.std.proofs.Math.Seq.{take-append_seam}
-use Rattle.noise_vectors.specs.VectorText.{line, lines_of}
+use Rattle.noise_vectors.specs.VectorText.{line_then, lines_of}
 
 pub lines_of-push : {A : Type 0} (words : A → List ℕ) (xs : List A) (x : A) (rest : List ℕ)
-    → lines_of words xs (line (words x) rest) ≡ lines_of words (xs ++ x ∷ []) rest
+    → lines_of words xs (line_then (words x) rest) ≡ lines_of words (xs ++ x ∷ []) rest
 lines_of-push words [] x rest = refl
-lines_of-push words (y ∷ ys) x rest = ap (λ (t : List ℕ). line (words y) t) (lines_of-push words ys x rest)
+lines_of-push words (y ∷ ys) x rest = ap (λ (t : List ℕ). line_then (words y) t) (lines_of-push words ys x rest)
 
 -- one line more is read
 pub lines_of-more : {A : Type 0} (words : A → List ℕ) (start rest text after : List ℕ) (xs : List A) (x : A)
-    → start ≡ lines_of words xs rest → rest ≡ line text after → text ≡ words x → start ≡ lines_of words (xs ++ x ∷ []) after
+    → start ≡ lines_of words xs rest → rest ≡ line_then text after → text ≡ words x → start ≡ lines_of words (xs ++ x ∷ []) after
 lines_of-more words start rest text after xs x before next is =
-    before ∙ ap (λ (t : List ℕ). lines_of words xs t) (next ∙ ap (λ (t : List ℕ). line t after) is) ∙ lines_of-push words xs x after
+    before ∙ ap (λ (t : List ℕ). lines_of words xs t) (next ∙ ap (λ (t : List ℕ). line_then t after) is) ∙ lines_of-push words xs x after
 
 -- what is left is the text's end
 abbrev pub Ends : List ℕ → List ℕ → Type 0
 Ends text rest = (before : List ℕ) × (text ≡ before ++ rest)
 
 -- that lasts where a line is read
-pub Ends-after : (text rest read after : List ℕ) → Ends text rest → rest ≡ line read after → Ends text after
+pub Ends-after : (text rest read after : List ℕ) → Ends text rest → rest ≡ line_then read after → Ends text after
 Ends-after text rest read after (before, e) next = (
   before ++ (read ++ 10 ∷ []),
   e ∙ ap (λ (t : List ℕ). before ++ t) (next ∙ sym (append_assoc read (10 ∷ []) after))

@@ -9,7 +9,7 @@ use Rattle.noise_names.specs.Names.{Section}
 use Rattle.noise_vectors.specs.Block.{itself}
 use Rattle.noise_vectors.specs.Lines.{IsRead, last_number}
 use Rattle.noise_vectors.specs.ReaderFaults.{IsWrongBlock, Listed, ReportsAfter, ReportsLine}
-use Rattle.noise_vectors.specs.VectorText.{header_words, line, lines_of}
+use Rattle.noise_vectors.specs.VectorText.{header_words, line_then, lines_of}
 use Rattle.noise_vectors.specs.Words.{lacks}
 use Rattle.noise_names.specs.WrongText.{line_feeds}
 use Rattle.noise_vectors.specs.WrongLine.{Block, IsWrongIn}
@@ -26,7 +26,7 @@ use Rattle.noise_vectors.proofs.ReportedLemmas.{ending-reported, feeds-few, wron
 pub lines_of-after : {A : Type 0} (words : A → List ℕ) (xs : List A) (rest more : List ℕ) → lines_of words xs rest ++ more ≡ lines_of words xs (rest ++ more)
 lines_of-after words [] rest more = refl
 lines_of-after words (x ∷ xs) rest more =
-    append_assoc (words x) (10 ∷ lines_of words xs rest) more ∙ ap (λ (t : List ℕ). line (words x) t) (lines_of-after words xs rest more)
+    append_assoc (words x) (10 ∷ lines_of words xs rest) more ∙ ap (λ (t : List ℕ). line_then (words x) t) (lines_of-after words xs rest more)
 
 -- the last line, which has no line feed, is one of them
 pub lines_of-cut : {A : Type 0} (words : A → List ℕ) (from rest reported : List ℕ) (xs : List A) (x : A)
@@ -122,11 +122,11 @@ reports-cut of from done x {before = before} {words = words} text are few same r
 pub record Next {A : Type 0} (of : Listed A) (done xs : List A) (left : List ℕ) : Type 0 where
   pub next : A
   pub after : List ℕ
-  pub left_is : left ≡ line (of.words next) after
+  pub left_is : left ≡ line_then (of.words next) after
   pub good : of.Good next
   pub more : length done < length xs
 
-pub next-of : {A : Type 0} (of : Listed A) → ((x : A) → of.Good x → lacks 10 (of.words x) ≡ true) → ((x : A) (rest : List ℕ) → ¬ of.Over (line (of.words x) rest))
+pub next-of : {A : Type 0} (of : Listed A) → ((x : A) → of.Good x → lacks 10 (of.words x) ≡ true) → ((x : A) (rest : List ℕ) → ¬ of.Over (line_then (of.words x) rest))
     → (done xs : List A) (from left rest : List ℕ) → from ≡ lines_of of.words done left → All of.Good done → from ≡ lines_of of.words xs rest → All of.Good xs
     → of.Over rest → ¬ of.Over left → Next of done xs left
 next-of {A = A} of plain stands done xs from left rest text are text_of good over ahead = at done xs are good (sym text ∙ text_of) where
@@ -142,25 +142,25 @@ next-of {A = A} of plain stands done xs from left rest text are text_of good ove
       record { next = n.next; after = n.after; left_is = n.left_is; good = n.good; more = omega (arith, n.more) }
 
 -- Lines of one kind and one more that no right text has after them are fewer than those of a right text, of which it is one.
-pub goes-on : {A : Type 0} (of : Listed A) → ((x : A) → of.Good x → lacks 10 (of.words x) ≡ true) → ((x : A) (rest : List ℕ) → ¬ of.Over (line (of.words x) rest))
-    → (xs ys : List A) (reported rest after : List ℕ) → All of.Good xs → All of.Good ys → lacks 10 reported ≡ true → of.Over after → ¬ of.Over (line reported rest)
-    → lines_of of.words ys after ≡ lines_of of.words xs (line reported rest)
+pub goes-on : {A : Type 0} (of : Listed A) → ((x : A) → of.Good x → lacks 10 (of.words x) ≡ true) → ((x : A) (rest : List ℕ) → ¬ of.Over (line_then (of.words x) rest))
+    → (xs ys : List A) (reported rest after : List ℕ) → All of.Good xs → All of.Good ys → lacks 10 reported ≡ true → of.Over after → ¬ of.Over (line_then reported rest)
+    → lines_of of.words ys after ≡ lines_of of.words xs (line_then reported rest)
     → (x : A) × of.Good x × (reported ≡ of.words x) × (length xs < length ys)
 goes-on of plain stands [] [] reported rest after h k clear over bad e = absurd (bad (subst of.Over e over))
-goes-on of plain stands (x ∷ xs) [] reported rest after h k clear over bad e = absurd (stands x (lines_of of.words xs (line reported rest)) (subst of.Over e over))
+goes-on of plain stands (x ∷ xs) [] reported rest after h k clear over bad e = absurd (stands x (lines_of of.words xs (line_then reported rest)) (subst of.Over e over))
 goes-on of plain stands [] (y ∷ ys) reported rest after h k clear over bad e =
     let good = All-head of.Good y ys k in
     let parts = parted-one 10 (of.words y) reported (lines_of of.words ys after) rest (plain y good) clear e in
     (y, good, sym parts.0, omega arith)
 goes-on of plain stands (x ∷ xs) (y ∷ ys) reported rest after h k clear over bad e =
-    let parts = parted-one 10 (of.words y) (of.words x) (lines_of of.words ys after) (lines_of of.words xs (line reported rest))
+    let parts = parted-one 10 (of.words y) (of.words x) (lines_of of.words ys after) (lines_of of.words xs (line_then reported rest))
     (plain y (All-head of.Good y ys k)) (plain x (All-head of.Good x xs h)) e in
     let more = goes-on of plain stands xs ys reported rest after (All-tail of.Good x xs h) (All-tail of.Good y ys k) clear over bad parts.1 in
     (more.0, more.1, more.2, omega (arith, more.3))
 
 -- They are those of one list, as far as it is seen, and what follows them is one text.
 pub lines-same : {A B : Type 0} (words : A → List ℕ) (Good : A → Type 0) (Over : List ℕ → Type 0) (view : A → B)
-    → ((x : A) → Good x → lacks 10 (words x) ≡ true) → ((x : A) (rest : List ℕ) → ¬ Over (line (words x) rest))
+    → ((x : A) → Good x → lacks 10 (words x) ≡ true) → ((x : A) (rest : List ℕ) → ¬ Over (line_then (words x) rest))
     → ((x y : A) → Good x → Good y → words x ≡ words y → view x ≡ view y)
     → (xs ys : List A) (u v : List ℕ) → All Good xs → All Good ys → Over u → Over v
     → lines_of words xs u ≡ lines_of words ys v → (map view xs ≡ map view ys) × (u ≡ v)
@@ -175,7 +175,7 @@ lines-same words Good Over view plain stands one (x ∷ xs) (y ∷ ys) u v h k h
     let more = lines-same words Good Over view plain stands one xs ys u v (All-tail Good x xs h) (All-tail Good y ys k) hu hv parts.1 in
     (cc (first, more.0), more.1)
 
-pub lines-over : {A : Type 0} (of : Listed A) → ((x : A) → of.Good x → lacks 10 (of.words x) ≡ true) → ((x : A) (rest : List ℕ) → ¬ of.Over (line (of.words x) rest))
+pub lines-over : {A : Type 0} (of : Listed A) → ((x : A) → of.Good x → lacks 10 (of.words x) ≡ true) → ((x : A) (rest : List ℕ) → ¬ of.Over (line_then (of.words x) rest))
     → (xs ys : List A) (u v : List ℕ) → All of.Good xs → All of.Good ys → of.Over u → of.Over v
     → lines_of of.words xs u ≡ lines_of of.words ys v → u ≡ v
 lines-over of plain stands xs ys u v h k hu hv e =

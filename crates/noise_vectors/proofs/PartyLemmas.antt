@@ -8,7 +8,7 @@ use Rattle.noise_names.specs.declared.token.Role.{Role}
 use Rattle.noise_keys.specs.Table.{TableEntry}
 use Rattle.noise_keys.specs.Table as Tables
 use Rattle.noise_vectors.specs.VectorFile.{AreKeys, IsEntry}
-use Rattle.noise_vectors.specs.VectorText.{answer_words, key_word, key_words, line, lines_of, own_word, party_text, role_word}
+use Rattle.noise_vectors.specs.VectorText.{answer_words, key_word, key_words, line_then, lines_of, own_word, party_text, role_word}
 use Rattle.noise_vectors.specs.Words.{IsKey, lacks}
 use Rattle.noise_vectors.specs.WrongLine.{is_answer_line}
 use Rattle.noise_vectors.specs.declared.file_keys.FileKeys.{FileKeys}
@@ -42,9 +42,9 @@ abbrev pub Splits : List ℕ → List ℕ → List ℕ → Type 0
 Splits text first after = (b h : List ℕ) → lacks 32 b ≡ true → text ≡ b ++ 32 ∷ h → (first ≡ b) × (after ≡ h)
 
 -- the keys after the name of the key pair
-pub answer-keys : {line front rest own keys : List ℕ} (entry : TableEntry) → front ≡ codes "answer " → line ≡ front ++ rest → Splits rest own keys
-    → line ≡ answer_words entry → keys ≡ encode_lower entry.remote ++ 32 ∷ encode_lower entry.answer
-answer-keys {line = line} {rest = rest} entry front_is split every e =
+pub answer-keys : {line_then front rest own keys : List ℕ} (entry : TableEntry) → front ≡ codes "answer " → line_then ≡ front ++ rest → Splits rest own keys
+    → line_then ≡ answer_words entry → keys ≡ encode_lower entry.remote ++ 32 ∷ encode_lower entry.answer
+answer-keys {line_then = line_then} {rest = rest} entry front_is split every e =
     let rest_is = append_cancel_left (codes "answer ") rest (own_word entry.own ++ 32 ∷ (encode_lower entry.remote ++ 32 ∷ encode_lower entry.answer))
     (sym (split ∙ ap (λ (t : List ℕ). t ++ rest) front_is) ∙ e) in
     (every (own_word entry.own) (encode_lower entry.remote ++ 32 ∷ encode_lower entry.answer) (own_word-plain entry.own).1 rest_is).1
@@ -53,7 +53,7 @@ answer-keys {line = line} {rest = rest} entry front_is split every e =
 abbrev pub begins : List ℕ → Bool
 begins text = starts_with nat_eq text (codes "answer ")
 
-pub answer-stands : (entry : TableEntry) (rest : List ℕ) → ¬ (begins (line (answer_words entry) rest) ≡ false)
+pub answer-stands : (entry : TableEntry) (rest : List ℕ) → ¬ (begins (line_then (answer_words entry) rest) ≡ false)
 answer-stands entry rest h = true≢false h
 
 -- where no answer comes, none does after these keys
@@ -74,7 +74,7 @@ after_of (Xor keys) rest = rest
 after_of (Table keys) rest = lines_of answer_words keys.entries rest
 
 pub party_text-line : (role : Role) (keys : FileKeys) (rest : List ℕ)
-    → party_text role keys rest ≡ line (role_word role ++ 32 ∷ words_of keys) (after_of keys rest)
+    → party_text role keys rest ≡ line_then (role_word role ++ 32 ∷ words_of keys) (after_of keys rest)
 party_text-line role (Xor keys) rest = refl
 party_text-line role (Table keys) rest = refl
 
@@ -87,7 +87,7 @@ lacks-party role keys h = lacks-append 10 (role_word role) (32 ∷ words_of keys
 
 -- what reading the next line of a text gives
 abbrev pub ReadsLine : List ℕ → List ℕ → List ℕ → Bool → Type 0
-ReadsLine text read after is_ended = (w b : List ℕ) → lacks 10 w ≡ true → text ≡ line w b → (read ≡ w) × (after ≡ b) × (is_ended ≡ true)
+ReadsLine text read after is_ended = (w b : List ℕ) → lacks 10 w ≡ true → text ≡ line_then w b → (read ≡ w) × (after ≡ b) × (is_ended ≡ true)
 
 -- the next line is the party's
 pub party-read : (role : Role) (keys : FileKeys) {text : List ℕ} (rest : List ℕ) {read after : List ℕ} {is_ended : Bool} → AreKeys keys → text ≡ party_text role keys rest

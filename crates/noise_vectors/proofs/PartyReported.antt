@@ -7,7 +7,7 @@ use Rattle.noise_events.specs.declared.window.Window.{Window}
 use Rattle.noise_names.specs.declared.token.Role.{Role}
 use Rattle.noise_vectors.specs.ReaderFaults.{ReportsAfter, ReportsDatagrams, ReportsParty, answer_lines, datagram_lines}
 use Rattle.noise_vectors.specs.VectorFile.{AreKeys}
-use Rattle.noise_vectors.specs.VectorText.{key_words, line, party_text, role_word, window_words}
+use Rattle.noise_vectors.specs.VectorText.{key_words, line_then, party_text, role_word, window_words}
 use Rattle.noise_vectors.specs.Words.{IsKey, lacks}
 use Rattle.noise_vectors.specs.declared.faults.VectorFault.{VectorFault}
 use Rattle.noise_vectors.specs.declared.file_keys.FileKeys.{FileKeys}
@@ -20,7 +20,7 @@ use Rattle.std.proofs.lemmas.Bool.{true_from_ne_false}
 
 -- the line of a party is that of its keys
 pub party-words : (role : Role) (keys : FileKeys) (words after rest : List ℕ) → lacks 10 words ≡ true → AreKeys keys
-    → line words after ≡ party_text role keys rest → words ≡ role_word role ++ 32 ∷ words_of keys
+    → line_then words after ≡ party_text role keys rest → words ≡ role_word role ++ 32 ∷ words_of keys
 party-words role keys words after rest plain h e =
     (parted-one 10 words (role_word role ++ 32 ∷ words_of keys) after (after_of keys rest) plain (lacks-party role keys h)
     (e ∙ party_text-line role keys rest)).0
@@ -38,14 +38,14 @@ pub xor-cut : (role : Role) (e s : Option (List ℕ)) (from reported words : Lis
 xor-cut role e s from reported words last text is =
     ap (λ (t : List ℕ). t ++ codes "\n") (last ∙ text ∙ ap (λ (t : List ℕ). role_word role ++ 32 ∷ t) is)
 
-pub table-line : (role : Role) (e s : Option (List ℕ)) (from reported words after : List ℕ) → from ≡ line reported after → reported ≡ role_word role ++ 32 ∷ words
-    → words ≡ codes "table " ++ key_words e s → from ≡ line (role_word role ++ (codes " table " ++ key_words e s)) after
+pub table-line : (role : Role) (e s : Option (List ℕ)) (from reported words after : List ℕ) → from ≡ line_then reported after → reported ≡ role_word role ++ 32 ∷ words
+    → words ≡ codes "table " ++ key_words e s → from ≡ line_then (role_word role ++ (codes " table " ++ key_words e s)) after
 table-line role e s from reported words after first text is =
-    first ∙ ap (λ (t : List ℕ). line t after) (text ∙ ap (λ (t : List ℕ). role_word role ++ 32 ∷ t) is)
+    first ∙ ap (λ (t : List ℕ). line_then t after) (text ∙ ap (λ (t : List ℕ). role_word role ++ 32 ∷ t) is)
 
 -- what is reported of a table's answers is reported of the party
 pub table-reported : (role : Role) (e s : Option (List ℕ)) (from after : List ℕ) (total : ℕ) (fault : VectorFault)
-    → from ≡ line (role_word role ++ (codes " table " ++ key_words e s)) after → IfSome e IsKey → IfSome s IsKey
+    → from ≡ line_then (role_word role ++ (codes " table " ++ key_words e s)) after → IfSome e IsKey → IfSome s IsKey
     → ReportsAfter answer_lines after total fault → ReportsParty role from total fault
 table-reported role e s from after total fault text he hs (inl is) = inl is
 table-reported role e s from after total fault text he hs (inr (inl (is, cut))) =
@@ -55,7 +55,7 @@ table-reported role e s from after total fault text he hs (inr (inl (is, cut))) 
       inr (
         Table (record { e = e; s = s; entries = cut.done }),
         (he, hs, cut.few, cut.are),
-        ap (λ (t : List ℕ). t ++ codes "\n") text ∙ append_assoc words (10 ∷ after) (codes "\n") ∙ ap (line words) cut.text_is,
+        ap (λ (t : List ℕ). t ++ codes "\n") text ∙ append_assoc words (10 ∷ after) (codes "\n") ∙ ap (line_then words) cut.text_is,
       ),
     ))
 table-reported role e s from after total fault text he hs (inr (inr w)) =
@@ -63,7 +63,7 @@ table-reported role e s from after total fault text he hs (inr (inr w)) =
       table = record { e = e; s = s; entries = w.done };
       are = (he, hs, w.few, w.are);
       left = w.left;
-      text_is = text ∙ ap (line (role_word role ++ (codes " table " ++ key_words e s))) w.text_is;
+      text_is = text ∙ ap (line_then (role_word role ++ (codes " table " ++ key_words e s))) w.text_is;
       begun = true_from_ne_false (starts_with nat_eq w.left (codes "answer ")) w.stands;
       it = w.it;
       full = w.full;
@@ -71,11 +71,11 @@ table-reported role e s from after total fault text he hs (inr (inr w)) =
 
 -- what is reported of the events is reported of the datagrams
 pub window-reported : (allowed : AllowedEvents) (window : Window) (from reported after : List ℕ) (total : ℕ) (fault : VectorFault)
-    → from ≡ line reported after → reported ≡ window_words window → ¬ (allowed ≡ SayOnly) → ReportsAfter datagram_lines after total fault
+    → from ≡ line_then reported after → reported ≡ window_words window → ¬ (allowed ≡ SayOnly) → ReportsAfter datagram_lines after total fault
     → ReportsDatagrams allowed from total fault
 window-reported allowed window from reported after total fault first text other (inl is) = inl is
 window-reported allowed window from reported after total fault first text other (inr (inl (is, cut))) =
-    let whole : from ≡ line (window_words window) after = first ∙ ap (λ (t : List ℕ). line t after) text in
+    let whole : from ≡ line_then (window_words window) after = first ∙ ap (λ (t : List ℕ). line_then t after) text in
     inr (inl (
       is,
       record {
@@ -85,7 +85,7 @@ window-reported allowed window from reported after total fault first text other 
         are = cut.are;
         few = cut.few;
         text_is = ap (λ (t : List ℕ). t ++ codes "\n") whole ∙ append_assoc (window_words window) (10 ∷ after) (codes "\n")
-            ∙ ap (line (window_words window)) cut.text_is;
+            ∙ ap (line_then (window_words window)) cut.text_is;
       },
     ))
 window-reported allowed window from reported after total fault first text other (inr (inr w)) =
@@ -93,6 +93,6 @@ window-reported allowed window from reported after total fault first text other 
       window = window;
       is_allowed = other;
       after = after;
-      text_is = first ∙ ap (λ (t : List ℕ). line t after) text;
+      text_is = first ∙ ap (λ (t : List ℕ). line_then t after) text;
       it = w;
     })))

@@ -8,7 +8,7 @@ use Rattle.noise_names.specs.Names.{IsSection, Section, is_section_byte, name_by
 use Rattle.noise_names.specs.Facts.{section_bytes-all}
 use Rattle.noise_vectors.specs.HexWord.{hex_of}
 use Rattle.noise_vectors.specs.VectorFile.{IsShort}
-use Rattle.noise_vectors.specs.VectorText.{line, psk_words}
+use Rattle.noise_vectors.specs.VectorText.{line_then, psk_words}
 use Rattle.noise_vectors.specs.Words.{IsKey, lacks}
 use Rattle.noise_vectors.proofs.LackLemmas.{all_weaker, lacks-append, lacks-encode_lower, lacks-hex_of}
 use Rattle.noise_vectors.proofs.WordLemmas.{lacks-decimal}
@@ -33,5 +33,5 @@ interval-plain interval h = lacks-decimal 10 interval (lit< tt) h
 pub psk-plain : (psk : List ℕ) → IsKey psk → lacks 10 (psk_words psk) ≡ true
 psk-plain psk h = lacks-encode_lower 10 psk (omega arith) h.1
 
-pub psk-stands : (psk rest : List ℕ) → ¬ (starts_with nat_eq (line (psk_words psk) rest) (codes "psk ") ≡ false)
+pub psk-stands : (psk rest : List ℕ) → ¬ (starts_with nat_eq (line_then (psk_words psk) rest) (codes "psk ") ≡ false)
 psk-stands psk rest h = true≢false h

@@ -14,9 +14,9 @@ use Rattle.noise_vectors.specs.HexWord.{hex_of}
 use Rattle.noise_vectors.specs.ReaderFaults.{IsHeaderLine, IsIntervalLine, IsPrologueLine, IsProtocolLine, ReportsBlock, ReportsLine}
 use Rattle.noise_vectors.specs.SameFile.{expected_of}
 use Rattle.noise_names.specs.WrongText.{line_feeds}
-use Rattle.noise_vectors.specs.WrongLine.{IsCutShort, IsOpenBlock, IsReported, up_to_interval, up_to_prologue, up_to_protocol}
+use Rattle.noise_vectors.specs.WrongLine.{IsCutFile, IsOpenBlock, IsReported, up_to_interval, up_to_prologue, up_to_protocol}
 use Rattle.noise_vectors.specs.VectorFile.{ArePsks, IsAllowed, IsAllowedFile, IsAllowedVersion, IsEvent, IsExpected, IsOwn, IsShort, IsVectorFile, IsVersion}
-use Rattle.noise_vectors.specs.VectorText.{block_text, header_words, is_second, line, text_of, version_text}
+use Rattle.noise_vectors.specs.VectorText.{block_text, header_words, is_second, line_then, file_text, version_text}
 use Rattle.noise_vectors.specs.Words.{IsKey}
 use Rattle.noise_vectors.specs.declared.faults.LineKind.TheVariants as kinds
 use Rattle.noise_vectors.specs.declared.faults.VectorFault.{VectorFault}
@@ -165,13 +165,13 @@ header-reported alloc allowed text left total fault e all (inr (inl (is, inl non
 header-reported alloc allowed text left total fault e all (inr (inl (is, inr (second, one, words)))) =
     let file = plain alloc second nn None in
     reported-of allowed text fault (Line (total + 1) kinds.Ending) is (inl (cut-within allowed text left (total + 1) file (λ rest. rest)
-    (line (header_words second)) (after_header file) (plain-right alloc second nn None nn-section nn-own) (plain-allowed alloc allowed second nn None one)
+    (line_then (header_words second)) (after_header file) (plain-right alloc second nn None nn-section nn-own) (plain-allowed alloc allowed second nn None one)
     (λ rest. refl) (front-line (header_words second)) e (ap (λ (t : List ℕ). t ++ codes "\n") words)
-    (ap (λ (s : Bool). line (header_words s) (after_header file)) (version_of-second alloc second)) (next-number text total all)))
+    (ap (λ (s : Bool). line_then (header_words s) (after_header file)) (version_of-second alloc second)) (next-number text total all)))
 header-reported alloc allowed text left total fault e all (inr (inr (it, bad))) =
     let file = plain alloc false nn None in
     reported-of allowed text fault (Line it.number kinds.Header) it.fault_is (reported-line allowed text left total kinds.Header fault (λ file rest. rest) file
-    (text_of file) (plain-right alloc false nn None nn-section nn-own) (plain-allowed alloc allowed false nn None (λ _. refl)) (λ rest. refl) refl e all it
+    (file_text file) (plain-right alloc false nn None nn-section nn-own) (plain-allowed alloc allowed false nn None (λ _. refl)) (λ rest. refl) refl e all it
     (λ other rest h allow same.
     let parts = parted-one 10 (header_words (is_second other.version)) it.reported (after_header other) rest (header-lacks (is_second other.version)) it.is_first.0 same in
     bad (is_second other.version, no-second allowed other.version allow.1, sym parts.0)))
@@ -179,7 +179,7 @@ header-reported alloc allowed text left total fault e all (inr (inr (it, bad))) 
 -- ---- the protocol
 
 -- the header of a file is the one that was read
-after-header : (second : Bool) (other : VectorFile) (rest : List ℕ) → text_of other ≡ line (header_words second) rest → after_header other ≡ rest
+after-header : (second : Bool) (other : VectorFile) (rest : List ℕ) → file_text other ≡ line_then (header_words second) rest → after_header other ≡ rest
 after-header true other rest e = (parted-one 10 (header_words (is_second other.version)) (header_words true) (after_header other) rest
     (header-lacks (is_second other.version)) refl e).1
 after-header false other rest e = (parted-one 10 (header_words (is_second other.version)) (header_words false) (after_header other) rest
@@ -187,8 +187,8 @@ after-header false other rest e = (parted-one 10 (header_words (is_second other.
 
 -- the text ends within the line of a name
 protocol-cut : (alloc : Global) (allowed : AllowedEvents) (text left : List ℕ) (second : Bool) (number : ℕ) (name : Section) (known : Option Plan)
-    → fundamental_of name.base ≡ known → text ≡ line (header_words second) left → (allowed ≡ VersionOne → second ≡ false) → IsSection name
-    → left ≡ codes "protocol " ++ name_bytes name → number ≡ line_feeds text + 1 → IsCutShort allowed text number ⊎ IsOpenBlock allowed text number
+    → fundamental_of name.base ≡ known → text ≡ line_then (header_words second) left → (allowed ≡ VersionOne → second ≡ false) → IsSection name
+    → left ≡ codes "protocol " ++ name_bytes name → number ≡ line_feeds text + 1 → IsCutFile allowed text number ⊎ IsOpenBlock allowed text number
 protocol-cut alloc allowed text left second number name None is e one h words n =
     inr (record {
       whole = text ++ codes "\n";
@@ -201,7 +201,7 @@ protocol-cut alloc allowed text left second number name None is e one h words n 
         unknown = is;
         left = [];
         text_is = ap (λ (t : List ℕ). t ++ codes "\n") e ∙ append_assoc (header_words second) (10 ∷ left) (codes "\n")
-            ∙ ap (λ (t : List ℕ). line (header_words second) (t ++ codes "\n")) words;
+            ∙ ap (λ (t : List ℕ). line_then (header_words second) (t ++ codes "\n")) words;
       };
       open_ = no-block [] refl (λ e. cc e);
       counted = n;
@@ -210,20 +210,20 @@ protocol-cut alloc allowed text left second number name (Some pattern) is e one 
     let own : IsOwn name None = ((λ some. absurd (false≢true some), λ none. subst (λ (o : Option Plan). IsSome o) (sym is ∙ none) refl), tt) in
     let file = plain alloc second name None in
     let here = codes "protocol " ++ name_bytes name in
-    inl (cut-within allowed text left number file (line (header_words second)) (line here) (after_protocol file) (plain-right alloc second name None h own)
+    inl (cut-within allowed text left number file (line_then (header_words second)) (line_then here) (after_protocol file) (plain-right alloc second name None h own)
     (plain-allowed alloc allowed second name None one) (front-line (header_words second)) (front-line here) e (ap (λ (t : List ℕ). t ++ codes "\n") words)
-    (ap (λ (s : Bool). line (header_words s) (after_header file)) (version_of-second alloc second)) n)
+    (ap (λ (s : Bool). line_then (header_words s) (after_header file)) (version_of-second alloc second)) n)
 
 pub protocol-reported : (alloc : Global) (allowed : AllowedEvents) (text left : List ℕ) (second : Bool) (total : ℕ) (fault : VectorFault)
-    → text ≡ line (header_words second) left → (allowed ≡ VersionOne → second ≡ false) → total ≡ line_feeds text
+    → text ≡ line_then (header_words second) left → (allowed ≡ VersionOne → second ≡ false) → total ≡ line_feeds text
     → ReportsLine IsProtocolLine left total kinds.Protocol fault → IsReported allowed text fault
 protocol-reported alloc allowed text left second total fault e one all (inl is) = reported-of allowed text fault Memory is tt
 protocol-reported alloc allowed text left second total fault e one all (inr (inl (is, inl none))) =
     let file = plain alloc second nn None in
-    reported-of allowed text fault (Line (total + 1) kinds.Ending) is (inl (cut-before allowed text left (total + 1) file (line (header_words second))
+    reported-of allowed text fault (Line (total + 1) kinds.Ending) is (inl (cut-before allowed text left (total + 1) file (line_then (header_words second))
     112 ((codes "rotocol " ++ name_bytes nn) ++ 10 ∷ after_protocol file) (plain-right alloc second nn None nn-section nn-own)
     (plain-allowed alloc allowed second nn None one) (front-line (header_words second)) e none
-    (ap (λ (s : Bool). line (header_words s) (after_header file)) (version_of-second alloc second))
+    (ap (λ (s : Bool). line_then (header_words s) (after_header file)) (version_of-second alloc second))
     (ended-line (header_words second) [] (inl refl)) (next-number text total all)))
 protocol-reported alloc allowed text left second total fault e one all (inr (inl (is, inr (name, h, words)))) =
     reported-of allowed text fault (Line (total + 1) kinds.Ending) is
@@ -232,20 +232,20 @@ protocol-reported alloc allowed text left second total fault e one all (inr (inr
     let file = plain alloc second nn None in
     reported-of allowed text fault (Line it.number kinds.Protocol) it.fault_is (reported-line allowed text left total kinds.Protocol fault up_to_protocol file
     (after_header file) (plain-right alloc second nn None nn-section nn-own) (plain-allowed alloc allowed second nn None one) (front-protocol file) refl
-    (e ∙ ap (λ (s : Bool). line (header_words s) left) (sym (version_of-second alloc second))) all it
+    (e ∙ ap (λ (s : Bool). line_then (header_words s) left) (sym (version_of-second alloc second))) all it
     (λ other rest h allow same.
     let parts = parted-one 10 (codes "protocol " ++ name_bytes other.protocol) it.reported (after_protocol other) rest
-    (protocol-plain other.protocol h.protocol) it.is_first.0 (after-header (is_second file.version) other (line it.reported rest) same) in
+    (protocol-plain other.protocol h.protocol) it.is_first.0 (after-header (is_second file.version) other (line_then it.reported rest) same) in
     bad (other.protocol, h.protocol, sym parts.0)))
 
 -- ---- the prologue
 
 -- the lines before the prologue are those that were read
 pub after-block : (second : Bool) (name : Section) (block : Option Plan) (other : VectorFile) (rest : List ℕ) → IsVectorFile other → IsSection name
-    → IsOwn name block → text_of other ≡ line (header_words second) (line (codes "protocol " ++ name_bytes name) (block_text block rest))
+    → IsOwn name block → file_text other ≡ line_then (header_words second) (line_then (codes "protocol " ++ name_bytes name) (block_text block rest))
     → after_block other ≡ rest
 after-block second name block other rest h k own e =
-    let header = after-header second other (line (codes "protocol " ++ name_bytes name) (block_text block rest)) e in
+    let header = after-header second other (line_then (codes "protocol " ++ name_bytes name) (block_text block rest)) e in
     let parts = parted-one 10 (codes "protocol " ++ name_bytes other.protocol) (codes "protocol " ++ name_bytes name) (after_protocol other)
     (block_text block rest) (protocol-plain other.protocol h.protocol) (protocol-plain name k) header in
     let same = name-one other.protocol name h.protocol k
@@ -254,13 +254,13 @@ after-block second name block other rest h k own e =
 
 -- the lines of a sample as far as its prologue
 prologue-text : (alloc : Global) (second : Bool) (file : VectorFile) (text left : List ℕ) → is_second file.version ≡ second
-    → text ≡ line (header_words second) (line (codes "protocol " ++ name_bytes file.protocol) (block_text file.block left))
+    → text ≡ line_then (header_words second) (line_then (codes "protocol " ++ name_bytes file.protocol) (block_text file.block left))
     → text ≡ up_to_prologue file left
 prologue-text alloc second file text left same e =
-    e ∙ ap (λ (s : Bool). line (header_words s) (line (codes "protocol " ++ name_bytes file.protocol) (block_text file.block left))) (sym same)
+    e ∙ ap (λ (s : Bool). line_then (header_words s) (line_then (codes "protocol " ++ name_bytes file.protocol) (block_text file.block left))) (sym same)
 
 pub prologue-reported : (alloc : Global) (allowed : AllowedEvents) (text left : List ℕ) (second : Bool) (name : Section) (block : Option Plan) (total : ℕ)
-    (fault : VectorFault) → text ≡ line (header_words second) (line (codes "protocol " ++ name_bytes name) (block_text block left))
+    (fault : VectorFault) → text ≡ line_then (header_words second) (line_then (codes "protocol " ++ name_bytes name) (block_text block left))
     → (allowed ≡ VersionOne → second ≡ false) → IsSection name → IsOwn name block → total ≡ line_feeds text
     → ReportsLine IsPrologueLine left total kinds.Prologue fault → IsReported allowed text fault
 prologue-reported alloc allowed text left second name block total fault e one h own all (inl is) = reported-of allowed text fault Memory is tt
@@ -275,7 +275,7 @@ prologue-reported alloc allowed text left second name block total fault e one h 
     let file = sample alloc second name block (vec_of alloc bytes small) few.0 0 [] in
     let here = codes "prologue " ++ hex_of bytes in
     reported-of allowed text fault (Line (total + 1) kinds.Ending) is (inl (cut-within allowed text left (total + 1) file (up_to_prologue file)
-    (line here) (after_prologue file) (sample-right alloc second name block (vec_of alloc bytes small) few.0 0 [] h own few (lit< tt) none-psks)
+    (line_then here) (after_prologue file) (sample-right alloc second name block (vec_of alloc bytes small) few.0 0 [] h own few (lit< tt) none-psks)
     (sample-allowed alloc allowed second name block (vec_of alloc bytes small) few.0 0 [] one) (front-prologue file) (front-line here)
     (prologue-text alloc second file text left (version_of-second alloc second) e) (ap (λ (t : List ℕ). t ++ codes "\n") words) refl
     (next-number text total all)))
@@ -285,7 +285,7 @@ prologue-reported alloc allowed text left second name block total fault e one h 
     (after_block file) (plain-right alloc second name block h own) (plain-allowed alloc allowed second name block one) (front-prologue file) refl
     (prologue-text alloc second file text left (version_of-second alloc second) e) all it
     (λ other rest k allow same.
-    let after = after-block (is_second file.version) name block other (line it.reported rest) k h own same in
+    let after = after-block (is_second file.version) name block other (line_then it.reported rest) k h own same in
     let parts = parted-one 10 (codes "prologue " ++ hex_of other.prologue.items) it.reported (after_prologue other) rest
     (prologue-plain other.prologue.items k.prologue) it.is_first.0 after in
     bad (other.prologue.items, k.prologue, sym parts.0)))
@@ -294,8 +294,8 @@ prologue-reported alloc allowed text left second name block total fault e one h 
 
 pub interval-reported : (alloc : Global) (allowed : AllowedEvents) (text left : List ℕ) (second : Bool) (name : Section) (block : Option Plan)
     (prologue : Vec ℕ Global) (short : vec_len prologue ≤ 65535) (total : ℕ) (fault : VectorFault)
-    → text ≡ line (header_words second) (line (codes "protocol " ++ name_bytes name)
-    (block_text block (line (codes "prologue " ++ hex_of prologue.items) left)))
+    → text ≡ line_then (header_words second) (line_then (codes "protocol " ++ name_bytes name)
+    (block_text block (line_then (codes "prologue " ++ hex_of prologue.items) left)))
     → (allowed ≡ VersionOne → second ≡ false) → IsSection name → IsOwn name block → IsShort prologue.items
     → total ≡ line_feeds text → ReportsLine IsIntervalLine left total kinds.Interval fault → IsReported allowed text fault
 interval-reported alloc allowed text left second name block prologue short total fault e one h own few all (inl is) = reported-of allowed text fault Memory is tt
@@ -305,16 +305,16 @@ interval-reported alloc allowed text left second name block prologue short total
     105 ((codes "nterval " ++ decimal 0) ++ 10 ∷ after_interval file)
     (sample-right alloc second name block prologue short 0 [] h own few (lit< tt) none-psks)
     (sample-allowed alloc allowed second name block prologue short 0 [] one) (front-interval file)
-    (prologue-text alloc second file text (line (codes "prologue " ++ hex_of prologue.items) left) (version_of-second alloc second) e) none refl
+    (prologue-text alloc second file text (line_then (codes "prologue " ++ hex_of prologue.items) left) (version_of-second alloc second) e) none refl
     (ended-interval file [] (inl refl)) (next-number text total all)))
 interval-reported alloc allowed text left second name block prologue short total fault e one h own few all (inr (inl (is, inr (interval, small, words)))) =
     let file = sample alloc second name block prologue short interval [] in
     let here = codes "prologue " ++ hex_of prologue.items in
     let there = codes "interval " ++ decimal interval in
     reported-of allowed text fault (Line (total + 1) kinds.Ending) is (inl (cut-within allowed text left (total + 1) file (up_to_interval file)
-    (line there) (after_interval file) (sample-right alloc second name block prologue short interval [] h own few small none-psks)
+    (line_then there) (after_interval file) (sample-right alloc second name block prologue short interval [] h own few small none-psks)
     (sample-allowed alloc allowed second name block prologue short interval [] one) (front-interval file) (front-line there)
-    (prologue-text alloc second file text (line here left) (version_of-second alloc second) e) (ap (λ (t : List ℕ). t ++ codes "\n") words) refl
+    (prologue-text alloc second file text (line_then here left) (version_of-second alloc second) e) (ap (λ (t : List ℕ). t ++ codes "\n") words) refl
     (next-number text total all)))
 interval-reported alloc allowed text left second name block prologue short total fault e one h own few all (inr (inr (it, bad))) =
     let file = sample alloc second name block prologue short 0 [] in
@@ -322,10 +322,10 @@ interval-reported alloc allowed text left second name block prologue short total
     reported-of allowed text fault (Line it.number kinds.Interval) it.fault_is (reported-line allowed text left total kinds.Interval fault up_to_interval file
     (after_prologue file) (sample-right alloc second name block prologue short 0 [] h own few (lit< tt) none-psks)
     (sample-allowed alloc allowed second name block prologue short 0 [] one) (front-interval file) refl
-    (prologue-text alloc second file text (line here left) (version_of-second alloc second) e) all it
+    (prologue-text alloc second file text (line_then here left) (version_of-second alloc second) e) all it
     (λ other rest k allow same.
-    let after = after-block (is_second file.version) name block other (line here (line it.reported rest)) k h own same in
-    let parts = parted-one 10 (codes "prologue " ++ hex_of other.prologue.items) here (after_prologue other) (line it.reported rest)
+    let after = after-block (is_second file.version) name block other (line_then here (line_then it.reported rest)) k h own same in
+    let parts = parted-one 10 (codes "prologue " ++ hex_of other.prologue.items) here (after_prologue other) (line_then it.reported rest)
     (prologue-plain other.prologue.items k.prologue) (prologue-plain prologue.items few) after in
     let next = parted-one 10 (codes "interval " ++ decimal other.interval) it.reported (after_interval other) rest
     (interval-plain other.interval k.interval) it.is_first.0 parts.1 in
@@ -335,7 +335,7 @@ interval-reported alloc allowed text left second name block prologue short total
 
 -- a fault of the block comes of a name whose pattern a file spells
 pub block-reported : (alloc : Global) (allowed : AllowedEvents) (text left : List ℕ) (second : Bool) (name : Section) (total : ℕ) (fault : VectorFault)
-    → text ≡ line (header_words second) (line (codes "protocol " ++ name_bytes name) left)
+    → text ≡ line_then (header_words second) (line_then (codes "protocol " ++ name_bytes name) left)
     → (allowed ≡ VersionOne → second ≡ false) → IsSection name → fundamental_of name.base ≡ None → total ≡ line_feeds text
     → ReportsBlock name left total fault → IsReported allowed text fault
 block-reported alloc allowed text left second name total fault e one h unknown all (inl reports) =
@@ -350,16 +350,16 @@ block-reported alloc allowed text left second name total fault e one h unknown a
     let own : IsOwn name (Some it.pattern) = ((λ some. unknown, λ none. refl), (it.right, it.named)) in
     let file = plain alloc second name (Some it.pattern) in
     let here = codes "protocol " ++ name_bytes name in
-    let front = front-both (line (header_words second)) (line here) (front-line (header_words second)) (front-line here) in
+    let front = front-both (line_then (header_words second)) (line_then here) (front-line (header_words second)) (front-line here) in
     reported-of allowed text fault (Line (total + 1) kinds.Ending) it.fault_is (inl (cut-within allowed text left (total + 1) file
-    (λ rest. line (header_words second) (line here rest)) (block_text (Some it.pattern)) (after_block file)
+    (λ rest. line_then (header_words second) (line_then here rest)) (block_text (Some it.pattern)) (after_block file)
     (plain-right alloc second name (Some it.pattern) h own) (plain-allowed alloc allowed second name (Some it.pattern) one) front
     (front-block (Some it.pattern)) e
     (ap (λ (t : List ℕ). t ++ codes "\n") it.text_is ∙ append_assoc (pattern_text it.pattern) (codes "end") (codes "\n"))
-    (ap (λ (s : Bool). line (header_words s) (after_header file)) (version_of-second alloc second)) (next-number text total all)))
+    (ap (λ (s : Bool). line_then (header_words s) (after_header file)) (version_of-second alloc second)) (next-number text total all)))
 block-reported alloc allowed text left second name total fault e one h unknown all (inr (inr it)) =
     let whole = ap line_feeds e in
-    let header = feeds-line (header_words second) (line (codes "protocol " ++ name_bytes name) left) (header-lacks second) in
+    let header = feeds-line (header_words second) (line_then (codes "protocol " ++ name_bytes name) left) (header-lacks second) in
     let protocol = feeds-line (codes "protocol " ++ name_bytes name) left (protocol-plain name h) in
     reported-of allowed text fault (Line it.number kinds.Pattern) it.fault_is (record {
       it = record { second = second; is_allowed = one; name = name; is_section = h; unknown = unknown; left = left; text_is = e };

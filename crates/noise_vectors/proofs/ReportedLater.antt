@@ -16,7 +16,7 @@ use Rattle.noise_vectors.specs.ReaderFaults.{ReportsAfter, ReportsParty, event_l
 use Rattle.noise_names.specs.WrongText.{line_feeds}
 use Rattle.noise_vectors.specs.WrongLine.{IsFirstLine, IsReported, is_answer_line, is_psk_line, up_to_end, up_to_events, up_to_initiator, up_to_interval, up_to_responder}
 use Rattle.noise_vectors.specs.VectorFile.{ArePsks, IsAllowed, IsEvent, IsOwn, IsShort}
-use Rattle.noise_vectors.specs.VectorText.{AfterEvents, block_text, event_words, header_words, is_second, line, lines_of, party_text, psk_words, text_of, version_text}
+use Rattle.noise_vectors.specs.VectorText.{AfterEvents, block_text, event_words, header_words, is_second, line_then, lines_of, party_text, psk_words, file_text, version_text}
 use Rattle.noise_vectors.specs.declared.faults.LineKind.TheVariants as kinds
 use Rattle.noise_vectors.specs.declared.faults.VectorFault.{VectorFault}
 use Rattle.noise_vectors.specs.declared.faults.VectorFault.TheVariants.{Line, Memory}
@@ -38,17 +38,17 @@ use Rattle.std.proofs.lemmas.Bool.{true_from_ne_false}
 
 -- the lines of a sample as far as its interval
 sample-text : (second : Bool) (file : VectorFile) (text from : List ℕ) → is_second file.version ≡ second
-    → text ≡ line (header_words second) (line (codes "protocol " ++ name_bytes file.protocol)
-    (block_text file.block (line (codes "prologue " ++ hex_of file.prologue.items) (line (codes "interval " ++ decimal file.interval) from))))
-    → text ≡ up_to_interval file (line (codes "interval " ++ decimal file.interval) from)
+    → text ≡ line_then (header_words second) (line_then (codes "protocol " ++ name_bytes file.protocol)
+    (block_text file.block (line_then (codes "prologue " ++ hex_of file.prologue.items) (line_then (codes "interval " ++ decimal file.interval) from))))
+    → text ≡ up_to_interval file (line_then (codes "interval " ++ decimal file.interval) from)
 sample-text second file text from same e =
-    e ∙ ap (λ (s : Bool). line (header_words s) (line (codes "protocol " ++ name_bytes file.protocol)
-    (block_text file.block (line (codes "prologue " ++ hex_of file.prologue.items) (line (codes "interval " ++ decimal file.interval) from))))) (sym same)
+    e ∙ ap (λ (s : Bool). line_then (header_words s) (line_then (codes "protocol " ++ name_bytes file.protocol)
+    (block_text file.block (line_then (codes "prologue " ++ hex_of file.prologue.items) (line_then (codes "interval " ++ decimal file.interval) from))))) (sym same)
 
 pub psk-reported : (alloc : Global) (allowed : AllowedEvents) (text from : List ℕ) (second : Bool) (name : Section) (block : Option Plan)
     (prologue : Vec ℕ Global) (short : vec_len prologue ≤ 65535) (interval total : ℕ) (fault : VectorFault)
-    → text ≡ line (header_words second) (line (codes "protocol " ++ name_bytes name)
-    (block_text block (line (codes "prologue " ++ hex_of prologue.items) (line (codes "interval " ++ decimal interval) from))))
+    → text ≡ line_then (header_words second) (line_then (codes "protocol " ++ name_bytes name)
+    (block_text block (line_then (codes "prologue " ++ hex_of prologue.items) (line_then (codes "interval " ++ decimal interval) from))))
     → (allowed ≡ VersionOne → second ≡ false) → IsSection name → IsOwn name block → IsShort prologue.items → interval < 2 ^ 64
     → total ≡ line_feeds text → ReportsAfter psk_lines from total fault → IsReported allowed text fault
 psk-reported alloc allowed text from second name block prologue short interval total fault e one h own few small all (inl is) =
@@ -57,10 +57,10 @@ psk-reported alloc allowed text from second name block prologue short interval t
     let file = sample alloc second name block prologue short interval cut.done in
     let there = codes "interval " ++ decimal interval in
     reported-of allowed text fault (Line (total + 1) kinds.Ending) is (inl (cut-within allowed text from (total + 1) file
-    (λ rest. up_to_interval file (line there rest)) (lines_of psk_words cut.done) (after_psks file)
+    (λ rest. up_to_interval file (line_then there rest)) (lines_of psk_words cut.done) (after_psks file)
     (sample-right alloc second name block prologue short interval cut.done h own few small (cut.few, cut.are))
     (sample-allowed alloc allowed second name block prologue short interval cut.done one)
-    (front-both (up_to_interval file) (line there) (front-interval file) (front-line there)) (front-lines psk_words cut.done)
+    (front-both (up_to_interval file) (line_then there) (front-interval file) (front-line there)) (front-lines psk_words cut.done)
     (sample-text second file text from (version_of-second alloc second) e) cut.text_is refl (next-number text total all)))
 psk-reported alloc allowed text from second name block prologue short interval total fault e one h own few small all (inr (inr w)) =
     let file = sample alloc second name block prologue short interval w.done in
@@ -69,7 +69,7 @@ psk-reported alloc allowed text from second name block prologue short interval t
     reported-of allowed text fault (Line w.it.number kinds.Psk) w.it.fault_is (
       reported-line allowed text w.left total kinds.Psk fault up_to_initiator file (after_psks file) right
           (sample-allowed alloc allowed second name block prologue short interval w.done one) (front-initiator file) refl
-          (sample-text second file text from (version_of-second alloc second) e ∙ ap (λ (t : List ℕ). up_to_interval file (line there t)) w.text_is) all w.it
+          (sample-text second file text from (version_of-second alloc second) e ∙ ap (λ (t : List ℕ). up_to_interval file (line_then there t)) w.text_is) all w.it
           (λ other rest k allow same.
           let found = psk-more file other w.it.reported rest right k w.it.is_first.0
           (λ bad. w.stands (sym (other-begun w.it.reported w.left rest (codes "psk ") w.it.is_first refl) ∙ bad)) same in
@@ -83,8 +83,8 @@ psk-reported alloc allowed text from second name block prologue short interval t
 -- the lines up to the psks' last one are right
 pub past-psks : (alloc : Global) (allowed : AllowedEvents) (text left : List ℕ) (second : Bool) (name : Section) (block : Option Plan)
     (prologue : Vec ℕ Global) (short : vec_len prologue ≤ 65535) (interval : ℕ) (psks : List (List ℕ))
-    → text ≡ line (header_words second) (line (codes "protocol " ++ name_bytes name)
-    (block_text block (line (codes "prologue " ++ hex_of prologue.items) (line (codes "interval " ++ decimal interval) (lines_of psk_words psks left)))))
+    → text ≡ line_then (header_words second) (line_then (codes "protocol " ++ name_bytes name)
+    (block_text block (line_then (codes "prologue " ++ hex_of prologue.items) (line_then (codes "interval " ++ decimal interval) (lines_of psk_words psks left)))))
     → (allowed ≡ VersionOne → second ≡ false) → IsSection name → IsOwn name block → IsShort prologue.items → interval < 2 ^ 64 → ArePsks psks
     → BegunAt allowed second text left up_to_initiator
 past-psks alloc allowed text left second name block prologue short interval psks e one h own few small are =
@@ -126,7 +126,7 @@ initiator-reported allowed second text from total fault b over all (inr (inr (in
       reported-line allowed text from total kinds.Keys fault up_to_initiator b.file (after_psks b.file) b.is_file b.is_allowed (front-initiator b.file) refl
           b.text_is all it
           (λ other rest k allow same.
-          let after = at-initiator b.file other (line it.reported rest) b.is_file k
+          let after = at-initiator b.file other (line_then it.reported rest) b.is_file k
           (other-begun it.reported from rest (codes "psk ") it.is_first refl ∙ over) same in
           bad other.initiator (after_initiator other) rest k.initiator (sym after)),
       sym (same-begun it.reported from (codes "psk ") it.is_first refl) ∙ over,
@@ -140,7 +140,7 @@ initiator-reported allowed second text from total fault b over all (inr (inr (in
           (λ other rest k allow same.
           let found = party-more Initiator other.initiator w.table (after_initiator other) w.it.reported rest k.initiator w.are (initiator-ends other) w.it.is_first.0
           (λ no. true≢false (sym w.begun ∙ sym (other-begun w.it.reported w.left rest (codes "answer ") w.it.is_first refl) ∙ no))
-          (after-psks file other (line w.it.reported rest) right k same) in
+          (after-psks file other (line_then w.it.reported rest) right k same) in
           let full = w.full found.0 found.1 found.2 in
           let less = found.3 in
           absurd (omega (arith, full, less))),
@@ -153,7 +153,7 @@ answer-begun (Xor keys) words text first h = refl
 answer-begun (Table keys) words text first h = sym (same-begun words text (codes "answer ") first refl) ∙ h
 
 answer-other : (keys : FileKeys) (words text rest : List ℕ) → IsFirstLine words text → is_answer_line keys text ≡ false
-    → is_answer_line keys (line words rest) ≡ false
+    → is_answer_line keys (line_then words rest) ≡ false
 answer-other (Xor keys) words text rest first h = refl
 answer-other (Table keys) words text rest first h = other-begun words text rest (codes "answer ") first refl ∙ h
 
@@ -176,7 +176,7 @@ responder-reported allowed second text from total fault b over all (inr (inr (in
       reported-line allowed text from total kinds.Keys fault up_to_responder b.file (after_initiator b.file) b.is_file b.is_allowed (front-responder b.file) refl
           b.text_is all it
           (λ other rest k allow same.
-          let after = at-responder b.file other (line it.reported rest) b.is_file k
+          let after = at-responder b.file other (line_then it.reported rest) b.is_file k
           (answer-other b.file.initiator it.reported from rest it.is_first over) same in
           bad other.responder (after_responder other) rest k.responder (sym after)),
       answer-begun b.file.initiator it.reported from it.is_first over,
@@ -190,7 +190,7 @@ responder-reported allowed second text from total fault b over all (inr (inr (in
           (λ other rest k allow same.
           let found = party-more Responder other.responder w.table (after_responder other) w.it.reported rest k.responder w.are (responder-ends other) w.it.is_first.0
           (λ no. true≢false (sym w.begun ∙ sym (other-begun w.it.reported w.left rest (codes "answer ") w.it.is_first refl) ∙ no))
-          (after-initiator file other (line w.it.reported rest) right k same) in
+          (after-initiator file other (line_then w.it.reported rest) right k same) in
           let full = w.full found.0 found.1 found.2 in
           let less = found.3 in
           absurd (omega (arith, full, less))),
@@ -215,13 +215,13 @@ events-no_answer keys [] reported left rest h first e = answer-begun keys report
 events-no_answer keys (x ∷ xs) reported left rest h first e = absurd (no-line (event_words x) (lines_of event_words xs rest) (sym e))
 
 lines-no_answer : (keys : FileKeys) (events : List Event) (reported left rest : List ℕ) → is_answer_line keys (lines_of event_words events left) ≡ false
-    → IsFirstLine reported left → is_answer_line keys (lines_of event_words events (line reported rest)) ≡ false
+    → IsFirstLine reported left → is_answer_line keys (lines_of event_words events (line_then reported rest)) ≡ false
 lines-no_answer (Xor keys) events reported left rest h first = refl
 lines-no_answer (Table keys) [] reported left rest h first = answer-other (Table keys) reported left rest first h
 lines-no_answer (Table keys) (Say role payload cuts ∷ xs) reported left rest h first = refl
 lines-no_answer (Table keys) (_ ∷ xs) reported left rest h first = refl
 
-pub not-after : (reported left rest : List ℕ) → IsFirstLine reported left → ¬ AfterEvents left → ¬ AfterEvents (line reported rest)
+pub not-after : (reported left rest : List ℕ) → IsFirstLine reported left → ¬ AfterEvents left → ¬ AfterEvents (line_then reported rest)
 not-after reported left rest first bad (inl none) = no-line reported rest (sym none)
 not-after reported left rest first bad (inr (inl begun)) = bad (inr (inl (sym (other-begun reported left rest (codes "datagrams ") first refl) ∙ begun)))
 not-after reported left rest first bad (inr (inr begun)) = bad (inr (inr (sym (other-begun reported left rest (codes "expect ") first refl) ∙ begun)))
@@ -250,12 +250,12 @@ events-reported alloc allowed second text from total fault b over all (inr (inr 
     let none : is_answer_line file.responder (lines_of event_words w.done w.left) ≡ false =
     ap (is_answer_line file.responder) (sym w.text_is) ∙ over in
     reported-of allowed text fault (Line w.it.number kinds.Event) w.it.fault_is (record {
-      it = reported-line allowed text w.left total kinds.Event fault up_to_end file [] right (are.1, b.is_allowed.1) (front-end file) (sym (append-nil (text_of file)))
+      it = reported-line allowed text w.left total kinds.Event fault up_to_end file [] right (are.1, b.is_allowed.1) (front-end file) (sym (append-nil (file_text file)))
           (b.text_is ∙ ap (λ (t : List ℕ). up_to_events b.file t) w.text_is ∙ end-text file w.left b.bare) all w.it
           (λ other rest k allow same.
           let found = event-more allowed file other w.it.reported rest right k (are.1, b.is_allowed.1) allow
           (lines-no_answer file.responder w.done w.it.reported w.left rest none w.it.is_first) w.it.is_first.0
-          (not-after w.it.reported w.left rest w.it.is_first w.stands) (same ∙ sym (end-text file (line w.it.reported rest) b.bare)) in
+          (not-after w.it.reported w.left rest w.it.is_first w.stands) (same ∙ sym (end-text file (line_then w.it.reported rest) b.bare)) in
           w.full found.0 found.1 found.2);
       none_expected = b.quiet;
       no_answer = λ e. events-no_answer file.responder w.done w.it.reported w.left (version_text file.version) none w.it.is_first

@@ -4,7 +4,7 @@ use Rattle.std.specs.Bool.{nat_eq}
 use Rattle.std.specs.List.{starts_with}
 use Rattle.std.proofs.lemmas.Bool.{and_parts}
 use Rattle.std.proofs.lemmas.List.Sums.{count_by-le-length, sum_by-cons}
-use Rattle.noise_vectors.specs.VectorText.{line}
+use Rattle.noise_vectors.specs.VectorText.{line_then}
 use Rattle.noise_vectors.specs.Lines.{IsRead, last_number}
 use Rattle.noise_vectors.specs.ReaderFaults.{IsWrongFirst}
 use Rattle.noise_names.specs.WrongText.{line_feeds}
@@ -28,11 +28,11 @@ feed b h = at (b == 10) refl where
   at false e = rw e refl
 
 -- a line has one
-pub feeds-line : (words rest : List ℕ) → lacks 10 words ≡ true → line_feeds (line words rest) ≡ 1 + line_feeds rest
+pub feeds-line : (words rest : List ℕ) → lacks 10 words ≡ true → line_feeds (line_then words rest) ≡ 1 + line_feeds rest
 feeds-line [] rest h = sum_by-cons feed_of 10 rest
 feeds-line (b ∷ bs) rest h =
     let parts = and_parts (not (b == 10)) (lacks 10 bs) h in
-    let one = sum_by-cons feed_of b (line bs rest) in
+    let one = sum_by-cons feed_of b (line_then bs rest) in
     let more = feeds-line bs rest parts.1 in
     let none = feed b parts.0 in
     omega (arith, one, more, none)
@@ -51,7 +51,7 @@ feeds-plain (b ∷ bs) h =
 
 -- ---- what was read
 
-first-by : (text words rest : List ℕ) (is_ended : Bool) → (is_ended ≡ true → text ≡ line words rest) → (is_ended ≡ false → (text ≡ words) × ¬ (words ≡ []))
+first-by : (text words rest : List ℕ) (is_ended : Bool) → (is_ended ≡ true → text ≡ line_then words rest) → (is_ended ≡ false → (text ≡ words) × ¬ (words ≡ []))
     → lacks 10 words ≡ true → IsFirstLine words text
 first-by text words rest true ended last plain = (plain, inr (rest, ended refl))
 first-by text words rest false ended last plain = (plain, inl (last refl))
@@ -90,7 +90,7 @@ pub ending-reported : {before after : Lines} {words : List ℕ} {fault : VectorF
 ending-reported r (open_, is) = is ∙ ap (λ (k : ℕ). Line k kinds.Ending) (counted-last r open_)
 
 -- a line begins so where the text does
-begun-front : (words rest front : List ℕ) → lacks 10 front ≡ true → starts_with nat_eq (line words rest) front ≡ true → starts_with nat_eq words front ≡ true
+begun-front : (words rest front : List ℕ) → lacks 10 front ≡ true → starts_with nat_eq (line_then words rest) front ≡ true → starts_with nat_eq words front ≡ true
 begun-front words rest [] plain h = refl
 begun-front [] rest (f ∷ fs) plain h =
     let parts = and_parts (nat_eq f 10) _ h in
@@ -106,7 +106,7 @@ begun-line words text front (plain, inl (e, some)) lack h = rw (← e) h
 begun-line words text front (plain, inr (rest, e)) lack h = begun-front words rest front lack (subst (λ (t : List ℕ). starts_with nat_eq t front ≡ true) e h)
 
 -- and the text where the line does
-pub line-begun : (words rest front : List ℕ) → starts_with nat_eq words front ≡ true → starts_with nat_eq (line words rest) front ≡ true
+pub line-begun : (words rest front : List ℕ) → starts_with nat_eq words front ≡ true → starts_with nat_eq (line_then words rest) front ≡ true
 line-begun words rest [] h = refl
 line-begun [] rest (f ∷ fs) h = absurd (cc h)
 line-begun (b ∷ bs) rest (f ∷ fs) h =
@@ -129,6 +129,6 @@ same-begun words text front first lack =
 
 -- and so does that line with another text after it
 pub other-begun : (words text rest front : List ℕ) → IsFirstLine words text → lacks 10 front ≡ true
-    → starts_with nat_eq (line words rest) front ≡ starts_with nat_eq text front
+    → starts_with nat_eq (line_then words rest) front ≡ starts_with nat_eq text front
 other-begun words text rest front first lack =
-    same-begun words (line words rest) front (first.0, inr (rest, refl)) lack ∙ sym (same-begun words text front first lack)
+    same-begun words (line_then words rest) front (first.0, inr (rest, refl)) lack ∙ sym (same-begun words text front first lack)

@@ -14,7 +14,7 @@ use Rattle.noise_vectors.specs.ReaderFaults.{IsCutDatagrams, IsWrongDatagram, Is
 use Rattle.noise_names.specs.WrongText.{line_feeds}
 use Rattle.noise_vectors.specs.WrongLine.{IsFirstLine, IsReported, IsReportedLine, up_to_end, up_to_events}
 use Rattle.noise_vectors.specs.VectorFile.{IsAllowedFile, IsAllowedVersion, IsDatagramEvent, IsExpected, IsVectorFile, IsVersion}
-use Rattle.noise_vectors.specs.VectorText.{AfterDatagrams, AfterEvents, datagram_event_words, datagrams_text, event_words, expect_line, expect_words, header_words, is_second, line, lines_of, text_body, text_of, version_text, window_words}
+use Rattle.noise_vectors.specs.VectorText.{AfterDatagrams, AfterEvents, datagram_event_words, datagrams_text, event_words, expect_line, expect_words, header_words, is_second, line_then, lines_of, text_body, file_text, version_text, window_words}
 use Rattle.noise_vectors.specs.Words.{lacks}
 use Rattle.noise_vectors.specs.declared.faults.LineKind.{LineKind}
 use Rattle.noise_vectors.specs.declared.faults.LineKind.TheVariants as kinds
@@ -54,7 +54,7 @@ vecs_of-length alloc (x ∷ xs) h =
 vecs_of-lines : (alloc : Global) (xs : List (List ℕ)) (h : All Good xs) (rest : List ℕ)
     → lines_of expect_words (vecs_of alloc xs h) rest ≡ lines_of expect_line xs rest
 vecs_of-lines alloc [] h rest = refl
-vecs_of-lines alloc (x ∷ xs) h rest = ap (line (expect_line x)) (vecs_of-lines alloc xs (All-tail Good x xs h) rest)
+vecs_of-lines alloc (x ∷ xs) h rest = ap (line_then (expect_line x)) (vecs_of-lines alloc xs (All-tail Good x xs h) rest)
 
 vecs_of-right : (alloc : Global) (xs : List (List ℕ)) (h : All Good xs) → All (λ (words : Vec ℕ Global). IsExpected words.items) (vecs_of alloc xs h)
 vecs_of-right alloc [] h = All-nil (λ (words : Vec ℕ Global). IsExpected words.items)
@@ -80,15 +80,15 @@ two-allowed VersionOne a h g = absurd (g refl)
 -- the lines up to the events' last one are the same
 version-text : (file : VectorFile) (a : Additions) (text left : List ℕ) → is_second file.version ≡ true → text ≡ up_to_version file left
     → text ≡ up_to_version (with_version file (Two a)) left
-version-text file a text left second e = e ∙ ap (λ (s : Bool). line (header_words s) (text_body file left)) second
+version-text file a text left second e = e ∙ ap (λ (s : Bool). line_then (header_words s) (text_body file left)) second
 
 version-back : (file : VectorFile) (a : Additions) (text left : List ℕ) → is_second file.version ≡ true
     → text ≡ up_to_version (with_version file (Two a)) left → text ≡ up_to_version file left
-version-back file a text left second e = e ∙ ap (λ (s : Bool). line (header_words s) (text_body file left)) (sym second)
+version-back file a text left second e = e ∙ ap (λ (s : Bool). line_then (header_words s) (text_body file left)) (sym second)
 
 -- of another right file that goes on there, what it has after the events
 version-other : (allowed : AllowedEvents) (second : Bool) (text from : List ℕ) (b : BegunAt allowed second text from up_to_version) (other : VectorFile)
-    (rest : List ℕ) → IsVectorFile other → IsAllowedFile allowed other → AfterEvents rest → text_of other ≡ up_to_version b.file rest
+    (rest : List ℕ) → IsVectorFile other → IsAllowedFile allowed other → AfterEvents rest → file_text other ≡ up_to_version b.file rest
     → (version_text other.version ≡ rest) × (is_second other.version ≡ second)
 version-other allowed second text from b other rest k allow over e = (
   at-version allowed b.file other rest b.is_file k b.is_allowed allow over e,
@@ -97,14 +97,14 @@ version-other allowed second text from b other rest k allow over e = (
 
 -- it is of version 2
 second-other : (allowed : AllowedEvents) (text from : List ℕ) (b : BegunAt allowed true text from up_to_version) (other : VectorFile)
-    (rest : List ℕ) → IsVectorFile other → IsAllowedFile allowed other → AfterEvents rest → text_of other ≡ up_to_version b.file rest
+    (rest : List ℕ) → IsVectorFile other → IsAllowedFile allowed other → AfterEvents rest → file_text other ≡ up_to_version b.file rest
     → (a : Additions) × (other.version ≡ Two a) × (datagrams_text a.datagrams (lines_of expect_words a.expected.items []) ≡ rest)
 second-other allowed text from b other rest k allow over e =
     let parts = version-other allowed true text from b other rest k allow over e in
     let (a, is) = second-has other.version parts.1 in
     (a, is, sym (ap version_text is) ∙ parts.0)
 
-after-other : (reported left rest : List ℕ) → IsFirstLine reported left → ¬ (left ≡ []) → AfterEvents left → AfterEvents (line reported rest)
+after-other : (reported left rest : List ℕ) → IsFirstLine reported left → ¬ (left ≡ []) → AfterEvents left → AfterEvents (line_then reported rest)
 after-other reported left rest first some (inl none) = absurd (some none)
 after-other reported left rest first some (inr (inl begun)) = inr (inl (other-begun reported left rest (codes "datagrams ") first refl ∙ begun))
 after-other reported left rest first some (inr (inr begun)) = inr (inr (other-begun reported left rest (codes "expect ") first refl ∙ begun))
@@ -114,13 +114,13 @@ after-other reported left rest first some (inr (inr begun)) = inr (inr (other-be
 -- reported after the events alone
 event-at : (allowed : AllowedEvents) (second : Bool) (text from : List ℕ) (total : ℕ) (fault : VectorFault) (b : BegunAt allowed second text from up_to_version)
     → AfterEvents from → ¬ (from ≡ []) → total ≡ line_feeds text → (it : IsWrongFirst from total kinds.Event fault)
-    → ((other : VectorFile) (rest : List ℕ) → IsVectorFile other → IsAllowedFile allowed other → ¬ (text_of other ≡ up_to_version b.file (line it.reported rest)))
+    → ((other : VectorFile) (rest : List ℕ) → IsVectorFile other → IsAllowedFile allowed other → ¬ (file_text other ≡ up_to_version b.file (line_then it.reported rest)))
     → IsReported allowed text fault
 event-at allowed second text from total fault b over some all it wrong =
     reported-of allowed text fault (Line it.number kinds.Event) it.fault_is (record {
-      it = reported-line allowed text from total kinds.Event fault up_to_end b.file [] b.is_file b.is_allowed (front-end b.file) (sym (append-nil (text_of b.file)))
+      it = reported-line allowed text from total kinds.Event fault up_to_end b.file [] b.is_file b.is_allowed (front-end b.file) (sym (append-nil (file_text b.file)))
           (b.text_is ∙ end-text b.file from b.bare) all it
-          (λ other rest k allow same. wrong other rest k allow (same ∙ sym (end-text b.file (line it.reported rest) b.bare)));
+          (λ other rest k allow same. wrong other rest k allow (same ∙ sym (end-text b.file (line_then it.reported rest) b.bare)));
       none_expected = b.quiet;
       no_answer = λ e. answer-begun b.file.responder it.reported from it.is_first (after-no_answer b.file.responder from over);
     })
@@ -131,9 +131,9 @@ one-reported : (allowed : AllowedEvents) (text from : List ℕ) (total : ℕ) (f
 one-reported allowed text from total fault b over some all it =
     event-at allowed false text from total fault b over some all it
     (λ other rest k allow same.
-    let parts = version-other allowed false text from b other (line it.reported rest) k allow (after-other it.reported from rest it.is_first some over) same in
+    let parts = version-other allowed false text from b other (line_then it.reported rest) k allow (after-other it.reported from rest it.is_first some over) same in
     one-ends other.version it.reported rest parts.1 parts.0) where
-      one-ends : (version : Version) (reported rest : List ℕ) → is_second version ≡ false → ¬ (version_text version ≡ line reported rest)
+      one-ends : (version : Version) (reported rest : List ℕ) → is_second version ≡ false → ¬ (version_text version ≡ line_then reported rest)
       one-ends One reported rest e same = no-line reported rest same
       one-ends (Two a) reported rest e same = true≢false e
 
@@ -146,8 +146,8 @@ expected-begun [] = refl
 expected-begun (v ∷ vs) = refl
 
 window-wrong : (allowed : AllowedEvents) (over : Option FileDatagrams) (vs : List (Vec ℕ Global)) (reported rest : List ℕ) → lacks 10 reported ≡ true
-    → starts_with nat_eq (line reported rest) (codes "datagrams ") ≡ true → (allowed ≡ SayOnly → over ≡ None)
-    → ((window : Window) → reported ≡ window_words window → allowed ≡ SayOnly) → ¬ (datagrams_text over (lines_of expect_words vs []) ≡ line reported rest)
+    → starts_with nat_eq (line_then reported rest) (codes "datagrams ") ≡ true → (allowed ≡ SayOnly → over ≡ None)
+    → ((window : Window) → reported ≡ window_words window → allowed ≡ SayOnly) → ¬ (datagrams_text over (lines_of expect_words vs []) ≡ line_then reported rest)
 window-wrong allowed None vs reported rest plain begun without none e =
     true≢false (sym begun ∙ ap (λ (t : List ℕ). starts_with nat_eq t (codes "datagrams ")) (sym e) ∙ expected-begun vs)
 window-wrong allowed (Some d) vs reported rest plain begun without none e =
@@ -162,7 +162,7 @@ window-reported allowed text from total fault b over all w =
     let some = some-begun (codes "atagrams ") from 100 w.begun in
     event-at allowed true text from total fault b over some all w.it
     (λ other rest k allow same.
-    let found = second-other allowed text from b other (line w.it.reported rest) k allow (after-other w.it.reported from rest w.it.is_first some over) same in
+    let found = second-other allowed text from b other (line_then w.it.reported rest) k allow (after-other w.it.reported from rest w.it.is_first some over) same in
     window-wrong allowed found.0.datagrams found.0.expected.items w.it.reported rest w.it.is_first.0
     (other-begun w.it.reported from rest (codes "datagrams ") w.it.is_first refl ∙ w.begun)
     (no-datagrams allowed found.0 (subst (IsAllowedVersion allowed) found.1 allow.1)) w.none found.2)
@@ -181,19 +181,19 @@ two_of alloc over expected h small = record {
 
 -- lines of datagrams that go on otherwise than those of a file
 datagram-wrong : (over : Option FileDatagrams) (vs : List (Vec ℕ Global)) (window : Window) (done : List DatagramEvent) (reported rest : List ℕ)
-    → IfSome over (λ over. All IsDatagramEvent over.events.items) → All IsDatagramEvent done → lacks 10 reported ≡ true → ¬ AfterDatagrams (line reported rest)
+    → IfSome over (λ over. All IsDatagramEvent over.events.items) → All IsDatagramEvent done → lacks 10 reported ≡ true → ¬ AfterDatagrams (line_then reported rest)
     → ((x : DatagramEvent) → IsDatagramEvent x → ¬ (reported ≡ datagram_event_words x))
-    → ¬ (datagrams_text over (lines_of expect_words vs []) ≡ line (window_words window) (lines_of datagram_event_words done (line reported rest)))
+    → ¬ (datagrams_text over (lines_of expect_words vs []) ≡ line_then (window_words window) (lines_of datagram_event_words done (line_then reported rest)))
 datagram-wrong None vs window done reported rest h k plain bad full e =
     true≢false (ap (λ (t : List ℕ). starts_with nat_eq t (codes "datagrams ")) (sym e) ∙ expected-begun vs)
 datagram-wrong (Some d) vs window done reported rest h k plain bad full e =
     let parts = parted-one 10 (window_words d.window) (window_words window) (lines_of datagram_event_words d.events.items (lines_of expect_words vs []))
-    (lines_of datagram_event_words done (line reported rest)) (window_words-line d.window) (window_words-line window) e in
+    (lines_of datagram_event_words done (line_then reported rest)) (window_words-line d.window) (window_words-line window) e in
     let found = goes-on datagram_lines datagram_event_words-line datagram_event-stands done d.events.items reported rest (lines_of expect_words vs []) k h plain
     (expected-after vs) bad parts.1 in
     full found.0 found.1 found.2
 
-not-after : (reported left rest : List ℕ) → IsFirstLine reported left → ¬ AfterDatagrams left → ¬ AfterDatagrams (line reported rest)
+not-after : (reported left rest : List ℕ) → IsFirstLine reported left → ¬ AfterDatagrams left → ¬ AfterDatagrams (line_then reported rest)
 not-after reported left rest first bad (inl none) = no-line reported rest (sym none)
 not-after reported left rest first bad (inr begun) = bad (inr (sym (other-begun reported left rest (codes "expect ") first refl) ∙ begun))
 
@@ -221,17 +221,17 @@ datagram-reported alloc allowed text from total fault b one all w =
     let file = with_version b.file (Two a) in
     let right = version-right b.file (Two a) b.is_file (w.it.are, All-nil (λ (words : Vec ℕ Global). IsExpected words.items)) in
     let allow_it : IsAllowedFile allowed file = (b.is_allowed.0, two-allowed allowed a (λ e. absurd (w.is_allowed e)) (λ e. true≢false (one e))) in
-    let lines = λ (rest : List ℕ). line (window_words w.window) (lines_of datagram_event_words w.it.done rest) in
-    let front : IsFront lines = front-both (line (window_words w.window)) (lines_of datagram_event_words w.it.done) (front-line (window_words w.window))
+    let lines = λ (rest : List ℕ). line_then (window_words w.window) (lines_of datagram_event_words w.it.done rest) in
+    let front : IsFront lines = front-both (line_then (window_words w.window)) (lines_of datagram_event_words w.it.done) (front-line (window_words w.window))
     (front-lines datagram_event_words w.it.done) in
     reported-of allowed text fault (Line w.it.it.number kinds.Event) w.it.it.fault_is (record {
-      it = reported-line allowed text w.it.left total kinds.Event fault up_to_end file [] right allow_it (front-end file) (sym (append-nil (text_of file)))
-          (version-text b.file a text from b.which b.text_is ∙ ap (up_to_version file) (w.text_is ∙ ap (line (window_words w.window)) w.it.text_is ∙ front w.it.left)
+      it = reported-line allowed text w.it.left total kinds.Event fault up_to_end file [] right allow_it (front-end file) (sym (append-nil (file_text file)))
+          (version-text b.file a text from b.which b.text_is ∙ ap (up_to_version file) (w.text_is ∙ ap (line_then (window_words w.window)) w.it.text_is ∙ front w.it.left)
           ∙ two-text b.file a w.it.left) all w.it.it
           (λ other rest k allow same.
-          let here = version-back b.file a (text_of other) (lines (line w.it.it.reported rest)) b.which
-          (same ∙ sym (two-text b.file a (line w.it.it.reported rest)) ∙ ap (up_to_version file) (sym (front (line w.it.it.reported rest)))) in
-          let found = second-other allowed text from b other (lines (line w.it.it.reported rest)) k allow (inr (inl refl)) here in
+          let here = version-back b.file a (file_text other) (lines (line_then w.it.it.reported rest)) b.which
+          (same ∙ sym (two-text b.file a (line_then w.it.it.reported rest)) ∙ ap (up_to_version file) (sym (front (line_then w.it.it.reported rest)))) in
+          let found = second-other allowed text from b other (lines (line_then w.it.it.reported rest)) k allow (inr (inl refl)) here in
           let version : IsVersion (Two found.0) = subst IsVersion found.1 k.version in
           datagram-wrong found.0.datagrams found.0.expected.items w.window w.it.done w.it.it.reported rest version.0 w.it.are w.it.it.is_first.0
           (not-after w.it.it.reported w.it.left rest w.it.it.is_first w.it.stands) (λ x h e. w.it.full x h e) found.2);
@@ -247,10 +247,10 @@ datagram-cut : (alloc : Global) (allowed : AllowedEvents) (text from : List ℕ)
 datagram-cut alloc allowed text from total b one all cut =
     let a = two_of alloc (Some (over_of alloc cut.window cut.events cut.few)) [] nil-good (lit< tt) in
     let file = with_version b.file (Two a) in
-    inl (cut-within allowed text from (total + 1) file (up_to_version file) (λ rest. line (window_words cut.window) (lines_of datagram_event_words cut.events rest))
+    inl (cut-within allowed text from (total + 1) file (up_to_version file) (λ rest. line_then (window_words cut.window) (lines_of datagram_event_words cut.events rest))
     [] (version-right b.file (Two a) b.is_file (cut.are, All-nil (λ (words : Vec ℕ Global). IsExpected words.items)))
     (b.is_allowed.0, two-allowed allowed a (λ e. absurd (cut.is_allowed e)) (λ e. true≢false (one e))) (front-version file)
-    (front-both (line (window_words cut.window)) (lines_of datagram_event_words cut.events) (front-line (window_words cut.window))
+    (front-both (line_then (window_words cut.window)) (lines_of datagram_event_words cut.events) (front-line (window_words cut.window))
     (front-lines datagram_event_words cut.events)) (version-text b.file a text from b.which b.text_is) cut.text_is refl (next-number text total all))
 
 -- ---- what is expected
@@ -261,7 +261,7 @@ over-after None rest (inr begun) = inr (inr begun)
 over-after (Some d) rest h = inr (inl refl)
 
 expected-over : (done : List (List ℕ)) (reported left after rest : List ℕ) → after ≡ lines_of expect_line done left → AfterDatagrams after → ¬ (left ≡ [])
-    → IsFirstLine reported left → AfterDatagrams (lines_of expect_line done (line reported rest))
+    → IsFirstLine reported left → AfterDatagrams (lines_of expect_line done (line_then reported rest))
 expected-over [] reported left after rest e (inl none) some first = absurd (some (sym e ∙ none))
 expected-over [] reported left after rest e (inr begun) some first =
     inr (other-begun reported left rest (codes "expect ") first refl ∙ subst (λ (t : List ℕ). starts_with nat_eq t (codes "expect ") ≡ true) e begun)
@@ -290,10 +290,10 @@ past-datagrams (Some d) (Some o) vs text h k over e =
 expected-wrong : (over other : Option FileDatagrams) (vs : List (Vec ℕ Global)) (done : List (List ℕ)) (reported rest : List ℕ)
     → IfSome over (λ over. All IsDatagramEvent over.events.items) → IfSome other (λ over. All IsDatagramEvent over.events.items)
     → All (λ (words : Vec ℕ Global). IsExpected words.items) vs → All Good done → lacks 10 reported ≡ true
-    → AfterDatagrams (lines_of expect_line done (line reported rest)) → ((words : List ℕ) → Good words → ¬ (reported ≡ expect_line words))
-    → ¬ (datagrams_text other (lines_of expect_words vs []) ≡ datagrams_text over (lines_of expect_line done (line reported rest)))
+    → AfterDatagrams (lines_of expect_line done (line_then reported rest)) → ((words : List ℕ) → Good words → ¬ (reported ≡ expect_line words))
+    → ¬ (datagrams_text other (lines_of expect_words vs []) ≡ datagrams_text over (lines_of expect_line done (line_then reported rest)))
 expected-wrong over other vs done reported rest h k right are plain after full e =
-    let same = sym (partial-lines vs []) ∙ past-datagrams over other vs (lines_of expect_line done (line reported rest)) h k after e in
+    let same = sym (partial-lines vs []) ∙ past-datagrams over other vs (lines_of expect_line done (line_then reported rest)) h k after e in
     let found = goes-on expect_lines good-plain good-stands done (bytes_of vs) reported rest [] are (partial-good vs right) plain refl
     (λ none. no-line reported rest (sym none)) same in
     full found.0 found.1 found.2
@@ -317,15 +317,15 @@ expected-line-reported alloc allowed text from after left total kind fault b ove
     let file = with_version b.file (Two a) in
     reported-line allowed text left total kind fault up_to_end file []
     (version-right b.file (Two a) b.is_file (right, vecs_of-right alloc done are))
-    (b.is_allowed.0, two-allowed allowed a is_allowed (λ e. true≢false (one e))) (front-end file) (sym (append-nil (text_of file)))
+    (b.is_allowed.0, two-allowed allowed a is_allowed (λ e. true≢false (one e))) (front-end file) (sym (append-nil (file_text file)))
     (version-text b.file a text from b.which b.text_is ∙ ap (up_to_version file) (text_is ∙ ap (datagrams_text over) lines ∙ expected-text alloc over done are few left)
     ∙ two-text b.file a left) all it
     (λ other rest k allow same.
-    let whole = datagrams_text over (lines_of expect_line done (line it.reported rest)) in
+    let whole = datagrams_text over (lines_of expect_line done (line_then it.reported rest)) in
     let after_it = expected-over done it.reported left after rest lines stands some it.is_first in
-    let here = version-back b.file a (text_of other) whole b.which
-    (same ∙ sym (two-text b.file a (line it.reported rest)) ∙ ap (up_to_version file) (sym (expected-text alloc over done are few (line it.reported rest)))) in
-    let found = second-other allowed text from b other whole k allow (over-after over (lines_of expect_line done (line it.reported rest)) after_it) here in
+    let here = version-back b.file a (file_text other) whole b.which
+    (same ∙ sym (two-text b.file a (line_then it.reported rest)) ∙ ap (up_to_version file) (sym (expected-text alloc over done are few (line_then it.reported rest)))) in
+    let found = second-other allowed text from b other whole k allow (over-after over (lines_of expect_line done (line_then it.reported rest)) after_it) here in
     let version : IsVersion (Two found.0) = subst IsVersion found.1 k.version in
     expected-wrong over found.0.datagrams found.0.expected.items done it.reported rest right version.0 version.1 are it.is_first.0 after_it full found.2)
 

@@ -16,9 +16,9 @@ use Rattle.noise_events.specs.Windows.{width_of}
 use Rattle.noise_vectors.specs.Block.{IsInner}
 use Rattle.noise_vectors.specs.Block as Blocks
 use Rattle.noise_vectors.specs.HexWord.{hex_of}
-use Rattle.noise_vectors.specs.SameFile.{VectorTextsAreUnique, datagrams_of, expected_of, held_datagrams, number_of}
+use Rattle.noise_vectors.specs.SameFile.{VectorTextsAreUnique, version_datagrams, expected_of, held_datagrams, version_number}
 use Rattle.noise_vectors.specs.VectorFile.{AreKeys, IsDatagramEvent, IsOwn, IsVectorFile, IsVersion}
-use Rattle.noise_vectors.specs.VectorText.{block_text, datagram_event_words, datagrams_text, expect_words, header_words, is_second, key_words, line, lines_of, party_text, role_word, text_of, version_text, window_words}
+use Rattle.noise_vectors.specs.VectorText.{block_text, datagram_event_words, datagrams_text, expect_words, header_words, is_second, key_words, line_then, lines_of, party_text, role_word, file_text, version_text, window_words}
 use Rattle.noise_vectors.specs.WrongLine.{is_answer_line}
 use Rattle.noise_vectors.specs.declared.file_keys.FileKeys.{FileKeys}
 use Rattle.noise_vectors.specs.declared.file_keys.FileKeys.TheVariants.{Xor, Table}
@@ -39,18 +39,18 @@ use Rattle.noise_vectors.proofs.VectorLemmas.{after_block, after_header, after_i
 
 -- lines before `end` are those of one list
 inner-one : (xs ys : List (List ℕ)) (u v : List ℕ) → All IsInner xs → All IsInner ys
-    → lines_of Blocks.itself xs (line (codes "end") u) ≡ lines_of Blocks.itself ys (line (codes "end") v) → (xs ≡ ys) × (u ≡ v)
+    → lines_of Blocks.itself xs (line_then (codes "end") u) ≡ lines_of Blocks.itself ys (line_then (codes "end") v) → (xs ≡ ys) × (u ≡ v)
 inner-one [] [] u v h k e = (refl, (parted-one 10 (codes "end") (codes "end") u v refl refl e).1)
 inner-one [] (y ∷ ys) u v h k e =
     let good = All-head IsInner y ys k in
-    absurd (good.1 (sym (parted-one 10 (codes "end") y u (lines_of Blocks.itself ys (line (codes "end") v)) refl good.0 e).0))
+    absurd (good.1 (sym (parted-one 10 (codes "end") y u (lines_of Blocks.itself ys (line_then (codes "end") v)) refl good.0 e).0))
 inner-one (x ∷ xs) [] u v h k e =
     let good = All-head IsInner x xs h in
-    absurd (good.1 (parted-one 10 x (codes "end") (lines_of Blocks.itself xs (line (codes "end") u)) v good.0 refl e).0)
+    absurd (good.1 (parted-one 10 x (codes "end") (lines_of Blocks.itself xs (line_then (codes "end") u)) v good.0 refl e).0)
 inner-one (x ∷ xs) (y ∷ ys) u v h k e =
     let good = All-head IsInner x xs h in
     let also = All-head IsInner y ys k in
-    let parts = parted-one 10 x y (lines_of Blocks.itself xs (line (codes "end") u)) (lines_of Blocks.itself ys (line (codes "end") v)) good.0 also.0 e in
+    let parts = parted-one 10 x y (lines_of Blocks.itself xs (line_then (codes "end") u)) (lines_of Blocks.itself ys (line_then (codes "end") v)) good.0 also.0 e in
     let more = inner-one xs ys u v (All-tail IsInner x xs h) (All-tail IsInner y ys k) parts.1 in
     (cc (parts.0, more.0), more.1)
 
@@ -59,12 +59,12 @@ abbrev PatternsOnce : Type 0
 PatternsOnce = (text : List ℕ) (p q : Plan) → Spells text p → Spells text q → p ≡ q
 
 patterns-one : PatternsOnce → (p q : Plan) (u v : List ℕ) → IsPattern p → IsPattern q
-    → pattern_text p ++ line (codes "end") u ≡ pattern_text q ++ line (codes "end") v → (p ≡ q) × (u ≡ v)
+    → pattern_text p ++ line_then (codes "end") u ≡ pattern_text q ++ line_then (codes "end") v → (p ≡ q) × (u ≡ v)
 patterns-one once p q u v h k e =
     let lp = lined-pattern p h in
     let lq = lined-pattern q k in
-    let whole = sym (block-lines p h u (pattern_text p ++ line (codes "end") u) refl) ∙ e
-    ∙ block-lines q k v (pattern_text q ++ line (codes "end") v) refl in
+    let whole = sym (block-lines p h u (pattern_text p ++ line_then (codes "end") u) refl) ∙ e
+    ∙ block-lines q k v (pattern_text q ++ line_then (codes "end") v) refl in
     let parts = inner-one lp.before lq.before u v lp.inner lq.inner whole in
     let same : pattern_text p ≡ pattern_text q =
     lp.lines_are ∙ ap (λ (xs : List (List ℕ)). lines_of Blocks.itself xs []) parts.0 ∙ sym lq.lines_are in
@@ -78,8 +78,8 @@ blocks-after name (Some p) None u v h k e = absurd (cc (k.0.1 (h.0.0 refl)))
 blocks-after name (Some p) (Some q) u v h k e =
     let lp = lined-pattern p h.1.0 in
     let lq = lined-pattern q k.1.0 in
-    let whole = sym (block-lines p h.1.0 u (pattern_text p ++ line (codes "end") u) refl) ∙ e
-    ∙ block-lines q k.1.0 v (pattern_text q ++ line (codes "end") v) refl in
+    let whole = sym (block-lines p h.1.0 u (pattern_text p ++ line_then (codes "end") u) refl) ∙ e
+    ∙ block-lines q k.1.0 v (pattern_text q ++ line_then (codes "end") v) refl in
     (inner-one lp.before lq.before u v lp.inner lq.inner whole).1
 
 -- of one name, both files spell a pattern, or none does
@@ -130,7 +130,7 @@ party-one role a b u v h k hu hv e =
 
 -- ---- versions
 
-header-one : (a b : Version) → header_words (is_second a) ≡ header_words (is_second b) → number_of a ≡ number_of b
+header-one : (a b : Version) → header_words (is_second a) ≡ header_words (is_second b) → version_number a ≡ version_number b
 header-one One One e = refl
 header-one (Two a) (Two b) e = refl
 header-one a b e = absurd (numbers-apart _ _ (ap (λ (t : List ℕ). get_or t 7 0) e) refl)
@@ -156,24 +156,24 @@ over-one (Some a) (Some b) xs ys h k e =
     (cc (window, events.0), events.1)
 over-one _ _ _ _ h k e = absurd (cc (e))
 
-version-one : (a b : Version) → IsVersion a → IsVersion b → number_of a ≡ number_of b → version_text a ≡ version_text b
-    → (datagrams_of a ≡ datagrams_of b) × (expected_of a ≡ expected_of b)
+version-one : (a b : Version) → IsVersion a → IsVersion b → version_number a ≡ version_number b → version_text a ≡ version_text b
+    → (version_datagrams a ≡ version_datagrams b) × (expected_of a ≡ expected_of b)
 version-one One One h k n e = (refl, refl)
 version-one (Two a) (Two b) h k n e =
     let over = over-one a.datagrams b.datagrams a.expected.items b.expected.items h.0 k.0 e in
     (over.0, expected-one a.expected.items b.expected.items h.1 k.1 over.1)
-version-one a b h k n e = absurd (numbers-apart (number_of a) (number_of b) n refl)
+version-one a b h k n e = absurd (numbers-apart (version_number a) (version_number b) n refl)
 
 -- ---- whole files
 
 -- the first lines
 record Heads (f g : VectorFile) : Type 0 where
-  number : number_of f.version ≡ number_of g.version
+  number : version_number f.version ≡ version_number g.version
   protocol : f.protocol ≡ g.protocol
   block : f.block ≡ g.block
   after : after_block f ≡ after_block g
 
-heads-one : PatternsOnce → (f g : VectorFile) → IsVectorFile f → IsVectorFile g → text_of f ≡ text_of g → Heads f g
+heads-one : PatternsOnce → (f g : VectorFile) → IsVectorFile f → IsVectorFile g → file_text f ≡ file_text g → Heads f g
 heads-one once f g h k e =
     let header = parted-one 10 (header_words (is_second f.version)) (header_words (is_second g.version)) (after_header f) (after_header g) (header-lacks (is_second f.version))
     (header-lacks (is_second g.version)) e in

@@ -9,7 +9,7 @@ use Rattle.noise_events.specs.declared.event.Event.{Event}
 use Rattle.noise_events.specs.declared.event.Event.TheVariants.{Say}
 use Rattle.noise_vectors.specs.HexWord.{hex_of}
 use Rattle.noise_vectors.specs.VectorFile.{IsOwn}
-use Rattle.noise_vectors.specs.VectorText.{block_text, event_words, line, lines_of, party_text, psk_words, version_text}
+use Rattle.noise_vectors.specs.VectorText.{block_text, event_words, line_then, lines_of, party_text, psk_words, version_text}
 use Rattle.noise_vectors.specs.declared.file_keys.FileKeys.{FileKeys}
 use Rattle.noise_vectors.specs.declared.file_keys.FileKeys.TheVariants.{Xor, Table}
 use Rattle.noise_vectors.specs.declared.vector.VectorFile.{VectorFile}
@@ -30,16 +30,16 @@ abbrev pub after_interval : VectorFile → List ℕ
 after_interval file = lines_of psk_words file.psks.items (after_psks file)
 
 abbrev pub after_prologue : VectorFile → List ℕ
-after_prologue file = line (codes "interval " ++ decimal file.interval) (after_interval file)
+after_prologue file = line_then (codes "interval " ++ decimal file.interval) (after_interval file)
 
 abbrev pub after_block : VectorFile → List ℕ
-after_block file = line (codes "prologue " ++ hex_of file.prologue.items) (after_prologue file)
+after_block file = line_then (codes "prologue " ++ hex_of file.prologue.items) (after_prologue file)
 
 abbrev pub after_protocol : VectorFile → List ℕ
 after_protocol file = block_text file.block (after_block file)
 
 abbrev pub after_header : VectorFile → List ℕ
-after_header file = line (codes "protocol " ++ name_bytes file.protocol) (after_protocol file)
+after_header file = line_then (codes "protocol " ++ name_bytes file.protocol) (after_protocol file)
 
 -- ---- how the rest begins
 

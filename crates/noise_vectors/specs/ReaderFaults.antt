@@ -16,7 +16,7 @@ use Rattle.noise_vectors.specs.HexWord.{hex_of}
 use Rattle.noise_vectors.specs.OwnPattern.{HasName}
 use Rattle.noise_vectors.specs.VectorFile.{AreKeys, IsAllowed, IsDatagramEvent, IsEntry, IsEvent, IsExpected, IsShort}
 use Rattle.noise_vectors.specs.VectorText.{AfterDatagrams, AfterEvents, answer_words, datagram_event_words, datagrams_text, event_words, expect_line}
-use Rattle.noise_vectors.specs.VectorText.{header_words, line, lines_of, party_text, psk_words, window_words}
+use Rattle.noise_vectors.specs.VectorText.{header_words, line_then, lines_of, party_text, psk_words, window_words}
 use Rattle.noise_vectors.specs.Words.{IsKey}
 use Rattle.noise_names.specs.WrongText.{line_feeds}
 use Rattle.noise_vectors.specs.WrongLine.{Block, IsFirstLine, IsWrongIn}
@@ -169,7 +169,8 @@ pub record IsWrongAnswer (role : Role) (from : List ℕ) (total : ℕ) (fault : 
 abbrev pub IsWrongParty : Role → List ℕ → ℕ → VectorFault → Type 0
 IsWrongParty role from total fault =
     (it : IsWrongFirst from total kinds.Keys fault)
-    × ((keys : FileKeys) (rest after : List ℕ) → AreKeys keys → ¬ (line it.reported after ≡ party_text role keys rest))
+    × ((keys : FileKeys) (rest after : List ℕ) → AreKeys keys
+    → ¬ (line_then it.reported after ≡ party_text role keys rest))
 
 -- the text ends before the party's lines, or within the last of them
 abbrev pub IsCutParty : Role → List ℕ → Type 0
@@ -195,7 +196,7 @@ pub record IsWrongDatagram (allowed : AllowedEvents) (from : List ℕ) (total : 
   pub window : Window
   pub is_allowed : ¬ (allowed ≡ SayOnly)
   pub after : List ℕ
-  pub text_is : from ≡ line (window_words window) after
+  pub text_is : from ≡ line_then (window_words window) after
   pub it : IsWrongAfter datagram_lines after total fault
 
 -- the text ends within the last line of the datagrams
@@ -205,7 +206,7 @@ pub record IsCutDatagrams (allowed : AllowedEvents) (from : List ℕ) : Type 0 w
   pub events : List DatagramEvent
   pub are : All IsDatagramEvent events
   pub few : length events < 2 ^ 63
-  pub text_is : from ++ codes "\n" ≡ line (window_words window) (lines_of datagram_event_words events [])
+  pub text_is : from ++ codes "\n" ≡ line_then (window_words window) (lines_of datagram_event_words events [])
 
 abbrev pub ReportsDatagrams : AllowedEvents → List ℕ → ℕ → VectorFault → Type 0
 ReportsDatagrams allowed from total fault =

@@ -9,7 +9,7 @@ use Rattle.noise_events.specs.declared.event.Event.{Event}
 use Rattle.noise_events.specs.declared.event.Event.TheVariants.{Write, Say, Deliver, Raw}
 use Rattle.noise_names.specs.Lists.{bytes_of}
 use Rattle.noise_vectors.specs.VectorFile.{IsVectorFile}
-use Rattle.noise_vectors.specs.VectorText.{text_of}
+use Rattle.noise_vectors.specs.VectorText.{file_text}
 use Rattle.noise_vectors.specs.declared.vector.FileDatagrams.{FileDatagrams}
 use Rattle.noise_vectors.specs.declared.vector.VectorFile.{VectorFile}
 use Rattle.noise_vectors.specs.declared.vector.Version.{Version}
@@ -22,18 +22,18 @@ cuts_of (Write role payload) = []
 cuts_of (Deliver role number cuts) = cuts
 cuts_of (Raw role bytes) = []
 
-abbrev pub number_of : Version → ℕ
-number_of One = 1
-number_of (Two additions) = 2
+abbrev pub version_number : Version → ℕ
+version_number One = 1
+version_number (Two additions) = 2
 
 -- the window and the events of the datagrams, where there are any
 abbrev pub held_datagrams : Option FileDatagrams → Option (Window × List DatagramEvent)
 held_datagrams None = None
 held_datagrams (Some datagrams) = Some (datagrams.window, datagram_events_of datagrams.events.items)
 
-abbrev pub datagrams_of : Version → Option (Window × List DatagramEvent)
-datagrams_of One = None
-datagrams_of (Two additions) = held_datagrams additions.datagrams
+abbrev pub version_datagrams : Version → Option (Window × List DatagramEvent)
+version_datagrams One = None
+version_datagrams (Two additions) = held_datagrams additions.datagrams
 
 -- the lines that are expected
 abbrev pub expected_of : Version → List (List ℕ)
@@ -51,10 +51,10 @@ pub record SaySame (f g : VectorFile) : Type 0 where
   pub responder : f.responder ≡ g.responder
   pub events : events_of f.events.items ≡ events_of g.events.items
   pub cuts : map cuts_of f.events.items ≡ map cuts_of g.events.items
-  pub version : number_of f.version ≡ number_of g.version
-  pub datagrams : datagrams_of f.version ≡ datagrams_of g.version
+  pub version : version_number f.version ≡ version_number g.version
+  pub datagrams : version_datagrams f.version ≡ version_datagrams g.version
   pub expected : expected_of f.version ≡ expected_of g.version
 
 -- no text is that of two vector files that say different things
 abbrev pub VectorTextsAreUnique : Type 0
-VectorTextsAreUnique = (f g : VectorFile) → IsVectorFile f → IsVectorFile g → text_of f ≡ text_of g → SaySame f g
+VectorTextsAreUnique = (f g : VectorFile) → IsVectorFile f → IsVectorFile g → file_text f ≡ file_text g → SaySame f g

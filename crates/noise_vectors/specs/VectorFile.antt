@@ -14,7 +14,7 @@ use Rattle.noise_events.specs.declared.datagram_event.DatagramEvent.{DatagramEve
 use Rattle.noise_events.specs.declared.datagram_event.DatagramEvent.TheVariants as datagram
 use Rattle.noise_vectors.specs.Cuts.{AreCuts}
 use Rattle.noise_vectors.specs.OwnPattern.{HasName}
-use Rattle.noise_vectors.specs.VectorText.{text_of}
+use Rattle.noise_vectors.specs.VectorText.{file_text}
 use Rattle.noise_vectors.specs.Words.{IsKey}
 use Rattle.noise_vectors.specs.declared.faults.VectorFault.{VectorFault}
 use Rattle.noise_vectors.specs.declared.faults.VectorFault.TheVariants.{Line, Memory}
@@ -112,5 +112,5 @@ pub record IsVectorFile (file : VectorFile) : Type 0 where
 -- why a text isn't read: it is that of no vector file that is allowed, or memory ran out
 abbrev pub IsReadFault : AllowedEvents → List ℕ → VectorFault → Type 0
 IsReadFault allowed text (Line number kind) =
-    (file : VectorFile) → IsVectorFile file → IsAllowedFile allowed file → text ≡ text_of file → ⊥
+    (file : VectorFile) → IsVectorFile file → IsAllowedFile allowed file → text ≡ file_text file → ⊥
 IsReadFault allowed text Memory = ⊤

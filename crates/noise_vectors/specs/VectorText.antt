@@ -31,13 +31,13 @@ use Rattle.noise_vectors.specs.declared.words.EventKind.{EventKind}
 use Rattle.noise_vectors.specs.declared.words.EventKind.TheVariants as kinds
 
 -- a line with its LF (10), and the text after it
-abbrev pub line : List ℕ → List ℕ → List ℕ
-line text rest = text ++ 10 ∷ rest
+abbrev pub line_then : List ℕ → List ℕ → List ℕ
+line_then text rest = text ++ 10 ∷ rest
 
 -- a line for each, with these words, and the text after them
 abbrev pub lines_of : {A : Type 0} → (A → List ℕ) → List A → List ℕ → List ℕ
 lines_of words [] rest = rest
-lines_of words (x ∷ xs) rest = line (words x) (lines_of words xs rest)
+lines_of words (x ∷ xs) rest = line_then (words x) (lines_of words xs rest)
 
 -- a key as 64 digits, or a hyphen for none
 abbrev pub key_word : Option (List ℕ) → List ℕ
@@ -70,7 +70,7 @@ lengths_word (n ∷ ns) = join_with_byte 44 (map decimal (n ∷ ns))
 -- the pattern's text and the line after it, where the file spells one
 abbrev pub block_text : Option Plan → List ℕ → List ℕ
 block_text None rest = rest
-block_text (Some pattern) rest = PatternText.text_of pattern ++ line (codes "end") rest
+block_text (Some pattern) rest = PatternText.text_of pattern ++ line_then (codes "end") rest
 
 abbrev pub psk_words : List ℕ → List ℕ
 psk_words psk = codes "psk " ++ encode_lower psk
@@ -80,9 +80,9 @@ answer_words a = codes "answer " ++ (own_word a.own ++ 32 ∷ (encode_lower a.re
 
 -- a party's line, and the answers of its table
 abbrev pub party_text : Role → FileKeys → List ℕ → List ℕ
-party_text role (Xor keys) rest = line (role_word role ++ (codes " xor " ++ key_words keys.e keys.s)) rest
+party_text role (Xor keys) rest = line_then (role_word role ++ (codes " xor " ++ key_words keys.e keys.s)) rest
 party_text role (Table keys) rest =
-    line (role_word role ++ (codes " table " ++ key_words keys.e keys.s)) (lines_of answer_words keys.entries rest)
+    line_then (role_word role ++ (codes " table " ++ key_words keys.e keys.s)) (lines_of answer_words keys.entries rest)
 
 abbrev pub event_words : Event → List ℕ
 event_words (Say role payload cuts) =
@@ -111,7 +111,7 @@ window_words window = codes "datagrams " ++ decimal (width_of window)
 abbrev pub datagrams_text : Option FileDatagrams → List ℕ → List ℕ
 datagrams_text None rest = rest
 datagrams_text (Some datagrams) rest =
-    line (window_words datagrams.window) (lines_of datagram_event_words datagrams.events.items rest)
+    line_then (window_words datagrams.window) (lines_of datagram_event_words datagrams.events.items rest)
 
 abbrev pub expect_line : List ℕ → List ℕ
 expect_line words = codes "expect " ++ words
@@ -136,17 +136,17 @@ version_text (Two additions) = datagrams_text additions.datagrams (lines_of expe
 -- the lines of both versions after the header, and the text after them
 abbrev pub text_body : VectorFile → List ℕ → List ℕ
 text_body file rest =
-    line (codes "protocol " ++ name_bytes file.protocol)
+    line_then (codes "protocol " ++ name_bytes file.protocol)
     (block_text file.block
-    (line (codes "prologue " ++ hex_of file.prologue.items)
-    (line (codes "interval " ++ decimal file.interval)
+    (line_then (codes "prologue " ++ hex_of file.prologue.items)
+    (line_then (codes "interval " ++ decimal file.interval)
     (lines_of psk_words file.psks.items
     (party_text Initiator file.initiator
     (party_text Responder file.responder
     (lines_of event_words file.events.items rest)))))))
 
-abbrev pub text_of : VectorFile → List ℕ
-text_of file = line (header_words (is_second file.version)) (text_body file (version_text file.version))
+abbrev pub file_text : VectorFile → List ℕ
+file_text file = line_then (header_words (is_second file.version)) (text_body file (version_text file.version))
 
 -- what may stand after the lines of the events: nothing, the datagrams, or what is expected
 abbrev pub AfterEvents : List ℕ → Type 0

@@ -6,12 +6,12 @@ use Rattle.noise_names.specs.declared.faults.TextFault.{TextFault}
 use Rattle.noise_names.specs.declared.token.Role.TheVariants.{Initiator, Responder}
 use Rattle.noise_names.specs.Fundamental.{fundamental_of}
 use Rattle.noise_names.specs.Names.{IsSection, Section, name_bytes}
-use Rattle.noise_names.specs.WrongText.{IsTextFault, heading_of, line_feeds}
+use Rattle.noise_names.specs.WrongText.{IsEnded, IsTextFault, heading_of, line_feeds}
 use Rattle.noise_vectors.specs.Block.{IsInner, itself}
 use Rattle.noise_vectors.specs.HexWord.{hex_of}
 use Rattle.noise_vectors.specs.SameFile.{expected_of}
 use Rattle.noise_vectors.specs.VectorFile.{IsAllowedFile, IsVectorFile}
-use Rattle.noise_vectors.specs.VectorText.{block_text, header_words, is_second, line, lines_of, party_text, psk_words, text_of}
+use Rattle.noise_vectors.specs.VectorText.{block_text, header_words, is_second, line_then, lines_of, party_text, psk_words, file_text}
 use Rattle.noise_vectors.specs.Words.{lacks}
 use Rattle.noise_vectors.specs.declared.faults.LineKind.TheVariants as kinds
 use Rattle.noise_vectors.specs.declared.faults.VectorFault.{VectorFault}
@@ -25,31 +25,28 @@ use Rattle.noise_vectors.specs.declared.vector.VectorFile.{VectorFile}
 -- the text's first line: a line feed or the text's end follows it, and before the text's end there is at least one byte
 abbrev pub IsFirstLine : List ℕ → List ℕ → Type 0
 IsFirstLine words text = IsTrue (lacks 10 words)
-    × (((text ≡ words) × ¬ (words ≡ [])) ⊎ ((rest : List ℕ) × (text ≡ line words rest)))
-
--- each line of the text has its line feed
-abbrev pub IsEnded : List ℕ → Type 0
-IsEnded text = (text ≡ []) ⊎ ((front : List ℕ) × (text ≡ line front []))
+    × (((text ≡ words) × ¬ (words ≡ [])) ⊎ ((rest : List ℕ) × (text ≡ line_then words rest)))
 
 -- ---- places in a file
 
 -- the lines of a file before its protocol, and the text after them
 abbrev pub up_to_protocol : VectorFile → List ℕ → List ℕ
-up_to_protocol file rest = line (header_words (is_second file.version)) rest
+up_to_protocol file rest = line_then (header_words (is_second file.version)) rest
 
 -- those before its prologue
 abbrev pub up_to_prologue : VectorFile → List ℕ → List ℕ
 up_to_prologue file rest =
-    up_to_protocol file (line (codes "protocol " ++ name_bytes file.protocol) (block_text file.block rest))
+    up_to_protocol file (line_then (codes "protocol " ++ name_bytes file.protocol) (block_text file.block rest))
 
 -- those before its interval
 abbrev pub up_to_interval : VectorFile → List ℕ → List ℕ
-up_to_interval file rest = up_to_prologue file (line (codes "prologue " ++ hex_of file.prologue.items) rest)
+up_to_interval file rest = up_to_prologue file (line_then (codes "prologue " ++ hex_of file.prologue.items) rest)
 
 -- those before its initiator's keys, where a psk line too may stand
 abbrev pub up_to_initiator : VectorFile → List ℕ → List ℕ
 up_to_initiator file rest =
-    up_to_interval file (line (codes "interval " ++ decimal file.interval) (lines_of psk_words file.psks.items rest))
+    up_to_interval file
+    (line_then (codes "interval " ++ decimal file.interval) (lines_of psk_words file.psks.items rest))
 
 -- those before its responder's keys, where an answer of the initiator's table too may stand
 abbrev pub up_to_responder : VectorFile → List ℕ → List ℕ
@@ -61,7 +58,7 @@ up_to_events file rest = up_to_responder file (party_text Responder file.respond
 
 -- all of them
 abbrev pub up_to_end : VectorFile → List ℕ → List ℕ
-up_to_end file rest = text_of file ++ rest
+up_to_end file rest = file_text file ++ rest
 
 -- whether the line begins as that of a psk does
 abbrev pub is_psk_line : List ℕ → Bool
@@ -81,14 +78,14 @@ pub record IsReportedLine (allowed : AllowedEvents) (text : List ℕ) (number : 
   pub file : VectorFile
   pub is_file : IsVectorFile file
   pub is_allowed : IsAllowedFile allowed file
-  pub begun : (rest : List ℕ) × (text_of file ≡ up_to file rest)
+  pub begun : (rest : List ℕ) × (file_text file ≡ up_to file rest)
   pub reported : List ℕ  -- the line
   pub left : List ℕ  -- the text from that line on
   pub text_is : text ≡ up_to file left
   pub is_first : IsFirstLine reported left
   pub counted : number ≡ line_feeds (up_to file []) + 1
   pub wrong : (other : VectorFile) (rest : List ℕ) → IsVectorFile other → IsAllowedFile allowed other
-      → ¬ (text_of other ≡ up_to file (line reported rest))
+      → ¬ (file_text other ≡ up_to file (line_then reported rest))
 
 -- the keys of a party, where neither a psk nor an answer begins
 abbrev pub IsReportedKeys : AllowedEvents → List ℕ → ℕ → Type 0
@@ -107,7 +104,7 @@ IsReportedAnswer allowed text number =
 pub record IsReportedEvent (allowed : AllowedEvents) (text : List ℕ) (number : ℕ) : Type 0 where
   pub it : IsReportedLine allowed text number up_to_end
   pub none_expected : expected_of it.file.version ≡ []
-  pub no_answer : text_of it.file ≡ up_to_events it.file [] → IsFalse (is_answer_line it.file.responder it.reported)
+  pub no_answer : file_text it.file ≡ up_to_events it.file [] → IsFalse (is_answer_line it.file.responder it.reported)
 
 -- a line after one of what is expected
 abbrev pub IsReportedExpect : AllowedEvents → List ℕ → ℕ → Type 0
@@ -116,13 +113,13 @@ IsReportedExpect allowed text number =
 
 -- The text ends too early: some right file begins with it and goes on, with the line feed of the text's last line or
 -- with a further line. The number is that of this line.
-pub record IsCutShort (allowed : AllowedEvents) (text : List ℕ) (number : ℕ) : Type 0 where
+pub record IsCutFile (allowed : AllowedEvents) (text : List ℕ) (number : ℕ) : Type 0 where
   pub file : VectorFile
   pub is_file : IsVectorFile file
   pub is_allowed : IsAllowedFile allowed file
   pub next : ℕ
   pub rest : List ℕ
-  pub begun : text_of file ≡ text ++ next ∷ rest
+  pub begun : file_text file ≡ text ++ next ∷ rest
   pub ended : (next ≡ 10) ⊎ IsEnded text
   pub counted : number ≡ line_feeds text + 1
 
@@ -134,7 +131,7 @@ pub record HasOwnName (allowed : AllowedEvents) (text : List ℕ) : Type 0 where
   pub is_section : IsSection name
   pub unknown : fundamental_of name.base ≡ None
   pub left : List ℕ
-  pub text_is : text ≡ line (header_words second) (line (codes "protocol " ++ name_bytes name) left)
+  pub text_is : text ≡ line_then (header_words second) (line_then (codes "protocol " ++ name_bytes name) left)
 
 -- The lines of that pattern: those before the next line `end`. This may be the text's last one, without a line feed.
 pub record Block (left : List ℕ) : Type 0 where
@@ -155,7 +152,7 @@ pub record IsOpenBlock (allowed : AllowedEvents) (text : List ℕ) (number : ℕ
 
 -- the first of them is the pattern section of the name, and a colon
 abbrev pub HasHeading : Section → List ℕ → Type 0
-HasHeading name block = (rest : List ℕ) × (block ≡ line (heading_of name) rest)
+HasHeading name block = (rest : List ℕ) × (block ≡ line_then (heading_of name) rest)
 
 -- Which of those lines is wrong, counted from 1: the first, if it isn't that heading; else the one that is reported of
 -- them as the text of a pattern.
@@ -185,5 +182,5 @@ IsReported allowed text (Line number kinds.Keys) = IsReportedKeys allowed text n
 IsReported allowed text (Line number kinds.Answer) = IsReportedAnswer allowed text number
 IsReported allowed text (Line number kinds.Event) = IsReportedEvent allowed text number
 IsReported allowed text (Line number kinds.Expect) = IsReportedExpect allowed text number
-IsReported allowed text (Line number kinds.Ending) = IsCutShort allowed text number ⊎ IsOpenBlock allowed text number
+IsReported allowed text (Line number kinds.Ending) = IsCutFile allowed text number ⊎ IsOpenBlock allowed text number
 IsReported allowed text Memory = ⊤

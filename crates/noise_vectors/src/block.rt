@@ -9,7 +9,7 @@ ghost use Rattle.noise_names.specs.Text.{text_of as pattern_text};
 ghost use Rattle.noise_vectors.specs.Lines.{last_number};
 ghost use Rattle.noise_vectors.specs.Block.{IsInner, itself};
 ghost use Rattle.noise_vectors.specs.ReaderFaults.{ReportsBlock, ReportsOpen};
-ghost use Rattle.noise_vectors.specs.VectorText.{line, lines_of};
+ghost use Rattle.noise_vectors.specs.VectorText.{line_then, lines_of};
 ghost use Rattle.noise_vectors.specs.WrongLine.{Block, HasHeading, IsWrongIn};
 ghost use Rattle.noise_vectors.specs.OwnPattern.{HasName};
 
@@ -24,14 +24,14 @@ pub(crate) fn read_block(
     protocol: &ProtocolName,
 ) -> Result<Pattern, VectorFault>
     ensures text { IfOk result
-        (λ pattern. lines.old.rest.now ≡ pattern_text pattern ++ line (codes "end") lines.new.rest.now) }
+        (λ pattern. lines.old.rest.now ≡ pattern_text pattern ++ line_then (codes "end") lines.new.rest.now) }
     ensures right { IfOk result IsPattern }
     ensures named { IfOk result (λ pattern. HasName pattern protocol.now) }
     ensures counted { IfOk result (λ pattern. last_number lines.new ≡ last_number lines.old) }
     ensures reported { IsSection protocol.now
         → IfErr result (ReportsBlock protocol.now lines.old.rest.now (last_number lines.old)) }
     ensures every { (pattern : Plan) (rest : List ℕ) → IsPattern pattern → HasName pattern protocol.now
-        → lines.old.rest.now ≡ pattern_text pattern ++ line (codes "end") rest
+        → lines.old.rest.now ≡ pattern_text pattern ++ line_then (codes "end") rest
         → MatchResult result (λ read. (read ≡ pattern) × (lines.new.rest.now ≡ rest)) (λ fault. ⊥) }
 {
     let before = lines.number;
@@ -60,14 +60,15 @@ pub fn lines_before_end(text: &[u8]) -> Option<&[u8]>
 // The lines before the next line `end`, which is read too.
 fn take_block<'a>(lines: &mut Lines<'a>) -> Result<&'a [u8], VectorFault>
     ensures text { IfOk result
-        (λ text. IsTrue lines.new.is_ended → lines.old.rest.now ≡ text.now ++ line (codes "end") lines.new.rest.now) }
+        (λ text. IsTrue lines.new.is_ended
+        → lines.old.rest.now ≡ text.now ++ line_then (codes "end") lines.new.rest.now) }
     ensures block { IfOk result
         (λ text. (block : Block lines.old.rest.now) × (text.now ≡ lines_of itself block.lines [])) }
     ensures counted { IfOk result (λ text. IsTrue lines.new.is_ended → last_number lines.new ≡ last_number lines.old) }
     ensures last { IfOk result (λ text. IsFalse lines.new.is_ended → lines.new.number ≡ last_number lines.old + 1) }
     ensures reported { IfErr result (ReportsOpen lines.old.rest.now (last_number lines.old)) }
     ensures every { (before : List (List ℕ)) (rest : List ℕ) → All IsInner before
-        → lines.old.rest.now ≡ lines_of itself before (line (codes "end") rest)
+        → lines.old.rest.now ≡ lines_of itself before (line_then (codes "end") rest)
         → MatchResult result (λ text. (text.now ≡ lines_of itself before []) × (lines.new.rest.now ≡ rest)
         × IsTrue lines.new.is_ended) (λ fault. ⊥) }
 {

@@ -21,7 +21,7 @@ pub(crate) struct Lines<'a> {
 impl<'a> Lines<'a> {
     ghost use Rattle.std.specs.Prelude.{◌≡◌, ◌↔◌, [], List, ℕ, IsTrue, IsFalse, IsOk, IfOk, IfErr, OnErr, MatchResult};
     ghost use Rattle.noise_vectors.specs.Lines.{IsRead, last_number};
-    ghost use Rattle.noise_vectors.specs.VectorText.{line};
+    ghost use Rattle.noise_vectors.specs.VectorText.{line_then};
     ghost use Rattle.noise_vectors.specs.Words.{lacks};
 
     /// The text from its first line on.
@@ -38,7 +38,7 @@ impl<'a> Lines<'a> {
     /// The next line without its LF, or the fault that there is none.
     pub fn next(&mut self) -> Result<&'a [u8], VectorFault>
         ensures read { IfOk result (λ text. IsRead self.old text.now self.new) }
-        ensures every { (words after : List ℕ) → IsTrue (lacks 10 words) → self.old.rest.now ≡ line words after
+        ensures every { (words after : List ℕ) → IsTrue (lacks 10 words) → self.old.rest.now ≡ line_then words after
             → MatchResult result (λ text. (text.now ≡ words) × (self.new.rest.now ≡ after) × IsTrue self.new.is_ended)
             (λ fault. ⊥) }
         ensures shorter { IfOk result (λ text. length self.new.rest.now < length self.old.rest.now) }

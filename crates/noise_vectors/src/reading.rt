@@ -10,7 +10,7 @@ ghost use Rattle.noise_names.specs.Fundamental.{fundamental_of};
 ghost use Rattle.noise_vectors.specs.Lines.{last_number};
 ghost use Rattle.noise_vectors.specs.HexWord.{hex_of};
 ghost use Rattle.noise_vectors.specs.ReaderFaults.{IsHeaderLine, IsIntervalLine, IsPrologueLine, IsProtocolLine, ReportsAfter, ReportsBlock, ReportsLine, psk_lines};
-ghost use Rattle.noise_vectors.specs.VectorText.{block_text, header_words, line, lines_of, psk_words, text_of};
+ghost use Rattle.noise_vectors.specs.VectorText.{block_text, header_words, line_then, lines_of, psk_words, file_text};
 ghost use Rattle.noise_vectors.specs.WrongLine.{IsReported};
 ghost use Rattle.noise_vectors.specs.VectorFile.{ArePsks, IsAllowedFile, IsOwn, IsShort, IsVectorFile};
 ghost use Rattle.noise_vectors.specs.Words.{IsKey};
@@ -35,7 +35,7 @@ pub fn read_vector(
     text: &[u8],
     allowed: AllowedEvents,
 ) -> Result<VectorFile, VectorFault>
-    ensures text { IfOk result (λ file. text.now ≡ text_of file) }
+    ensures text { IfOk result (λ file. text.now ≡ file_text file) }
     ensures right { IfOk result IsVectorFile }
     ensures allowed { IfOk result (IsAllowedFile allowed) }
 
@@ -43,7 +43,7 @@ pub fn read_vector(
     ensures reported { IfErr result (IsReported allowed text.now) }
 
     // The text of a right file is refused only for lack of memory.
-    ensures every { (file : VectorFile) → IsVectorFile file → IsAllowedFile allowed file → text.now ≡ text_of file
+    ensures every { (file : VectorFile) → IsVectorFile file → IsAllowedFile allowed file → text.now ≡ file_text file
         → IfErr result (λ fault. fault ≡ Memory) }
 {
     let mut lines = Lines::new(text);
@@ -72,13 +72,13 @@ pub fn read_vector(
 
 // Whether the file is of version 2.
 fn read_header(lines: &mut Lines<'_>, allowed: AllowedEvents) -> Result<bool, VectorFault>
-    ensures text { IfOk result (λ second. lines.old.rest.now ≡ line (header_words second) lines.new.rest.now) }
+    ensures text { IfOk result (λ second. lines.old.rest.now ≡ line_then (header_words second) lines.new.rest.now) }
     ensures allowed { IfOk result (λ second. allowed ≡ VersionOne → second ≡ false) }
     ensures counted { IfOk result (λ second. last_number lines.new ≡ last_number lines.old) }
     ensures reported { IfErr result
         (ReportsLine (IsHeaderLine allowed) lines.old.rest.now (last_number lines.old) LineKind.Header) }
     ensures every { (second : Bool) (rest : List ℕ) → (allowed ≡ VersionOne → second ≡ false)
-        → lines.old.rest.now ≡ line (header_words second) rest
+        → lines.old.rest.now ≡ line_then (header_words second) rest
         → MatchResult result (λ read. (read ≡ second) × (lines.new.rest.now ≡ rest)) (λ fault. ⊥) }
 {
     let line = lines.next()?;
@@ -108,13 +108,13 @@ fn is_second(line: &[u8]) -> Option<bool>
 
 fn read_protocol(lines: &mut Lines<'_>) -> Result<ProtocolName, VectorFault>
     ensures text { IfOk result
-        (λ name. lines.old.rest.now ≡ line (codes "protocol " ++ name_bytes name) lines.new.rest.now) }
+        (λ name. lines.old.rest.now ≡ line_then (codes "protocol " ++ name_bytes name) lines.new.rest.now) }
     ensures right { IfOk result IsSection }
     ensures counted { IfOk result (λ name. last_number lines.new ≡ last_number lines.old) }
     ensures reported { IfErr result
         (ReportsLine IsProtocolLine lines.old.rest.now (last_number lines.old) LineKind.Protocol) }
     ensures every { (name : Section) (rest : List ℕ) → IsSection name
-        → lines.old.rest.now ≡ line (codes "protocol " ++ name_bytes name) rest
+        → lines.old.rest.now ≡ line_then (codes "protocol " ++ name_bytes name) rest
         → MatchResult result (λ read. (read ≡ name) × (lines.new.rest.now ≡ rest)) (λ fault. ⊥) }
 {
     let line = lines.next()?;
@@ -158,14 +158,14 @@ fn read_own_pattern(
 
 fn read_prologue(alloc: Global, lines: &mut Lines<'_>) -> Result<Vec<u8>, VectorFault>
     ensures text { IfOk result
-        (λ bytes. lines.old.rest.now ≡ line (codes "prologue " ++ hex_of bytes.items) lines.new.rest.now) }
+        (λ bytes. lines.old.rest.now ≡ line_then (codes "prologue " ++ hex_of bytes.items) lines.new.rest.now) }
     ensures bound { IfOk result (λ bytes. vec_len bytes ≤ 65535) }
     ensures right { IfOk result (λ bytes. IsShort bytes.items) }
     ensures counted { IfOk result (λ bytes. last_number lines.new ≡ last_number lines.old) }
     ensures reported { IfErr result
         (ReportsLine IsPrologueLine lines.old.rest.now (last_number lines.old) LineKind.Prologue) }
     ensures every { (bytes rest : List ℕ) → IsShort bytes
-        → lines.old.rest.now ≡ line (codes "prologue " ++ hex_of bytes) rest
+        → lines.old.rest.now ≡ line_then (codes "prologue " ++ hex_of bytes) rest
         → MatchResult result (λ read. lines.new.rest.now ≡ rest) (λ fault. fault ≡ Memory) }
 {
     let line = lines.next()?;
@@ -192,12 +192,12 @@ fn prologue_of(alloc: Global, line: &[u8]) -> Result<Option<Vec<u8>>, AllocError
 
 fn read_interval(lines: &mut Lines<'_>) -> Result<u64, VectorFault>
     ensures text { IfOk result
-        (λ interval. lines.old.rest.now ≡ line (codes "interval " ++ decimal interval) lines.new.rest.now) }
+        (λ interval. lines.old.rest.now ≡ line_then (codes "interval " ++ decimal interval) lines.new.rest.now) }
     ensures counted { IfOk result (λ interval. last_number lines.new ≡ last_number lines.old) }
     ensures reported { IfErr result
         (ReportsLine IsIntervalLine lines.old.rest.now (last_number lines.old) LineKind.Interval) }
     ensures every { (interval : ℕ) (rest : List ℕ) → interval < 2 ^ 64
-        → lines.old.rest.now ≡ line (codes "interval " ++ decimal interval) rest
+        → lines.old.rest.now ≡ line_then (codes "interval " ++ decimal interval) rest
         → IsOk result × (lines.new.rest.now ≡ rest) }
 {
     let line = lines.next()?;

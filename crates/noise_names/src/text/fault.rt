@@ -12,7 +12,7 @@ ghost use Rattle.noise_names.specs.Names.{Section, IsSection, are_places};
 ghost use Rattle.noise_names.specs.Text.{line, words};
 ghost use Rattle.noise_names.specs.Tokens.{is_psk, own_tokens, turn_from};
 ghost use Rattle.noise_names.specs.WrongText.{IsTextFault, arrow_then, dots, first_line, has_dots, heading_of};
-ghost use Rattle.noise_names.specs.Judging.{HasTokens, IsFirstLine, IsJudged, IsPassed, Passed, Matches};
+ghost use Rattle.noise_names.specs.Judging.{HasTokens, IsLineBefore, IsNextJudged, IsPassed, Passed, Matches};
 
 use super::read::{first_word, is_pre_message, read_arrow, read_heading};
 use crate::psks::message_with_psks;
@@ -79,7 +79,7 @@ struct Line<'a> {
 
 fn first_line(text: &[u8]) -> Line<'_>
     ensures bytes { result.bytes.now ≡ first_line text.now }
-    ensures whole { IsFirstLine text.now result.bytes.now result.ended result.after.now }
+    ensures whole { IsLineBefore text.now result.bytes.now result.ended result.after.now }
 {
     let (bytes, after) = text.split_at(line_len(text));
     match after.split_first() {
@@ -150,7 +150,7 @@ impl Judged {
     // What was judged after one more line, or what is wrong in it.
     fn judge(self, places: &[u8], bytes: &[u8]) -> Result<Judged, TextFaultKind>
         ensures { (s : Passed) (dotted : Bool) → Matches self s → IsPassed places.now dotted s
-            → IsJudged places.now dotted s bytes.now result }
+            → IsNextJudged places.now dotted s bytes.now result }
     {
         if is_dots(bytes) {
             return self.judge_dots();
@@ -170,7 +170,7 @@ impl Judged {
 
     fn judge_dots(self) -> Result<Judged, TextFaultKind>
         ensures { (places : List ℕ) (s : Passed) (dotted : Bool) → Matches self s → IsPassed places dotted s
-            → IsJudged places dotted s dots result }
+            → IsNextJudged places dotted s dots result }
     {
         if self.dots_ahead && self.has_begun() {
             Ok(Judged {
@@ -193,7 +193,7 @@ impl Judged {
         requires { IsTrue self.dots_ahead }
         ensures { (places : List ℕ) (s : Passed) (dotted : Bool) (tokens : List Token) → Matches self s
             → IsPassed places dotted s → HasTokens list.now tokens
-            → IsJudged places dotted s (arrow_then role (words tokens)) result }
+            → IsNextJudged places dotted s (arrow_then role (words tokens)) result }
     {
         if self.is_barred(role) || !is_pre_message(&list.first) {
             return Err(TextFaultKind::PreMessage);
@@ -224,7 +224,7 @@ impl Judged {
         requires { IsFalse self.dots_ahead }
         ensures { (s : Passed) (dotted : Bool) (tokens : List Token) → Matches self s
             → IsPassed places.now dotted s → HasTokens list.now tokens
-            → IsJudged places.now dotted s (arrow_then role (words tokens)) result }
+            → IsNextJudged places.now dotted s (arrow_then role (words tokens)) result }
     {
         if !self.is_turn(role) {
             return Err(TextFaultKind::Turn);

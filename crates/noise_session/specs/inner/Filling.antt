@@ -6,10 +6,10 @@ use Rattle.noise_session.specs.Counting.{one_more}
 use Rattle.noise_session.specs.Frames.{IsPartial, IsWhole}
 
 -- what has come of a frame after a reading of its missing bytes
-abbrev pub Leaves : Filling → List ℕ → Type 0
-Leaves Filled bytes = IsWhole bytes
-Leaves End bytes = IsPartial bytes
-Leaves Failed bytes = IsPartial bytes
+abbrev pub FillingLeaves : Filling → List ℕ → Type 0
+FillingLeaves Filled bytes = IsWhole bytes
+FillingLeaves End bytes = IsPartial bytes
+FillingLeaves Failed bytes = IsPartial bytes
 
 -- how many calls of the reader have failed then
 abbrev pub after_filling : ℕ → Filling → ℕ

@@ -19,12 +19,12 @@ known_through reads known (t ∷ ts) [] = known
 known_through reads known (t ∷ ts) (x ∷ xs) = known_through reads (known_next reads known t x) ts xs
 
 -- one text for each token, each of which fits after those before it
-abbrev pub Carries : Bool → Reader → Remote → List (List ℕ) → List Token → List (List ℕ) → Type 0
-Carries reads v known psks [] [] = Unit {0}
-Carries reads v known psks [] (x ∷ xs) = ⊥
-Carries reads v known psks (t ∷ ts) [] = ⊥
-Carries reads v known psks (t ∷ ts) (x ∷ xs) =
-    Fits v known psks t x × Carries reads v (known_next reads known t x) (psks_after psks t) ts xs
+abbrev pub CarriesAll : Bool → Reader → Remote → List (List ℕ) → List Token → List (List ℕ) → Type 0
+CarriesAll reads v known psks [] [] = Unit {0}
+CarriesAll reads v known psks [] (x ∷ xs) = ⊥
+CarriesAll reads v known psks (t ∷ ts) [] = ⊥
+CarriesAll reads v known psks (t ∷ ts) (x ∷ xs) =
+    Fits v known psks t x × CarriesAll reads v (known_next reads known t x) (psks_after psks t) ts xs
 
 -- whether a party reads its next message
 abbrev pub reads_next : Party → Bool
@@ -32,7 +32,7 @@ reads_next v = not (is_turn v.role v.passed)
 
 -- these tokens of a party's next message carry these texts
 abbrev pub CarriesNext : Party → List Token → List (List ℕ) → Type 0
-CarriesNext v ts xs = Carries (reads_next v) (reader v) v.remote v.psks ts xs
+CarriesNext v ts xs = CarriesAll (reads_next v) (reader v) v.remote v.psks ts xs
 
 -- the other party's keys that are known after them
 abbrev pub known_next_after : Party → List Token → List (List ℕ) → Remote

@@ -18,7 +18,7 @@ pub record IsFront (f : Front) (v : Party) (ts : List Token) (xs : List (List �
   pub end : f.end ≡ Some (length (before_payload (has_psk v.pattern) v.history ts xs), known_next_after v ts xs)
 
 -- It is that of the message with these texts and this payload.
-pub record IsWhole (w : Whole) (v : Party) (xs : List (List ℕ)) (payload : List ℕ) : Type 0 where
+pub record IsWholeFront (w : Whole) (v : Party) (xs : List (List ℕ)) (payload : List ℕ) : Type 0 where
   pub steps : w.steps.items ≡ next_steps v xs payload
   pub state : SymmetricState
   pub left : w.left ≡ Some (known_next_after v (tokens_now v) xs, state)

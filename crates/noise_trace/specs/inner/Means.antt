@@ -13,7 +13,7 @@ use Rattle.noise_trace.specs.declared.step.Part.TheVariants as part
 use Rattle.noise_trace.specs.declared.step.Step.{Step}
 use Rattle.noise_trace.specs.declared.own.OwnMeans.{OwnMeans}
 use Rattle.noise_trace.specs.declared.tokens.Means.{Means}
-use Rattle.noise_trace.specs.inner.Carried.{Carries, known_next, known_through}
+use Rattle.noise_trace.specs.inner.Carried.{CarriesAll, known_next, known_through}
 use Rattle.noise_trace.specs.Steps.{step, token_steps}
 
 -- what following tokens makes: where the bytes after them begin, the keys that are known then, the state, and the steps
@@ -54,7 +54,7 @@ module _ {K : Type 0} (agreement : K → Own → List ℕ → Option (List ℕ))
   abbrev pub FollowsTokens : Means K → Remote → List (List ℕ) → List Token → ℕ → SymmetricState → SymmetricState
       → Option (ℕ × Remote) → List Step → List Step → Type 0
   FollowsTokens m known psks ts from before after result old new = (r : History) (xs : List (List ℕ)) (more : List ℕ)
-      → StateMatches before r → Carries m.reads (reader_in m) known psks ts xs
+      → StateMatches before r → CarriesAll m.reads (reader_in m) known psks ts xs
       → drop from m.message.now ≡ before_payload m.has_psks r ts xs ++ more
       → IsFollowed m.has_psks r m.reads known ts xs from after result old new
 

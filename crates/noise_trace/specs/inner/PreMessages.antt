@@ -13,8 +13,8 @@ use Rattle.noise_trace.specs.declared.start_step.StartStep.{StartStep}
 use Rattle.noise_trace.specs.Start.{key_steps}
 
 -- the keys that these tokens name are there
-abbrev pub HasKeys : Remote → List Token → Type 0
-HasKeys keys ts = (has_token E ts ≡ true → is_some keys.e ≡ true) × (has_token S ts ≡ true → is_some keys.s ≡ true)
+abbrev pub HasKeysFor : Remote → List Token → Type 0
+HasKeysFor keys ts = (has_token E ts ≡ true → is_some keys.e ≡ true) × (has_token S ts ≡ true → is_some keys.s ≡ true)
 
 -- the state after these tokens, and their steps after the others
 abbrev pub Mixes : Bool → Role → Remote → List Token → History → SymmetricState → List StartStep → List StartStep

@@ -5,7 +5,7 @@ use Rattle.noise_handshake.specs.HandshakeValue.{HandshakeValue}
 use Rattle.noise_handshake.specs.Late.{IsLateWhole}
 use Rattle.noise_c.specs.declared.structs.NoiseHandshake.{NoiseHandshake}
 use Rattle.noise_keys.specs.Table.{Table}
-use Rattle.noise_c.specs.HandshakeStructs.{public_in, text_in, handshake_from_c, IsPatternOf}
+use Rattle.noise_c.specs.HandshakeStructs.{public_in, text_from_c, handshake_from_c, IsPatternOf}
 use Rattle.noise_c.proofs.from_c.handshake_from_c.Goals as goal
 
 one-of : (o : Option (HandshakeValue Table)) (name : List ℕ) (k : NoiseHandshake) (p : Plan) → ((q : Plan) → IsPatternOf name q → q ≡ p)
@@ -39,4 +39,4 @@ returns-clause-usable c = (
 )
 
 pub returns-clause-one : goal.returns-clause-one
-returns-clause-one c = one-of c.restored.result (text_in c.args.handshake.now) c.args.handshake.now c.in-Ok.pattern c.in-Ok.ensures.one c.restored.ensures.value
+returns-clause-one c = one-of c.restored.result (text_from_c c.args.handshake.now) c.args.handshake.now c.in-Ok.pattern c.in-Ok.ensures.one c.restored.ensures.value

@@ -14,7 +14,7 @@ use Rattle.noise_handshake.specs.HandshakeValue.{HandshakeValue, length_unless, 
 use Rattle.noise_handshake.specs.Late.{LeavesLateUnwritten, IsLateOfTurn, IsLateWant, WantsPskToWrite}
 use Rattle.noise_handshake.specs.Party.{Party}
 use Rattle.noise_c.specs.Codes.{write_code}
-use Rattle.noise_c.specs.HandshakeStructs.{handshake_from_c, text_in, IsPatternOf, IsUsable, KeepsParty, ReportsWant}
+use Rattle.noise_c.specs.HandshakeStructs.{handshake_from_c, text_from_c, IsPatternOf, IsUsable, KeepsParty, ReportsWant}
 use Rattle.noise_c.proofs.Stored.{psks-left, opened, usable-after, was-written, matches-for, length-for}
 use Rattle.noise_c.specs.Outcomes.WriteOutcome.{written, withheld, no_room, unusable}
 use Rattle.noise_c.proofs.Numbers.{other, not-after, too-long, under, wants-other}
@@ -43,7 +43,7 @@ returns-then-needed-out c =
     let h = c.in-Some.value in
     let n : ℕ = length c.args.payload.now in
     let needed : ℕ = c.in-Some-message_len.needed in
-    let len : (p : Plan) → IsPatternOf (text_in old) p → message_len_of (handshake_from_c p old) n ≡ Some needed =
+    let len : (p : Plan) → IsPatternOf (text_from_c old) p → message_len_of (handshake_from_c p old) n ≡ Some needed =
     λ p named. length-for old h p n c.in-Some.ensures.one c.in-Some.ensures.value named ∙ sym c.message_len.ensures ∙ c.in-Some-message_len.is in
     record {
       unusable = (other 18 23 refl, λ none. absurd (none (c.in-Some.ensures.usable.0 refl)));

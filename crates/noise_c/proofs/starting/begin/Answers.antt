@@ -1,7 +1,7 @@
 use Rattle.std.proofs.Common.{length, refl}
 use Rattle.std.specs.Prelude.{max}
 use Rattle.noise_handshake.specs.Setup.{psks_of}
-use Rattle.noise_c.specs.HandshakeStructs.{role_in, table_of, remote_of, psks_in, key_in}
+use Rattle.noise_c.specs.HandshakeStructs.{role_in, table_of, remote_of, psks_in, key_from_c}
 use Rattle.noise_c.proofs.Starts.{fault-moved, matches-moved, remote-of}
 use Rattle.noise_c.proofs.starting.begin.Goals as goal
 
@@ -11,7 +11,7 @@ returns-clause-fault c =
     fault-moved c.args.pattern c.role_of-role.result (role_in t.responder) (table_of t) (table_of t)
     (record { e = c.key_of.result; s = c.key_of-2.result }) (remote_of t) (max (length (psks_in t)) (psks_of c.args.pattern.messages)) c.new.result c.role_of-role.ensures
     refl
-    (remote-of c.key_of.result (key_in t.remote_e) c.key_of-2.result (key_in t.remote_s) c.key_of.ensures c.key_of-2.ensures)
+    (remote-of c.key_of.result (key_from_c t.remote_e) c.key_of-2.result (key_from_c t.remote_s) c.key_of.ensures c.key_of-2.ensures)
     c.new.ensures.fault
 
 pub returns-clause-matches : goal.returns-clause-matches
@@ -19,5 +19,5 @@ returns-clause-matches c =
     let t = c.args.setup.now in
     matches-moved c.args.pattern c.args.prologue.now (table_of t) (psks_in t) c.role_of-role.result (role_in t.responder)
     (record { e = c.key_of.result; s = c.key_of-2.result }) (remote_of t) c.new.result c.role_of-role.ensures
-    (remote-of c.key_of.result (key_in t.remote_e) c.key_of-2.result (key_in t.remote_s) c.key_of.ensures c.key_of-2.ensures)
+    (remote-of c.key_of.result (key_from_c t.remote_e) c.key_of-2.result (key_from_c t.remote_s) c.key_of.ensures c.key_of-2.ensures)
     c.new.ensures.matches

@@ -1,6 +1,6 @@
 use Rattle.std.proofs.Common.{take, drop, length, ◌-◌, ap, arith}
 use Rattle.std.specs.Prelude.{slice_range}
-use Rattle.noise_channel.specs.Reading.Given.{Payload, End}
+use Rattle.noise_channel.specs.Reading.NextValue.{Payload, End}
 use Rattle.noise_channel_agreement.proofs.Wholly.{goes-further, stops-there, after-used, rest-of}
 use Rattle.noise_channel_agreement.proofs.reading.+read_all.Goals as goal
 

@@ -1,7 +1,7 @@
 use Rattle.std.proofs.Common.{arith, rules, ◌≡◌, ◌∙◌, ap, not, length}
 use Rattle.noise_names.specs.Plan.{has_psk}
 use Rattle.noise_explain.specs.FramePieces.IsPieceAt.{in_length}
-use Rattle.noise_explain.specs.RulePlaces.{message_at}
+use Rattle.noise_explain.specs.RulePlaces.{message_tokens}
 use Rattle.noise_explain.proofs.FrameLemmas.{has-more, key-at, or-else, or-then, payload-at, place-more, psk-is}
 use Rattle.noise_explain.proofs.frame_piece.piece_at.Goals as goal
 use Rattle.noise_explain.proofs.frame_piece.piece_at.Goals.{then-has_key, else-has_key}
@@ -12,7 +12,7 @@ returns-then-at-lt2 c = in_length c.if-at-lt2.true
 pub returns-then-at-end : goal.returns-then-at-end
 returns-then-at-end c =
     let ts = c.tokens_at-tokens.result.now in
-    let here : ts ≡ message_at c.args.pattern.now c.args.message = search rules in
+    let here : ts ≡ message_tokens c.args.pattern.now c.args.message = search rules in
     let next = place-more c.args.pattern.now c.args.message ts c.loop-token.token-index c.loop-token.end c.piece_len-end.result c.loop-token.has_key
     c.loop-token-test.true c.loop-token.invariant.place c.loop-token.invariant.key c.piece_len-end.ensures.value in
     key-at c.args.pattern.now c.args.message ts c.loop-token.token-index c.loop-token.end _ c.args.at here
@@ -40,7 +40,7 @@ loop-token-preserved c =
 pub returns : goal.returns
 returns c =
     let ts = c.tokens_at-tokens.result.now in
-    let here : ts ≡ message_at c.args.pattern.now c.args.message = search rules in
+    let here : ts ≡ message_tokens c.args.pattern.now c.args.message = search rules in
     let all : c.loop-token.token-index ≡ length ts = omega (arith, c.loop-token-test.false, c.loop-token.auto.token-index-end) in
     payload-at c.args.pattern.now c.args.message ts c.loop-token.token-index c.loop-token.end c.args.at here all
     c.loop-token.invariant.place c.loop-token.invariant.below

@@ -5,14 +5,14 @@ use Rattle.noise_explain_vectors.proofs.line_column.wrong_at.Goals as goal
 pub returns-then-not-has_shape-clause-at : goal.returns-then-not-has_shape-clause-at
 returns-then-not-has_shape-clause-at c =
     inl (Walked-wrong c.args.shapes.now c.args.line.now c.loop-shape.shape-index c.loop-shape.at c.loop-shape.invariant c.loop-shape-test.true
-    (omega arith) (λ has. let yes = c.has_shape.ensures.1 (rw c.word_at.ensures.value has) in cc (yes, c.if-not-has_shape.true)))
+    (omega arith) (λ has. let yes = c.has_shape.ensures.1 (rw c.word_from.ensures.value has) in cc (yes, c.if-not-has_shape.true)))
 
 pub loop-shape-preserved : goal.loop-shape-preserved
 loop-shape-preserved c =
-    let word = c.word_at.ensures.value in
-    let again = c.word_at-in-loop-shape.ensures.value in
+    let word = c.word_from.ensures.value in
+    let again = c.word_from-in-loop-shape.ensures.value in
     rw again (Walked-step c.args.shapes.now c.args.line.now c.loop-shape.shape-index c.loop-shape.at c.loop-shape.invariant c.loop-shape-test.true
-    (omega arith) (rw word at (c.has_shape.ensures.0 c.if-not-has_shape.false)) (rw word at c.word_at.ensures.few))
+    (omega arith) (rw word at (c.has_shape.ensures.0 c.if-not-has_shape.false)) (rw word at c.word_from.ensures.few))
 
 pub returns-else-at-len-2-clause-at : goal.returns-else-at-len-2-clause-at
 returns-else-at-len-2-clause-at c =

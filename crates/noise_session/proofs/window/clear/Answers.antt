@@ -1,5 +1,5 @@
 use Rattle.std.proofs.Common.{◌<◌, ℕ, length, sym, ◌∙◌, subst, arith, length-set}
-use Rattle.noise_session.specs.Windows.{words_of}
+use Rattle.noise_session.specs.Windows.{bitmap_len}
 use Rattle.noise_session.proofs.Clearing.{cleared, untouched, beyond}
 use Rattle.noise_session.proofs.window.clear.Goals as goal
 
@@ -9,7 +9,7 @@ loop-back-preserved c =
     let block = c.args.block in
     let back = c.loop-back.back in
     let place = c.place.result in
-    let r = words_of c.args.window in
+    let r = bitmap_len c.args.window in
     let within : place < length words = subst (λ (k : ℕ). place < k) (sym c.loop-back.invariant.room) c.place.ensures.within in
     let low : back < r = omega arith in
     let under : back < block = omega arith in

@@ -3,7 +3,7 @@ use Rattle.std.proofs.lemmas.Result.{on_ok_weaker}
 use Rattle.noise_names.specs.declared.token.Token.TheVariants.{Ee, Es, Se, Ss}
 use Rattle.noise_keys.specs.declared.keys.Own.TheVariants.{Ephemeral, Static}
 use Rattle.noise_vectors.specs.VectorText.{key_words, role_word}
-use Rattle.noise_template.specs.Template.{entries_for, key_in}
+use Rattle.noise_template.specs.Template.{entries_for, template_key}
 use Rattle.noise_template.proofs.PushLemmas.{party-pushed}
 use Rattle.noise_template.proofs.keys.push_party.Goals as goal
 
@@ -12,7 +12,7 @@ returns c =
     let p = c.args.pattern.now in
     let role = c.args.role in
     on_ok_weaker c.push_answer-4.result
-    (party-pushed (role_word role ++ (codes " table " ++ key_words (key_in p role Ephemeral) (key_in p role Static)))
+    (party-pushed (role_word role ++ (codes " table " ++ key_words (template_key p role Ephemeral) (template_key p role Static)))
     (entries_for p role Ee) (entries_for p role Es) (entries_for p role Se) (entries_for p role Ss) _ _ _ _ _ _
     c.in_ok-push_keys.ensures c.in_ok-push_answer.ensures c.in_ok-push_answer-2.ensures c.in_ok-push_answer-3.ensures)
     c.push_answer-4.ensures

@@ -1,5 +1,5 @@
 use Rattle.std.proofs.Common.{◌≡◌, map, take}
-use Rattle.noise_compare.specs.Lines.{words_in, words_of}
+use Rattle.noise_compare.specs.Lines.{words_in, line_words}
 use Rattle.noise_lines.specs.TracedLines.{traces_of}
 use Rattle.noise_names.specs.Lists.{bytes_of}
 use Rattle.noise_tool.specs.Comparing.{schedule_of}
@@ -8,4 +8,4 @@ use Rattle.noise_tool.proofs.comparison.schedule.Given as goal
 -- the lines of the start, and those of the run so far
 abbrev pub invariant-loop-trace : goal.invariant-loop-trace
 invariant-loop-trace l = map words_in l.lines.items
-    ≡ map words_of (schedule_of (bytes_of l.traced.start.items) (traces_of (take l.trace-index l.traced.traces.items)))
+    ≡ map line_words (schedule_of (bytes_of l.traced.start.items) (traces_of (take l.trace-index l.traced.traces.items)))

@@ -9,7 +9,7 @@ use Rattle.noise_handshake.specs.declared.remote.Remote.{Remote}
 use Rattle.noise_handshake.specs.Setup.{keys_of, public_keys, setup_fault}
 use Rattle.noise_handshake.specs.Party.{with_premessage}
 use Rattle.noise_trace.specs.Start.{start_steps}
-use Rattle.noise_trace.specs.inner.PreMessages.{HasKeys}
+use Rattle.noise_trace.specs.inner.PreMessages.{HasKeysFor}
 use Rattle.noise_trace.proofs.PreMessages.{flips, has-keys, made-is, in-turn}
 use Rattle.noise_trace.proofs.start.start_steps.Goals as goal
 
@@ -44,9 +44,9 @@ returns g c n none =
     let s0 = c.new-state.ensures.matches in
     let s1 = c.mix_hash.ensures.matches r0 s0 in
     let a = c.mix_keys.ensures.mixed r1 s1
-    (subst (λ (z : Remote). HasKeys z first) (sym ei) (subst (λ (ts : List Token). HasKeys (keys_of Initiator c.args.role ours known) ts) (sym c.pre-first.ensures.value) ki)) in
+    (subst (λ (z : Remote). HasKeysFor z first) (sym ei) (subst (λ (ts : List Token). HasKeysFor (keys_of Initiator c.args.role ours known) ts) (sym c.pre-first.ensures.value) ki)) in
     let d = c.mix_keys-2.ensures.mixed (with_premessage b initiator first r1) a.0
-    (subst (λ (z : Remote). HasKeys z second) (sym er) (subst (λ (ts : List Token). HasKeys (keys_of Responder c.args.role ours known) ts) (sym c.pre-second.ensures.value) kr)) in
+    (subst (λ (z : Remote). HasKeysFor z second) (sym er) (subst (λ (ts : List Token). HasKeysFor (keys_of Responder c.args.role ours known) ts) (sym c.pre-second.ensures.value) kr)) in
     let all : c.mix_keys-2.new.steps.items ≡ start_steps p c.args.role prologue ours known =
     in-turn b first second name prologue initiator responder c.new-steps.result.items c.add_step.new.steps.items c.add_step-2.new.steps.items
     c.mix_keys.new.steps.items c.mix_keys-2.new.steps.items c.new-steps.ensures (c.add_step.ensures.added r0 s0) (c.add_step-2.ensures.added r1 s1) a.1 d.1

@@ -1,7 +1,7 @@
 use Rattle.std.proofs.Common.{rules, ◌≡◌, ◌∙◌, ◌+◌, ◌-◌, ap, refl, sym, List, ℕ, ◌++◌, codes, length, take, []}
 use Rattle.std.specs.Prelude.{IsTrue}
 use Rattle.std.proofs.lemmas.Slice.Eq.{bytes_eq-Decides}
-use Rattle.noise_vectors.specs.VectorText.{line}
+use Rattle.noise_vectors.specs.VectorText.{line_then}
 use Rattle.noise_vectors.proofs.BlockLemmas.{front-is, Left-last, Left-next, Left-start, Left-step, Read-end, Read-none, Read-open, Read-step}
 use Rattle.noise_vectors.proofs.LineLemmas.{Ends-after, Ends-whole}
 use Rattle.noise_vectors.specs.declared.faults.LineKind.TheVariants as kinds
@@ -24,7 +24,7 @@ returns-then-eq-clause-text c =
     let left = c.loop-lines.lines.rest.now in
     λ ended. Ends-whole text left c.loop-lines.invariant.0
     ∙ ap (λ (t : List ℕ). take (length text - length left) text ++ t)
-    (c.in_ok-next.ensures.read.ended ended ∙ ap (λ (t : List ℕ). line t c.next.new.self.rest.now) last)
+    (c.in_ok-next.ensures.read.ended ended ∙ ap (λ (t : List ℕ). line_then t c.next.new.self.rest.now) last)
 
 pub returns-then-eq-clause-block : goal.returns-then-eq-clause-block
 returns-then-eq-clause-block c =

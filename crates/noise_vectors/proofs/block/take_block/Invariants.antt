@@ -2,7 +2,7 @@ use Rattle.std.proofs.Common.{◌≡◌, ℕ, List, codes, length}
 use Rattle.std.specs.List.{All}
 use Rattle.noise_vectors.specs.Lines.{last_number}
 use Rattle.noise_vectors.specs.Block.{IsInner, itself}
-use Rattle.noise_vectors.specs.VectorText.{line, lines_of}
+use Rattle.noise_vectors.specs.VectorText.{line_then, lines_of}
 use Rattle.noise_vectors.proofs.BlockLemmas.{Left, Read}
 use Rattle.noise_vectors.proofs.LineLemmas.{Ends}
 use Rattle.noise_vectors.proofs.block.take_block.Given as goal
@@ -10,7 +10,7 @@ use Rattle.noise_vectors.proofs.block.take_block.Given as goal
 abbrev pub invariant-loop-lines : goal.invariant-loop-lines
 invariant-loop-lines l =
     Ends l.text l.lines.rest.now
-    × ((before : List (List ℕ)) (rest : List ℕ) → All IsInner before → l.fn.lines.rest.now ≡ lines_of itself before (line (codes "end") rest)
+    × ((before : List (List ℕ)) (rest : List ℕ) → All IsInner before → l.fn.lines.rest.now ≡ lines_of itself before (line_then (codes "end") rest)
     → Left rest l.lines.rest.now)
     × (last_number l.lines ≡ last_number l.fn.lines)
     × Read l.fn.lines.rest.now l.lines.rest.now

@@ -6,7 +6,7 @@ use Rattle.noise_names.specs.WrongText.{line_feeds}
 use Rattle.noise_vectors.specs.WrongLine.{up_to_initiator}
 use Rattle.std.proofs.lemmas.Bool.{false≢true}
 use Rattle.noise_vectors.specs.VectorFile.{IsAllowedFile, IsVectorFile}
-use Rattle.noise_vectors.specs.VectorText.{block_text, header_words, is_second, line, text_of, version_text}
+use Rattle.noise_vectors.specs.VectorText.{block_text, header_words, is_second, line_then, file_text, version_text}
 use Rattle.noise_vectors.specs.declared.vector.VectorFile.{VectorFile}
 use Rattle.std.specs.Prelude.{decimal}
 use Rattle.noise_vectors.proofs.AdditionLemmas.{no-second, version-after}
@@ -20,7 +20,7 @@ use Rattle.noise_vectors.proofs.Results.{err-is}
 use Rattle.noise_vectors.proofs.reading.read_vector.Goals as goal
 
 -- the lines as far as those of the pattern are read
-pattern-read : (c : After-read_prologue) (file : VectorFile) → IsVectorFile file → IsAllowedFile c.args.allowed file → c.args.text.now ≡ text_of file
+pattern-read : (c : After-read_prologue) (file : VectorFile) → IsVectorFile file → IsAllowedFile c.args.allowed file → c.args.text.now ≡ file_text file
     → (c.in_ok-protocol.protocol ≡ file.protocol) × (c.in_ok-block.block ≡ file.block) × (c.read_own_pattern.new.lines.rest.now ≡ after_block file)
 pattern-read c file h allowed e =
     let header = c.in_ok-second.ensures.every (is_second file.version) (after_header file) (no-second c.args.allowed file.version allowed.1) (c.new-lines.ensures.0 ∙ e) in
@@ -124,15 +124,15 @@ returns-in_err-block-clause-reported c =
     rw (err-is c.from_residual-in_err-block.result c.from_residual-in_err-block.ensures.1) (block-reported c.args.alloc c.args.allowed c.args.text.now c.read_protocol.new.lines.rest.now c.in_ok-second.second c.in_ok-protocol.protocol
     (last_number c.read_protocol.new.lines) c.in_err-block.field-0.0
     (sym c.new-lines.ensures.0 ∙ c.in_ok-second.ensures.text
-    ∙ ap (λ (t : List ℕ). line (header_words c.in_ok-second.second) t) c.in_ok-protocol.ensures.text)
+    ∙ ap (λ (t : List ℕ). line_then (header_words c.in_ok-second.second) t) c.in_ok-protocol.ensures.text)
     c.in_ok-second.ensures.allowed c.in_ok-protocol.ensures.right c.in_err-block.ensures.own two (c.in_err-block.ensures.reported c.in_ok-protocol.ensures.right))
 
 -- the text as far as the prologue
-front-read : (c : After-read_prologue) → c.args.text.now ≡ line (header_words c.in_ok-second.second) (line (codes "protocol " ++ name_bytes c.in_ok-protocol.protocol)
+front-read : (c : After-read_prologue) → c.args.text.now ≡ line_then (header_words c.in_ok-second.second) (line_then (codes "protocol " ++ name_bytes c.in_ok-protocol.protocol)
     (block_text c.in_ok-block.block c.read_own_pattern.new.lines.rest.now))
 front-read c = sym c.new-lines.ensures.0 ∙ c.in_ok-second.ensures.text
-    ∙ ap (λ (t : List ℕ). line (header_words c.in_ok-second.second) t) (c.in_ok-protocol.ensures.text
-    ∙ ap (λ (t : List ℕ). line (codes "protocol " ++ name_bytes c.in_ok-protocol.protocol) t) c.in_ok-block.ensures.text)
+    ∙ ap (λ (t : List ℕ). line_then (header_words c.in_ok-second.second) t) (c.in_ok-protocol.ensures.text
+    ∙ ap (λ (t : List ℕ). line_then (codes "protocol " ++ name_bytes c.in_ok-protocol.protocol) t) c.in_ok-block.ensures.text)
 
 -- and how many line feeds are left there
 front-counted : (c : After-read_prologue) → last_number c.read_own_pattern.new.lines ≡ line_feeds c.args.text.now
@@ -155,7 +155,7 @@ returns-in_err-interval-clause-reported c =
     c.in_ok-protocol.protocol c.in_ok-block.block c.in_ok-prologue.prologue c.in_ok-prologue.ensures.bound
     (last_number c.read_prologue.new.lines)
     c.in_err-interval.field-0.0 (front-read g
-    ∙ ap (λ (t : List ℕ). line (header_words c.in_ok-second.second) (line (codes "protocol " ++ name_bytes c.in_ok-protocol.protocol)
+    ∙ ap (λ (t : List ℕ). line_then (header_words c.in_ok-second.second) (line_then (codes "protocol " ++ name_bytes c.in_ok-protocol.protocol)
     (block_text c.in_ok-block.block t))) c.in_ok-prologue.ensures.text)
     c.in_ok-second.ensures.allowed c.in_ok-protocol.ensures.right c.in_ok-block.ensures.right c.in_ok-prologue.ensures.right m c.in_err-interval.ensures.reported)
 
@@ -168,25 +168,25 @@ returns-in_err-psks-clause-reported c =
     rw (err-is c.from_residual-in_err-psks.result c.from_residual-in_err-psks.ensures.1) (psk-reported c.args.alloc c.args.allowed c.args.text.now c.read_interval.new.lines.rest.now c.in_ok-second.second
     c.in_ok-protocol.protocol c.in_ok-block.block c.in_ok-prologue.prologue c.in_ok-prologue.ensures.bound c.in_ok-interval.interval
     (last_number c.read_interval.new.lines) c.in_err-psks.field-0.0 (front-read g
-    ∙ ap (λ (t : List ℕ). line (header_words c.in_ok-second.second) (line (codes "protocol " ++ name_bytes c.in_ok-protocol.protocol)
+    ∙ ap (λ (t : List ℕ). line_then (header_words c.in_ok-second.second) (line_then (codes "protocol " ++ name_bytes c.in_ok-protocol.protocol)
     (block_text c.in_ok-block.block t))) (c.in_ok-prologue.ensures.text
-    ∙ ap (λ (t : List ℕ). line (codes "prologue " ++ hex_of c.in_ok-prologue.prologue.items) t) c.in_ok-interval.ensures.text))
+    ∙ ap (λ (t : List ℕ). line_then (codes "prologue " ++ hex_of c.in_ok-prologue.prologue.items) t) c.in_ok-interval.ensures.text))
     c.in_ok-second.ensures.allowed c.in_ok-protocol.ensures.right c.in_ok-block.ensures.right c.in_ok-prologue.ensures.right
     (search rules) k c.in_err-psks.ensures.reported)
 
 -- the lines as far as the psks' last one are those of a right file
 psks-begun : (c : After-read_party)
-    → c.args.text.now ≡ line (header_words c.in_ok-second.second) (line (codes "protocol " ++ name_bytes c.in_ok-protocol.protocol)
+    → c.args.text.now ≡ line_then (header_words c.in_ok-second.second) (line_then (codes "protocol " ++ name_bytes c.in_ok-protocol.protocol)
     (block_text c.in_ok-block.block c.read_own_pattern.new.lines.rest.now))
     → BegunAt c.args.allowed c.in_ok-second.second c.args.text.now c.read_psks.new.lines.rest.now up_to_initiator
 psks-begun c front =
     past-psks c.args.alloc c.args.allowed c.args.text.now c.read_psks.new.lines.rest.now c.in_ok-second.second
     c.in_ok-protocol.protocol c.in_ok-block.block c.in_ok-prologue.prologue c.in_ok-prologue.ensures.bound c.in_ok-interval.interval
     c.in_ok-psks.psks.items (front
-    ∙ ap (λ (t : List ℕ). line (header_words c.in_ok-second.second) (line (codes "protocol " ++ name_bytes c.in_ok-protocol.protocol)
+    ∙ ap (λ (t : List ℕ). line_then (header_words c.in_ok-second.second) (line_then (codes "protocol " ++ name_bytes c.in_ok-protocol.protocol)
     (block_text c.in_ok-block.block t))) (c.in_ok-prologue.ensures.text
-    ∙ ap (λ (t : List ℕ). line (codes "prologue " ++ hex_of c.in_ok-prologue.prologue.items) t) (c.in_ok-interval.ensures.text
-    ∙ ap (λ (t : List ℕ). line (codes "interval " ++ decimal c.in_ok-interval.interval) t) c.in_ok-psks.ensures.text)))
+    ∙ ap (λ (t : List ℕ). line_then (codes "prologue " ++ hex_of c.in_ok-prologue.prologue.items) t) (c.in_ok-interval.ensures.text
+    ∙ ap (λ (t : List ℕ). line_then (codes "interval " ++ decimal c.in_ok-interval.interval) t) c.in_ok-psks.ensures.text)))
     c.in_ok-second.ensures.allowed c.in_ok-protocol.ensures.right c.in_ok-block.ensures.right c.in_ok-prologue.ensures.right
     (search rules) c.in_ok-psks.ensures.right
 

@@ -4,7 +4,7 @@ use Rattle.noise_names.specs.declared.token.Token.{Token}
 use Rattle.noise_names.specs.Plan.{has_psk}
 use Rattle.noise_handshake.specs.Message.{before_payload}
 use Rattle.noise_handshake.specs.Party.{reader, tokens_now}
-use Rattle.noise_trace.specs.inner.Carried.{Carries, CarriesNext}
+use Rattle.noise_trace.specs.inner.Carried.{CarriesAll, CarriesNext}
 use Rattle.noise_trace.specs.Steps.{token_steps}
 use Rattle.noise_trace.proofs.Due.{fit-carries, reads}
 use Rattle.noise_trace.proofs.before.BeforeMessage.refused_steps.Goals as goal
@@ -17,7 +17,7 @@ returns g c = record {
       let n : ℕ = c.min-count.result in
       let count : c.args.token ≡ n = omega (arith, c.min-count.ensures, c.len.ensures.value, ap length sb.tokens, r.stops.within) in
       let same : take c.args.token ts ≡ take n ts = ap (λ (k : ℕ). take k ts) count in
-      let carries = subst (λ (b : Bool). Carries b (reader v) v.remote v.psks (take c.args.token ts) xs) (sym (reads v r.listens))
+      let carries = subst (λ (b : Bool). CarriesAll b (reader v) v.remote v.psks (take c.args.token ts) xs) (sym (reads v r.listens))
       (fit-carries (reader v) v.remote v.psks (take c.args.token ts) xs r.stops.leads.fit) in
       let f = c.front-steps.ensures.front v xs r.stops.rest sb ag
       (subst (λ (us : List Token). CarriesNext v us xs) same carries)
