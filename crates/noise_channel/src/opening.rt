@@ -1,10 +1,11 @@
 //! Opens a transport message in its frame.
 #![tactic(auto)]
 
-ghost use Rattle.std.specs.Prelude.{◌≡◌, ◌≢◌, ◌≤◌, ◌+◌, ◌-◌, ℕ, List, length, take, drop, slice_range, None, Err};
-ghost use Rattle.std.specs.Prelude.{IfOk, IfErr, OnOk, OnErr, MatchOption, MatchResult};
+ghost use Rattle.std.specs.Prelude.{◌≡◌, ◌≤◌, ◌+◌, ◌-◌, length, take, drop, slice_range, Err};
+ghost use Rattle.std.specs.Prelude.{IfOk, IfErr, OnOk, OnErr, MatchOption};
 ghost use Rattle.noise_session.specs.Halves.{receiver_fault};
-ghost use Rattle.noise_session.specs.TransportValue.{TransportState, ReceiverMatches, due_message, unopened_fault};
+ghost use Rattle.noise_session.specs.TransportValue.{TransportState, ReceiverMatches, unopened_fault};
+ghost use Rattle.noise_channel.specs.Halves.{OpensDueMessage};
 
 use noise_session::{OpenFault, Receiver};
 
@@ -24,11 +25,8 @@ pub(crate) fn open_frame(
     ensures counted { OnOk result
         (receiver.new ≡ record receiver.old { key = receiver.new.key; nonce = receiver.old.nonce + 1 }) }
     ensures unchanged { OnErr result ((receiver.new ≡ receiver.old) × (buffer.new ≡ buffer.old)) }
-    ensures opens { (v : TransportState) → ReceiverMatches receiver.old v → MatchResult result
-        (λ n. (slice_range buffer.old 2 whole ≡ due_message v (slice_range buffer.new 2 (2 + n)))
-        × ReceiverMatches receiver.new (record v { received = v.received + 1 }))
-        (λ _. receiver_fault receiver.old ≡ None → (payload : List ℕ)
-        → slice_range buffer.old 2 whole ≢ due_message v payload) }
+    ensures opens { (v : TransportState) → ReceiverMatches receiver.old v
+        → OpensDueMessage v receiver.old (slice_range buffer.old 2 whole) buffer.new receiver.new result }
 {
     receiver.open_within(&mut buffer[2..whole])
 }

@@ -1,9 +1,9 @@
 //! Where a log first parts from a key schedule.
 
-ghost use Rattle.std.specs.Prelude.{◌≡◌, ◌≤◌, Some, None, MatchOption, MatchResult, drop, find, length, option_copied};
-ghost use Rattle.noise_compare.specs.Differences.{Agrees, IsFirstDifference, after_match, is_of_responder, is_step_of, next_step};
+ghost use Rattle.std.specs.Prelude.{◌≡◌, ◌≤◌, MatchOption, drop, find, length, option_copied};
+ghost use Rattle.noise_compare.specs.Differences.{Agrees, IsFirstDifference, is_of_responder, is_step_of, next_step};
 ghost use Rattle.noise_compare.specs.Lines.{is_of_place};
-ghost use Rattle.noise_compare.specs.Walk.{left_after, left_for, left_from};
+ghost use Rattle.noise_compare.specs.Walk.{AreLeftAfter, AreLeftFrom, left_from};
 
 use crate::line::Line;
 
@@ -50,12 +50,7 @@ fn after<'a, 'b>(
 ) -> Result<(usize, usize), Option<&'a Line<'b>>>
     requires initiator { initiator ≤ length right.now }
     requires responder { responder ≤ length right.now }
-    ensures { MatchResult result
-        (λ next. (next.0 ≤ length right.now) × (next.1 ≤ length right.now)
-        × (left_after (left_from right.now initiator responder) logged.now ≡ Some (left_from right.now next.0 next.1)))
-        (λ other. (left_after (left_from right.now initiator responder) logged.now ≡ None)
-        × (option_copied other
-        ≡ find (is_of_place logged.now) (left_for (left_from right.now initiator responder) logged.now))) }
+    ensures { AreLeftAfter right.now (left_from right.now initiator responder) logged.now result }
 {
     if is_of_responder(logged) {
         let next = after_match(right, responder, logged)?;
@@ -80,11 +75,7 @@ fn after_match<'a, 'b>(
     logged: &Line<'_>,
 ) -> Result<usize, Option<&'a Line<'b>>>
     requires { from ≤ length right.now }
-    ensures { MatchResult result
-        (λ next. (next ≤ length right.now)
-        × (after_match logged.now (drop from right.now) ≡ Some (drop next right.now)))
-        (λ other. (after_match logged.now (drop from right.now) ≡ None)
-        × (option_copied other ≡ find (is_of_place logged.now) (drop from right.now))) }
+    ensures { AreLeftFrom right.now (drop from right.now) logged.now result }
 {
     for place in from..right.len() {
         let line = &right[place];

@@ -118,10 +118,8 @@ pub(crate) fn fill_from<R: Read>(from: &mut Counted<R>, buffer: &mut [u8]) -> (u
 // Writes all bytes; where a write fails, it returns how many were written before. It doesn't flush, and tries no write
 // again.
 pub(crate) fn write_out<W: Write>(out: &mut Counted<W>, bytes: &[u8]) -> Result<(), usize>
-    ensures written { MatchResult result
-        (λ _. Appends (W.contents (inner_of out.old)) (W.contents (inner_of out.new)) bytes.now)
-        (λ n. (n < length bytes.now)
-        × Appends (W.contents (inner_of out.old)) (W.contents (inner_of out.new)) (take n bytes.now)) }
+    ensures written { let appends = Appends (W.contents (inner_of out.old)) (W.contents (inner_of out.new)) in
+        MatchResult result (λ _. appends bytes.now) (λ n. (n < length bytes.now) × appends (take n bytes.now)) }
     ensures failures { failures_of out.new ≡ after_call (failures_of out.old) result }
 {
     let mut at = 0;

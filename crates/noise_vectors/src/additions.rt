@@ -36,8 +36,7 @@ pub(crate) fn read_version(
     ensures reported { AfterEvents lines.old.rest.now
         → IfErr result (ReportsVersion allowed second lines.old.rest.now (last_number lines.old)) }
     ensures every { (version : Version) → IsVersion version → IsAllowedVersion allowed version
-        → is_second version ≡ second
-        → lines.old.rest.now ≡ version_text version
+        → is_second version ≡ second → lines.old.rest.now ≡ version_text version
         → IfErr result (λ fault. fault ≡ Memory) }
 {
     if !second {
@@ -67,10 +66,8 @@ fn read_datagrams(
     ensures ended { AfterEvents lines.old.rest.now → IfOk result (λ found. AfterDatagrams lines.new.rest.now) }
     ensures counted { IfOk result (λ found. last_number lines.new ≡ last_number lines.old) }
     ensures reported { IfErr result (ReportsDatagrams allowed lines.old.rest.now (last_number lines.old)) }
-    ensures every { (datagrams : Option FileDatagrams) (rest : List ℕ) → IfSome datagrams
-        (λ datagrams. All IsDatagramEvent datagrams.events.items)
-        → (allowed ≡ SayOnly → datagrams ≡ None) → AfterDatagrams rest
-        → lines.old.rest.now ≡ datagrams_text datagrams rest
+    ensures every { (d : Option FileDatagrams) (rest : List ℕ) → IfSome d (λ f. All IsDatagramEvent f.events.items)
+        → (allowed ≡ SayOnly → d ≡ None) → AfterDatagrams rest → lines.old.rest.now ≡ datagrams_text d rest
         → MatchResult result (λ found. lines.new.rest.now ≡ rest) (λ fault. fault ≡ Memory) }
 {
     if !lines.rest.starts_with(b"datagrams ".as_slice()) {

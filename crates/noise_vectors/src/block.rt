@@ -68,9 +68,8 @@ fn take_block<'a>(lines: &mut Lines<'a>) -> Result<&'a [u8], VectorFault>
     ensures last { IfOk result (λ text. IsFalse lines.new.is_ended → lines.new.number ≡ last_number lines.old + 1) }
     ensures reported { IfErr result (ReportsOpen lines.old.rest.now (last_number lines.old)) }
     ensures every { (before : List (List ℕ)) (rest : List ℕ) → All IsInner before
-        → lines.old.rest.now ≡ lines_of itself before (line_then (codes "end") rest)
-        → MatchResult result (λ text. (text.now ≡ lines_of itself before []) × (lines.new.rest.now ≡ rest)
-        × IsTrue lines.new.is_ended) (λ fault. ⊥) }
+        → lines.old.rest.now ≡ lines_of itself before (line_then (codes "end") rest) → MatchResult result (λ text.
+        (text.now ≡ lines_of itself before []) × (lines.new.rest.now ≡ rest) × IsTrue lines.new.is_ended) (λ fault. ⊥) }
 {
     let text = lines.rest;
     loop {

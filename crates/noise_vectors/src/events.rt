@@ -36,8 +36,7 @@ pub(crate) fn read_events(
     ensures counted { IfOk result (λ events. last_number lines.new ≡ last_number lines.old) }
     ensures reported { IfErr result (ReportsAfter (event_lines allowed) lines.old.rest.now (last_number lines.old)) }
     ensures every { (events : List Event) (rest : List ℕ) → All IsEvent events → All (IsAllowed allowed) events
-        → AfterEvents rest
-        → lines.old.rest.now ≡ lines_of event_words events rest
+        → AfterEvents rest → lines.old.rest.now ≡ lines_of event_words events rest
         → MatchResult result (λ read. lines.new.rest.now ≡ rest) (λ fault. fault ≡ Memory) }
 {
     let mut events = Vec::new(alloc);

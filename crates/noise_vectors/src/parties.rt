@@ -26,8 +26,7 @@ pub(crate) fn read_party(lines: &mut Lines<'_>, role: Role) -> Result<FileKeys, 
     ensures counted { IfOk result (λ keys. last_number lines.new ≡ last_number lines.old) }
     ensures reported { IfErr result (ReportsParty role lines.old.rest.now (last_number lines.old)) }
     ensures every { (keys : FileKeys) (rest : List ℕ) → AreKeys keys
-        → IsFalse (starts_with nat_eq rest (codes "answer "))
-        → lines.old.rest.now ≡ party_text role keys rest
+        → IsFalse (starts_with nat_eq rest (codes "answer ")) → lines.old.rest.now ≡ party_text role keys rest
         → IsOk result × (lines.new.rest.now ≡ rest) }
 {
     let line = lines.next()?;
@@ -82,8 +81,7 @@ fn read_table(
     ensures counted { IfOk result (λ table. last_number lines.new ≡ last_number lines.old) }
     ensures reported { IfErr result (ReportsAfter answer_lines lines.old.rest.now (last_number lines.old)) }
     ensures every { (entries : List TableEntry) (rest : List ℕ) → length entries ≤ 8 → All IsEntry entries
-        → IsFalse (starts_with nat_eq rest (codes "answer "))
-        → lines.old.rest.now ≡ lines_of answer_words entries rest
+        → IsFalse (starts_with nat_eq rest (codes "answer ")) → lines.old.rest.now ≡ lines_of answer_words entries rest
         → IsOk result × (lines.new.rest.now ≡ rest) }
 {
     let mut table = TableKeys::new(e, s);

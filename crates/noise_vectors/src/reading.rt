@@ -224,8 +224,7 @@ fn read_psks(lines: &mut Lines<'_>) -> Result<ArrayVec<[u8; 32], 9>, VectorFault
     ensures counted { IfOk result (λ psks. last_number lines.new ≡ last_number lines.old) }
     ensures reported { IfErr result (ReportsAfter psk_lines lines.old.rest.now (last_number lines.old)) }
     ensures every { (psks : List (List ℕ)) (rest : List ℕ) → ArePsks psks
-        → IsFalse (starts_with nat_eq rest (codes "psk "))
-        → lines.old.rest.now ≡ lines_of psk_words psks rest
+        → IsFalse (starts_with nat_eq rest (codes "psk ")) → lines.old.rest.now ≡ lines_of psk_words psks rest
         → IsOk result × (lines.new.rest.now ≡ rest) }
 {
     let mut psks = ArrayVec::new();
