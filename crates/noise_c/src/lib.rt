@@ -3,20 +3,20 @@
 //! hands it in. `include/noise.h` has the order of the calls, and what the caller must ensure.
 #![tactic(auto)]
 
-mod asking;
 mod ciphers;
 mod codes;
 mod datagram_halves;
-mod finishing;
 mod from_c;
 mod halves;
 mod halves_from_c;
+mod late;
 pub mod laws;
 mod messages;
 mod patterns;
-mod starting;
+mod progress;
+mod split;
+mod start;
 mod streams;
 mod structs;
 mod supplied_keys;
-mod supplying;
 mod version;

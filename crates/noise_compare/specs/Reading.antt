@@ -3,8 +3,8 @@ use Rattle.std.specs.Prelude.{⊤, ◌≡◌, ℕ, ◌+◌, ◌==◌, ◌&&◌, 
 use Rattle.std.specs.List.{slice_split}
 use Rattle.noise_compare.specs.Lines.{is_of_schedule, words_in, line_words}
 use Rattle.noise_compare.specs.declared.line.Line.{Line}
-use Rattle.noise_compare.specs.declared.reading.LogFault.{LogFault}
-use Rattle.noise_compare.specs.declared.reading.LogFault.TheVariants.{Line as LineFault, Memory}
+use Rattle.noise_compare.specs.declared.log.LogFault.{LogFault}
+use Rattle.noise_compare.specs.declared.log.LogFault.TheVariants.{Line as LineFault, Memory}
 
 -- a line as its number in a text, from 1 on, and its words
 abbrev pub Numbered : Type 0

@@ -4,11 +4,11 @@
 mod comparison;
 mod difference;
 mod line;
-mod reading;
+mod log;
 mod report;
 mod sentences;
 
 pub use comparison::{Finding, LogReport, compare_lines};
 pub use difference::{Difference, first_difference};
 pub use line::Line;
-pub use reading::{LogFault, push_schedule, read_log};
+pub use log::{LogFault, push_schedule, read_log};

@@ -4,12 +4,12 @@
 mod datagram_duel;
 mod datagram_party;
 mod datagram_report;
+mod delivery;
 mod duel;
 mod entry;
 pub mod laws;
-mod receiving;
 mod report;
-mod writing;
+mod writer;
 
 pub use datagram_duel::DatagramDuel;
 pub use datagram_report::{DatagramEntry, DatagramReport};

@@ -13,7 +13,7 @@ use crate::facts::fact_lines;
 use crate::place::{Place, line_at};
 use crate::rule_place::rule_place;
 use crate::rule_sentences::rule_sentences;
-use crate::showing::{caret_lines, push_sentence, right_head, unread_head, wrong_head};
+use crate::excerpt::{caret_lines, push_sentence, right_head, unread_head, wrong_head};
 use crate::text_advice::fault_advice;
 use noise_lines::Fault;
 use noise_names::{Pattern, RuleFault, TextFault, ValidPattern};

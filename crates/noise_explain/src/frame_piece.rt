@@ -8,7 +8,7 @@ ghost use Rattle.noise_explain.specs.FramePieces.{frame_front, makes_key, piece_
 
 use crate::known::sender_of;
 use crate::rule_place::tokens_at;
-use crate::showing::push_number;
+use crate::excerpt::push_number;
 use noise_lines::{role_word, token_word};
 use noise_names::{Token, ValidPattern};
 use noise_vectors::read_hex;

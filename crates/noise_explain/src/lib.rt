@@ -3,6 +3,7 @@
 
 mod advice;
 mod column;
+mod excerpt;
 mod explanation;
 mod facts;
 mod frame_piece;
@@ -12,15 +13,14 @@ mod place;
 mod progress;
 mod rule_place;
 mod rule_sentences;
-mod showing;
 mod text_advice;
 
 pub use advice::Advice;
 pub use column::column_of;
+pub use excerpt::{caret_lines, push_sentence, unread_head, wrong_head};
 pub use explanation::{Explained, explain, explain_long, rule_lines};
 pub use facts::{fact_lines, push_fact};
 pub use frame_piece::{Piece, difference_line};
 pub use known::{Spot, token_at};
 pub use place::{Place, after_line, line_at};
-pub use showing::{caret_lines, push_sentence, unread_head, wrong_head};
 pub use text_advice::{fault_advice, slip};

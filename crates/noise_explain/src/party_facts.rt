@@ -2,7 +2,7 @@
 
 use crate::known::{Spot, key_spot, mixed_spot, sender_of};
 use crate::progress::progress_at;
-use crate::showing::push_sentence;
+use crate::excerpt::push_sentence;
 use noise_lines::role_word;
 use noise_names::{Pattern, Role, Token};
 use std::alloc::{AllocError, Global};

@@ -7,11 +7,11 @@ ghost use Rattle.std.specs.Option.{ForSome};
 
 use crate::layout::{MessageLayout, lay_next, psk_after};
 use crate::own_keys::public_keys;
-use crate::reading::{lacked, read_before, read_lacking, read_message};
+use crate::reader::{lacked, read_before, read_lacking, read_message};
 use crate::setup::{setup_fault, start};
 use crate::stop::Stop;
 use crate::tokens::Means;
-use crate::writing::{write_lacking, write_lacking_before, write_message};
+use crate::writer::{write_lacking, write_lacking_before, write_message};
 use crate::{
     Keys, Opened, Own, Parts, Progress, ReadFault, Remote, SetupFault, Unread, WriteFault,
 };

@@ -14,7 +14,7 @@ use Rattle.noise_tool.specs.Running.{IsRunOf, expected_in}
 use Rattle.noise_lines.specs.Converted.{converted_text}
 use Rattle.noise_lines.specs.declared.faults.Fault.{Fault}
 use Rattle.noise_lines.specs.declared.faults.Fault.TheVariants as fault
-use Rattle.noise_tool.specs.declared.running.Outcome.{Outcome}
+use Rattle.noise_tool.specs.declared.run.Outcome.{Outcome}
 use Rattle.noise_lines.specs.Prefixes.{AppendsPrefix}
 use Rattle.noise_lines.specs.Reported.{LeavesOther, ReportsRule}
 use Rattle.noise_tool.specs.Selection.{selection_of}

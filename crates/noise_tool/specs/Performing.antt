@@ -24,7 +24,7 @@ use Rattle.noise_vectors.specs.WrongLine.{IsReported}
 use Rattle.noise_vectors.specs.VectorText.{file_text}
 use Rattle.noise_lines.specs.declared.faults.Fault.{Fault}
 use Rattle.noise_lines.specs.declared.faults.Fault.TheVariants.{TooLong, Unmet}
-use Rattle.noise_tool.specs.declared.running.Outcome.{Outcome}
+use Rattle.noise_tool.specs.declared.run.Outcome.{Outcome}
 use Rattle.noise_words.specs.declared.orders.Chosen.{Chosen}
 use Rattle.noise_words.specs.declared.orders.Chosen.TheVariants.{List as Listing, Show, Check, Template, Talk, Replay, Convert, Trace}
 use Rattle.noise_words.specs.declared.orders.Order.{Order}

@@ -8,7 +8,7 @@ ghost use Rattle.noise_lines.specs.declared.faults.Fault.TheVariants.{Unreadable
 ghost use Rattle.noise_tool.specs.Explaining.{ExplainsFiles, ExplainsPrefix, IsExplainedFile, IsExplainedRun, IsExplainedText, IsExplainedVector, StopsExplaining, worse};
 ghost use Rattle.noise_tool.specs.Testing.{EndsTest};
 
-use crate::running::replay;
+use crate::run::replay;
 use crate::testing::FilesByName;
 use noise_explain::{Explained, explain, explain_long, unread_head};
 use noise_explain_vectors::{

@@ -9,7 +9,7 @@ mod key_use_lines;
 mod laws;
 mod performing;
 mod report;
-mod running;
+mod run;
 mod testing;
 mod trace_file;
 mod trace_lines;

@@ -24,7 +24,7 @@ ghost use Rattle.noise_lines.specs.declared.faults.Fault.{Fault};
 use crate::comparison::compare_log;
 use crate::explanation::explain_files;
 use crate::laws::conversions_meet_themselves;
-use crate::running::{Outcome, replay};
+use crate::run::{Outcome, replay};
 use crate::testing::{FilesByName, test};
 use crate::trace_file::trace_chosen;
 use noise_lines::{

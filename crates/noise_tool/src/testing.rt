@@ -23,7 +23,7 @@ ghost use Rattle.noise_vectors.specs.VectorText.{file_text};
 
 use crate::ends::valid_pattern;
 use crate::key_use_lines::ALL_LINES;
-use crate::running::replay;
+use crate::run::replay;
 use crate::trace_file::write_front;
 use crate::tracing::{Traced, trace_text};
 use noise_explain::difference_line;

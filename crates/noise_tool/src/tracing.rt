@@ -22,7 +22,7 @@ ghost use Rattle.noise_tool.specs.Tracing.{HasTraces, datagram_keys_of, last_tra
 
 use crate::key_use_lines::Selection;
 use crate::report::entry_lines;
-use crate::running::{Outcome, close};
+use crate::run::{Outcome, close};
 use crate::trace_lines::push_datagram_key_lines;
 use crate::traced_end::TracedEnd;
 use crate::traced_ends::{TracedEnds, TracedStart, make_traced_ends};

@@ -3,8 +3,8 @@
 #![tactic(auto)]
 
 pub mod laws;
-mod talking;
+mod transcript;
 #[cfg(test)]
 mod tests;
 
-pub use talking::talk;
+pub use transcript::talk;

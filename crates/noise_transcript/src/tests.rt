@@ -16,7 +16,7 @@ ghost use Rattle.noise_tool.specs.Ends.{IsFilePattern};
 ghost use Rattle.noise_transcript.specs.Fitting.{HasFittingLines};
 ghost use Rattle.noise_transcript.specs.Talked.{talked_lines};
 
-use crate::talking::talk;
+use crate::transcript::talk;
 use noise_conversation::{lines_fit, run_events};
 use noise_handshake::XorKeys;
 use noise_lines::named_pattern;

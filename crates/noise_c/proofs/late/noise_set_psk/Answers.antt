@@ -1,0 +1,11 @@
+use Rattle.noise_c.proofs.Moved.{matches-later, usable-given}
+use Rattle.noise_c.proofs.late.noise_set_psk.Goals as goal
+
+pub returns-clause-matches : goal.returns-clause-matches
+returns-clause-matches c e p v later e2 k = matches-later c.args.handshake.now c.store_psk.new.handshake c.args.psk.now p v later c.store_psk.ensures.given e2 k
+
+pub returns-clause-stays : goal.returns-clause-stays
+returns-clause-stays c u =
+    usable-given c.args.handshake.now c.store_psk.new.handshake c.args.psk.now c.in-Some.value u c.store_psk.ensures.mark c.store_psk.ensures.text_len
+    c.store_psk.ensures.answers c.store_psk.ensures.few c.store_psk.ensures.given c.in-Some.ensures.value
+    c.in-Some.ensures.named c.in-Some.ensures.one (c.put_psk.ensures.lacks.0 c.if-not-put_psk.false)

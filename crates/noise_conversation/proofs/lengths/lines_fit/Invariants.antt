@@ -1,0 +1,13 @@
+use Rattle.std.proofs.Common.{◌≡◌, drop}
+use Rattle.noise_names.specs.declared.token.Role.TheVariants.{Initiator}
+use Rattle.noise_names.specs.Tokens.{turn_from}
+use Rattle.noise_duel.specs.Acts.{roles_and_payloads}
+use Rattle.noise_conversation.specs.Lines.{lines_fit_from}
+use Rattle.noise_conversation.proofs.lengths.lines_fit.Given as goal
+
+abbrev pub invariant-loop-role : goal.invariant-loop-role
+invariant-loop-role l = record {
+  place : l.place ≡ l.role-index;
+  turn : l.turn ≡ turn_from Initiator l.place;
+  rest : lines_fit_from l.pattern 0 (roles_and_payloads l.lines) ≡ lines_fit_from l.pattern l.place (roles_and_payloads (drop l.place l.lines));
+}

@@ -1,0 +1,103 @@
+use Rattle.noise_handshake.specs.inner.Means.{reader_of}
+use Rattle.std.proofs.Common.{◌≡◌, ◌<◌, ◌≤◌, ◌^◌, ℕ, ◌+◌, ◌-◌, List, length, take, drop, slice_range, ap, sym, subst, ◌∙◌, arith, length-drop}
+use Rattle.std.proofs.Common.{rules, length-take, take_all, nat_lt, if◌then◌else◌}
+use Rattle.std.proofs.lemmas.List.{take_rest}
+use Rattle.std.proofs.lemmas.Slice.{take-put_mid_below}
+use borrow.Rule.Slice.PartMut.{put_mid}
+use Rattle.noise_state.specs.Standing.{StateMatches, keyed, nonce_now}
+use Rattle.noise_state.specs.Standing.{nonce_now-is}
+use Rattle.noise_state.specs.History.{History, Ciphertext, and_then, ciphertext, nonce}
+use Rattle.noise_handshake.specs.Message.{after_tokens}
+use Rattle.noise_names.specs.declared.token.Token.{Token}
+use Rattle.noise_handshake.specs.Party.{Reader, BeginsAs}
+use Rattle.noise_handshake.specs.inner.Listening.{StopsKnowing}
+use Rattle.noise_handshake.specs.inner.Layout.{tokens_of}
+use Rattle.noise_handshake.specs.declared.faults.Cause.TheVariants.{Short, Tag}
+use Rattle.noise_handshake.specs.inner.Keying.{Keying}
+use Rattle.noise_handshake.proofs.Counting.{nonces-most}
+use Rattle.noise_handshake.proofs.Tags.{sealed_len-tag}
+use Rattle.noise_handshake.proofs.Layouts.{length-tokens_of}
+use Rattle.noise_handshake.proofs.Apart.{reads-whole, knows-last}
+use Rattle.noise_handshake.proofs.Steps.{written-at, rest-at}
+use Rattle.noise_handshake.proofs.reader.read_message.Goals as goal
+
+pub read_tokens-requires-clause-placed : goal.read_tokens-requires-clause-placed
+read_tokens-requires-clause-placed g c = (0, omega arith, c.requires.placed)
+
+pub unreachable-requires : goal.unreachable-requires
+unreachable-requires g c =
+    let left : nonce_now c.read_tokens.new.state < 2 ^ 64 - 1 =
+    omega (
+      arith,
+      ap (λ (k : Keying). k.nonce) c.in-Ok.ensures.keying,
+      nonces-most c.args.means.now.has_psks (keyed c.args.state.now) (nonce_now c.args.state.now) (tokens_of c.args.placed.now),
+      c.requires.nonces,
+    ) in
+    search rules
+
+pub returns-in-Ok-decrypt_and_hash-clause-beyond : goal.returns-in-Ok-decrypt_and_hash-clause-beyond
+returns-in-Ok-decrypt_and_hash-clause-beyond g c =
+    let m : List ℕ = c.args.message.now in
+    let n : ℕ = c.in-Ok.from in
+    let new : List ℕ = c.decrypt_and_hash.new.buf in
+    let within : n ≤ length m = omega (arith, c.in-Ok.ensures.within) in (
+      take-put_mid_below n (length m - n) m new n (omega arith) within,
+      rest-at m new n c.in-Ok-decrypt_and_hash.len within
+          (c.in-Ok-decrypt_and_hash.ensures.beyond ∙ ap (drop c.in-Ok-decrypt_and_hash.len) (take_rest m n)),
+    )
+
+pub returns-in-Ok-decrypt_and_hash-clause-read : goal.returns-in-Ok-decrypt_and_hash-clause-read
+returns-in-Ok-decrypt_and_hash-clause-read g c r s =
+    let v : Reader = reader_of g.K.Keys.agreement c.args.means.now in
+    let m : List ℕ = c.args.message.now in
+    let n : ℕ = c.in-Ok.from in
+    let len : ℕ = c.in-Ok-decrypt_and_hash.len in
+    let new : List ℕ = c.decrypt_and_hash.new.buf in
+    let payload : List ℕ = slice_range (put_mid n (length m - n) m new) n (n + len) in
+    let start = c.in-Ok.ensures.read r 0 s (omega arith) c.requires.placed in
+    let none : 0 + n ≡ n = omega arith in
+    let i1 : BeginsAs v c.args.known.now c.args.psks.now r (tokens_of c.args.placed.now) start.0 m (drop n m) =
+    subst (λ (k : ℕ). BeginsAs v c.args.known.now c.args.psks.now r (tokens_of c.args.placed.now) start.0 m (drop k m)) none start.1 in
+    let after : History = after_tokens c.args.means.now.has_psks r (tokens_of c.args.placed.now) start.0 in
+    let d = c.in-Ok-decrypt_and_hash.ensures.ok after start.2 in
+    let goes : take (length m - n) (drop n m) ≡ drop n m = take_all (length m - n) (drop n m) (omega (arith, length-drop n m)) in
+    let q : payload ≡ take len new = written-at m new _ n len (omega (arith, c.in-Ok.ensures.within))
+    (omega (arith, sealed_len-tag (keyed c.read_tokens.new.state) len, c.in-Ok-decrypt_and_hash.ensures.text)) in
+    let e : take (length m - n) (drop n m) ≡ ciphertext after payload = d.0 ∙ ap (ciphertext after) (sym q) in (
+      start.0,
+      reads-whole v c.args.known.now c.args.psks.now r (tokens_of c.args.placed.now) m start.0 (drop n m) payload i1 (sym goes ∙ e),
+      subst (λ (k : List ℕ). StateMatches c.decrypt_and_hash.new.self (and_then after (Ciphertext k))) e d.1,
+      start.3,
+    )
+
+pub returns-in-Err-Short-clause-stop : goal.returns-in-Err-Short-clause-stop
+returns-in-Err-Short-clause-stop g c = omega (arith, length-tokens_of c.args.placed.now)
+
+pub returns-in-Err-Short-clause-read : goal.returns-in-Err-Short-clause-read
+returns-in-Err-Short-clause-read g c r s =
+    let v : Reader = reader_of g.K.Keys.agreement c.args.means.now in
+    let m : List ℕ = c.args.message.now in
+    let n : ℕ = c.in-Ok.from in
+    let start = c.in-Ok.ensures.read r 0 s (omega arith) c.requires.placed in
+    let none : 0 + n ≡ n = omega arith in
+    let i1 : BeginsAs v c.args.known.now c.args.psks.now r (tokens_of c.args.placed.now) start.0 m (drop n m) =
+    subst (λ (k : ℕ). BeginsAs v c.args.known.now c.args.psks.now r (tokens_of c.args.placed.now) start.0 m (drop k m)) none start.1 in
+    let after : History = after_tokens c.args.means.now.has_psks r (tokens_of c.args.placed.now) start.0 in
+    let nonces : nonce after < 2 ^ 64 - 1 =
+    omega (
+      arith,
+      nonce_now-is c.read_tokens.new.state after start.2,
+      ap (λ (k : Keying). k.nonce) c.in-Ok.ensures.keying,
+      nonces-most c.args.means.now.has_psks (keyed c.args.state.now) (nonce_now c.args.state.now) (tokens_of c.args.placed.now),
+    ) in
+    let fits : length (take (length m - n) (drop n m)) ≤ 65535 = omega (arith, length-drop n m, length-take (length m - n) (drop n m)) in
+    let goes : take (length m - n) (drop n m) ≡ drop n m = take_all (length m - n) (drop n m) (omega (arith, length-drop n m)) in
+    let ts : List Token = tokens_of c.args.placed.now in
+    subst (λ (k : ℕ). StopsKnowing v c.args.known.now c.args.psks.now r ts m k c.end_cause.result c.read_tokens.new.known)
+    (length-tokens_of c.args.placed.now)
+    (knows-last v c.args.known.now c.read_tokens.new.known c.args.psks.now r ts m start.0 (drop n m) c.end_cause.result i1
+    (λ payload e. let reported = (c.in-Err-Short.ensures.accepts after start.2).1 (nonces, fits, (payload, goes ∙ e)) in cc)
+    (c.end_cause.ensures ∙ ap (λ (k : ℕ). if nat_lt k 16 then Short else Tag) (sym (length-drop n m))) start.3)
+
+pub returns-in-Err-clause-read : goal.returns-in-Err-clause-read
+returns-in-Err-clause-read g c r s = c.in-Err.ensures.read r 0 s (omega arith) c.requires.placed

@@ -1,5 +1,0 @@
-use Rattle.noise_handshake.proofs.Wanted.{token-placed}
-use Rattle.noise_handshake.proofs.reading.token_at.Goals as goal
-
-pub returns : goal.returns
-returns c = token-placed c.args.placed.now c.args.k _ c.requires

@@ -1,0 +1,63 @@
+use Rattle.noise_handshake.specs.inner.Means.{writer_of}
+use Rattle.noise_state.specs.Standing.{StateMatches, keyed, nonce_now}
+use Rattle.std.proofs.Common.{◌≡◌, ℕ, List, [], length, take, get_or, refl, sym, ap, ◌∙◌, arith}
+use Rattle.noise_handshake.specs.Length.{keyed_after, token_width}
+use Rattle.noise_handshake.specs.Nonces.{nonce_after}
+use Rattle.noise_handshake.specs.Writing.{Writer}
+use Rattle.noise_names.specs.declared.token.Token.TheVariants.{E, S, Psk}
+use Rattle.noise_handshake.proofs.Psks.{first_psk-read, written-as}
+use Rattle.noise_handshake.proofs.writer.write_token.Goals as goal
+
+pub returns-in-Some-clause-width : goal.returns-in-Some-clause-width
+returns-in-Some-clause-width g c = c.write_e.ensures.width ∙ ap (token_width (keyed c.args.state.now)) (sym c.in-E.is)
+
+pub returns-in-Some-clause-beyond : goal.returns-in-Some-clause-beyond
+returns-in-Some-clause-beyond g c = c.write_e.ensures.beyond
+
+pub returns-in-Some-clause-keyed : goal.returns-in-Some-clause-keyed
+returns-in-Some-clause-keyed g c = c.write_e.ensures.keyed ∙ ap (keyed_after c.args.means.now.has_psks (keyed c.args.state.now)) (sym c.in-E.is)
+
+pub returns-in-Some-clause-counted : goal.returns-in-Some-clause-counted
+returns-in-Some-clause-counted g c = c.write_e.ensures.counted ∙ ap (nonce_after c.args.means.now.has_psks (keyed c.args.state.now) (nonce_now c.args.state.now)) (sym c.in-E.is)
+
+pub returns-in-Some-public-clause-beyond : goal.returns-in-Some-public-clause-beyond
+returns-in-Some-public-clause-beyond g c = c.write_part.ensures.beyond
+
+pub returns-in-Some-public-clause-keyed : goal.returns-in-Some-public-clause-keyed
+returns-in-Some-public-clause-keyed g c = c.write_part.ensures.keyed ∙ ap (keyed_after c.args.means.now.has_psks (keyed c.args.state.now)) (sym c.in-S.is)
+
+pub returns-in-Some-public-clause-counted : goal.returns-in-Some-public-clause-counted
+returns-in-Some-public-clause-counted g c = c.write_part.ensures.counted ∙ ap (nonce_after c.args.means.now.has_psks (keyed c.args.state.now) (nonce_now c.args.state.now)) (sym c.in-S.is)
+
+pub returns-in-Psk-clause-width : goal.returns-in-Psk-clause-width
+returns-in-Psk-clause-width g c = ap (token_width (keyed c.args.state.now)) (sym c.in-Psk.is)
+
+pub returns-in-Psk-clause-keyed : goal.returns-in-Psk-clause-keyed
+returns-in-Psk-clause-keyed g c = c.mix_key_and_hash.ensures.key ∙ ap (keyed_after c.args.means.now.has_psks (keyed c.args.state.now)) (sym c.in-Psk.is)
+
+pub returns-in-Psk-clause-counted : goal.returns-in-Psk-clause-counted
+returns-in-Psk-clause-counted g c = c.mix_key_and_hash.ensures.nonce ∙ ap (nonce_after c.args.means.now.has_psks (keyed c.args.state.now) (nonce_now c.args.state.now)) (sym c.in-Psk.is)
+
+pub returns-in-Some-clause-written : goal.returns-in-Some-clause-written
+returns-in-Some-clause-written g c r s =
+    let w : Writer = writer_of g.K.Keys.public_of g.K.Keys.agreement c.args.means.now in
+    let key : List ℕ = c.in-Some.key in
+    let long : length key ≡ 32 = omega arith in
+    let d = c.write_e.ensures.written r s in
+    written-as StateMatches c.write_e.new.state w c.args.known.now c.args.psks.now r (take c.write_e.result c.write_e.new.out) E c.args.token c.in-E.is
+    (key, (cc, long), d.0, d.1)
+
+pub returns-in-Some-public-clause-written : goal.returns-in-Some-public-clause-written
+returns-in-Some-public-clause-written g c r s =
+    let w : Writer = writer_of g.K.Keys.public_of g.K.Keys.agreement c.args.means.now in
+    let key : List ℕ = c.in-Some-public.key in
+    let long : length key ≡ 32 = omega arith in
+    let d = c.write_part.ensures.written r s in
+    written-as StateMatches c.write_part.new.state w c.args.known.now c.args.psks.now r (take c.write_part.result c.write_part.new.out) S c.args.token c.in-S.is
+    (key, (cc, long), d.0, d.1)
+
+pub returns-in-Psk-clause-written : goal.returns-in-Psk-clause-written
+returns-in-Psk-clause-written g c r s =
+    let w : Writer = writer_of g.K.Keys.public_of g.K.Keys.agreement c.args.means.now in
+    written-as StateMatches c.mix_key_and_hash.new.self w c.args.known.now c.args.psks.now r [] Psk c.args.token c.in-Psk.is
+    (get_or c.args.psks.now 0 [], first_psk-read c.args.psks.now, refl, c.mix_key_and_hash.ensures.matches r s)

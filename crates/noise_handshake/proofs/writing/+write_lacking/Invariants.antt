@@ -1,5 +1,0 @@
-use Rattle.std.proofs.Common.{length}
-use Rattle.noise_handshake.proofs.writing.+write_lacking.Given as goal
-
-abbrev pub decreases-write_lacking : goal.decreases-write_lacking
-decreases-write_lacking g l = length l.placed.now

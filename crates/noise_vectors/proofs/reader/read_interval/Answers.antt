@@ -1,0 +1,35 @@
+use Rattle.std.proofs.Common.{codes, decimal, refl, ◌++◌, rules}
+use Rattle.std.proofs.lemmas.Bool.{false≢true}
+use Rattle.noise_vectors.proofs.ReadingLemmas.{interval-plain}
+use Rattle.noise_vectors.specs.ReaderFaults.{IsIntervalLine}
+use Rattle.noise_vectors.specs.declared.faults.LineKind.TheVariants as kinds
+use Rattle.noise_vectors.proofs.PartLemmas.{line-cut, line-wrong}
+use Rattle.noise_vectors.proofs.ReportedLemmas.{counted-ended}
+use Rattle.noise_vectors.proofs.Results.{err-is}
+use Rattle.noise_vectors.proofs.reader.read_interval.Goals as goal
+
+pub returns-in_default-clause-every : goal.returns-in_default-clause-every
+returns-in_default-clause-every c = λ interval rest h e.
+    let read = c.in_ok-line.ensures.every (codes "interval " ++ decimal interval) rest (interval-plain interval h) e in
+    let none = c.in_default.ensures.every interval h read.0 in
+    absurd (cc (none))
+
+pub returns-in_err-end-clause-every : goal.returns-in_err-end-clause-every
+returns-in_err-end-clause-every c = λ interval rest h e.
+    absurd (false≢true (c.in_err-end.ensures.ended.1 (c.in_ok-line.ensures.every (codes "interval " ++ decimal interval) rest (interval-plain interval h) e).2))
+
+pub returns-clause-every : goal.returns-clause-every
+returns-clause-every c = λ interval rest h e.
+    (refl, (c.in_ok-line.ensures.every (codes "interval " ++ decimal interval) rest (interval-plain interval h) e).1)
+
+pub returns-in_default-clause-reported : goal.returns-in_default-clause-reported
+returns-in_default-clause-reported c =
+    line-wrong IsIntervalLine c.in_ok-line.ensures.read c.fault.ensures (λ good. let none = c.in_default.ensures.every good.0 good.1 good.2 in cc (none))
+
+pub returns-in_err-end-clause-reported : goal.returns-in_err-end-clause-reported
+returns-in_err-end-clause-reported c =
+    rw (err-is c.from_residual-in_err-end.result c.from_residual-in_err-end.ensures.1) (line-cut IsIntervalLine kinds.Interval c.in_ok-line.ensures.read c.in_err-end.ensures.fault (c.in-Some.interval, search rules, c.in-Some.ensures.text))
+
+pub returns-clause-counted : goal.returns-clause-counted
+returns-clause-counted c =
+    counted-ended c.in_ok-line.ensures.read (c.in_ok-end.ensures.ended.0 refl)
