@@ -18,9 +18,9 @@ ghost use Rattle.noise_duel.specs.Reports.{AgreesInRun, AllComeThrough, ReportsR
 ghost use Rattle.noise_duel.specs.Sides.{Side};
 
 use crate::datagram_duel::DatagramDuel;
+use crate::delivery::receive;
 use crate::entry::Entry;
 use crate::laws::{ends_agree, ends_match, lines_come_through};
-use crate::delivery::receive;
 use crate::report::Report;
 use crate::writer::write;
 use noise_events::{Cuts, Event};

@@ -9,11 +9,11 @@ ghost use Rattle.noise_explain.specs.Shown.{right_head};
 
 use crate::advice::Advice;
 use crate::column::column_of;
+use crate::excerpt::{caret_lines, push_sentence, right_head, unread_head, wrong_head};
 use crate::facts::fact_lines;
 use crate::place::{Place, line_at};
 use crate::rule_place::rule_place;
 use crate::rule_sentences::rule_sentences;
-use crate::excerpt::{caret_lines, push_sentence, right_head, unread_head, wrong_head};
 use crate::text_advice::fault_advice;
 use noise_lines::Fault;
 use noise_names::{Pattern, RuleFault, TextFault, ValidPattern};

@@ -2,10 +2,10 @@
 
 ghost use Rattle.std.specs.Prelude.{◌≡◌, ◌≤◌, ◌++◌, OnOk, codes, length};
 
+use crate::excerpt::push_sentence;
 use crate::known::{Spot, sender_of};
 use crate::party_facts::push_party_facts;
 use crate::progress::{Progress, progress_at};
-use crate::excerpt::push_sentence;
 use noise_lines::{role_word, token_word};
 use noise_names::{Role, Token, ValidPattern};
 use std::alloc::{AllocError, Global};

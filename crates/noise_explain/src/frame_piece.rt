@@ -6,9 +6,9 @@ ghost use Rattle.noise_vectors.specs.HexWord.{hex_of};
 ghost use Rattle.noise_explain.specs.FramePieces.{HasNoFrame, HaveNoFrame, IsFirstDifferent, SaysPiece, IsPieceAt};
 ghost use Rattle.noise_explain.specs.FramePieces.{frame_front, makes_key, piece_len, piece_line, piece_word};
 
+use crate::excerpt::push_number;
 use crate::known::sender_of;
 use crate::rule_place::tokens_at;
-use crate::excerpt::push_number;
 use noise_lines::{role_word, token_word};
 use noise_names::{Token, ValidPattern};
 use noise_vectors::read_hex;

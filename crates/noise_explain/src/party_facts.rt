@@ -1,8 +1,8 @@
 //! What follows from the tokens of a valid pattern for each party.
 
+use crate::excerpt::push_sentence;
 use crate::known::{Spot, key_spot, mixed_spot, sender_of};
 use crate::progress::progress_at;
-use crate::excerpt::push_sentence;
 use noise_lines::role_word;
 use noise_names::{Pattern, Role, Token};
 use std::alloc::{AllocError, Global};

@@ -3,8 +3,8 @@
 #![tactic(auto)]
 
 pub mod laws;
-mod transcript;
 #[cfg(test)]
 mod tests;
+mod transcript;
 
 pub use transcript::talk;

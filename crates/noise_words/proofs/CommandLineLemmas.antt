@@ -90,4 +90,3 @@ chosen_of-other a b text not_a not_b =
     let no_a = differs a text not_a in
     let no_b = differs b text not_b in
     rw (no_a, no_b) refl
-
