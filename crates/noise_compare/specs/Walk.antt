@@ -31,7 +31,8 @@ abbrev pub AreLeftAfter : List Line → Left → Line → Result (ℕ × ℕ) (O
 AreLeftAfter right left logged result = MatchResult result
     (λ next. (next.0 ≤ length right) × (next.1 ≤ length right)
     × (left_after left logged ≡ Some (left_from right next.0 next.1)))
-    (λ other. (left_after left logged ≡ None) × (option_copied other ≡ find (is_of_place logged) (left_for left logged)))
+    (λ other. (left_after left logged ≡ None)
+    × (option_copied other ≡ find (is_of_place logged) (left_for left logged)))
 
 -- likewise for the lines of one role
 abbrev pub AreLeftFrom : List Line → List Line → Line → Result ℕ (Option (Bor Line)) → Type 0

@@ -242,7 +242,7 @@ impl<K: Keys> LateHandshake<K> {
         requires psk { IsPskAfter (tokens_at self.now.pattern.messages self.now.passed) (length self.now.psks) k }
         ensures wants { (v : Party) (later : List (List ℕ)) → MatchesWith K.public_of K.agreement self.now later v
             → let leaves = LeavesLateUnread v (length self.now.psks) message.now in MatchResult result
-            (λ want. leaves (LateUnread.Wants want)) (λ stop. leaves (LateUnread.Declined (Refused stop.token stop.cause))) }
+            (λ want. leaves (LateUnread.Wants want)) (λ s. leaves (LateUnread.Declined (Refused s.token s.cause))) }
         ensures asked { (v : Party) (later : List (List ℕ)) → MatchesWith K.public_of K.agreement self.now later v
             → (remote : Option (List ℕ)) → WantsPskToRead v (length self.now.psks) message.now remote
             → result ≡ Ok (Want.Psk remote) }

@@ -173,8 +173,9 @@ fn read_into<R: Read>(
     ensures fixed { vec_capacity buffer.new ≡ vec_capacity buffer.old }
     ensures within { result.0 ≤ end - start }
     ensures filled { (result.1 ≡ Filled) ↔ (result.0 ≡ end - start) }
-    ensures bytes { (piece : List ℕ) × Consumes (R.remaining (inner_of from.old)) (R.remaining (inner_of from.new)) piece
-        × (length piece ≡ result.0) × (take (start + result.0) buffer.new.items ≡ take start buffer.old.items ++ piece) }
+    ensures bytes { (piece : List ℕ)
+        × Consumes (R.remaining (inner_of from.old)) (R.remaining (inner_of from.new)) piece × (length piece ≡ result.0)
+        × (take (start + result.0) buffer.new.items ≡ take start buffer.old.items ++ piece) }
     ensures end { result.1 ≡ End → IsAtEnd (R.remaining (inner_of from.new)) }
     ensures failures { failures_of from.new ≡ after_filling (failures_of from.old) result.1 }
 {
