@@ -1,11 +1,16 @@
 -- What opening a datagram returns by number.
 use Rattle.std.proofs.Common.{◌≡◌, ◌≤◌, inl, inr, ℕ, ◌+◌, List, drop, take, ap, sym, subst, ◌∙◌, refl, arith}
-use Rattle.std.specs.Prelude.{slice_range}
+use Rattle.std.specs.Prelude.{slice_range, Err, true}
+use Rattle.std.proofs.lemmas.Bool.{false≢true}
 use Rattle.noise_session.specs.declared.datagram_fault.DatagramFault.{DatagramFault}
 use Rattle.noise_session.specs.declared.datagram_fault.DatagramFault.TheVariants as declined
 use Rattle.noise_c.specs.TransportCodes.{datagram_code}
-use Rattle.noise_c.specs.DatagramStructs.{IsDatagramCode}
-use Rattle.noise_c.proofs.Numbers.{other}
+use Rattle.noise_session.specs.Datagrams.{DatagramReceiverValue, DatagramReceiverMatches}
+use Rattle.noise_session.specs.DatagramCalls.{DatagramReceiverOpens, OpensAfterNonce}
+use Rattle.noise_c.specs.declared.structs.NoiseDatagramReceiver.{NoiseDatagramReceiver}
+use Rattle.noise_c.specs.declared.structs.NoiseResult.{NoiseResult}
+use Rattle.noise_c.specs.DatagramStructs.{IsDatagramCode, OpensDatagramInPlace, datagram_receiver_from_c, is_datagram_receiver}
+use Rattle.noise_c.proofs.Numbers.{other, not-before}
 
 datagram-codes : (fault : DatagramFault) → (11 ≤ datagram_code fault)
 datagram-codes declined.TooLong = omega arith
@@ -38,6 +43,25 @@ declined-sort declined.Repeated = inr (inr (inr (inr (inr (inr (inr (inr refl)))
 
 pub declined-among : (fault : DatagramFault) (code : ℕ) → code ≡ datagram_code fault → IsDatagramCode code
 declined-among fault code is = subst (λ (n : ℕ). IsDatagramCode n) (sym is) (declined-sort fault)
+
+-- a datagram that the library declines leaves all as it was
+pub datagram_declined : (old new : NoiseDatagramReceiver) (bytes after : List ℕ) (results next : NoiseResult) (code : ℕ)
+    (h left : DatagramReceiverValue) (fault : DatagramFault) (payload_in : ℕ → List ℕ) → DatagramReceiverOpens h left bytes (Err fault) payload_in
+    → OpensAfterNonce bytes after (Err fault) → code ≡ datagram_code fault → h ≡ datagram_receiver_from_c old → is_datagram_receiver old ≡ true
+    → new ≡ old → next ≡ results → OpensDatagramInPlace old new bytes after results next code
+datagram_declined old new bytes after results next code h left fault payload_in opens place is from known same other_same =
+    let least = declined-from fault code is in
+    record {
+      unusable = (declined-not-struct fault code is, λ none. absurd (false≢true (sym none ∙ known)));
+      place = not-before code 11 0 least refl;
+      opens = not-before code 11 0 least refl;
+      declined = λ _ _. (fault, is, λ v s. opens.opens v (subst (λ (z : DatagramReceiverValue). DatagramReceiverMatches z v) (sym from) s));
+      beyond = not-before code 11 0 least refl;
+      same = not-before code 11 0 least refl;
+      known = not-before code 11 0 least refl;
+      unchanged = λ _. (same, place.unchanged, other_same);
+      codes = declined-among fault code is;
+    }
 
 -- the payload, from the ninth byte on
 pub from-ninth : (bytes : List ℕ) (n : ℕ) → take n (drop 8 bytes) ≡ slice_range bytes 8 (8 + n)

@@ -9,9 +9,9 @@ use Rattle.noise_session.specs.Datagrams.{DatagramState, DatagramsMatch, Datagra
 use Rattle.noise_session.specs.DatagramCalls.{DatagramSenderSeals, DatagramReceiverOpens, DatagramsSeal, DatagramsOpen}
 
 -- a half of the same party
-pub same-party : (h : DatagramReceiverValue) (role : Role) (one_way : Bool) → h.role ≡ role → h.one_way ≡ one_way
+pub same_party : (h : DatagramReceiverValue) (role : Role) (one_way : Bool) → h.role ≡ role → h.one_way ≡ one_way
     → h ≡ record h { role = role; one_way = one_way }
-same-party h role one_way a b =
+same_party h role one_way a b =
     ap (λ (r : Role). record h { role = r }) a ∙ ap (λ (w : Bool). record h { role = role; one_way = w }) b
 
 -- a call of the half that seals changes its nonce alone
@@ -45,9 +45,9 @@ sealed-matches (Ok n) d h v P s k = record {
 }
 sealed-matches (Err f) d h v P s k = tt
 
-pub datagrams-seal : (d u : DatagramsValue) (h : DatagramSenderValue) (n : ℕ) (payload out after : List ℕ) (r : Result ℕ SendFault) → d ≡ u
+pub datagrams_seal : (d u : DatagramsValue) (h : DatagramSenderValue) (n : ℕ) (payload out after : List ℕ) (r : Result ℕ SendFault) → d ≡ u
     → DatagramSenderSeals (datagram_sending_half d) h n payload out after r → DatagramsSeal u (after_sealing d h) n payload out after r
-datagrams-seal d u h n payload out after r is s = subst (λ (z : DatagramsValue). DatagramsSeal z (after_sealing d h) n payload out after r) is (record {
+datagrams_seal d u h n payload out after r is s = subst (λ (z : DatagramsValue). DatagramsSeal z (after_sealing d h) n payload out after r) is (record {
   half = s;
   others = ap (after_sealing d) (nonce-alone (after ≡ out) r (datagram_sending_half d) h s.counted s.unchanged);
   unchanged = sealed-unchanged r d h (after ≡ out) s.unchanged;
@@ -83,10 +83,10 @@ recent-alone : (h next : DatagramReceiverValue) → next ≡ record h { recent =
 recent-alone h next same =
     same ∙ ap (λ (k : Option (List ℕ)). record h { key = k; recent = next.recent }) (sym (ap (λ (z : DatagramReceiverValue). z.key) same))
 
-pub datagrams-open : {T : Type 0} (d u : DatagramsValue) (h next : DatagramReceiverValue) (bytes : List ℕ) (r : Result T DatagramFault)
+pub datagrams_open : {T : Type 0} (d u : DatagramsValue) (h next : DatagramReceiverValue) (bytes : List ℕ) (r : Result T DatagramFault)
     (payload_in : T → List ℕ) → d ≡ u → h ≡ datagram_receiving_half d → DatagramReceiverOpens h next bytes r payload_in
     → DatagramsOpen u (after_opening d next) bytes r payload_in
-datagrams-open d u h next bytes r payload_in viewed is o =
+datagrams_open d u h next bytes r payload_in viewed is o =
     let of : DatagramReceiverOpens (datagram_receiving_half d) next bytes r payload_in =
     subst (λ (z : DatagramReceiverValue). DatagramReceiverOpens z next bytes r payload_in) is o in
     let same : next ≡ datagram_receiving_half (after_opening d next) = recent-alone (datagram_receiving_half d) next of.same in

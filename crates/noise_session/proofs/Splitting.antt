@@ -10,9 +10,9 @@ use Rattle.noise_session.specs.HalfCalls.{SenderSeals, ReceiverOpens, TransportS
 use Rattle.noise_session.specs.TransportValue.{TransportValue, TransportState, TransportMatches, SenderMatches, ReceiverMatches, sending_half, receiving_half}
 
 -- a half of the same party
-pub same-party : (h : HalfValue) (role : Role) (one_way : Bool) (interval : ℕ) → h.role ≡ role → h.one_way ≡ one_way → h.interval ≡ interval
+pub same_party : (h : HalfValue) (role : Role) (one_way : Bool) (interval : ℕ) → h.role ≡ role → h.one_way ≡ one_way → h.interval ≡ interval
     → h ≡ record h { role = role; one_way = one_way; interval = interval }
-same-party h role one_way interval a b c =
+same_party h role one_way interval a b c =
     ap (λ (r : Role). record h { role = r }) a
     ∙ ap (λ (w : Bool). record h { role = role; one_way = w }) b
     ∙ ap (λ (n : ℕ). record h { role = role; one_way = one_way; interval = n }) c
@@ -50,9 +50,9 @@ sealed-matches (Ok n) t h v P s k = record {
 }
 sealed-matches (Err f) t h v P s k = tt
 
-pub transport-seals : (t u : TransportValue) (h : HalfValue) (n : ℕ) (payload out after : List ℕ) (r : Result ℕ SendFault) → t ≡ u
+pub transport_seals : (t u : TransportValue) (h : HalfValue) (n : ℕ) (payload out after : List ℕ) (r : Result ℕ SendFault) → t ≡ u
     → SenderSeals (sending_half t) h n payload out after r → TransportSeals u (after_sealing t h) n payload out after r
-transport-seals t u h n payload out after r is s = subst (λ (z : TransportValue). TransportSeals z (after_sealing t h) n payload out after r) is (record {
+transport_seals t u h n payload out after r is s = subst (λ (z : TransportValue). TransportSeals z (after_sealing t h) n payload out after r) is (record {
   half = s;
   others = ap (after_sealing t) (key-and-nonce r (sending_half t) h s.counted (unchanged-half r s.unchanged));
   unchanged = sealed-unchanged r t h (after ≡ out) s.unchanged;
@@ -87,9 +87,9 @@ opened-matches (Ok x) t h v P Q s k = record {
 }
 opened-matches (Err f) t h v P Q s k = tt
 
-pub transport-opens : {T : Type 0} (t u : TransportValue) (h next : HalfValue) (message : List ℕ) (r : Result T OpenFault) (payload_in : T → List ℕ) → t ≡ u
+pub transport_opens : {T : Type 0} (t u : TransportValue) (h next : HalfValue) (message : List ℕ) (r : Result T OpenFault) (payload_in : T → List ℕ) → t ≡ u
     → h ≡ receiving_half t → ReceiverOpens h next message r payload_in → TransportOpens u (after_opening t next) message r payload_in
-transport-opens t u h next message r payload_in viewed is o =
+transport_opens t u h next message r payload_in viewed is o =
     let of : ReceiverOpens (receiving_half t) next message r payload_in =
     subst (λ (z : HalfValue). ReceiverOpens z next message r payload_in) is o in
     let same : next ≡ receiving_half (after_opening t next) = key-and-nonce r (receiving_half t) next of.counted of.unchanged in

@@ -128,6 +128,7 @@ impl Datagrams {
 
     /// The half that seals and the half that opens, as for two threads. Each does what these datagrams do in its
     /// direction.
+    #[tactic(auto, using(crate::proofs::DatagramSplitting::same_party))]
     pub fn split(self) -> (DatagramSender, DatagramReceiver)
         ensures sender { result.0 ≡ datagram_sending_half self }
         ensures receiver { result.1 ≡ datagram_receiving_half self }
@@ -148,6 +149,7 @@ impl Datagrams {
     ///
     /// `out` holds them where the payload has at most 65519 bytes. The faults are OneWay, TooLong and Exhausted, looked
     /// for in this order.
+    #[tactic(auto, using(crate::proofs::DatagramSplitting::datagrams_seal))]
     pub fn seal(&mut self, payload: &[u8], out: &mut [u8]) -> Result<usize, SendFault>
         requires { unsealed self.old.role self.old.one_way self.old.send_nonce (length payload.now) ≡ None
             → length payload.now + 24 ≤ length out.old }
@@ -160,6 +162,7 @@ impl Datagrams {
     /// in the first bytes, 24 more, and it returns how many.
     ///
     /// `buffer` holds them where the payload has at most 65519 bytes. The faults are those of `seal`.
+    #[tactic(auto, using(crate::proofs::DatagramSplitting::datagrams_seal))]
     pub fn seal_in_place(
         &mut self,
         buffer: &mut [u8],
@@ -177,6 +180,7 @@ impl Datagrams {
     /// the nonce in front of them and the 16 of the tag after them stay as they are.
     ///
     /// At an `Err` its bytes are unchanged.
+    #[tactic(auto, using(crate::proofs::DatagramSplitting::datagrams_open))]
     pub fn open_within(&mut self, datagram: &mut [u8]) -> Result<usize, DatagramFault>
         ensures opens { DatagramsOpen self.old self.new datagram.old result (λ n. take n (drop 8 datagram.new)) }
         ensures place { OpensAfterNonce datagram.old datagram.new result }

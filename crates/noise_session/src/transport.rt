@@ -126,6 +126,7 @@ impl Transport {
 
     /// The half that seals and the half that opens, as for two threads. Each does what this transport does in its
     /// direction; neither has the hash and the other party's static key.
+    #[tactic(auto, using(crate::proofs::Splitting::same_party))]
     pub fn split(self) -> (Sender, Receiver)
         ensures sender { result.0 ≡ sending_half self }
         ensures receiver { result.1 ≡ receiving_half self }
@@ -215,6 +216,7 @@ impl Transport {
     ///
     /// `out` holds them where the payload has at most 65519 bytes. The faults are OneWay, TooLong and Exhausted, looked
     /// for in this order.
+    #[tactic(auto, using(crate::proofs::Splitting::transport_seals))]
     pub fn seal(&mut self, payload: &[u8], out: &mut [u8]) -> Result<usize, SendFault>
         requires { seal_fault self.old (length payload.now) ≡ None → length payload.now + 16 ≤ length out.old }
         ensures { TransportSeals self.old self.new (length payload.now) payload.now out.old out.new result }
@@ -226,6 +228,7 @@ impl Transport {
     /// more, and it returns how many.
     ///
     /// `buffer` holds them where the payload has at most 65519 bytes. The faults are those of `seal`.
+    #[tactic(auto, using(crate::proofs::Splitting::transport_seals))]
     pub fn seal_in_place(
         &mut self,
         buffer: &mut [u8],
@@ -242,6 +245,7 @@ impl Transport {
     /// them stay as they are.
     ///
     /// The message has at most 65535 bytes. At an `Err` its bytes are unchanged.
+    #[tactic(auto, using(crate::proofs::Splitting::transport_opens))]
     pub fn open_within(&mut self, message: &mut [u8]) -> Result<usize, OpenFault>
         requires { length message.old ≤ 65535 }
         ensures opens { TransportOpens self.old self.new message.old result (λ n. take n message.new) }

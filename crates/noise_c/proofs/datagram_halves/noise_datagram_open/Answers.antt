@@ -49,24 +49,3 @@ returns c =
       unchanged = above 1 0 refl;
       codes = inl refl;
     }
-
-pub returns-in-Err : goal.returns-in-Err
-returns-in-Err c =
-    let code = c.datagram_code.result in
-    let is = c.datagram_code.ensures in
-    let from = declined-from c.in-Err.fault code is in
-    record {
-      unusable = (declined-not-struct c.in-Err.fault code is, λ none. absurd (false≢true (sym none ∙ sym c.in-Some.ensures.known)));
-      place = not-before code 11 0 from refl;
-      opens = not-before code 11 0 from refl;
-      declined = λ _ _. (
-        c.in-Err.fault,
-        is,
-        λ v s. c.in-Err.ensures.opens.opens v (subst (λ (z : DatagramReceiverValue). DatagramReceiverMatches z v) (sym c.in-Some.ensures.same) s),
-      );
-      beyond = not-before code 11 0 from refl;
-      same = not-before code 11 0 from refl;
-      known = not-before code 11 0 from refl;
-      unchanged = λ _. (refl, c.in-Err.ensures.place.unchanged, refl);
-      codes = declined-among c.in-Err.fault code is;
-    }
