@@ -7,13 +7,14 @@ use Rattle.noise_handshake.specs.declared.remote.Remote.{Remote}
 use Rattle.noise_handshake.specs.Message.{token_bytes, after_token, before_payload}
 use Rattle.noise_handshake.specs.Party.{Reader, psks_after}
 use Rattle.noise_trace.specs.inner.Carried.{known_next, CarriesAll}
+use Rattle.noise_trace.specs.inner.Means.{reader_in}
 use Rattle.noise_trace.proofs.Fronts.{parted, followed-on}
 use Rattle.noise_trace.proofs.tokens.+follow.Goals as goal
 use Rattle.std.proofs.lemmas.Option.{same_Some}
 
 pub returns-clause-followed : goal.returns-clause-followed
 returns-clause-followed g t c r xs more s carries spelled =
-    let v : Reader = record { role = c.args.means.now.role; has_psks = c.args.means.now.has_psks; agree = g.K.Keys.agreement c.args.means.now.keys.now } in
+    let v : Reader = reader_in g.K.Keys.agreement c.args.means.now in
     let m : List ℕ = c.args.means.now.message.now in
     let from : ℕ = c.args.from in
     let reads : Bool = c.args.means.now.reads in

@@ -5,12 +5,13 @@ use Rattle.noise_names.specs.declared.token.Token.{Token}
 use Rattle.noise_state.specs.Standing.{StateMatches}
 use Rattle.noise_handshake.specs.Message.{token_bytes, after_token}
 use Rattle.noise_handshake.specs.Party.{Reader, Fits, known_after}
+use Rattle.noise_trace.specs.inner.Means.{reader_in}
 use Rattle.noise_trace.proofs.tokens.follow_token.Goals as goal
 use Rattle.std.proofs.lemmas.Option.{same_Some}
 
 pub returns-in_err-width-in-E-clause-followed : goal.returns-in_err-width-in-E-clause-followed
 returns-in_err-width-in-E-clause-followed g c r x more s f e =
-    let v : Reader = record { role = c.args.means.now.role; has_psks = c.args.means.now.has_psks; agree = g.K.Keys.agreement c.args.means.now.keys.now } in
+    let v : Reader = reader_in g.K.Keys.agreement c.args.means.now in
     let long : length x ≡ 32 = subst (λ (t : Token). Fits v c.args.known.now c.args.psks.now t x) c.in-E.is f in
     let here : c.args.rest.now ≡ x ++ more = subst (λ (t : Token). c.args.rest.now ≡ token_bytes r t x ++ more) c.in-E.is e in
     let reported = (c.take_e.ensures.taken r x more s long here).0 in
@@ -18,7 +19,7 @@ returns-in_err-width-in-E-clause-followed g c r x more s f e =
 
 pub returns-in_ok-width-in-E-clause-followed : goal.returns-in_ok-width-in-E-clause-followed
 returns-in_ok-width-in-E-clause-followed g c r x more s f e =
-    let v : Reader = record { role = c.args.means.now.role; has_psks = c.args.means.now.has_psks; agree = g.K.Keys.agreement c.args.means.now.keys.now } in
+    let v : Reader = reader_in g.K.Keys.agreement c.args.means.now in
     let long : length x ≡ 32 = subst (λ (t : Token). Fits v c.args.known.now c.args.psks.now t x) c.in-E.is f in
     let here : c.args.rest.now ≡ x ++ more = subst (λ (t : Token). c.args.rest.now ≡ token_bytes r t x ++ more) c.in-E.is e in
     let reported = c.take_e.ensures.taken r x more s long here in
