@@ -1,5 +1,4 @@
 //! Why nothing is written on a stream.
-#![tactic(auto)]
 
 /// Why nothing is written. Looked for in this order; nothing changes.
 #[derive(Clone, Copy, Debug, PartialEq, Eq)]

@@ -1,5 +1,4 @@
 //! Where the message of a frame lies (Noise, 3 and 13).
-#![tactic(auto)]
 
 ghost use Rattle.std.specs.Prelude.{◌≡◌, ◌≤◌, ◌-◌, length, take};
 ghost use Rattle.byteorder.specs.Endian.{big_bytes};

@@ -1,5 +1,4 @@
 //! Looks for the message of a frame.
-#![tactic(auto)]
 
 ghost use Rattle.noise_channel.specs.Framing.{Frames};
 

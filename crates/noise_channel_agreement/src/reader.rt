@@ -1,5 +1,4 @@
 //! A caller that reads all that came, and reports whether the stream is whole.
-#![tactic(auto)]
 
 ghost use Rattle.std.specs.Prelude.{◌≡◌, ◌↔◌, ◌≤◌, ℕ, List, [], length, true};
 ghost use Rattle.noise_session.specs.TransportValue.{TransportState};

@@ -1,5 +1,4 @@
 //! Where the texts that two parties hashed clash.
-#![tactic(auto)]
 
 ghost use Rattle.std.specs.Prelude.{◌≡◌, IfOk, MatchOption, None};
 ghost use Rattle.noise_state.specs.History.{History};

@@ -1,5 +1,4 @@
 //! A whole conversation.
-#![tactic(auto)]
 
 ghost use Rattle.std.specs.Prelude.{◌≡◌, ◌≤◌, length, true};
 ghost use Rattle.noise_duel.specs.Acts.{roles_and_payloads};

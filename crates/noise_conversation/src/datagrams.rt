@@ -1,5 +1,4 @@
 //! Datagrams between two ends, over any network.
-#![tactic(auto)]
 
 ghost use Rattle.std.specs.Prelude.{◌≡◌, true};
 ghost use Rattle.noise_session.specs.Ends.{EndState};

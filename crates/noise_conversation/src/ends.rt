@@ -1,5 +1,4 @@
 //! Two ends of equal setup.
-#![tactic(auto)]
 
 ghost use Rattle.std.specs.Prelude.{◌≡◌, ◌≤◌, length, IfOk, MatchResult, None};
 ghost use Rattle.noise_names.specs.Limits.{IsPattern};

@@ -1,5 +1,4 @@
 //! Why there is no conversation.
-#![tactic(auto)]
 
 ghost use Rattle.noise_conversation.specs.declared.fault.ConversationFault.TheVariants.{Memory};
 ghost use Rattle.std.specs.Prelude.{◌≡◌};

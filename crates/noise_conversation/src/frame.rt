@@ -1,5 +1,4 @@
 //! Whether a frame is one of a given payload.
-#![tactic(auto)]
 
 ghost use Rattle.std.specs.Prelude.{◌≡◌, ◌↔◌, true};
 ghost use Rattle.noise_session.specs.Ends.{EndState, EndMatches};

@@ -1,5 +1,4 @@
 //! Laws of what two ends of one set-up accept and report.
-#![tactic(auto)]
 
 ghost use Rattle.noise_conversation.specs.Agreement.{HashIsReported};
 ghost use Rattle.noise_conversation.specs.Datagrams.{DatagramEntriesAgree, DatagramKeysCome, DatagramsAreReported};

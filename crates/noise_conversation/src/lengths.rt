@@ -1,5 +1,4 @@
 //! Whether lines fit into the messages of a pattern.
-#![tactic(auto)]
 
 ghost use Rattle.std.specs.Prelude.{◌≡◌, ℕ, List, length};
 ghost use Rattle.noise_names.specs.declared.token.Role.TheVariants.{Initiator};

@@ -1,5 +1,4 @@
 //! Whether a handshake message is one of a given payload.
-#![tactic(auto)]
 
 ghost use Rattle.std.specs.Prelude.{◌≡◌, ◌≤◌, ◌↔◌, ℕ, List, length, true};
 ghost use Rattle.noise_handshake.specs.Matching.{Matches};

@@ -1,5 +1,4 @@
 //! Two ends of equal setup over any network.
-#![tactic(auto)]
 
 ghost use Rattle.std.specs.Prelude.{◌≤◌, length};
 ghost use Rattle.noise_events.specs.Events.{events_of};

@@ -1,5 +1,4 @@
 //! Two ends whose prologues differ, over any network.
-#![tactic(auto)]
 
 ghost use Rattle.noise_events.specs.Events.{events_of};
 ghost use Rattle.noise_duel.specs.Reports.{ReportsRun};

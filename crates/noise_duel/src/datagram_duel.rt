@@ -1,5 +1,4 @@
 //! The datagrams of two parties, and what events make of them.
-#![tactic(auto)]
 
 ghost use Rattle.std.specs.Prelude.{◌≡◌, IfOk};
 ghost use Rattle.noise_session.specs.Datagrams.{DatagramState};

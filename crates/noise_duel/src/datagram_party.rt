@@ -1,5 +1,4 @@
 //! One party seals and opens datagrams.
-#![tactic(auto)]
 
 ghost use Rattle.std.specs.Prelude.{◌≡◌, ℕ, List, length, IfOk, slice_get};
 ghost use Rattle.noise_session.specs.Datagrams.{DatagramsMatch};

@@ -1,5 +1,4 @@
 //! The report of a run of datagrams.
-#![tactic(auto)]
 
 ghost use Rattle.std.specs.Prelude.{◌≡◌, []};
 

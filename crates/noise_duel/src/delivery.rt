@@ -1,5 +1,4 @@
 //! Bytes come to an end.
-#![tactic(auto)]
 
 ghost use Rattle.std.specs.Prelude.{◌≡◌, ◌≤◌, ℕ, List, ◌++◌, length, OnOk, IfOk, IfSome};
 ghost use Rattle.noise_session.specs.Ends.{EndMatches};

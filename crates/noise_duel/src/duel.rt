@@ -1,5 +1,4 @@
 //! Two ends of a session, and what events make of them.
-#![tactic(auto)]
 
 ghost use Rattle.std.specs.Prelude.{◌≡◌, ◌↔◌, IsOk, IfOk, IfErr, OnOk, slice_get, true};
 ghost use Rattle.noise_names.specs.declared.token.Role.TheVariants.{Initiator, Responder};

@@ -1,5 +1,4 @@
 //! The entries of a report.
-#![tactic(auto)]
 
 use noise_handshake::Cause;
 use noise_session::SendFault;

@@ -1,5 +1,4 @@
 //! Laws of two ends over any network.
-#![tactic(auto)]
 
 ghost use Rattle.noise_duel.specs.Agreement.{HashReports, PsksReport, KeysReport, KnowEachOther, VisiblyEqualIsOne};
 ghost use Rattle.noise_duel.specs.Below.{LawsBelow};

@@ -1,5 +1,4 @@
 //! The report of a run.
-#![tactic(auto)]
 
 ghost use Rattle.std.specs.Prelude.{◌≡◌, []};
 

@@ -1,5 +1,4 @@
 //! An end writes.
-#![tactic(auto)]
 
 ghost use Rattle.std.specs.Prelude.{◌≡◌, ℕ, List, length, IfOk};
 ghost use Rattle.noise_session.specs.Ends.{EndMatches};

@@ -1,5 +1,4 @@
 //! The pieces that bytes are handed over in.
-#![tactic(auto)]
 
 ghost use Rattle.std.specs.Prelude.{◌≡◌, ◌<◌, ◌≤◌, [], Some, None, if◌then◌else◌};
 ghost use Rattle.noise_events.specs.Cuts.{are_cuts, piece_len_of};

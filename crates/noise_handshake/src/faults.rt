@@ -1,5 +1,4 @@
 //! Why a message isn't written or read.
-#![tactic(auto)]
 
 use crate::Own;
 

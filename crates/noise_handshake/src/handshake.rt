@@ -1,5 +1,4 @@
 //! A handshake of one party.
-#![tactic(auto)]
 
 ghost use Rattle.std.specs.Prelude.{◌≡◌, ◌≤◌, ◌<◌, ◌+◌, ◌-◌, ◌*◌, true, false, ℕ, ◌↔◌, length, take, drop, Some, None, IsOk, IfOk};
 ghost use Rattle.std.specs.Prelude.{IfErr, OnErr, MatchResult, MatchOption, IsSome, IfSome, ◌&&◌, ◌==◌, count_by, set};

@@ -1,5 +1,4 @@
 //! A handshake that may start with fewer psks than its pattern has psk tokens.
-#![tactic(auto)]
 
 ghost use Rattle.std.specs.Prelude.{◌≡◌, ◌≤◌, ◌<◌, ◌↔◌, ◌∷◌, ◌++◌, [], ℕ, List, length, take, drop, true, false, None, Some};
 ghost use Rattle.std.specs.Prelude.{IsOk, IfOk, IfErr, OnErr, MatchResult, MatchOption, IsSome, IfSome, IsTrue, ◌==◌, count_by, Option};

@@ -1,5 +1,4 @@
 //! What a handshake wants that may lack psks, and why its messages aren't read or written.
-#![tactic(auto)]
 
 use crate::{Own, ReadFault, WriteFault};
 

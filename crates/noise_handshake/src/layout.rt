@@ -1,5 +1,4 @@
 //! The layout of a message (Noise, 5.3): where each token and the payload stand, made once for each message.
-#![tactic(auto)]
 
 ghost use Rattle.std.specs.Prelude.{◌≡◌, ◌≤◌, ◌+◌, ◌*◌, ◌++◌, length, count_by, MatchOption};
 ghost use Rattle.noise_names.specs.Limits.{IsPattern};

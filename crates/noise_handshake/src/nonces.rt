@@ -1,5 +1,4 @@
 //! The key and the nonce that messages leave (Noise, 5.1 and 5.2).
-#![tactic(auto)]
 
 ghost use Rattle.std.specs.Prelude.{◌≡◌, ◌≤◌, ◌<◌, ◌+◌, ◌-◌, ◌*◌, ◌^◌, length};
 ghost use Rattle.noise_names.specs.Overhead.{has_key};

@@ -1,5 +1,4 @@
 //! What a handshake leaves once all its messages have passed.
-#![tactic(auto)]
 
 ghost use Rattle.std.specs.Prelude.{◌≡◌};
 

@@ -1,5 +1,4 @@
 //! Which tokens a party has in a pattern (Noise, 7.1), and its public keys.
-#![tactic(auto)]
 
 ghost use Rattle.std.specs.Prelude.{◌≡◌, ◌≤◌, ◌&&◌, ℕ, List, length, Some};
 ghost use Rattle.std.specs.List.{list_any};

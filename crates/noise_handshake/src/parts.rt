@@ -1,5 +1,4 @@
 //! What a handshake holds, for a caller that keeps it itself.
-#![tactic(auto)]
 
 ghost use Rattle.std.specs.Prelude.{◌≡◌, ◌≤◌, ◌<◌, ◌*◌, ◌↔◌, ℕ, List, not, ◌&&◌, length, drop, is_some, IsTrue, MatchOption};
 ghost use Rattle.noise_names.specs.declared.token.Token.TheVariants.{E, S};

@@ -1,5 +1,4 @@
 //! Reading the tokens of a message.
-#![tactic(auto)]
 
 ghost use Rattle.std.specs.Prelude.{◌≡◌, ◌≤◌, ◌<◌, ◌+◌, ◌-◌, ◌*◌, ◌^◌, ℕ, length, take, drop, count_by, is_some, Bool, Option, Some, None};
 ghost use Rattle.std.specs.Prelude.{IfOk, IfSome, IfErr, OnOk, OnErr, slice_index_or, nat_lt, if◌then◌else◌, IsTrue, true};

@@ -1,5 +1,4 @@
 //! Public keys of the other party.
-#![tactic(auto)]
 
 /// Public keys of the other party, as far as they are known.
 #[derive(Clone, Copy, Debug, PartialEq, Eq)]

@@ -1,5 +1,4 @@
 //! How a handshake starts, and what is wrong with a setup (Noise, 5.3 and 9.2).
-#![tactic(auto)]
 
 ghost use Rattle.std.specs.Prelude.{◌≡◌, ◌≤◌, ◌*◌, ◌||◌, ◌&&◌, true, not, length, is_some, is_none, None};
 ghost use Rattle.std.specs.List.{list_any};

@@ -1,5 +1,4 @@
 //! Where reading a message stops.
-#![tactic(auto)]
 
 ghost use Rattle.std.specs.Prelude.{◌≡◌};
 ghost use Rattle.noise_handshake.specs.declared.faults.ReadFault.TheVariants.{Refused};

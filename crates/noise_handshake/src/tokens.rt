@@ -1,5 +1,4 @@
 //! What a token asks of a party, whether it writes or reads it (Noise, 5.3 and 9.2).
-#![tactic(auto)]
 
 ghost use Rattle.std.specs.Prelude.{◌≡◌, ◌<◌, ◌≤◌, length, count_by, Some, None, MatchOption};
 ghost use Rattle.noise_names.specs.declared.token.Token.{Token};

@@ -1,5 +1,4 @@
 //! Writing the tokens of a message.
-#![tactic(auto)]
 
 ghost use Rattle.std.specs.Prelude.{◌≡◌, ◌≤◌, ◌<◌, ◌+◌, ◌-◌, ◌^◌, length, take, drop, count_by, IsTrue, MatchResult, IfSome};
 ghost use Rattle.std.specs.Prelude.{IfOk, is_some, None};

@@ -1,5 +1,4 @@
 //! Why a handshake can't be made with the keys that it is given.
-#![tactic(auto)]
 
 /// Why a handshake isn't made. Of several faults the first is reported.
 #[derive(Clone, Copy, Debug, PartialEq, Eq)]

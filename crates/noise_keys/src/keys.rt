@@ -1,5 +1,4 @@
 //! The keys of a party, by the DH results that they return (Noise, 4.1).
-#![tactic(auto)]
 
 ghost use Rattle.std.specs.Prelude.{◌≡◌, ℕ, List, Option, Some};
 ghost use Rattle.noise_keys.specs.declared.keys.Own.{Own};

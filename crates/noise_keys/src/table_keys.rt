@@ -1,5 +1,4 @@
 //! A toy whose DH results are given in advance.
-#![tactic(auto)]
 
 ghost use Rattle.std.specs.Prelude.{◌≡◌, ◌↔◌, ◌==◌, ◌<◌, [], ◌∷◌, ◌++◌, length, IsErr, OnOk, OnErr};
 

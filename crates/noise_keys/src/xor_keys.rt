@@ -1,5 +1,4 @@
 //! A toy whose two ends agree.
-#![tactic(auto)]
 
 ghost use Rattle.std.specs.Prelude.{◌≡◌};
 ghost use Rattle.noise_keys.specs.Keys.{xored_bytes};

@@ -1,4 +1,3 @@
-#![tactic(auto)]
 
 use thiserror::Error;
 

@@ -1,4 +1,3 @@
-#![tactic(auto)]
 
 ghost use Rattle.std.specs.Prelude.{◌≡◌, ◌≤◌, ◌+◌, ◌*◌, ◌++◌, ◌==◌, length, map, not, bytes_eq, take_while, IsTrue, IfOk, IfErr, Ok};
 ghost use Rattle.std.specs.List.{join_with_byte};

@@ -1,4 +1,3 @@
-#![tactic(auto)]
 
 ghost use Rattle.std.specs.Prelude.{◌≡◌, ◌≤◌, [], ◌∷◌, ◌++◌, ℕ, List, take, take_while, length, IfSome, IfNone, IsTrue, map, Ok, Err};
 ghost use Rattle.std.specs.List.{list_all};

@@ -1,4 +1,3 @@
-#![tactic(auto)]
 
 ghost use Rattle.std.specs.Prelude.{◌≡◌, ◌<◌, Some, None, slice_get, map, [], IfSome, IsFalse, MatchOption};
 ghost use Rattle.noise_names.specs.Plan.{has_psk};

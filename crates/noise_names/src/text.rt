@@ -1,5 +1,4 @@
 //! The text of a pattern, which is written and read.
-#![tactic(auto)]
 
 mod fault;
 mod read;

@@ -1,4 +1,3 @@
-#![tactic(auto)]
 
 ghost use Rattle.std.specs.Prelude.{◌≡◌, ◌↔◌, ◌≤◌, ◌==◌, length, IsOk, IfOk, IfErr, MatchResult, IfSome, [], Some, None};
 

@@ -1,5 +1,4 @@
 //! Readers and writers that count their failed calls, and calls that fill a buffer or write all of one.
-#![tactic(auto)]
 
 ghost use Rattle.std.specs.Prelude.{◌≡◌, ◌≤◌, ◌<◌, ◌↔◌, length, take, MatchResult};
 ghost use Rattle.std.specs.Io.{ReadsAtMost, WritesAtMost};

@@ -1,5 +1,4 @@
 //! Why a datagram isn't opened.
-#![tactic(auto)]
 
 /// Why a datagram isn't opened. Looked for in this order.
 #[derive(Clone, Copy, Debug, PartialEq, Eq)]

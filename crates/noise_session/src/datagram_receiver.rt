@@ -1,5 +1,4 @@
 //! The receiving half of datagrams (Noise, 11.4).
-#![tactic(auto)]
 
 ghost use Rattle.std.specs.Prelude.{◌≡◌, ◌≢◌, ◌≤◌, ◌<◌, ◌+◌, length, take, drop, is_some, true, IfSome, IfOk, IfNone};
 ghost use Rattle.noise_events.specs.Windows.{width_of};

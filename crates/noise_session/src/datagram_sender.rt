@@ -1,5 +1,4 @@
 //! The sending half of datagrams (Noise, 11.4).
-#![tactic(auto)]
 
 ghost use Rattle.std.specs.Prelude.{◌≡◌, ◌≤◌, ◌+◌, ◌++◌, length, take, drop, None};
 ghost use Rattle.std.specs.Int.{w64, to_be_bytes};

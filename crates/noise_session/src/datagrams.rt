@@ -1,5 +1,4 @@
 //! Datagrams of one party (Noise, 11.4).
-#![tactic(auto)]
 
 ghost use Rattle.std.specs.Prelude.{◌≡◌, ◌≤◌, ◌+◌, length, take, drop, is_some, true, None, IfOk, IfSome};
 ghost use Rattle.noise_handshake.specs.Party.{Party};

@@ -1,5 +1,4 @@
 //! One end of a session.
-#![tactic(auto)]
 
 ghost use Rattle.std.specs.Prelude.{◌≡◌, ◌≤◌, [], length, true, false, IsSome, IfOk, IfSome};
 ghost use Rattle.std.specs.Option.{ForSome};

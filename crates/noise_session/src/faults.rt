@@ -1,5 +1,4 @@
 //! Why a payload isn't written, a transport message isn't opened, and nothing is received.
-#![tactic(auto)]
 
 /// Why a payload isn't written. Looked for in the order Ended, OneWay, NotYourTurn, TooLong, Exhausted, Agreement,
 /// Output.

@@ -1,5 +1,4 @@
 //! The frame that is coming.
-#![tactic(auto)]
 
 ghost use Rattle.std.specs.Prelude.{◌≡◌, ◌≢◌, ◌≤◌, ◌<◌, ◌+◌, ◌-◌, ◌++◌, ◌↔◌, ℕ, List, [], length, take, drop, IfOk, IfNone, IfSome, vec_capacity};
 ghost use Rattle.noise_session.specs.Frames.{IsPartial, IsWhole, frame_length};

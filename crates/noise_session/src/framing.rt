@@ -1,5 +1,4 @@
 //! A message becomes a frame where it stands (Noise, 3 and 13).
-#![tactic(auto)]
 
 ghost use Rattle.std.specs.Prelude.{◌≡◌, ◌≤◌, ◌+◌, length, take, drop};
 ghost use Rattle.noise_session.specs.Frames.{frame};

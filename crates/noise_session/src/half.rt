@@ -1,5 +1,4 @@
 //! What a party holds of one direction of its transport.
-#![tactic(auto)]
 
 ghost use Rattle.std.specs.Prelude.{◌≡◌, Some, IsSome};
 ghost use Rattle.noise_state.specs.Cipher.{key_in, nonce_in};

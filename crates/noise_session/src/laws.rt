@@ -1,5 +1,4 @@
 //! Laws of transport messages, of ends and of datagrams.
-#![tactic(auto)]
 
 ghost use Rattle.std.specs.Prelude.{◌≡◌, ◌+◌, ◌++◌, ℕ, List, length, None, Result, Ok};
 ghost use Rattle.noise_names.specs.declared.token.Role.{Role};

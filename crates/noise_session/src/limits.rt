@@ -1,5 +1,4 @@
 //! Limits of messages, datagrams and nonces (Noise, 3, 5.1 and 11.4).
-#![tactic(auto)]
 
 /// The longest payload of a transport message or a datagram, in bytes: the message has 16 more, and at most 65535.
 pub const PAYLOAD_MAX: usize = 65519;

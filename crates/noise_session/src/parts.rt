@@ -1,5 +1,4 @@
 //! What a transport holds, for a caller that keeps it itself.
-#![tactic(auto)]
 
 use crate::Window;
 use noise_names::Role;

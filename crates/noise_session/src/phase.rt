@@ -1,5 +1,4 @@
 //! What an end goes through: its handshake, its transport, and the end of the session.
-#![tactic(auto)]
 
 ghost use Rattle.std.specs.Prelude.{◌≡◌, ◌≤◌, ℕ, List, [], length, false, Some, None, IsTrue, MatchOption};
 ghost use Rattle.noise_session.specs.inner.Phases.{is_due};

@@ -1,5 +1,4 @@
 //! The receiving half of a transport (Noise, 5.2 and 11.3).
-#![tactic(auto)]
 
 ghost use Rattle.std.specs.Prelude.{◌≡◌, ◌≤◌, ◌+◌, length, take, IfOk};
 ghost use Rattle.noise_session.specs.Halves.{hears_nothing};

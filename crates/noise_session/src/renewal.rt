@@ -1,5 +1,4 @@
 //! The renewal of a key after so many messages (Noise, 11.3).
-#![tactic(auto)]
 
 ghost use Rattle.std.specs.Prelude.{◌≡◌, ◌+◌, ℕ, List, Some, IsSome};
 ghost use Rattle.noise_state.specs.Cipher.{key_in, nonce_in};

@@ -1,5 +1,4 @@
 //! The sending half of a transport (Noise, 5.2 and 11.3).
-#![tactic(auto)]
 
 ghost use Rattle.std.specs.Prelude.{◌≡◌, ◌≤◌, ◌<◌, ◌+◌, length, take, None};
 ghost use Rattle.noise_session.specs.Halves.{sender_fault, writes_nothing};

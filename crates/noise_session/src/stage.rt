@@ -1,5 +1,4 @@
 //! Where a session stands.
-#![tactic(auto)]
 
 /// Where a session stands.
 #[derive(Clone, Copy, Debug, PartialEq, Eq)]

@@ -1,5 +1,4 @@
 //! The state of an end: its party, and what has come of the next frame.
-#![tactic(auto)]
 
 ghost use Rattle.std.specs.Prelude.{◌≡◌, ◌≤◌, ℕ, List, [], length, drop, true, None, Err, IsTrue, IsSome};
 ghost use Rattle.std.specs.Prelude.{IfOk, IfErr, IfSome};

@@ -1,5 +1,4 @@
 //! What bytes came to.
-#![tactic(auto)]
 
 ghost use Rattle.std.specs.Prelude.{◌≡◌};
 ghost use Rattle.noise_session.specs.Steps.{step_value};

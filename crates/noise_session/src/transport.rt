@@ -1,5 +1,4 @@
 //! Transport messages of one party (Noise, 5.2 and 11.3).
-#![tactic(auto)]
 
 ghost use Rattle.std.specs.Prelude.{◌≡◌, ◌≤◌, ◌+◌, length, take, None, IfOk};
 ghost use Rattle.noise_handshake.specs.Party.{Party};

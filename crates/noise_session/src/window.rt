@@ -1,5 +1,4 @@
 //! Which datagrams were accepted before: a ring of bits over their nonces (Noise, 11.4).
-#![tactic(auto)]
 
 ghost use Rattle.std.specs.Prelude.{◌≡◌, ◌≤◌, ◌<◌, ◌+◌, ◌/◌, ◌%◌, ◌*◌, ◌==◌, ℕ, List, [], ◌∷◌, length, drop, min, slice_index, false, true};
 ghost use Rattle.std.specs.Prelude.{IfNone, IfSome, is_some};

@@ -1,5 +1,4 @@
 //! A handshake before a message, from which the steps of that message are found.
-#![tactic(auto)]
 
 ghost use Rattle.std.specs.Prelude.{◌≡◌, ◌≤◌, ◌<◌, ◌+◌, ◌-◌, ◌^◌, ◌++◌, ℕ, List, length, take, count_by, IfSome};
 ghost use Rattle.noise_names.specs.Tokens.{is_psk};

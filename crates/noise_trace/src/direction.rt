@@ -1,5 +1,4 @@
 //! The key of one direction in transport, message by message (Noise, 11.3).
-#![tactic(auto)]
 
 ghost use Rattle.std.specs.Prelude.{◌≡◌, ◌≢◌, ◌+◌, ℕ};
 ghost use Rattle.noise_names.specs.declared.token.Role.{Role};

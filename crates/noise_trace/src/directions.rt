@@ -1,5 +1,4 @@
 //! Both directions of a session that is open.
-#![tactic(auto)]
 
 ghost use Rattle.std.specs.Prelude.{◌≡◌, ℕ};
 ghost use Rattle.noise_handshake.specs.Party.{Party};

@@ -1,5 +1,4 @@
 //! The keys that one call of an end uses.
-#![tactic(auto)]
 
 use crate::{Opening, Step};
 use arrayvec::ArrayVec;

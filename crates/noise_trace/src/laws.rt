@@ -1,5 +1,4 @@
 //! Laws of steps, and of following an end.
-#![tactic(auto)]
 
 ghost use Rattle.std.specs.Prelude.{Bool, List, ℕ, ◌≡◌};
 ghost use Rattle.noise_names.specs.declared.token.Token.{Token};

@@ -1,5 +1,4 @@
 //! The opening of a session.
-#![tactic(auto)]
 
 ghost use Rattle.std.specs.Prelude.{◌≡◌};
 ghost use Rattle.noise_handshake.specs.Party.{Party};

@@ -1,5 +1,4 @@
 //! Following the tokens of a message of the party's own, without the message.
-#![tactic(auto)]
 
 ghost use Rattle.std.specs.Prelude.{◌≡◌, ◌≤◌, ◌<◌, ◌+◌, ◌-◌, ◌*◌, ◌^◌, ◌++◌, ◌∷◌, [], ℕ, List, length, take, count_by, Some, IfSome};
 ghost use Rattle.noise_names.specs.declared.token.Token.{Token};

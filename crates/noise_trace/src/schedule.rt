@@ -1,5 +1,4 @@
 //! The key schedule of one party, message after message.
-#![tactic(auto)]
 
 ghost use Rattle.std.specs.Prelude.{◌≡◌, ◌<◌, ℕ, List, length};
 ghost use Rattle.noise_state.specs.History.{initiator_key, responder_key};

@@ -1,5 +1,4 @@
 //! The steps before the first message.
-#![tactic(auto)]
 
 ghost use Rattle.std.specs.Prelude.{◌≡◌, ◌≤◌, ◌+◌, ◌++◌, ◌<◌, ◌∷◌, [], true, ℕ, List, length, is_some, None};
 ghost use Rattle.noise_names.specs.declared.token.Token.TheVariants.{E, S};

@@ -1,5 +1,4 @@
 //! A step of the start.
-#![tactic(auto)]
 
 use crate::StateValues;
 use noise_names::{Role, Token};

@@ -1,5 +1,4 @@
 //! A step of a message.
-#![tactic(auto)]
 
 use crate::StateValues;
 use noise_names::Token;

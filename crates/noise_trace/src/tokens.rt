@@ -1,5 +1,4 @@
 //! Following the tokens of a message.
-#![tactic(auto)]
 
 ghost use Rattle.std.specs.Prelude.{◌≡◌, ◌≤◌, ◌<◌, ◌+◌, ◌-◌, ◌^◌, ◌++◌, ◌∷◌, [], ℕ, List, length, drop, take, count_by, Option, Some, IfSome, if◌then◌else◌};
 ghost use Rattle.noise_names.specs.declared.token.Token.{Token};

@@ -1,5 +1,4 @@
 //! What a symmetric state holds, as plain values.
-#![tactic(auto)]
 
 ghost use Rattle.std.specs.Prelude.{◌≡◌, ◌≤◌, ◌<◌, ◌+◌, ◌-◌, ◌^◌};
 ghost use Rattle.noise_state.specs.History.{History, Ciphertext, and_then, initiator_key, responder_key};

@@ -1,5 +1,4 @@
 //! The law of files whose lines fit: its function does nothing, and its contract is the law.
-#![tactic(auto)]
 
 ghost use Rattle.noise_transcript.specs.Talked.{FittingLinesRun};
 

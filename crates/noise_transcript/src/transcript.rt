@@ -1,5 +1,4 @@
 //! The command `talk` on a file whose lines fit.
-#![tactic(auto)]
 
 ghost use Rattle.std.specs.Prelude.{◌≡◌, ◌⊎◌, ◌↔◌, ◌<◌, ◌≤◌, ℕ, List, Some, length};
 ghost use Rattle.std.specs.Io.KnownBytes.{Appends};

@@ -1,4 +1,3 @@
-#![tactic(auto)]
 
 ghost use Rattle.std.specs.Prelude.{◌≡◌, ◌≢◌, ◌⊎◌, ◌↔◌, ◌≤◌, ◌+◌, ◌++◌, ◌∷◌, ◌==◌, ℕ, List, [], Bool, IsTrue, IsFalse, IfNone, IfSome};
 ghost use Rattle.std.specs.Prelude.{false, length, take, bytes_eq, nat_le, if◌then◌else◌};

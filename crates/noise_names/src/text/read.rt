@@ -1,4 +1,3 @@
-#![tactic(auto)]
 
 ghost use Rattle.std.specs.Prelude.{◌≡◌, ◌↔◌, ◌≤◌, ◌<◌, ◌+◌, ◌++◌, ◌==◌, ℕ, List, [], ◌∷◌, Some, None, IfSome, IfNone, MatchOption, IsTrue, IsFalse, not};
 ghost use Rattle.std.specs.Prelude.{codes, false, length, take_while, map};
