@@ -5,8 +5,7 @@ ghost use Rattle.noise_names.specs.Plan.{Plan};
 ghost use Rattle.noise_names.specs.Validity.{IsValid};
 ghost use Rattle.noise_handshake.specs.Matching.{Matches};
 ghost use Rattle.noise_handshake.specs.Late.{with_later};
-ghost use Rattle.noise_c.specs.HandshakeStructs.{role_in, public_in, agreement_in, table_of, psks_in, begun_in, fault_in, start_code};
-ghost use Rattle.noise_c.specs.HandshakeStructs.{IsNoName, IsNoText, IsNotValid, IsPatternOf, IsStartCode, IsStarted, StoresStart};
+ghost use Rattle.noise_c.specs.HandshakeStructs.{role_in, public_in, agreement_in, table_of, psks_in, begun_in, fault_in, start_code, IsNoName, IsNoText, IsNotValid, IsPatternOf, IsStartCode, IsStarted, StoresStart};
 ghost use Rattle.noise_c.specs.declared.codes.numbers.TheConstants.{NAME, OK, PATTERN};
 
 use crate::codes::numbers::{HANDSHAKE, LENGTH, OK, PSK_COUNT};

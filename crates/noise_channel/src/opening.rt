@@ -1,7 +1,6 @@
 //! Opens a transport message in its frame.
 
-ghost use Rattle.std.specs.Prelude.{◌≡◌, ◌≤◌, ◌+◌, ◌-◌, length, take, drop, slice_range, Err};
-ghost use Rattle.std.specs.Prelude.{IfOk, IfErr, OnOk, OnErr, MatchOption};
+ghost use Rattle.std.specs.Prelude.{◌≡◌, ◌≤◌, ◌+◌, ◌-◌, length, take, drop, slice_range, Err, IfOk, IfErr, OnOk, OnErr, MatchOption};
 ghost use Rattle.noise_session.specs.Halves.{receiver_fault};
 ghost use Rattle.noise_session.specs.TransportValue.{TransportState, ReceiverMatches, unopened_fault};
 ghost use Rattle.noise_channel.specs.Halves.{OpensDueMessage};

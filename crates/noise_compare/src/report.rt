@@ -1,8 +1,7 @@
 //! What is printed of a log.
 
 ghost use Rattle.std.specs.Prelude.{◌≡◌, ◌++◌, ◌∷◌, [], IfOk, OnOk, codes, decimal, option_copied};
-ghost use Rattle.noise_compare.specs.Report.{agreement_text, right_text, difference_text, ended, ending_text, is_number, part_name, place_text};
-ghost use Rattle.noise_compare.specs.Report.{value_text, values_text};
+ghost use Rattle.noise_compare.specs.Report.{agreement_text, right_text, difference_text, ended, ending_text, is_number, part_name, place_text, value_text, values_text};
 
 use crate::line::Line;
 use std::alloc::{AllocError, Global};

@@ -3,8 +3,7 @@
 ghost use Rattle.std.specs.Prelude.{◌≡◌, IfOk};
 ghost use Rattle.noise_session.specs.Datagrams.{DatagramState};
 ghost use Rattle.noise_duel.specs.DatagramAgreement.{DatagramsAgree, HaveOneBeginning};
-ghost use Rattle.noise_events.specs.DatagramEvents.{Open, Raw, Seal};
-ghost use Rattle.noise_events.specs.DatagramEvents.{datagram_event_of, datagram_events_of};
+ghost use Rattle.noise_events.specs.DatagramEvents.{Open, Raw, Seal, datagram_event_of, datagram_events_of};
 ghost use Rattle.noise_duel.specs.DatagramReports.{DatagramReports, DatagramDuelMatches};
 ghost use Rattle.noise_duel.specs.DatagramSides.{DatagramSides, datagram_sides};
 ghost use Rattle.noise_duel.specs.OneDatagram.{DatagramHappened, SealedMatch};

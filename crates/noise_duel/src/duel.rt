@@ -5,12 +5,11 @@ ghost use Rattle.noise_names.specs.declared.token.Role.TheVariants.{Initiator, R
 ghost use Rattle.noise_session.specs.Ends.{EndState, EndMatches, progress};
 ghost use Rattle.noise_session.specs.Progress.{role_of};
 ghost use Rattle.noise_session.specs.EndDatagrams.{is_datagram_ready};
-ghost use Rattle.noise_events.specs.Events.{event_of, events_of};
+ghost use Rattle.noise_events.specs.Events.{event_of, events_of, Deliver, Raw, Say};
 ghost use Rattle.noise_duel.specs.Acts.{roles_and_payloads};
 ghost use Rattle.noise_duel.specs.Conversation.{say_events};
 ghost use Rattle.noise_duel.specs.DatagramReports.{DatagramDuelMatches, datagram_sides_of};
 ghost use Rattle.noise_names.specs.Lists.{bytes_of};
-ghost use Rattle.noise_events.specs.Events.{Deliver, Raw, Say};
 ghost use Rattle.noise_duel.specs.DuelValue.{DuelMatches, both_sides};
 ghost use Rattle.noise_duel.specs.OneEvent.{Applies, HasTaken, RoleWrites};
 ghost use Rattle.noise_duel.specs.Reports.{AgreesInRun, AllComeThrough, ReportsRun};

@@ -3,8 +3,7 @@
 ghost use Rattle.std.specs.Prelude.{◌≡◌, ◌≢◌, ◌<◌, ◌≤◌, ◌++◌, ℕ, List, IfNone, IfOk, IfSome, MatchOption, length, slice_get, string_bytes};
 ghost use Rattle.std.specs.List.{All};
 ghost use Rattle.noise_vectors.specs.HexWord.{hex_of};
-ghost use Rattle.noise_explain.specs.FramePieces.{HasNoFrame, HaveNoFrame, IsFirstDifferent, SaysPiece, IsPieceAt};
-ghost use Rattle.noise_explain.specs.FramePieces.{frame_front, makes_key, piece_len, piece_line, piece_word};
+ghost use Rattle.noise_explain.specs.FramePieces.{HasNoFrame, HaveNoFrame, IsFirstDifferent, SaysPiece, IsPieceAt, frame_front, makes_key, piece_len, piece_line, piece_word};
 
 use crate::excerpt::push_number;
 use crate::known::sender_of;

@@ -1,8 +1,7 @@
 //! The column of a fault of a vector file.
 
 ghost use Rattle.std.specs.Prelude.{◌≡◌, ◌⊎◌, ◌+◌, ◌-◌, ◌≤◌, ℕ, List, length, IfSome, MatchOption};
-ghost use Rattle.noise_explain_vectors.specs.VectorColumns.{HasNoBlockFault, IsBlock, IsBlockColumn, IsBlockFault, IsLineColumn, IsWordColumn, first_word};
-ghost use Rattle.noise_explain_vectors.specs.VectorColumns.{IsShortLine, IsWholeLine, IsWrongWord, word_from};
+ghost use Rattle.noise_explain_vectors.specs.VectorColumns.{HasNoBlockFault, IsBlock, IsBlockColumn, IsBlockFault, IsLineColumn, IsWordColumn, first_word, IsShortLine, IsWholeLine, IsWrongWord, word_from};
 
 use crate::line_shapes::shapes_of;
 use crate::shapes::{Shape, has_shape};

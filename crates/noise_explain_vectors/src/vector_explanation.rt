@@ -2,8 +2,7 @@
 
 ghost use Rattle.std.specs.Prelude.{◌≡◌, ◌++◌, IfOk, MatchOption, OnOk};
 ghost use Rattle.noise_names.specs.Names.{name_bytes};
-ghost use Rattle.noise_explain_vectors.specs.VectorExplained.{IsPatternIn, LacksPattern, ReportsFault, ExplainsLine, ReportsVector};
-ghost use Rattle.noise_explain_vectors.specs.VectorExplained.{is_vector_text, vector_head, without_mark};
+ghost use Rattle.noise_explain_vectors.specs.VectorExplained.{IsPatternIn, LacksPattern, ReportsFault, ExplainsLine, ReportsVector, is_vector_text, vector_head, without_mark};
 
 use crate::block_sentences::{block_reported, ending_reported};
 use crate::expected_forms::expected_form;

@@ -1,7 +1,6 @@
 //! A handshake of one party.
 
-ghost use Rattle.std.specs.Prelude.{◌≡◌, ◌≤◌, ◌<◌, ◌+◌, ◌-◌, ◌*◌, true, false, ℕ, ◌↔◌, length, take, drop, Some, None, IsOk, IfOk};
-ghost use Rattle.std.specs.Prelude.{IfErr, OnErr, MatchResult, MatchOption, IsSome, IfSome, ◌&&◌, ◌==◌, count_by, set};
+ghost use Rattle.std.specs.Prelude.{◌≡◌, ◌≤◌, ◌<◌, ◌+◌, ◌-◌, ◌*◌, true, false, ℕ, ◌↔◌, length, take, drop, Some, None, IsOk, IfOk, IfErr, OnErr, MatchResult, MatchOption, IsSome, IfSome, ◌&&◌, ◌==◌, count_by, set};
 ghost use Rattle.std.specs.Option.{ForSome};
 
 use crate::layout::{MessageLayout, lay_next, psk_after};

@@ -1,7 +1,6 @@
 //! A handshake that may start with fewer psks than its pattern has psk tokens.
 
-ghost use Rattle.std.specs.Prelude.{◌≡◌, ◌≤◌, ◌<◌, ◌↔◌, ◌∷◌, ◌++◌, [], ℕ, List, length, take, drop, true, false, None, Some};
-ghost use Rattle.std.specs.Prelude.{IsOk, IfOk, IfErr, OnErr, MatchResult, MatchOption, IsSome, IfSome, IsTrue, ◌==◌, count_by, Option};
+ghost use Rattle.std.specs.Prelude.{◌≡◌, ◌≤◌, ◌<◌, ◌↔◌, ◌∷◌, ◌++◌, [], ℕ, List, length, take, drop, true, false, None, Some, IsOk, IfOk, IfErr, OnErr, MatchResult, MatchOption, IsSome, IfSome, IsTrue, ◌==◌, count_by, Option};
 ghost use Rattle.std.specs.Option.{ForSome};
 
 use crate::setup::{psk_total, setup_fault};

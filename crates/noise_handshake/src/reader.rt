@@ -1,15 +1,13 @@
 //! Reading the tokens of a message.
 
-ghost use Rattle.std.specs.Prelude.{◌≡◌, ◌≤◌, ◌<◌, ◌+◌, ◌-◌, ◌*◌, ◌^◌, ℕ, length, take, drop, count_by, is_some, Bool, Option, Some, None};
-ghost use Rattle.std.specs.Prelude.{IfOk, IfSome, IfErr, OnOk, OnErr, slice_index_or, nat_lt, if◌then◌else◌, IsTrue, true};
+ghost use Rattle.std.specs.Prelude.{◌≡◌, ◌≤◌, ◌<◌, ◌+◌, ◌-◌, ◌*◌, ◌^◌, ℕ, length, take, drop, count_by, is_some, Bool, Option, Some, None, IfOk, IfSome, IfErr, OnOk, OnErr, slice_index_or, nat_lt, if◌then◌else◌, IsTrue, true};
 ghost use Rattle.noise_state.specs.Cipher.{next_nonce};
 ghost use Rattle.noise_state.specs.Standing.{StateMatches, keyed, nonce_now};
 ghost use Rattle.noise_state.specs.History.{History, nonce};
 ghost use Rattle.noise_handshake.specs.inner.Keying.{keying_of, keying_after, keying_after_tokens, keying_after_message};
 ghost use Rattle.noise_handshake.specs.inner.Known.{are_known};
 ghost use Rattle.noise_handshake.specs.Length.{token_width};
-ghost use Rattle.noise_handshake.specs.Party.{Reader, remote_after, Reads};
-ghost use Rattle.noise_handshake.specs.Party.{psks_after};
+ghost use Rattle.noise_handshake.specs.Party.{Reader, remote_after, Reads, psks_after};
 ghost use Rattle.noise_handshake.specs.Calls.{IsPlaceIn, IsSameAround};
 ghost use Rattle.noise_handshake.specs.inner.Means.{reader_of};
 ghost use Rattle.noise_handshake.specs.inner.Listening.{ReaderWants, width_of_key};

@@ -1,7 +1,6 @@
 //! Writing the tokens of a message.
 
-ghost use Rattle.std.specs.Prelude.{◌≡◌, ◌≤◌, ◌<◌, ◌+◌, ◌-◌, ◌^◌, length, take, drop, count_by, IsTrue, MatchResult, IfSome};
-ghost use Rattle.std.specs.Prelude.{IfOk, is_some, None};
+ghost use Rattle.std.specs.Prelude.{◌≡◌, ◌≤◌, ◌<◌, ◌+◌, ◌-◌, ◌^◌, length, take, drop, count_by, IsTrue, MatchResult, IfSome, IfOk, is_some, None};
 ghost use Rattle.std.specs.List.{list_all};
 ghost use Rattle.noise_state.specs.Cipher.{next_nonce};
 ghost use Rattle.noise_state.specs.Standing.{StateMatches, keyed, nonce_now};

@@ -7,8 +7,7 @@ ghost use Rattle.noise_session.specs.TransportValue.{TransportState, TransportMa
 ghost use Rattle.noise_session.specs.EndDatagrams.{datagrams_after};
 ghost use Rattle.noise_session.specs.Windows.{is_ring};
 ghost use Rattle.noise_session.specs.Parts.{datagrams_in};
-ghost use Rattle.noise_session.specs.Datagrams.{DatagramState, DatagramsMatch, DatagramSenderMatches, DatagramReceiverMatches, datagrams_of, unsealed};
-ghost use Rattle.noise_session.specs.Datagrams.{datagram_sending_half, datagram_receiving_half};
+ghost use Rattle.noise_session.specs.Datagrams.{DatagramState, DatagramsMatch, DatagramSenderMatches, DatagramReceiverMatches, datagrams_of, unsealed, datagram_sending_half, datagram_receiving_half};
 ghost use Rattle.noise_session.specs.DatagramCalls.{DatagramsOpen, DatagramsSeal, OpensAfterNonce};
 
 use crate::half::Half;

@@ -1,7 +1,6 @@
 //! Which datagrams were accepted before: a ring of bits over their nonces (Noise, 11.4).
 
-ghost use Rattle.std.specs.Prelude.{◌≡◌, ◌≤◌, ◌<◌, ◌+◌, ◌/◌, ◌%◌, ◌*◌, ◌==◌, ℕ, List, [], ◌∷◌, length, drop, min, slice_index, false, true};
-ghost use Rattle.std.specs.Prelude.{IfNone, IfSome, is_some};
+ghost use Rattle.std.specs.Prelude.{◌≡◌, ◌≤◌, ◌<◌, ◌+◌, ◌/◌, ◌%◌, ◌*◌, ◌==◌, ℕ, List, [], ◌∷◌, length, drop, min, slice_index, false, true, IfNone, IfSome, is_some};
 ghost use Rattle.std.specs.List.{list_all};
 ghost use Rattle.noise_events.specs.Windows.{width_of};
 ghost use Rattle.noise_session.specs.Transport.{last_nonce};

@@ -1,10 +1,8 @@
 //! SymmetricState (Noise 5.2): the chaining key, the handshake hash and the cipher state.
 
-ghost use Rattle.std.specs.Prelude.{◌≡◌, ◌≤◌, ◌<◌, ◌-◌, ◌+◌, ◌^◌, ◌++◌, ◌↔◌, ℕ, List, [], length, take, drop, is_some, true, false, IsOk, IsSome};
-ghost use Rattle.std.specs.Prelude.{IfOk, IfErr, OnOk, OnErr, Some};
+ghost use Rattle.std.specs.Prelude.{◌≡◌, ◌≤◌, ◌<◌, ◌-◌, ◌+◌, ◌^◌, ◌++◌, ◌↔◌, ℕ, List, [], length, take, drop, is_some, true, false, IsOk, IsSome, IfOk, IfErr, OnOk, OnErr, Some};
 ghost use Rattle.sha2.specs.Sha256.{sha256};
-ghost use Rattle.noise_state.specs.History.{History, MixHash, Ciphertext, MixKey, MixKeyAndHash, and_then, ciphertext, ciphertext_under, cipher_key, nonce, hash, start_value};
-ghost use Rattle.noise_state.specs.History.{initiator_key, responder_key};
+ghost use Rattle.noise_state.specs.History.{History, MixHash, Ciphertext, MixKey, MixKeyAndHash, and_then, ciphertext, ciphertext_under, cipher_key, nonce, hash, start_value, initiator_key, responder_key};
 
 use crate::cipher::{CipherFault, CipherState};
 use noise_kdf::{expand2, expand3};

@@ -12,8 +12,7 @@ ghost use Rattle.noise_vectors.specs.declared.vector.AllowedEvents.TheVariants.{
 ghost use Rattle.noise_tool.specs.Ends.{IsFilePattern, IsStartFault};
 ghost use Rattle.noise_tool.specs.Performing.{IsRunFault};
 ghost use Rattle.noise_tool.specs.Running.{IsRunOf, expected_in};
-ghost use Rattle.noise_tool.specs.Testing.{ComesOf, EndsTest, HasBegunTest, HasTested, HaveTested, IsPatternOfText, IsPieceOf, IsTested, RunsTo, SayPiece, TestsPrefix};
-ghost use Rattle.noise_tool.specs.Testing.{tested_names, below_of, is_input, listed, tally_line, tested_text};
+ghost use Rattle.noise_tool.specs.Testing.{ComesOf, EndsTest, HasBegunTest, HasTested, HaveTested, IsPatternOfText, IsPieceOf, IsTested, RunsTo, SayPiece, TestsPrefix, tested_names, below_of, is_input, listed, tally_line, tested_text};
 ghost use Rattle.noise_tool.specs.TracedText.{front_if};
 ghost use Rattle.noise_lines.specs.Lines.{lines_text};
 ghost use Rattle.noise_lines.specs.Verdicts.{bytes_in, verdict_text};

@@ -1,7 +1,6 @@
 //! Reading a vector file: the order of its lines.
 
-ghost use Rattle.std.specs.Prelude.{◌≡◌, ◌<◌, ◌≤◌, ◌^◌, ◌++◌, ℕ, List, Option, Some, None, Bool, false, codes, decimal, vec_len};
-ghost use Rattle.std.specs.Prelude.{IfErr, IfOk, IfSome, IsFalse, IsOk, IsSome, MatchResult};
+ghost use Rattle.std.specs.Prelude.{◌≡◌, ◌<◌, ◌≤◌, ◌^◌, ◌++◌, ℕ, List, Option, Some, None, Bool, false, codes, decimal, vec_len, IfErr, IfOk, IfSome, IsFalse, IsOk, IsSome, MatchResult};
 ghost use Rattle.std.specs.Bool.{nat_eq};
 ghost use Rattle.std.specs.List.{starts_with};
 ghost use Rattle.noise_names.specs.Names.{IsSection, Section, name_bytes};

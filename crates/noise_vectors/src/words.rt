@@ -1,7 +1,6 @@
 //! The words in the lines of a vector file.
 
-ghost use Rattle.std.specs.Prelude.{◌≡◌, ◌↔◌, ◌<◌, ◌≤◌, ◌^◌, ◌==◌, ℕ, List, ◌∷◌, ◌++◌, Option, Some, None, decimal, length, position, slice_index, vec_len};
-ghost use Rattle.std.specs.Prelude.{IfOk, IfSome, IsSome, IsTrue, MatchOption};
+ghost use Rattle.std.specs.Prelude.{◌≡◌, ◌↔◌, ◌<◌, ◌≤◌, ◌^◌, ◌==◌, ℕ, List, ◌∷◌, ◌++◌, Option, Some, None, decimal, length, position, slice_index, vec_len, IfOk, IfSome, IsSome, IsTrue, MatchOption};
 ghost use Rattle.noise_vectors.specs.HexWord.{hex_of};
 ghost use Rattle.hex.specs.Hex.{encode_lower};
 ghost use Rattle.noise_keys.specs.declared.keys.Own.{Own};

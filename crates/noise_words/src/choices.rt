@@ -3,9 +3,7 @@
 
 ghost use Rattle.std.specs.Prelude.{◌≡◌, IfOk, codes, option_map};
 ghost use Rattle.clap.specs.Words.{found_of, rows_of};
-ghost use Rattle.noise_words.specs.CommandLine.{choice_in, flag_in, flag_text, named_compare, named_explain, named_test};
-ghost use Rattle.noise_words.specs.CommandLine.{named_trace, part_choice, part_text};
-ghost use Rattle.noise_words.specs.CommandLine.{role_choice, role_text, stated_by};
+ghost use Rattle.noise_words.specs.CommandLine.{choice_in, flag_in, flag_text, named_compare, named_explain, named_test, named_trace, part_choice, part_text, role_choice, role_text, stated_by};
 
 use crate::command_line::{value, values};
 use crate::help::{HEADING, ONLY, ROLE, TRACES};

@@ -1,6 +1,5 @@
 
-ghost use Rattle.std.specs.Prelude.{◌≡◌, ◌≢◌, ◌⊎◌, ◌↔◌, ◌≤◌, ◌+◌, ◌++◌, ◌∷◌, ◌==◌, ℕ, List, [], Bool, IsTrue, IsFalse, IfNone, IfSome};
-ghost use Rattle.std.specs.Prelude.{false, length, take, bytes_eq, nat_le, if◌then◌else◌};
+ghost use Rattle.std.specs.Prelude.{◌≡◌, ◌≢◌, ◌⊎◌, ◌↔◌, ◌≤◌, ◌+◌, ◌++◌, ◌∷◌, ◌==◌, ℕ, List, [], Bool, IsTrue, IsFalse, IfNone, IfSome, false, length, take, bytes_eq, nat_le, if◌then◌else◌};
 ghost use Rattle.std.specs.List.{list_all};
 ghost use Rattle.arrayvec.specs.ArrayVec.{array_vec_len};
 ghost use Rattle.noise_names.specs.declared.token.Token.{Token};

@@ -1,6 +1,5 @@
 
-ghost use Rattle.std.specs.Prelude.{◌≡◌, ◌↔◌, ◌≤◌, ◌<◌, ◌+◌, ◌++◌, ◌==◌, ℕ, List, [], ◌∷◌, Some, None, IfSome, IfNone, MatchOption, IsTrue, IsFalse, not};
-ghost use Rattle.std.specs.Prelude.{codes, false, length, take_while, map};
+ghost use Rattle.std.specs.Prelude.{◌≡◌, ◌↔◌, ◌≤◌, ◌<◌, ◌+◌, ◌++◌, ◌==◌, ℕ, List, [], ◌∷◌, Some, None, IfSome, IfNone, MatchOption, IsTrue, IsFalse, not, codes, false, length, take_while, map};
 ghost use Rattle.std.specs.List.{list_any, list_all};
 ghost use Rattle.arrayvec.specs.ArrayVec.{array_vec_len};
 ghost use Rattle.noise_names.specs.declared.token.Token.{Token};
