@@ -1,10 +1,7 @@
 -- What a message that passed leaves.
 use Rattle.std.proofs.Common.{◌≡◌, ◌+◌, ◌++◌, ℕ, List, Bool, true, false, drop, take, length, refl, sym, ap, ◌∙◌, drop-drop}
-use Rattle.std.specs.Prelude.{Option, Some, None, count_by, if◌then◌else◌}
-use Rattle.noise_names.specs.Tokens.{is_psk}
-use Rattle.noise_handshake.specs.Party.{tokens_at}
-use Rattle.std.proofs.lemmas.List.{take-append-drop}
-use Rattle.noise_handshake.specs.HandshakeValue.{HandshakeValue, Advances, read_fault, write_fault}
+use Rattle.std.specs.Prelude.{if◌then◌else◌}
+use Rattle.noise_handshake.proofs.Common.{Option, Some, None, count_by, is_psk, tokens_at, take-append-drop, HandshakeValue, Advances, read_fault, write_fault}
 
 some-none : {A : Type 0} (x : A) → ◌≡◌ {A = Option A} (Some x) None → ⊥
 some-none x e = cc

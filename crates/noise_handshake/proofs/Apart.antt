@@ -1,17 +1,8 @@
 -- What a reader finds is determined, and how reading the tokens goes on.
-use Rattle.std.proofs.Common.{◌≡◌, ℕ, zero, suc, ◌+◌, ◌<◌, ◌≤◌, List, [], ◌∷◌, ◌++◌, length, take, refl, ap, sym, subst, ◌∙◌, arith}
-use Rattle.std.proofs.Common.{append_assoc, take_all, inl, inr, ◌⊎◌}
-use Rattle.std.specs.Prelude.{Bool, Option, Some, is_some, if◌then◌else◌, nat_lt}
-use Rattle.noise_names.specs.declared.token.Token.{Token}
-use Rattle.noise_names.specs.declared.token.Token.TheVariants.{E, S, Ee, Es, Se, Ss, Psk}
-use Rattle.noise_state.specs.History.{History, cipher_key, ciphertext}
-use Rattle.noise_state.specs.Ciphertexts.{length-ciphertext, ciphertext-same}
-use Rattle.noise_handshake.specs.declared.remote.Remote.{Remote}
-use Rattle.noise_handshake.specs.declared.faults.Cause.{Cause}
-use Rattle.noise_handshake.specs.Message.{token_bytes, after_token, before_payload, after_tokens}
-use Rattle.noise_handshake.specs.Party.{Party, Reader, reader, Fits, Fit, known_after, psks_after, BeginsAs, CanBegin, Reads, Stops, Accepts, cause_of}
-use Rattle.noise_handshake.specs.Party.{cause_at, remote_after, tokens_now}
-use Rattle.noise_handshake.specs.inner.Listening.{Fails, StopsKnowing}
+use Rattle.std.proofs.Common.{rules, ◌≡◌, ℕ, zero, suc, ◌+◌, ◌<◌, ◌≤◌, List, [], ◌∷◌, ◌++◌, length, take, refl, ap, sym, subst, ◌∙◌, arith, append_assoc, take_all, inl, inr, ◌⊎◌}
+use Rattle.std.specs.Prelude.{Bool, is_some, if◌then◌else◌, nat_lt}
+use Rattle.noise_handshake.proofs.Common.{Option, Some, Token, E, S, Ee, Es, Se, Ss, History, cipher_key, ciphertext, length-ciphertext, ciphertext-same, Remote, Cause, token_bytes, after_token, before_payload, after_tokens, Party, Reader, reader, Fits, Fit, known_after, psks_after, BeginsAs, CanBegin, Reads, Stops, Accepts, cause_at, remote_after, tokens_now, StopsKnowing}
+use Rattle.noise_names.specs.declared.token.Token.TheVariants.{Psk}
 use Rattle.noise_handshake.specs.declared.faults.Cause.TheVariants.{Short, Tag}
 use Rattle.noise_names.specs.Lists.{split-apart, cons-same}
 
@@ -47,8 +38,7 @@ front-apart v known psks r (t ∷ ts) (x ∷ xs) (y ∷ ys) p q f g e =
     let h = token-apart v known psks r t x y (a ++ p) (b ++ q) f.0 g.0
     (sym (append_assoc (token_bytes r t x) a p) ∙ e ∙ append_assoc (token_bytes r t y) b q) in
     let g1 = subst (λ (z : List ℕ). Fit v (known_after known t z) (psks_after psks t) ts ys) (sym h.0) g.1 in
-    let e1 : a ++ p ≡ before_payload v.has_psks (after_token v.has_psks r t x) ts ys ++ q =
-    h.1 ∙ ap (λ (z : List ℕ). before_payload v.has_psks (after_token v.has_psks r t z) ts ys ++ q) (sym h.0) in
+    let e1 : a ++ p ≡ before_payload v.has_psks (after_token v.has_psks r t x) ts ys ++ q = search in
     let i = front-apart v (known_after known t x) (psks_after psks t) (after_token v.has_psks r t x) ts xs ys p q f.1 g1 e1 in
     (cons-same h.0 i.0, i.1)
 
@@ -73,31 +63,7 @@ pub leads-more : (v : Reader) (known : Remote) (psks : List (List ℕ)) (r : His
     → Fits v known psks t x → m ≡ token_bytes r t x ++ more
     → BeginsAs v (known_after known t x) (psks_after psks t) (after_token v.has_psks r t x) ts xs more rest
     → BeginsAs v known psks r (t ∷ ts) (x ∷ xs) m rest
-leads-more v known psks r t x ts xs m more rest f e l = record {
-  fit = (f, l.fit);
-  spelled = e ∙ ap (λ (k : List ℕ). token_bytes r t x ++ k) l.spelled ∙ sym (append_assoc (token_bytes r t x) _ rest);
-}
-
-leads-fails : (v : Reader) (known : Remote) (psks : List (List ℕ)) (r : History) (t : Token) (xs : List (List ℕ)) (m rest : List ℕ)
-    → Fails v known psks r t m → BeginsAs v known psks r (t ∷ []) xs m rest → ⊥
-leads-fails v known psks r t [] m rest bad l = l.fit
-leads-fails v known psks r t (x ∷ []) m rest bad l = bad x rest l.fit.0 (l.spelled ∙ append_assoc (token_bytes r t x) [] rest)
-leads-fails v known psks r t (x ∷ y ∷ ys) m rest bad l = l.fit.1
-
-pub stops-here : (v : Reader) (known : Remote) (psks : List (List ℕ)) (r : History) (t : Token) (ts : List Token) (m : List ℕ) (cause : Cause)
-    → Fails v known psks r t m → cause ≡ cause_of (is_some (cipher_key r)) t m → StopsKnowing v known psks r (t ∷ ts) m 0 cause known
-stops-here v known psks r t ts m cause bad why = (
-  record {
-    within = omega arith;
-    carried = [];
-    rest = m;
-    leads = leads-none v known psks r m;
-    further = λ _ reaches. leads-fails v known psks r t reaches.carried m reaches.rest bad reaches.leads;
-    unread = λ e. absurd (omega arith);
-    why = why;
-  },
-  refl,
-)
+leads-more v known psks r t x ts xs m more rest f e l = search (rules, append_assoc)
 
 -- what leads beyond a token leads from after it
 leads-less : (v : Reader) (known : Remote) (psks : List (List ℕ)) (r : History) (t : Token) (x : List ℕ) (ts : List Token) (xs : List (List ℕ))
@@ -105,17 +71,7 @@ leads-less : (v : Reader) (known : Remote) (psks : List (List ℕ)) (r : History
     → Fits v known psks t x → m ≡ token_bytes r t x ++ more → BeginsAs v known psks r (t ∷ ts) xs m rest
     → CanBegin v (known_after known t x) (psks_after psks t) (after_token v.has_psks r t x) ts more
 leads-less v known psks r t x ts [] m more rest f e l = absurd l.fit
-leads-less v known psks r t x ts (y ∷ ys) m more rest f e l =
-    let b : List ℕ = before_payload v.has_psks (after_token v.has_psks r t y) ts ys in
-    let h = token-apart v known psks r t x y more (b ++ rest) f l.fit.0 (sym e ∙ l.spelled ∙ append_assoc (token_bytes r t y) b rest) in
-    record {
-      carried = ys;
-      rest = rest;
-      leads = record {
-        fit = subst (λ (z : List ℕ). Fit v (known_after known t z) (psks_after psks t) ts ys) (sym h.0) l.fit.1;
-        spelled = h.1 ∙ ap (λ (z : List ℕ). before_payload v.has_psks (after_token v.has_psks r t z) ts ys ++ rest) (sym h.0);
-      };
-    }
+leads-less v known psks r t x ts (y ∷ ys) m more rest f e l = search (rules, token-apart, append_assoc)
 
 pub stops-later : (v : Reader) (known : Remote) (psks : List (List ℕ)) (r : History) (t : Token) (x : List ℕ) (ts : List Token) (m more : List ℕ)
     (k : ℕ) (cause : Cause) (here : Remote)
@@ -152,9 +108,7 @@ stops-last v known psks r ts m xs rest cause l bad why =
       rest = rest;
       leads = subst (λ (us : List Token). BeginsAs v known psks r us xs m rest) (sym whole) l;
       further = λ h. absurd (omega arith);
-      unread = λ e ys payload reads.
-          let h = front-apart v known psks r ts xs ys rest (ciphertext (after_tokens v.has_psks r ts ys) payload) l.fit reads.fit (sym l.spelled ∙ reads.spelled) in
-          bad payload (h.1 ∙ ap (λ (zs : List (List ℕ)). ciphertext (after_tokens v.has_psks r ts zs) payload) (sym h.0));
+      unread = search (rules, front-apart);
       why = why ∙ sym (cause_at-end (is_some (cipher_key (after_tokens v.has_psks r (take (length ts) ts) xs))) ts rest);
     }
 
@@ -170,10 +124,7 @@ knows-last v known here psks r ts m xs rest cause l bad why e =
 pub reads-whole : (v : Reader) (known : Remote) (psks : List (List ℕ)) (r : History) (ts : List Token) (m : List ℕ) (xs : List (List ℕ))
     (rest payload : List ℕ)
     → BeginsAs v known psks r ts xs m rest → rest ≡ ciphertext (after_tokens v.has_psks r ts xs) payload → Reads v known psks r ts m xs payload
-reads-whole v known psks r ts m xs rest payload l e = record {
-  fit = l.fit;
-  spelled = l.spelled ∙ ap (λ (k : List ℕ). before_payload v.has_psks r ts xs ++ k) e;
-}
+reads-whole v known psks r ts m xs rest payload l e = search
 
 -- what is read whole leads as far as one likes
 pub reads-leads : (v : Reader) (known : Remote) (psks : List (List ℕ)) (r : History) (ts : List Token) (xs : List (List ℕ)) (m rest : List ℕ) (k : ℕ)

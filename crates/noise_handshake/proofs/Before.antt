@@ -1,11 +1,7 @@
 -- What a party finds before a psk token without a psk.
 use Rattle.std.proofs.Common.{ℕ, ◌<◌, List}
-use Rattle.std.specs.Prelude.{Option, Result, Ok, Err, MatchOption, MatchResult}
+use Rattle.noise_handshake.proofs.Common.{Option, Result, Ok, Err, MatchOption, MatchResult, Agreement, Party, Listens, Refuses, Stops, reader, tokens_now, StopsFor, WantsToRead, BeginsBefore}
 use Rattle.noise_handshake.specs.declared.stop.Stop.{Stop}
-use Rattle.noise_handshake.specs.declared.faults.Cause.TheVariants.{Agreement}
-use Rattle.noise_handshake.specs.Party.{Party, Listens, Refuses, Stops, reader, tokens_now}
-use Rattle.noise_handshake.specs.Wanting.{StopsFor, WantsToRead}
-use Rattle.noise_handshake.specs.inner.Listening.{BeginsBefore}
 use Rattle.noise_handshake.proofs.Wanted.{wants-of}
 
 -- for a party that listens

@@ -1,16 +1,10 @@
 -- The nonce counts the texts under a key, one message after another.
-use Rattle.std.proofs.Common.{◌≡◌, ◌≤◌, ◌<◌, ℕ, zero, suc, ◌+◌, ◌*◌, List, [], ◌∷◌, length, take, refl, ap, sym, ◌∙◌, arith}
+use Rattle.std.proofs.Common.{rules, ◌≡◌, ◌≤◌, ◌<◌, ℕ, zero, suc, ◌+◌, ◌*◌, List, [], ◌∷◌, length, take, refl, ap, sym, ◌∙◌, arith}
 use Rattle.std.specs.Prelude.{Bool, true, false, if◌then◌else◌}
-use Rattle.noise_names.specs.declared.token.Token.{Token}
-use Rattle.noise_names.specs.declared.token.Token.TheVariants.{E, S, Ee, Es, Se, Ss, Psk}
+use Rattle.noise_handshake.proofs.Common.{Token, E, S, Ee, Es, Se, Ss, Plan, has_psk, has_key, keyed_after, keyed_after_tokens, nonce_after, nonce_after_tokens, nonce_after_message, nonce_after_messages, nonce_due, passed_places, tokens_at}
+use Rattle.noise_names.specs.declared.token.Token.TheVariants.{Psk}
 use Rattle.noise_state.specs.Cipher.{next_nonce}
-use Rattle.noise_names.specs.Plan.{Plan, has_psk}
-use Rattle.noise_names.specs.Overhead.{has_key}
-use Rattle.noise_handshake.specs.Length.{keyed_after, keyed_after_tokens}
-use Rattle.noise_handshake.specs.Nonces.{nonce_after, nonce_after_tokens, nonce_after_message, nonce_after_messages, nonce_due}
-use Rattle.noise_handshake.specs.Passed.{passed_places}
 use Rattle.noise_handshake.specs.inner.Keyed.{keyed_after_messages}
-use Rattle.noise_handshake.specs.Party.{tokens_at}
 use Rattle.noise_handshake.proofs.Places.{has_key-passed}
 
 keyed-more : (has_psks k : Bool) (ms : List (List Token)) (i : ℕ) → i < length ms
@@ -25,7 +19,7 @@ nonce-more : (has_psks k : Bool) (n : ℕ) (ms : List (List Token)) (i : ℕ) �
 nonce-more has_psks k n [] i h = absurd (omega arith)
 nonce-more has_psks k n (ts ∷ ms) zero h = refl
 nonce-more has_psks k n (ts ∷ ms) (suc i) h =
-    nonce-more has_psks (keyed_after_tokens has_psks k ts) (nonce_after_message has_psks k n ts) ms i (omega arith)
+    search ((nonce-more has_psks (keyed_after_tokens has_psks k ts) (nonce_after_message has_psks k n ts) ms i (omega arith)))
 
 next : (i : ℕ) → i + 1 ≡ suc i
 next i = omega arith
@@ -42,9 +36,7 @@ module _ (p : Plan) where
   -- the nonce after one message more
   pub due-next : (i : ℕ) → i < length p.messages
       → nonce_due p (i + 1) ≡ nonce_after_message (has_psk p) (has_key p (passed_places p i)) (nonce_due p i) (tokens_at p.messages i)
-  due-next i h =
-      ap (nonce_due p) (next i) ∙ nonce-more (has_psk p) (has_key p (passed_places p 0)) 0 p.messages i h
-      ∙ ap (λ (b : Bool). nonce_after_message (has_psk p) b (nonce_due p i) (tokens_at p.messages i)) (keyed-passed i (omega arith))
+  due-next i h = search (rules, nonce-more, keyed-passed)
 
 -- the bound after one message more
 pub bound-after : (passed n more length : ℕ) → n ≤ 11 * passed → more ≤ n + length + 1 → length ≤ 10 → more ≤ 11 * (passed + 1)
@@ -70,13 +62,7 @@ nonce-most has_psks keyed n Psk = omega arith
 
 pub nonces-most : (has_psks keyed : Bool) (n : ℕ) (ts : List Token) → nonce_after_tokens has_psks keyed n ts ≤ n + length ts
 nonces-most has_psks keyed n [] = omega arith
-nonces-most has_psks keyed n (t ∷ ts) =
-    omega (arith, nonces-most has_psks (keyed_after has_psks keyed t) (nonce_after has_psks keyed n t) ts, nonce-most has_psks keyed n t)
+nonces-most has_psks keyed n (t ∷ ts) = search (rules, (nonces-most has_psks (keyed_after has_psks keyed t) (nonce_after has_psks keyed n t) ts))
 
 pub message-most : (has_psks keyed : Bool) (n : ℕ) (ts : List Token) → nonce_after_message has_psks keyed n ts ≤ n + length ts + 1
-message-most has_psks keyed n ts =
-    omega (
-      arith,
-      nonces-most has_psks keyed n ts,
-      next-most (keyed_after_tokens has_psks keyed ts) (nonce_after_tokens has_psks keyed n ts),
-    )
+message-most has_psks keyed n ts = search (rules, nonces-most)

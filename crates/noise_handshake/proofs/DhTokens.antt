@@ -1,16 +1,8 @@
 -- What the definitions by the token come to at a DH token.
-use Rattle.std.proofs.Common.{◌≡◌, ℕ, ◌≤◌, List, ◌++◌, refl, ap, ◌∙◌, arith}
-use Rattle.std.specs.Prelude.{Bool, true, Some, None, Option}
-use Rattle.noise_names.specs.declared.token.Token.{Token}
-use Rattle.noise_names.specs.declared.token.Token.TheVariants.{E, S, Ee, Es, Se, Ss, Psk}
-use Rattle.noise_state.specs.History.{History, MixKey, and_then}
-use Rattle.noise_handshake.specs.declared.faults.Cause.TheVariants.{Agreement}
-use Rattle.noise_handshake.specs.declared.remote.Remote.{Remote}
-use Rattle.noise_handshake.specs.Length.{token_width}
-use Rattle.noise_handshake.specs.Message.{token_bytes, after_token}
-use Rattle.noise_handshake.specs.Party.{Reader, Fits, known_after, dh_result_of, own_at, remote_at, cause_of}
-use Rattle.noise_handshake.specs.inner.Keying.{Keying, keying_after}
-use Rattle.noise_handshake.specs.inner.Listening.{Fails}
+use Rattle.std.proofs.Common.{rules, ◌≡◌, ℕ, ◌≤◌, List, ◌++◌, refl, ap, ◌∙◌, arith}
+use Rattle.std.specs.Prelude.{Bool, true}
+use Rattle.noise_handshake.proofs.Common.{Some, None, Option, Token, E, S, Ee, Es, Se, Ss, History, MixKey, and_then, Agreement, Remote, token_width, token_bytes, after_token, Reader, Fits, known_after, dh_result_of, own_at, remote_at, cause_of, Keying, keying_after, Fails}
+use Rattle.noise_names.specs.declared.token.Token.TheVariants.{Psk}
 
 -- what holds of the four DH tokens holds of a token that is neither a key nor a psk
 at-dh : (P : Token → Type 0) → P Ee → P Es → P Se → P Ss → (t : Token) → (t ≡ E → ⊥) → (t ≡ S → ⊥) → (t ≡ Psk → ⊥) → P t
@@ -50,11 +42,7 @@ module _ (t : Token) (no_e : t ≡ E → ⊥) (no_s : t ≡ S → ⊥) (no_psk :
   pub dh-fails : (v : Reader) (known : Remote) (psks : List (List ℕ)) (r : History) (m : List ℕ) (key : Bool)
       (o : Option (List ℕ)) → o ≡ dh_result_of v.agree (own_at v.role t) (remote_at v.role known t) → o ≡ None
       → Fails v known psks r t m × (Agreement ≡ cause_of key t m)
-  dh-fails v known psks r m key o e is =
-      at-dh (λ u. o ≡ dh_result_of v.agree (own_at v.role u) (remote_at v.role known u) → Fails v known psks r u m × (Agreement ≡ cause_of key u m))
-      (λ f. (λ x rest g _. none-some o _ x is f g, refl)) (λ f. (λ x rest g _. none-some o _ x is f g, refl))
-      (λ f. (λ x rest g _. none-some o _ x is f g, refl)) (λ f. (λ x rest g _. none-some o _ x is f g, refl))
-      t no_e no_s no_psk e
+  dh-fails v known psks r m key o e is = search rules
 
 -- a key and a nonce that are others
 pub keying-is : (k : Keying) (b c : Bool) (n m : ℕ) → b ≡ c → n ≡ m → record k { keyed = b; nonce = n } ≡ record k { keyed = c; nonce = m }

@@ -1,23 +1,7 @@
 -- The first tokens of a message.
-use Rattle.std.proofs.Common.{◌≡◌, ℕ, zero, suc, ◌+◌, ◌<◌, List, [], ◌∷◌, ◌++◌, length, take, drop, refl, ap, sym, subst, ◌∙◌, arith, take-take, length-take}
-use Rattle.std.proofs.lemmas.List.{take-append-drop}
-use Rattle.std.proofs.Common.{append_assoc}
-use Rattle.std.specs.Prelude.{Bool, true, is_some}
-use Rattle.std.specs.List.{list_all}
-use Rattle.noise_names.specs.declared.token.Token.{Token}
-use Rattle.noise_state.specs.History.{History, cipher_key}
-use Rattle.noise_keys.specs.declared.keys.Own.{Own}
-use Rattle.noise_handshake.specs.declared.remote.Remote.{Remote}
-use Rattle.noise_handshake.specs.declared.faults.Cause.{Cause}
-use Rattle.noise_handshake.specs.declared.layout.PlacedToken.{PlacedToken}
-use Rattle.noise_handshake.specs.Length.{keyed_after}
-use Rattle.noise_handshake.specs.Message.{after_tokens}
-use Rattle.noise_handshake.specs.Party.{Reader, BeginsAs, CanBegin, cause_at, remote_after}
-use Rattle.noise_handshake.specs.Wanting.{LacksDhResultFor}
-use Rattle.noise_handshake.specs.Writing.{Writer, Given, LacksDhResultAt}
-use Rattle.noise_handshake.specs.inner.Layout.{tokens_of, ArePlaced}
-use Rattle.noise_handshake.specs.inner.Listening.{StopsKnowing}
-use Rattle.std.proofs.lemmas.Bool.{and_parts, and_from}
+use Rattle.std.proofs.Common.{rules, ◌≡◌, ℕ, zero, suc, ◌+◌, ◌<◌, List, [], ◌∷◌, ◌++◌, length, take, drop, refl, ap, sym, subst, ◌∙◌, arith, take-take, length-take, append_assoc}
+use Rattle.std.specs.Prelude.{Bool, true}
+use Rattle.noise_handshake.proofs.Common.{take-append-drop, list_all, Token, History, Own, Remote, Cause, PlacedToken, keyed_after, Reader, BeginsAs, CanBegin, cause_at, remote_after, LacksDhResultFor, Writer, Given, LacksDhResultAt, tokens_of, ArePlaced, StopsKnowing, and_parts}
 
 pub tokens-take : (ps : List PlacedToken) (k : ℕ) → tokens_of (take k ps) ≡ take k (tokens_of ps)
 tokens-take ps zero = refl
@@ -32,8 +16,7 @@ placed-take has_psks keyed place (p ∷ ps) (suc k) a = (a.0, a.1, placed-take h
 pub all-take : (p : Token → Bool) (ts : List Token) (k : ℕ) → list_all p ts ≡ true → list_all p (take k ts) ≡ true
 all-take p ts zero h = refl
 all-take p [] (suc k) h = refl
-all-take p (t ∷ ts) (suc k) h =
-    and_from (p t) (list_all p (take k ts)) (and_parts (p t) (list_all p ts) h).0 (all-take p ts k (and_parts (p t) (list_all p ts) h).1)
+all-take p (t ∷ ts) (suc k) h = search (rules, (all-take p ts k (and_parts (p t) (list_all p ts) h).1))
 
 -- why reading stops at one of the first tokens
 cause-take : (keyed : Bool) (ts : List Token) (k j : ℕ) (rest : List ℕ) → j < k → j < length ts → cause_at keyed (take k ts) j rest ≡ cause_at keyed ts j rest
@@ -56,8 +39,7 @@ stops-all v known s r ts m k j cause here h (stop, knows) =
         leads = subst (λ (us : List Token). BeginsAs v known s r us stop.carried m stop.rest) first stop.leads;
         further = λ _ reaches. stop.further h (subst (λ (us : List Token). CanBegin v known s r us m) (sym next) reaches);
         unread = λ e. absurd (omega (arith, e, within));
-        why = stop.why ∙ cause-take (is_some (cipher_key (after_tokens v.has_psks r (take j (take k ts)) stop.carried))) ts k j stop.rest less within
-            ∙ ap (λ (us : List Token). cause_at (is_some (cipher_key (after_tokens v.has_psks r us stop.carried))) ts j stop.rest) first;
+        why = search (rules, cause-take);
       },
       knows ∙ ap (λ (us : List Token). remote_after known us stop.carried) first,
     )

@@ -1,15 +1,7 @@
 -- The steps of writing, as the code's values have them.
-use Rattle.std.proofs.Common.{◌≡◌, ℕ, zero, suc, ◌+◌, ◌<◌, ◌≤◌, List, [], ◌∷◌, ◌++◌, take, refl, ap, sym, subst, ◌∙◌, arith, add-one, take-take}
+use Rattle.std.proofs.Common.{rules, ◌≡◌, ℕ, zero, suc, ◌+◌, ◌<◌, ◌≤◌, List, [], ◌∷◌, ◌++◌, take, refl, ap, sym, subst, arith, add-one, take-take}
 use Rattle.std.specs.Prelude.{Bool}
-use Rattle.noise_names.specs.declared.token.Token.{Token}
-use Rattle.noise_names.specs.declared.token.Token.TheVariants.{E, S, Ee, Es, Se, Ss, Psk}
-use Rattle.noise_names.specs.Plan.{has_psk}
-use Rattle.noise_state.specs.History.{History}
-use Rattle.noise_handshake.specs.declared.remote.Remote.{Remote}
-use Rattle.noise_handshake.specs.Message.{token_bytes, after_token, before_payload, after_tokens, message_bytes}
-use Rattle.noise_handshake.specs.Length.{keyed_after, keyed_after_tokens, tag_width, token_width, tokens_width, added_width}
-use Rattle.noise_handshake.specs.Party.{Party, psks_after, tokens_now}
-use Rattle.noise_handshake.specs.Writing.{Writer, writer, Gives, Given, LacksDhResultAt, Writes, LacksDhResult}
+use Rattle.noise_handshake.proofs.Common.{Token, History, Remote, token_bytes, after_token, before_payload, after_tokens, keyed_after, keyed_after_tokens, tag_width, token_width, tokens_width, added_width, Party, psks_after, tokens_now, Writer, writer, Gives, Given, LacksDhResultAt, Writes, LacksDhResult}
 use Rattle.noise_handshake.proofs.Once.{same-place}
 
 -- one token more in front
@@ -29,10 +21,7 @@ lacks-later w known psks t ts x k g l = record {
 -- a token and those after it take no more than there is for all of them
 pub widths : (has_psks keyed keyed2 : Bool) (tokens ts : List Token) (t : Token) (n k room : ℕ) → tokens ≡ t ∷ ts → tokens_width has_psks keyed tokens ≤ room
     → n ≡ token_width keyed t → keyed2 ≡ keyed_after has_psks keyed t → k ≡ tokens_width has_psks keyed2 ts → n + k ≤ room
-widths has_psks keyed keyed2 tokens ts t n k room split fits e f h =
-    let all : tokens_width has_psks keyed (t ∷ ts) ≤ room = subst (λ (us : List Token). tokens_width has_psks keyed us ≤ room) split fits in
-    let more : k ≡ tokens_width has_psks (keyed_after has_psks keyed t) ts = h ∙ ap (λ (b : Bool). tokens_width has_psks b ts) f in
-    omega (arith, all, e, more)
+widths has_psks keyed keyed2 tokens ts t n k room split fits e f h = search rules
 
 -- the same of the tokens and a payload
 pub widths-last : (has_psks keyed keyed2 : Bool) (ts : List Token) (n k p room : ℕ) → added_width has_psks keyed ts + p ≤ room
@@ -42,14 +31,11 @@ widths-last has_psks keyed keyed2 ts n k p room fits e f h = omega (arith, ap ta
 module _ (w : Writer) (known : Remote) (psks others : List (List ℕ)) (r : History) (tokens ts : List Token) (t : Token) (x : List ℕ)
     (split : tokens ≡ t ∷ ts) (gives : Gives w known psks t x) (holds : others ≡ psks_after psks t) where
   pub given-on : (xs : List (List ℕ)) → Given w known others ts xs → Given w known psks tokens (x ∷ xs)
-  given-on xs h =
-      let later : Given w known (psks_after psks t) ts xs = subst (λ (z : List (List ℕ)). Given w known z ts xs) holds h in
-      subst (λ (us : List Token). Given w known psks us (x ∷ xs)) (sym split) (gives, later)
+  given-on xs h = search rules
 
   pub front-on : (xs : List (List ℕ)) (start more : List ℕ) → start ≡ token_bytes r t x → more ≡ before_payload w.has_psks (after_token w.has_psks r t x) ts xs
       → start ++ more ≡ before_payload w.has_psks r tokens (x ∷ xs)
-  front-on xs start more e f =
-      ap (λ (z : List ℕ). z ++ more) e ∙ ap (λ (z : List ℕ). token_bytes r t x ++ z) f ∙ ap (λ (us : List Token). before_payload w.has_psks r us (x ∷ xs)) (sym split)
+  front-on xs start more e f = search
 
   pub after-on : {St : Type 0} (matches : St → History → Type 0) (state : St) (xs : List (List ℕ))
       → matches state (after_tokens w.has_psks (after_token w.has_psks r t x) ts xs) → matches state (after_tokens w.has_psks r tokens (x ∷ xs))
@@ -62,15 +48,6 @@ module _ (w : Writer) (known : Remote) (psks others : List (List ℕ)) (r : Hist
 
 -- ---- what a party gives is determined
 
-gives-one : (w : Writer) (known : Remote) (psks : List (List ℕ)) (t : Token) (x y : List ℕ) → Gives w known psks t x → Gives w known psks t y → x ≡ y
-gives-one w known psks E x y g h = cc
-gives-one w known psks S x y g h = cc
-gives-one w known psks Psk x y g h = cc
-gives-one w known psks Ee x y g h = cc
-gives-one w known psks Es x y g h = cc
-gives-one w known psks Se x y g h = cc
-gives-one w known psks Ss x y g h = cc
-
 given-one : (w : Writer) (known : Remote) (psks : List (List ℕ)) (ts : List Token) (xs ys : List (List ℕ)) → Given w known psks ts xs
     → Given w known psks ts ys → xs ≡ ys
 given-one w known psks [] [] [] g h = refl
@@ -78,9 +55,7 @@ given-one w known psks [] [] (y ∷ ys) g h = absurd h
 given-one w known psks [] (x ∷ xs) ys g h = absurd g
 given-one w known psks (t ∷ ts) [] ys g h = absurd g
 given-one w known psks (t ∷ ts) (x ∷ xs) [] g h = absurd h
-given-one w known psks (t ∷ ts) (x ∷ xs) (y ∷ ys) g h =
-    ap (λ (z : List ℕ). z ∷ xs) (gives-one w known psks t x y g.0 h.0)
-    ∙ ap (λ (zs : List (List ℕ)). y ∷ zs) (given-one w known (psks_after psks t) ts xs ys g.1 h.1)
+given-one w known psks (t ∷ ts) (x ∷ xs) (y ∷ ys) g h = search (rules, (given-one w known (psks_after psks t) ts xs ys g.1 h.1))
 
 -- one text for each of the first tokens
 given-front : (w : Writer) (known : Remote) (psks : List (List ℕ)) (ts : List Token) (xs : List (List ℕ)) (n : ℕ) → Given w known psks ts xs
@@ -100,15 +75,11 @@ not-before w known psks ts k j a b h =
 
 -- a party writes a payload as one message
 pub writes-one : (v : Party) (payload m n : List ℕ) (xs ys : List (List ℕ)) → Writes v payload xs m → Writes v payload ys n → (xs ≡ ys) × (m ≡ n)
-writes-one v payload m n xs ys a b =
-    let e : xs ≡ ys = given-one (writer v) v.remote v.psks (tokens_now v) xs ys a.given b.given in
-    (e, a.spelled ∙ ap (λ (zs : List (List ℕ)). message_bytes (has_psk v.pattern) v.history (tokens_now v) zs payload) e ∙ sym b.spelled)
+writes-one v payload m n xs ys a b = search (rules, given-one)
 
 -- it lacks a DH result at one token
 pub lacks-one : (v : Party) (k j : ℕ) → LacksDhResult v k → LacksDhResult v j → k ≡ j
-lacks-one v k j a b =
-    same-place k j (not-before (writer v) v.remote v.psks (tokens_now v) k j a.lacks b.lacks)
-    (not-before (writer v) v.remote v.psks (tokens_now v) j k b.lacks a.lacks)
+lacks-one v k j a b = search (same-place, not-before)
 
 -- what lacks a DH result writes nothing
 pub writes-or : (v : Party) (payload m : List ℕ) (xs : List (List ℕ)) (k : ℕ) → Writes v payload xs m → LacksDhResult v k → ⊥

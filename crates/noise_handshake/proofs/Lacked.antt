@@ -1,25 +1,10 @@
 -- Which DH result the next message lacks: writing.
-use Rattle.std.proofs.Common.{◌≡◌, ℕ, zero, suc, ◌<◌, ◌≤◌, List, [], ◌∷◌, length, take, refl, ap, sym, subst, ◌∙◌, arith}
-use Rattle.std.specs.Prelude.{Bool, true, false, not, ◌&&◌, ◌==◌, Option, Some, None, is_some, IsTrue, MatchOption}
-use Rattle.std.proofs.lemmas.Bool.Decides.{nat_tests}
-use Rattle.noise_names.specs.declared.token.Token.{Token}
-use Rattle.noise_names.specs.declared.token.Role.{Role}
-use Rattle.noise_names.specs.declared.token.Role.TheVariants.{Initiator}
-use Rattle.noise_names.specs.Tokens.{turn_from}
-use Rattle.noise_names.specs.Plan.{Plan, has_psk}
-use Rattle.noise_keys.specs.declared.keys.Own.{Own}
-use Rattle.noise_handshake.specs.declared.remote.Remote.{Remote}
-use Rattle.noise_handshake.specs.HandshakeValue.{HandshakeValue, is_turn}
-use Rattle.noise_handshake.specs.Matching.{Matches}
-use Rattle.noise_handshake.specs.Party.{Party, Speaks, own_at, remote_at, psks_after, tokens_now}
-use Rattle.noise_handshake.specs.Wanting.{LacksDhResultFor, WantsToWrite}
-use Rattle.noise_handshake.specs.Writing.{Writer, writer, Gives, Given, LacksDhResultAt, LacksDhResult}
-use Rattle.noise_handshake.specs.inner.Known.{remote_known}
-use Rattle.noise_handshake.specs.inner.Speaking.{Speaking}
+use Rattle.std.proofs.Common.{rules, ◌≡◌, ℕ, zero, suc, ◌<◌, ◌≤◌, List, [], ◌∷◌, length, take, refl, ap, sym, subst, ◌∙◌, arith}
+use Rattle.std.specs.Prelude.{Bool, true, false, not, is_some}
+use Rattle.noise_handshake.proofs.Common.{◌&&◌, ◌==◌, Option, Some, None, IsTrue, MatchOption, nat_tests, Token, Role, Initiator, turn_from, Plan, has_psk, Own, Remote, HandshakeValue, is_turn, Matches, Party, Speaks, own_at, remote_at, psks_after, tokens_now, LacksDhResultFor, WantsToWrite, Writer, writer, Gives, Given, LacksDhResultAt, LacksDhResult, remote_known, Speaking, same-same_role, same_role-true}
 use Rattle.noise_handshake.proofs.Giving.{lacks-later}
 use Rattle.noise_handshake.proofs.Knowing.{is_some-remote}
 use Rattle.noise_handshake.proofs.Wrote.{for-view}
-use Rattle.noise_names.specs.Roles.{same-same_role, same_role-true}
 use Rattle.noise_handshake.proofs.Stepwise.{lacks-first}
 use Rattle.noise_handshake.proofs.Wanted.{none-some}
 
@@ -87,9 +72,7 @@ pub asked-first : (w : Writer) (known : Remote) (psks : List (List ℕ)) (tokens
     → IsTrue (remote_known w.role (is_some known.e) (is_some known.s) t) → (o : Option (Own × List ℕ))
     → MatchOption o (remote_at w.role known t ≡ None) (λ want. (want.0 ≡ own_at w.role t) × (remote_at w.role known t ≡ Some want.1))
     → MatchOption o ((k : ℕ) → LacksDhResultAt w known psks tokens k → ⊥) (λ want. LacksDhResultFor w known psks tokens want.0 want.1)
-asked-first w known psks tokens ts t e bad dh o h =
-    subst (λ (us : List Token). MatchOption o ((k : ℕ) → LacksDhResultAt w known psks us k → ⊥) (λ want. LacksDhResultFor w known psks us want.0 want.1)) (sym e)
-    (first-one w known psks t ts bad dh o h)
+asked-first w known psks tokens ts t e bad dh o h = search (rules, first-one)
 
 -- ---- whether a message of this party is due
 
@@ -110,10 +93,7 @@ module _ {K : Type 0} (h : HandshakeValue K) where
   is-due = not h.ended && not (h.passed == length h.pattern.messages) && is_turn h.role h.passed
 
   pub due-within : h.passed ≤ length h.pattern.messages → is-due ≡ true → h.passed < length h.pattern.messages
-  due-within w e =
-      let unequal : (h.passed == length h.pattern.messages) ≡ false =
-      (tests-of h.ended (h.passed == length h.pattern.messages) (is_turn h.role h.passed) e).1 in
-      grind (arith, nat_tests)
+  due-within w e = search rules
 
   pub due-turn : is-due ≡ true → turn_from Initiator h.passed ≡ h.role
   due-turn e = same_role-true (turn_from Initiator h.passed) h.role (tests-of h.ended (h.passed == length h.pattern.messages) (is_turn h.role h.passed) e).2

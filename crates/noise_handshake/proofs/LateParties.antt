@@ -1,53 +1,24 @@
 -- A handshake that was filled up, for the parties whose psks begin with those that were handed in.
-use Rattle.std.proofs.Common.{◌≡◌, ℕ, suc, ◌+◌, ◌-◌, ◌<◌, ◌≤◌, List, [], ◌∷◌, ◌++◌, length, take, drop, set, refl, ap, sym, subst, ◌∙◌, arith, take-take, length-take, length-drop}
-use Rattle.std.proofs.Common.{append-nil, take_all}
-use Rattle.std.proofs.lemmas.List.{take-append-le, drop-append-le, drop-take, drop_all, length-set}
-use Rattle.std.specs.List.{refill}
-use Rattle.std.specs.Prelude.{Bool, true, false, not, ◌&&◌, ◌==◌, nat_lt, if◌then◌else◌, Option, Some, None, Result, Ok, Err, MatchOption, count_by}
-use Rattle.noise_names.specs.declared.token.Token.{Token}
-use Rattle.noise_names.specs.Tokens.{is_psk}
-use Rattle.noise_keys.specs.declared.keys.Own.{Own}
-use Rattle.noise_handshake.specs.declared.faults.Cause.{Cause}
-use Rattle.noise_handshake.specs.declared.faults.Cause.TheVariants.{Agreement}
-use Rattle.noise_handshake.specs.declared.faults.ReadFault.{ReadFault}
-use Rattle.noise_handshake.specs.declared.faults.ReadFault.TheVariants as read
-use Rattle.noise_handshake.specs.HandshakeValue.{HandshakeValue, Advances, IsAgreement, ended_as, is_turn, length_now, read_fault, write_fault}
-use Rattle.noise_handshake.specs.declared.faults.WriteFault.{WriteFault}
-use Rattle.noise_handshake.specs.declared.faults.WriteFault.TheVariants as write
-use Rattle.noise_keys.specs.declared.faults.SetupFault.{SetupFault}
-use Rattle.noise_handshake.specs.Late.{with_later, WantsPskToRead, WantsPskToWrite}
-use Rattle.noise_handshake.specs.Matching.{Matches, DoesNotRead, DoesNotWrite, after_message, after_own, after_not_read, after_not_written, ended_party}
-use Rattle.noise_handshake.specs.Party.{Party, Accepts, BeginsAs, Listens, CanBegin, Refuses, Speaks, remote_after, reader, tokens_at, tokens_now}
-use Rattle.noise_handshake.specs.Wanting.{LacksDhResultFor, WantsToRead, WantsToWrite}
-use Rattle.noise_handshake.specs.Writing.{Writes, LacksDhResult, LacksDhResultAt, writer}
+use Rattle.std.proofs.Common.{rules, ◌≡◌, ℕ, suc, ◌+◌, ◌-◌, ◌<◌, ◌≤◌, List, [], ◌∷◌, ◌++◌, length, take, drop, set, refl, ap, sym, subst, ◌∙◌, arith, take-take, length-take, length-drop, take_all, length-append}
+use Rattle.std.specs.Prelude.{Bool, true, false, not, if◌then◌else◌}
+use Rattle.noise_handshake.proofs.Common.{take-append-le, drop-append-le, drop-take, drop_all, refill, ◌&&◌, ◌==◌, Option, Some, None, MatchOption, count_by, Token, is_psk, Own, Cause, Agreement, ReadFault, HandshakeValue, Advances, IsAgreement, ended_as, is_turn, read_fault, write_fault, WriteFault, with_later, WantsPskToRead, WantsPskToWrite, Matches, DoesNotRead, DoesNotWrite, after_message, after_own, after_not_read, after_not_written, ended_party, Party, Accepts, BeginsAs, Listens, CanBegin, Refuses, Speaks, reader, tokens_at, tokens_now, LacksDhResultFor, WantsToRead, WantsToWrite, Writes, LacksDhResult, LacksDhResultAt, writer, without_last, IsPskAfter, BeginsBefore, take-append-add}
 use Rattle.noise_handshake.specs.Opening.{Opening, IsOpeningOf}
 use Rattle.noise_handshake.specs.Parts.{IsWholeValue}
 use Rattle.noise_handshake.proofs.Fronts.{lacks-all, lacks-first, lacks-for-all}
-use Rattle.noise_handshake.specs.inner.Late.{without_last, IsPskAfter}
-use Rattle.noise_handshake.specs.inner.Listening.{BeginsBefore}
 use Rattle.noise_handshake.proofs.Apart.{front-apart, reads-leads}
 use Rattle.noise_handshake.specs.declared.late_faults.Want.{Want}
 use Rattle.noise_handshake.specs.declared.stop.Stop.{Stop}
-use Rattle.noise_handshake.proofs.Standing.{ends, listens, tokens-are, with-psks}
+use Rattle.noise_handshake.proofs.Standing.{listens, tokens-are}
 use Rattle.noise_handshake.proofs.Later.{count-take, count-less, given-same, leads-same, reads-same, stops-same, stops-for-same, lacks-same, lacks-for-same}
 use Rattle.noise_handshake.proofs.Once.{refuses-one}
-use Rattle.noise_handshake.specs.Setup.{setup_fault}
-use Rattle.noise_handshake.specs.declared.remote.Remote.{Remote}
-use Rattle.noise_names.specs.declared.token.Role.{Role}
-use Rattle.noise_names.specs.Plan.{Plan}
-use Rattle.std.proofs.Math.Seq.{take-append-add}
-use Rattle.std.proofs.Common.{length-append}
 use Rattle.noise_handshake.proofs.PskPlaces.{no-psk, psk-place}
+use Rattle.noise_handshake.specs.declared.faults.ReadFault.TheVariants as read
+use Rattle.noise_handshake.specs.declared.faults.WriteFault.TheVariants as write
 
 -- ---- a psk put in its place
 
 pub refilled : (items now : List (List ℕ)) (i : ℕ) (x : List ℕ) → now ≡ items → refill (length items) items (set now i x) ≡ set items i x
-refilled items now i x e =
-    let count : length (set now i x) ≡ length items = length-set now i x ∙ ap length e in
-    let none : drop (length (set now i x)) items ≡ [] = drop_all (length (set now i x)) items (omega (arith, count)) in
-    ap (λ (z : List (List ℕ)). take (length items) (set now i x ++ z)) none
-    ∙ ap (take (length items)) (append-nil (set now i x)) ∙ take_all (length items) (set now i x) (omega (arith, count))
-    ∙ ap (λ (z : List (List ℕ)). set z i x) e
+refilled items now i x e = search (rules, drop_all, take_all)
 
 -- a party with other psks
 abbrev pub holding : Party → List (List ℕ) → Party
@@ -59,30 +30,17 @@ listens-partial v u l = record { going = l.going; more = l.more; turn = l.turn }
 speaks-partial : (v : Party) (u : List (List ℕ)) → Speaks (holding v u) → Speaks v
 speaks-partial v u l = record { going = l.going; more = l.more; turn = l.turn }
 
-speaks-back : (v : Party) (u : List (List ℕ)) → Speaks v → Speaks (holding v u)
-speaks-back v u l = record { going = l.going; more = l.more; turn = l.turn }
-
 -- ---- the first n psks are the same
 
 module _ (v : Party) (u : List (List ℕ)) (n : ℕ) (e : take n u ≡ take n v.psks) where
   pub accepts-partial : (m : List ℕ) (xs : List (List ℕ)) (p : List ℕ) → count_by is_psk (tokens_now v) ≤ n → Accepts (holding v u) m xs p → Accepts v m xs p
-  accepts-partial m xs p c a = record {
-    listens = listens-partial v u a.listens;
-    fits = a.fits;
-    reads = reads-same (reader v) v.remote u v.psks v.history n e (tokens_now v) m xs p c a.reads;
-  }
+  accepts-partial m xs p c a = search reads-same
 
   pub refuses-partial : (m : List ℕ) (k : ℕ) (cause : Cause) → count_by is_psk (take (suc k) (tokens_now v)) ≤ n → Refuses (holding v u) m k cause → Refuses v m k cause
-  refuses-partial m k cause c a = record {
-    listens = listens-partial v u a.listens;
-    stops = stops-same (reader v) v.remote u v.psks v.history n e (tokens_now v) m k cause c a.stops;
-  }
+  refuses-partial m k cause c a = search stops-same
 
   pub refuses-back : (m : List ℕ) (k : ℕ) (cause : Cause) → count_by is_psk (take (suc k) (tokens_now v)) ≤ n → Refuses v m k cause → Refuses (holding v u) m k cause
-  refuses-back m k cause c a = record {
-    listens = record { going = a.listens.going; more = a.listens.more; turn = a.listens.turn };
-    stops = stops-same (reader v) v.remote v.psks u v.history n (sym e) (tokens_now v) m k cause c a.stops;
-  }
+  refuses-back m k cause c a = search (rules, stops-same)
 
   -- it isn't refused for another cause
   pub refuses-not : (m : List ℕ) (k j : ℕ) (cause : Cause) → count_by is_psk (take (suc k) (tokens_now v)) ≤ n → Refuses (holding v u) m k cause
@@ -100,18 +58,10 @@ module _ (v : Party) (u : List (List ℕ)) (n : ℕ) (e : take n u ≡ take n v.
   }
 
   pub writes-partial : (p : List ℕ) (xs : List (List ℕ)) (m : List ℕ) → count_by is_psk (tokens_now v) ≤ n → Writes (holding v u) p xs m → Writes v p xs m
-  writes-partial p xs m c a = record {
-    speaks = speaks-partial v u a.speaks;
-    given = given-same (writer v) v.remote u v.psks n (tokens_now v) xs c e a.given;
-    spelled = a.spelled;
-    fits = a.fits;
-  }
+  writes-partial p xs m c a = search given-same
 
   pub lacks-back : (k : ℕ) → count_by is_psk (take (suc k) (tokens_now v)) ≤ n → LacksDhResult v k → LacksDhResult (holding v u) k
-  lacks-back k c a = record {
-    speaks = speaks-back v u a.speaks;
-    lacks = lacks-same (writer v) v.remote v.psks u n (sym e) (tokens_now v) k c a.lacks;
-  }
+  lacks-back k c a = search (rules, lacks-same)
 
   pub wants-write-partial : (own : Own) (key : List ℕ) (k : ℕ) → count_by is_psk (take k (tokens_now v)) ≤ n
       → (w : WantsToWrite (holding v u) own key) → suc (length w.lacks.before) ≤ k → WantsToWrite v own key
@@ -126,28 +76,12 @@ module _ (v : Party) (u : List (List ℕ)) (n : ℕ) (e : take n u ≡ take n v.
 -- where reading comes to it
 pub wants-psk : (v : Party) (m : List ℕ) (n k : ℕ) (remote : Option (List ℕ)) → Listens v → IsPskAfter (tokens_now v) n k
     → BeginsBefore (reader v) v.remote v.psks v.history (tokens_now v) m k remote → WantsPskToRead v n m remote
-wants-psk v m n k remote l a b = record {
-  listens = l;
-  before = take k (tokens_now v);
-  later = drop (suc k) (tokens_now v);
-  tokens = a.tokens;
-  count = a.count;
-  carried = b.carried;
-  rest = b.rest;
-  leads = b.leads;
-  remote_is = b.remote_is;
-}
+wants-psk v m n k remote l a b = search
 
 -- the key that it reports is determined
 pub psk-one : (v : Party) (m : List ℕ) (n k : ℕ) (remote other : Option (List ℕ)) → IsPskAfter (tokens_now v) n k
     → BeginsBefore (reader v) v.remote v.psks v.history (tokens_now v) m k remote → WantsPskToRead v n m other → remote ≡ other
-psk-one v m n k remote other a b w =
-    let same : w.before ≡ take k (tokens_now v) = psk-place (tokens_now v) w.before w.later n k a w.tokens w.count in
-    let l = subst (λ (us : List Token). BeginsAs (reader v) v.remote v.psks v.history us w.carried m w.rest) same w.leads in
-    let one = front-apart (reader v) v.remote v.psks v.history (take k (tokens_now v)) b.carried w.carried b.rest w.rest b.leads.fit l.fit
-    (sym b.leads.spelled ∙ l.spelled) in
-    b.remote_is ∙ ap (λ (xs : List (List ℕ)). (remote_after v.remote (take k (tokens_now v)) xs).s) one.0
-    ∙ ap (λ (us : List Token). (remote_after v.remote us w.carried).s) (sym same) ∙ sym w.remote_is
+psk-one v m n k remote other a b w = search (rules, psk-place, front-apart)
 
 -- what stops before it doesn't come to it
 pub psk-not : (v : Party) (m : List ℕ) (n k j : ℕ) (cause : Cause) (remote : Option (List ℕ)) → IsPskAfter (tokens_now v) n k → j < k
@@ -163,9 +97,6 @@ psk-not v m n k j cause remote a h r w =
 pub psk-none : (v : Party) (m : List ℕ) (n : ℕ) (remote : Option (List ℕ)) → count_by is_psk (tokens_now v) ≤ n → WantsPskToRead v n m remote → ⊥
 psk-none v m n remote c w = no-psk (tokens_now v) w.before w.later n c w.tokens w.count
 
-pub psk-none-write : (v : Party) (n : ℕ) → count_by is_psk (tokens_now v) ≤ n → WantsPskToWrite v n → ⊥
-psk-none-write v n c w = no-psk (tokens_now v) w.before w.later n c w.tokens w.count
-
 -- ---- the psks that were handed in
 
 module _ (s later : List (List ℕ)) (lacking : ℕ) (w : lacking ≤ length s) where
@@ -176,8 +107,7 @@ module _ (s later : List (List ℕ)) (lacking : ℕ) (w : lacking ≤ length s) 
   length-given = omega (arith, length-take given s)
 
   pub same-given : (vs : List (List ℕ)) → take given s ++ later ≡ vs → take given s ≡ take given vs
-  same-given vs e =
-      sym (take-take given given s (omega arith)) ∙ sym (take-append-le given (take given s) later (omega (arith, length-given))) ∙ ap (take given) e
+  same-given vs e = search (rules, take-take, take-append-le)
 
   -- after c psk tokens
   pub after-given : (vs snew : List (List ℕ)) (c : ℕ) → c ≤ given → snew ≡ drop c s → take given s ++ later ≡ vs
@@ -202,36 +132,27 @@ module _ {K : Type 0} (public_of : K → Own → Option (List ℕ)) (agreement :
   begins = subst (λ (z : HandshakeValue K). Matches public_of agreement (with_later z later) v) (sym seen) s
 
   pub matches-filled : Matches public_of agreement h (holding v h.psks)
-  matches-filled =
-      with-psks public_of agreement (with_later (without_last lacking h) later) v begins h.psks h.psks
-      (refl)
+  matches-filled = search begins
 
   pub agrees : take (length g.psks) h.psks ≡ take (length g.psks) v.psks
-  agrees =
-      subst (λ (k : ℕ). take k h.psks ≡ take k v.psks) (sym (given-is h lacking w g seen))
-      (same-given h.psks later lacking w v.psks begins.psks)
+  agrees = search (rules, same-given)
 
   pub after-read : (h2 : HandshakeValue K) (xs : List (List ℕ)) (payload : List ℕ) → count_by is_psk (tokens_now v) ≤ length g.psks
       → Matches public_of agreement h2 (after_message (holding v h.psks) xs payload)
       → Matches public_of agreement (with_later (without_last lacking h2) later) (after_message v xs payload)
-  after-read h2 xs payload c t =
-      with-psks public_of agreement h2 (after_message (holding v h.psks) xs payload) t _ _
-      (after-given h.psks later lacking w v.psks h2.psks (count_by is_psk (tokens_now v)) (omega (arith, c, given-is h lacking w g seen)) t.psks begins.psks)
+  after-read h2 xs payload c t = search (rules, after-given)
 
   pub after-written : (h2 : HandshakeValue K) (xs : List (List ℕ)) (payload : List ℕ) → count_by is_psk (tokens_now v) ≤ length g.psks
       → Matches public_of agreement h2 (after_own (holding v h.psks) xs payload)
       → Matches public_of agreement (with_later (without_last lacking h2) later) (after_own v xs payload)
-  after-written h2 xs payload c t =
-      with-psks public_of agreement h2 (after_own (holding v h.psks) xs payload) t _ _
-      (after-given h.psks later lacking w v.psks h2.psks (count_by is_psk (tokens_now v)) (omega (arith, c, given-is h lacking w g seen)) t.psks begins.psks)
+  after-written h2 xs payload c t = search (rules, after-given)
 
 -- ---- what a message leaves
 
 late-advances : {K : Type 0} (h h2 : HandshakeValue K) (lacking : ℕ) → lacking ≤ length h2.psks → Advances h h2
     → Advances (without_last lacking h) (without_last lacking h2)
 late-advances h h2 lacking w a =
-    let count : length h.psks - lacking ≡ length a.taken + (length h2.psks - lacking) =
-    omega (arith, ap length a.psks, length-append a.taken h2.psks, w) in
+    let count : length h.psks - lacking ≡ length a.taken + (length h2.psks - lacking) = search (rules, length-append) in
     record {
       pattern = a.pattern;
       role = a.role;
@@ -240,8 +161,7 @@ late-advances h h2 lacking w a =
       ended = a.ended;
       taken = a.taken;
       count = a.count;
-      psks = ap (λ (k : ℕ). take k h.psks) count ∙ ap (take (length a.taken + (length h2.psks - lacking))) a.psks
-          ∙ take-append-add a.taken h2.psks (length h2.psks - lacking);
+      psks = search (rules, take-append-add);
     }
 
 module _ {K : Type 0} (h : HandshakeValue K) (lacking : ℕ) (w : lacking ≤ length h.psks) (g : HandshakeValue K) (seen : without_last lacking h ≡ g)
@@ -257,30 +177,10 @@ module _ {K : Type 0} (h : HandshakeValue K) (lacking : ℕ) (w : lacking ≤ le
 
 pub whole-late : {K : Type 0} (public_of : K → Own → Option (List ℕ)) (h : HandshakeValue K) (u : List (List ℕ)) → length u ≡ length h.psks
     → IsWholeValue public_of h → IsWholeValue public_of (record h { psks = u })
-whole-late public_of h u e w = record {
-  within = w.within;
-  psks = e ∙ w.psks;
-  own_e = w.own_e;
-  own_s = w.own_s;
-  remote_e = w.remote_e;
-  remote_s = w.remote_s;
-  key = w.key;
-  nonce = w.nonce;
-}
+whole-late public_of h u e w = search
 
 pub opens-partial : (o : Opening) (v : Party) (u : List (List ℕ)) → IsOpeningOf o (holding v u) → IsOpeningOf o v
-opens-partial o v u p = record {
-  going = p.going;
-  whole = p.whole;
-  role = p.role;
-  one_way = p.one_way;
-  hash = p.hash;
-  remote_static = p.remote_static;
-  initiator = p.initiator;
-  responder = p.responder;
-  initiator_nonce = p.initiator_nonce;
-  responder_nonce = p.responder_nonce;
-}
+opens-partial o v u p = search
 
 -- ---- writing
 
@@ -326,10 +226,7 @@ module _ {K : Type 0} (public_of : K → Own → Option (List ℕ)) (agreement :
 
     pub write-before : (own : Own) (key : List ℕ) → Speaks (holding v h.psks) → LacksDhResultFor (writer v) v.remote h.psks (take k (tokens_now v)) own key
         → WantsToWrite v own key
-    write-before own key sp l = record {
-      speaks = speaks-partial v h.psks sp;
-      lacks = lacks-for-all (writer v) v.remote v.psks (tokens_now v) k own key (first-dh-result own key l);
-    }
+    write-before own key sp l = search (lacks-for-all, first-dh-result)
 
     pub write-before-not : (own : Own) (key : List ℕ) → LacksDhResultFor (writer v) v.remote h.psks (take k (tokens_now v)) own key
         → WantsPskToWrite v n → ⊥
@@ -362,12 +259,10 @@ wants-read-all v m own key w = omega (arith, ap length w.stops.tokens, length-ap
 module _ (v : Party) (m : List ℕ) (o : Option (Own × List ℕ))
     (reported : MatchOption o ((token : ℕ) → Refuses v m token Agreement → ⊥) (λ want. WantsToRead v m want.0 want.1)) where
   pub wants-some : (want : Own × List ℕ) → o ≡ Some want → WantsToRead v m want.0 want.1
-  wants-some want e =
-      subst (λ (z : Option (Own × List ℕ)). MatchOption z ((token : ℕ) → Refuses v m token Agreement → ⊥) (λ x. WantsToRead v m x.0 x.1)) e reported
+  wants-some want e = search rules
 
   pub wants-none : o ≡ None → (token : ℕ) → Refuses v m token Agreement → ⊥
-  wants-none e =
-      subst (λ (z : Option (Own × List ℕ)). MatchOption z ((token : ℕ) → Refuses v m token Agreement → ⊥) (λ x. WantsToRead v m x.0 x.1)) e reported
+  wants-none e = search rules
 
 module _ {K : Type 0} (public_of : K → Own → Option (List ℕ)) (agreement : K → Own → List ℕ → Option (List ℕ)) (h : HandshakeValue K) (lacking : ℕ)
     (w : lacking ≤ length h.psks) (g : HandshakeValue K) (seen : without_last lacking h ≡ g) (v : Party) (later : List (List ℕ))
@@ -385,21 +280,15 @@ module _ {K : Type 0} (public_of : K → Own → Option (List ℕ)) (agreement :
   -- nothing has changed
   pub matches-same : (h2 : HandshakeValue K) → Matches public_of agreement h2 (holding v h.psks)
       → Matches public_of agreement (with_later (without_last lacking h2) later) v
-  matches-same h2 t =
-      with-psks public_of agreement h2 (holding v h.psks) t _ _
-      (ap (λ (z : List (List ℕ)). take (length z - lacking) z ++ later) t.psks ∙ first.psks)
+  matches-same h2 t = search
 
   -- or it has ended
   matches-ended_party : (h2 : HandshakeValue K) → Matches public_of agreement h2 (ended_party (holding v h.psks))
       → Matches public_of agreement (with_later (without_last lacking h2) later) (ended_party v)
-  matches-ended_party h2 t =
-      with-psks public_of agreement h2 (ended_party (holding v h.psks)) t _ _
-      (ap (λ (z : List (List ℕ)). take (length z - lacking) z ++ later) t.psks ∙ first.psks)
+  matches-ended_party h2 t = search
 
   pub matches-ended : (h2 : HandshakeValue K) → h2 ≡ ended_as h → Matches public_of agreement (with_later (without_last lacking h2) later) (ended_party v)
-  matches-ended h2 e =
-      subst (λ (z : HandshakeValue K). Matches public_of agreement (with_later (without_last lacking z) later) (ended_party v)) (sym e)
-      (ends public_of agreement (with_later (without_last lacking h) later) v first true refl)
+  matches-ended h2 e = search rules
 
   pub matches-declined : (h2 : HandshakeValue K) (fault : ReadFault) → Matches public_of agreement h2 (after_not_read (holding v h.psks) fault)
       → Matches public_of agreement (with_later (without_last lacking h2) later) (after_not_read v fault)
@@ -460,9 +349,7 @@ module _ {K : Type 0} (public_of : K → Own → Option (List ℕ)) (agreement :
 
     pub before-psk : (remote : Option (List ℕ)) → h.passed ≤ length h.pattern.messages → read_fault h ≡ None
         → BeginsBefore (reader v) v.remote h.psks v.history (tokens_now v) m k remote → WantsPskToRead v given-now m remote
-    before-psk remote within none b =
-        wants-psk v m given-now k remote (listens-partial v h.psks (listens public_of agreement h (holding v h.psks)
-        (matches-filled public_of agreement h lacking w g seen v later s) within none)) at-read (leads-here remote b)
+    before-psk remote within none b = search (rules, wants-psk, leads-here)
 
     pub before-one : (remote other : Option (List ℕ)) → BeginsBefore (reader v) v.remote h.psks v.history (tokens_now v) m k remote
         → WantsPskToRead v given-now m other → remote ≡ other
@@ -506,29 +393,6 @@ module _ {K : Type 0} (h : HandshakeValue K) (lacking : ℕ) (g : HandshakeValue
 
 -- ---- faults
 
-ok-same : (X Y : Type 0) (o : Option SetupFault) (x : X) (y : Y) → MatchOption o (true ≡ true) (λ f. ◌≡◌ {A = Result X SetupFault} (Ok x) (Err f))
-    → MatchOption o (true ≡ true) (λ f. ◌≡◌ {A = Result Y SetupFault} (Ok y) (Err f))
-ok-same X Y None x y h = h
-ok-same X Y (Some f) x y h = absurd (cc)
-
-err-same : (X Y : Type 0) (o : Option SetupFault) (f : SetupFault) → MatchOption o (false ≡ true) (λ z. ◌≡◌ {A = Result X SetupFault} (Err f) (Err z))
-    → MatchOption o (false ≡ true) (λ z. ◌≡◌ {A = Result Y SetupFault} (Err f) (Err z))
-err-same X Y None f h = h
-err-same X Y (Some z) f h = cc
-
-module _ (X Y : Type 0) (p : Plan) (role : Role) (own : Own → Option (List ℕ)) (remote : Remote) (n k : ℕ) (e : n ≡ k) where
-  pub ok-fault : (x : X) (y : Y) → MatchOption (setup_fault p role own remote n) (true ≡ true) (λ f. ◌≡◌ {A = Result X SetupFault} (Ok x) (Err f))
-      → MatchOption (setup_fault p role own remote k) (true ≡ true) (λ f. ◌≡◌ {A = Result Y SetupFault} (Ok y) (Err f))
-  ok-fault x y h =
-      subst (λ (i : ℕ). MatchOption (setup_fault p role own remote i) (true ≡ true) (λ f. ◌≡◌ {A = Result Y SetupFault} (Ok y) (Err f))) e
-      (ok-same X Y (setup_fault p role own remote n) x y h)
-
-  pub err-fault : (f : SetupFault) → MatchOption (setup_fault p role own remote n) (false ≡ true) (λ z. ◌≡◌ {A = Result X SetupFault} (Err f) (Err z))
-      → MatchOption (setup_fault p role own remote k) (false ≡ true) (λ z. ◌≡◌ {A = Result Y SetupFault} (Err f) (Err z))
-  err-fault f h =
-      subst (λ (i : ℕ). MatchOption (setup_fault p role own remote i) (false ≡ true) (λ z. ◌≡◌ {A = Result Y SetupFault} (Err f) (Err z))) e
-      (err-same X Y (setup_fault p role own remote n) f h)
-
 -- why no message is written is no want of a DH result
 no-agreement : (ended all ours long : Bool) (f : WriteFault)
     → (if ended then Some write.Ended else if all then Some write.Done else if not ours then Some write.NotYourTurn
@@ -545,8 +409,7 @@ no-agreement false false true true (write.Agreement token) e x = cc
 no-agreement false false true false (write.Agreement token) e x = cc
 
 pub fault-no-agreement : {K : Type 0} (h : HandshakeValue K) (payload : ℕ) (f : WriteFault) → write_fault h payload ≡ Some f → IsAgreement f → ⊥
-fault-no-agreement h payload f e =
-    no-agreement h.ended (h.passed == length h.pattern.messages) (is_turn h.role h.passed) (nat_lt 65535 (length_now h payload)) f e
+fault-no-agreement h payload f e = search no-agreement
 
 pub written-no-agreement : (v : Party) (payload : ℕ) (f : WriteFault) → DoesNotWrite v payload f → ((token : ℕ) → LacksDhResult v token → ⊥) → IsAgreement f → ⊥
 written-no-agreement v payload write.Ended w none x = x
@@ -564,38 +427,17 @@ withholds-partial v u payload write.NotYourTurn n w = listens-partial v u w
 withholds-partial v u payload write.TooLong n w = (speaks-partial v u w.0, w.1)
 withholds-partial v u payload (write.Agreement token) n w = absurd (n tt)
 
-going-on : (ended all ours long : Bool)
-    → (if ended then Some write.Ended else if all then Some write.Done else if not ours then Some write.NotYourTurn
-    else if long then Some write.TooLong else None) ≡ None
-    → (not ended && not all && ours) ≡ true
-going-on true all ours long e = absurd (cc)
-going-on false true ours long e = absurd (cc)
-going-on false false false long e = absurd (cc)
-going-on false false true long e = refl
-
--- where a payload is due the party speaks
-write-due-test : {K : Type 0} (h : HandshakeValue K) (payload : ℕ) → write_fault h payload ≡ None
-    → (not h.ended && not (h.passed == length h.pattern.messages) && is_turn h.role h.passed) ≡ true
-write-due-test h payload e =
-    going-on h.ended (h.passed == length h.pattern.messages) (is_turn h.role h.passed) (nat_lt 65535 (length_now h payload)) e
-
 -- where it lacks neither a DH result nor a psk, the psks that were handed in suffice
 module _ {K : Type 0} (h : HandshakeValue K) (lacking : ℕ) (w : lacking ≤ length h.psks) (g : HandshakeValue K) (seen : without_last lacking h ≡ g) (payload : ℕ)
     (none : write_fault h payload ≡ None) (o : Option Want) (clear : o ≡ None) where
   pub taken-within : ((not g.ended && not (g.passed == length g.pattern.messages) && is_turn g.role g.passed) ≡ true → o ≡ None
       → count_by is_psk (tokens_at g.pattern.messages g.passed) ≤ length g.psks)
       → count_by is_psk (tokens_at h.pattern.messages h.passed) ≤ length g.psks
-  taken-within few =
-      subst (λ (z : HandshakeValue K). count_by is_psk (tokens_at z.pattern.messages z.passed) ≤ length g.psks) (sym seen)
-      (few (subst (λ (z : HandshakeValue K). (not z.ended && not (z.passed == length z.pattern.messages) && is_turn z.role z.passed) ≡ true) seen
-      (write-due-test h payload none)) clear)
+  taken-within few = search rules
 
 pub lacks-partial : (v : Party) (u : List (List ℕ)) (n : ℕ) → take n u ≡ take n v.psks → (k : ℕ) → count_by is_psk (take (suc k) (tokens_now v)) ≤ n
     → LacksDhResult (holding v u) k → LacksDhResult v k
-lacks-partial v u n e k c a = record {
-  speaks = speaks-partial v u a.speaks;
-  lacks = lacks-same (writer v) v.remote u v.psks n e (tokens_now v) k c a.lacks;
-}
+lacks-partial v u n e k c a = search lacks-same
 
 pub withheld-view : (v : Party) (f : WriteFault) → (IsAgreement f → ⊥) → after_not_written v f ≡ v
 withheld-view v write.Ended n = refl

@@ -1,24 +1,13 @@
 -- What a message's tokens carry doesn't depend on the psks that are handed in for later psk tokens.
-use Rattle.std.proofs.Common.{◌≡◌, ℕ, zero, suc, ◌+◌, ◌≤◌, List, [], ◌∷◌, length, take, refl, ap, sym, subst, ◌∙◌, arith, take-take, take_all}
-use Rattle.std.proofs.lemmas.List.Sums.{sum_by-cons, sum_by-take-le}
-use Rattle.std.specs.Prelude.{cond, count_by}
-use Rattle.noise_names.specs.declared.token.Token.{Token}
-use Rattle.noise_names.specs.declared.token.Token.TheVariants.{E, S, Ee, Es, Se, Ss, Psk}
-use Rattle.noise_names.specs.Tokens.{is_psk}
-use Rattle.noise_state.specs.History.{History}
-use Rattle.noise_keys.specs.declared.keys.Own.{Own}
-use Rattle.noise_handshake.specs.declared.remote.Remote.{Remote}
-use Rattle.noise_handshake.specs.declared.faults.Cause.{Cause}
-use Rattle.noise_handshake.specs.Party.{Reader, Fit, BeginsAs, CanBegin, Reads, Stops, first_psk, other_psks, known_after}
-use Rattle.noise_handshake.specs.Wanting.{StopsFor, LacksDhResultFor}
-use Rattle.noise_handshake.specs.Writing.{Writer, Given, LacksDhResultAt}
+use Rattle.std.proofs.Common.{rules, ◌≡◌, ℕ, zero, suc, ◌≤◌, List, [], ◌∷◌, length, take, refl, ap, sym, subst, ◌∙◌, arith, take-take, take_all}
+use Rattle.std.specs.Prelude.{cond}
+use Rattle.noise_handshake.proofs.Common.{sum_by-cons, sum_by-take-le, count_by, Token, E, S, Ee, Es, Se, Ss, is_psk, History, Own, Remote, Cause, Reader, Fit, BeginsAs, CanBegin, Reads, Stops, first_psk, other_psks, known_after, StopsFor, LacksDhResultFor, Writer, Given, LacksDhResultAt}
+use Rattle.noise_names.specs.declared.token.Token.TheVariants.{Psk}
 
 -- ---- psk tokens
 
 pub one-more : (ts : List Token) → count_by is_psk (Psk ∷ ts) ≡ suc (count_by is_psk ts)
-one-more ts =
-    let h : count_by is_psk (Psk ∷ ts) ≡ 1 + count_by is_psk ts = sum_by-cons (λ (t : Token). cond (is_psk t) 1 0) Psk ts in
-    omega (arith, h)
+one-more ts = search (rules, sum_by-cons)
 
 pub count-take : (ts : List Token) (k : ℕ) → count_by is_psk (take k ts) ≤ count_by is_psk ts
 count-take ts k = sum_by-take-le (λ (t : Token). cond (is_psk t) 1 0) ts k
@@ -128,12 +117,4 @@ module _ (w : Writer) (known : Remote) (s u : List (List ℕ)) (n : ℕ) (e : ta
 
   pub lacks-for-same : (own : Own) (key : List ℕ) (l : LacksDhResultFor w known s ts own key) → count_by is_psk (take (suc (length l.before)) ts) ≤ n
       → LacksDhResultFor w known u ts own key
-  lacks-for-same own key l c = record {
-    before = l.before;
-    token = l.token;
-    later = l.later;
-    tokens = l.tokens;
-    lacks = lacks-same (length l.before) c l.lacks;
-    own_is = l.own_is;
-    key_is = l.key_is;
-  }
+  lacks-for-same own key l c = search lacks-same

@@ -1,43 +1,17 @@
 -- The next message of a handshake: what its fields give a reader or a writer, and what they hold after it.
-use Rattle.std.proofs.Common.{◌≡◌, ℕ, ◌+◌, ◌-◌, ◌<◌, ◌≤◌, ◌^◌, List, Bool, true, false, length, take, drop, sym, ap, subst, refl, ◌∙◌, arith}
-use Rattle.std.proofs.Common.{length-drop, drop-drop}
-use Rattle.std.proofs.lemmas.List.{length-take-le}
-use Rattle.std.specs.Prelude.{None, Option, Some, count_by, is_some, not, ◌&&◌, ◌==◌}
-use Rattle.std.specs.List.{list_all}
-use Rattle.noise_names.specs.declared.token.Token.{Token}
-use Rattle.noise_names.specs.declared.token.Token.TheVariants.{E, S}
-use Rattle.noise_names.specs.declared.token.Role.TheVariants.{Initiator}
-use Rattle.noise_names.specs.Tokens.{is_psk, other, turn_from}
-use Rattle.noise_names.specs.Plan.{Plan, has_psk}
-use Rattle.noise_names.specs.Overhead.{has_key, overhead_of}
-use Rattle.noise_state.specs.Standing.{StateMatches, keyed, nonce_now}
-use Rattle.noise_state.specs.declared.symmetric.SymmetricState.{SymmetricState}
-use Rattle.noise_keys.specs.declared.keys.Own.{Own}
+use Rattle.std.proofs.Common.{rules, ◌≡◌, ℕ, ◌+◌, ◌-◌, ◌<◌, ◌≤◌, ◌^◌, List, Bool, true, false, length, take, drop, sym, ap, subst, refl, ◌∙◌, arith, length-drop, drop-drop}
+use Rattle.std.specs.Prelude.{is_some, not}
+use Rattle.noise_handshake.proofs.Common.{length-take-le, None, Option, Some, count_by, ◌&&◌, ◌==◌, list_all, Token, E, S, Initiator, is_psk, other, turn_from, Plan, has_psk, has_key, overhead_of, StateMatches, keyed, nonce_now, SymmetricState, Own, MessageLayout, PlacedToken, Remote, HandshakeValue, Advances, is_turn, message_len_of, read_fault, write_fault, added_width, keyed_after_tokens, after_payload, nonce_after_message, Matches, after_message, after_own, passed_places, Party, remote_after, tokens_at, tokens_now, held_in, IsKept, KnowsRemote, are_known, is_known, has_after_tokens, tokens_of, ArePlaced, LaysNext, Listening, Speaking, has_own}
 use Rattle.noise_handshake.specs.declared.handshake.Handshake.TheInside.{Inside}
-use Rattle.noise_handshake.specs.declared.layout.MessageLayout.{MessageLayout}
-use Rattle.noise_handshake.specs.declared.layout.PlacedToken.{PlacedToken}
-use Rattle.noise_handshake.specs.declared.remote.Remote.{Remote}
-use Rattle.noise_handshake.specs.HandshakeValue.{HandshakeValue, Advances, is_turn, message_len_of, read_fault, write_fault}
-use Rattle.noise_handshake.specs.Length.{added_width, keyed_after_tokens}
-use Rattle.noise_handshake.specs.Message.{after_payload}
-use Rattle.noise_handshake.specs.Nonces.{nonce_after_message}
-use Rattle.noise_handshake.specs.Matching.{Matches, after_message, after_own}
-use Rattle.noise_handshake.specs.Passed.{passed_places}
-use Rattle.noise_handshake.specs.Party.{Party, remote_after, tokens_at, tokens_now}
-use Rattle.noise_handshake.specs.inner.Kept.{held_in, IsKept}
-use Rattle.noise_handshake.specs.inner.Known.{KnowsRemote, are_known, is_known, has_after_tokens}
-use Rattle.noise_handshake.specs.inner.Layout.{tokens_of, ArePlaced, LaysNext}
-use Rattle.noise_handshake.specs.inner.Listening.{Listening}
-use Rattle.noise_handshake.specs.inner.Speaking.{Speaking, has_own}
 use Rattle.noise_handshake.proofs.Advancing.{advanced, unended-read, unended-write}
 use Rattle.noise_handshake.proofs.Keeping.{enough, key-after, sound-after}
 use Rattle.noise_handshake.proofs.Knowing.{knows-read, knows-wrote, reading-known, writing-known}
 use Rattle.noise_handshake.proofs.Lacked.{due-speaking, due-turn, due-within}
 use Rattle.noise_handshake.proofs.Layouts.{length-tokens_of, places-laid, tokens-laid}
 use Rattle.noise_handshake.proofs.Owned.{owned}
-use Rattle.noise_handshake.proofs.Standing.{after, due, listening, listens, reads-turn, tokens-are}
+use Rattle.noise_handshake.proofs.Standing.{due, listening, listens, reads-turn, tokens-are}
 use Rattle.noise_handshake.proofs.Parties.{items-from}
-use Rattle.noise_handshake.proofs.Wrote.{short-view, speaking, writes-added, writes-due, writes-length, writes-short, writes-turn, wrote}
+use Rattle.noise_handshake.proofs.Wrote.{short-view, speaking, writes-added, writes-due, writes-length, writes-short, writes-turn}
 
 -- there is a message, of the other party
 module _ {K : Type 0} (public_of : K → Own → Option (List ℕ)) (a : Inside K) (i : IsKept public_of a) (h : HandshakeValue K) (seen : held_in a ≡ h)
@@ -113,29 +87,21 @@ module _ {K : Type 0} (public_of : K → Own → Option (List ℕ)) (a : Inside 
 
   pub psks-next : (ds : List (List ℕ)) → ds ≡ a.psks.items
       → count_by is_psk (tokens_of placed) ≤ length (take (length ds - a.used) (drop a.used ds))
-  psks-next ds e =
-      subst (λ (z : List (List ℕ)). count_by is_psk (tokens_of placed) ≤ length z) (sym (items-from ds a.psks.items a.used e)) enough-next
+  psks-next ds e = search (rules, items-from, enough-next)
 
   pub nonces-next : (state : SymmetricState) → state ≡ a.state → length placed ≤ 10
       → nonce_now state + length (tokens_of placed) < 2 ^ 64 - 1
-  nonces-next state e few =
-      omega (arith, i.2.bound, i.2.few, less, few, length-tokens_of placed, ap (λ (z : SymmetricState). nonce_now z) e)
+  nonces-next state e few = search (rules, length-tokens_of)
 
   pub known-next : are_known a.means.role (is_some a.remote.e) (is_some a.remote.s) (tokens_of placed) ≡ true
-  known-next =
-      subst (λ (zs : List Token). are_known a.means.role (is_some a.remote.e) (is_some a.remote.s) zs ≡ true) (sym tokens-next)
-      (reading-known a.pattern a.passed less i.5 a.means.role (is_some a.remote.e) (is_some a.remote.s) i.3.e i.3.s)
+  known-next = search (tokens-next, reading-known)
 
   pub known-ours : turn_from Initiator a.passed ≡ a.means.role
       → list_all (is_known a.means.role (is_some a.remote.e) (is_some a.remote.s)) (tokens_of placed) ≡ true
-  known-ours turn =
-      subst (λ (zs : List Token). list_all (is_known a.means.role (is_some a.remote.e) (is_some a.remote.s)) zs ≡ true) (sym tokens-next)
-      (writing-known a.pattern a.passed less i.5 a.means.role (is_some a.remote.e) (is_some a.remote.s) turn i.3.e i.3.s)
+  known-ours turn = search (tokens-next, writing-known)
 
   pub own-ours : turn_from Initiator a.passed ≡ a.means.role → list_all (has_own (public_of a.means.keys)) (tokens_of placed) ≡ true
-  own-ours turn =
-      subst (λ (zs : List Token). list_all (has_own (public_of a.means.keys)) zs ≡ true) (sym tokens-next)
-      (owned (public_of a.means.keys) a.pattern a.means.role a.passed turn i.2.has_e i.2.has_s)
+  own-ours turn = search (tokens-next, owned)
 
   taken-next : a.next.psks ≡ count_by is_psk (tokens_of placed)
   taken-next = (i.4 less).psks ∙ ap (λ (ts : List Token). count_by is_psk ts) (sym tokens-next)
@@ -147,16 +113,13 @@ module _ {K : Type 0} (public_of : K → Own → Option (List ℕ)) (a : Inside 
   used-next few = omega (arith, used-within, few)
 
   left-next : drop (a.used + a.next.psks) a.psks.items ≡ drop (count_by is_psk (tokens_of placed)) (drop a.used a.psks.items)
-  left-next =
-      ap (λ (k : ℕ). drop (a.used + k) a.psks.items) taken-next ∙ sym (drop-drop (count_by is_psk (tokens_of placed)) a.used a.psks.items)
+  left-next = search (taken-next, drop-drop)
 
   -- what the fields hold after it
   module _ (state new : SymmetricState) (e : state ≡ a.state)
       (key : keyed new ≡ keyed_after_tokens a.means.has_psks (keyed state) (tokens_of placed)) where
     key-in : keyed new ≡ keyed_after_tokens (has_psk a.pattern) (keyed a.state) (tokens_of placed)
-    key-in =
-        key ∙ ap (λ (z : SymmetricState). keyed_after_tokens a.means.has_psks (keyed z) (tokens_of placed)) e
-        ∙ ap (λ (b : Bool). keyed_after_tokens b (keyed a.state) (tokens_of placed)) i.0
+    key-in = search
 
     pub key-next : (plan : Plan) → plan ≡ a.pattern → keyed new ≡ has_key plan (passed_places plan (a.passed + 1))
     key-next plan same =
@@ -232,18 +195,13 @@ module _ {K : Type 0} (public_of : K → Own → Option (List ℕ)) (a : Inside 
         → Matches public_of agreement
         (held_in (record a { used = a.used + a.next.psks; passed = a.passed + 1; next = laid; state = new; remote = known }))
         (after_message v xs payload)
-    after-read xs payload new known laid t k =
-        after public_of agreement (held_in a) v matches-in a.means.has_psks (tokens_of placed) xs payload new known
-        (drop (a.used + a.next.psks) a.psks.items) (a.passed + 1) i.0 here left-next refl t
-        (k ∙ ap (λ (z : Remote). remote_after z (tokens_of placed) xs) matches-in.remote)
+    after-read xs payload new known laid t k = search (rules, here, left-next)
 
     pub after-wrote : (len : ℕ) → write_fault h len ≡ None → (xs : List (List ℕ)) (payload : List ℕ) (new : SymmetricState) (laid : MessageLayout)
         → StateMatches new (after_payload a.means.has_psks v.history (tokens_of placed) xs payload)
         → Matches public_of agreement (held_in (record a { used = a.used + a.next.psks; passed = a.passed + 1; next = laid; state = new }))
         (after_own v xs payload)
-    after-wrote len none xs payload new laid t =
-        wrote public_of (held_in a) i.2 len (none-write public_of a i h seen len none) agreement v matches-in a.means.has_psks (tokens_of placed) xs payload new
-        (drop (a.used + a.next.psks) a.psks.items) (a.passed + 1) i.0 here left-next refl t
+    after-wrote len none xs payload new laid t = search (rules, here, left-next)
 
     pub short-next : (len : ℕ) → write_fault h len ≡ None → overhead_of v.pattern (v.passed + 1) + len ≤ 65535
     short-next len none = short-view public_of (held_in a) i.2 len (none-write public_of a i h seen len none) agreement v matches-in
@@ -258,7 +216,4 @@ module _ {K : Type 0} (public_of : K → Own → Option (List ℕ)) (a : Inside 
       (omega (arith, n, enough public_of (held_in a) i.2 (tokens_at a.pattern.messages a.passed) refl less)) ∙ n
 
   pub advances-next : Advances h (held_in (record a { used = a.used + a.next.psks; passed = a.passed + 1; next = laid; state = new; remote = known }))
-  advances-next =
-      let b : Inside K = record a { used = a.used + a.next.psks; passed = a.passed + 1; next = laid; state = new; remote = known } in
-      subst (λ (z : HandshakeValue K). Advances z (held_in b)) seen
-      (advanced (held_in a) (held_in b) a.psks.items a.used a.next.psks refl refl refl refl going refl refl taken-count)
+  advances-next = search (rules, advanced, taken-count)

@@ -1,12 +1,6 @@
 -- A refusal is determined.
-use Rattle.std.proofs.Common.{◌≡◌, ℕ, suc, ◌<◌, List, take, ap, sym, subst, ◌∙◌, arith, take-take}
-use Rattle.std.specs.Prelude.{is_some}
-use Rattle.noise_names.specs.declared.token.Token.{Token}
-use Rattle.noise_state.specs.History.{History, cipher_key}
-use Rattle.noise_handshake.specs.declared.remote.Remote.{Remote}
-use Rattle.noise_handshake.specs.declared.faults.Cause.{Cause}
-use Rattle.noise_handshake.specs.Message.{after_tokens}
-use Rattle.noise_handshake.specs.Party.{Party, Reader, reader, CanBegin, Stops, Accepts, Refuses, cause_at, tokens_now}
+use Rattle.std.proofs.Common.{rules, ◌≡◌, ℕ, suc, ◌<◌, List, take, sym, subst, arith, take-take}
+use Rattle.noise_handshake.proofs.Common.{Token, History, Remote, Cause, Party, Reader, reader, CanBegin, Stops, Accepts, Refuses, tokens_now}
 use Rattle.noise_handshake.proofs.Apart.{front-apart, reads-leads, stops-not}
 
 not-earlier : (v : Reader) (known : Remote) (psks : List (List ℕ)) (r : History) (ts : List Token) (m : List ℕ) (k j : ℕ) (c d : Cause)
@@ -21,12 +15,7 @@ same-place k j f g = grind arith
 
 same-cause : (v : Reader) (known : Remote) (psks : List (List ℕ)) (r : History) (ts : List Token) (m : List ℕ) (k : ℕ) (c d : Cause)
     → Stops v known psks r ts m k c → Stops v known psks r ts m k d → c ≡ d
-same-cause v known psks r ts m k c d a b =
-    let h = front-apart v known psks r (take k ts) a.carried b.carried a.rest b.rest a.leads.fit b.leads.fit (sym a.leads.spelled ∙ b.leads.spelled) in
-    a.why
-    ∙ ap (λ (xs : List (List ℕ)). cause_at (is_some (cipher_key (after_tokens v.has_psks r (take k ts) xs))) ts k a.rest) h.0
-    ∙ ap (λ (rest : List ℕ). cause_at (is_some (cipher_key (after_tokens v.has_psks r (take k ts) b.carried))) ts k rest) h.1
-    ∙ sym b.why
+same-cause v known psks r ts m k c d a b = search (rules, front-apart)
 
 pub stops-one : (v : Reader) (known : Remote) (psks : List (List ℕ)) (r : History) (ts : List Token) (m : List ℕ) (k j : ℕ) (c d : Cause)
     → Stops v known psks r ts m k c → Stops v known psks r ts m j d → (k ≡ j) × (c ≡ d)

@@ -1,7 +1,6 @@
 -- The tokens of a message, and the psks that are left.
 use Rattle.std.proofs.Common.{◌≡◌, ℕ, zero, suc, ◌-◌, ◌<◌, List, [], ◌∷◌, length, get_or, take, drop, refl, ap, ◌∙◌, arith, take_all, length-drop}
-use Rattle.noise_names.specs.declared.token.Token.{Token}
-use Rattle.noise_handshake.specs.Party.{tokens_at}
+use Rattle.noise_handshake.proofs.Common.{Token, tokens_at}
 
 pub tokens_at-read : (ms : List (List Token)) (i : ℕ) (d : List Token) → i < length ms → get_or ms i d ≡ tokens_at ms i
 tokens_at-read [] i d h = absurd (omega arith)

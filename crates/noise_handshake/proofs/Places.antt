@@ -1,30 +1,15 @@
 -- Whether there is a key along the places of a pattern, and how much longer than its payload a message is.
-use Rattle.std.proofs.Common.{◌≡◌, ℕ, ◌+◌, ◌-◌, ◌<◌, List, [], ◌∷◌, ◌++◌, length, get_or, take, refl, ap, sym, ◌∙◌, arith, append_assoc, append-nil}
-use Rattle.std.specs.Prelude.{Bool, true, false, ◌||◌, ◌&&◌}
-use Rattle.std.proofs.lemmas.List.{take_more}
-use Rattle.std.proofs.lemmas.List.Folds.{list_any-append}
-use Rattle.noise_names.specs.declared.token.Role.{Role}
-use Rattle.noise_names.specs.declared.token.Role.TheVariants.{Initiator, Responder}
-use Rattle.noise_names.specs.declared.token.Token.{Token}
-use Rattle.noise_names.specs.declared.token.Token.TheVariants.{E, S, Ee, Es, Se, Ss, Psk}
-use Rattle.noise_names.specs.Tokens.{turn_from}
-use Rattle.noise_names.specs.Plan.{Plan, does, payload, Place, place, token_places, message_places, has_psk}
-use Rattle.noise_names.specs.Validity.{is_at, occurs}
-use Rattle.noise_names.specs.Overhead.{has_key, added_len, overhead_from, overhead_of}
+use Rattle.std.proofs.Common.{rules, ◌≡◌, ℕ, ◌+◌, ◌-◌, ◌<◌, List, [], ◌∷◌, ◌++◌, length, take, refl, ap, sym, ◌∙◌, arith, append_assoc, append-nil}
+use Rattle.std.specs.Prelude.{Bool, false}
+use Rattle.noise_handshake.proofs.Common.{◌||◌, ◌&&◌, take_more, list_any-append, Role, Initiator, Responder, Token, E, S, Ee, Es, Se, Ss, turn_from, Plan, does, payload, Place, place, token_places, message_places, has_psk, is_at, occurs, has_key, added_len, overhead_from, overhead_of, keyed_after, keyed_after_tokens, token_width, added_width, passed_places, tokens_at}
+use Rattle.noise_names.specs.declared.token.Token.TheVariants.{Psk}
 use Rattle.noise_names.specs.Facts.{message_places-append}
-use Rattle.noise_handshake.specs.Length.{keyed_after, keyed_after_tokens, token_width, added_width}
-use Rattle.noise_handshake.specs.Passed.{passed_places}
-use Rattle.noise_handshake.specs.Party.{tokens_at}
 use Rattle.noise_handshake.proofs.Parties.{tokens_at-read}
 use Rattle.noise_names.specs.Tests.{or-false, or-true, and-false}
 
 -- one place more
 occurs-more : (t : Token) (earlier : List Place) (p : Place) → occurs t (earlier ++ p ∷ []) ≡ (occurs t earlier || is_at t p.step)
 occurs-more t earlier p = list_any-append (λ q. is_at t q.step) earlier (p ∷ []) ∙ ap (λ (b : Bool). occurs t earlier || b) (or-false (is_at t p.step))
-
-by_ephemeral : (has_psks d : Bool) (e : Bool) → (d || (has_psks && (e || true))) ≡ (has_psks || (d || (has_psks && e)))
-by_ephemeral true d e = ap (λ (b : Bool). d || b) (or-true e) ∙ or-true d
-by_ephemeral false d e = refl
 
 module _ (plan : Plan) where
   -- the test over the places, with one more
@@ -35,9 +20,7 @@ module _ (plan : Plan) where
 
   has_key-token : (earlier : List Place) (party : Role) (t : Token) (m i : ℕ)
       → has_key plan (earlier ++ place party (does t) m i ∷ []) ≡ keyed_after (has_psk plan) (has_key plan earlier) t
-  has_key-token earlier party E m i =
-      by_parts earlier (place party (does E) m i) ∙ simp or-false
-      (by_ephemeral (has_psk plan) (occurs Ee earlier || occurs Es earlier || occurs Se earlier || occurs Ss earlier || occurs Psk earlier) (occurs E earlier))
+  has_key-token earlier party E m i = search (rules, by_parts)
   has_key-token earlier party S m i = by_parts earlier (place party (does S) m i) ∙ simp or-false
   has_key-token earlier party Ee m i = by_parts earlier (place party (does Ee) m i) ∙ simp (or-false, or-true)
   has_key-token earlier party Es m i = by_parts earlier (place party (does Es) m i) ∙ simp (or-false, or-true)
@@ -112,10 +95,4 @@ module _ (plan : Plan) where
   -- the overhead of message n + 1 is what its tokens and tags add
   pub overhead-is : (n : ℕ) → n < length plan.messages
       → overhead_of plan (n + 1) ≡ added_width (has_psk plan) (has_key plan (passed_places plan n)) (tokens_at plan.messages n)
-  overhead-is n h =
-      let m : List Token = tokens_at plan.messages n in
-      let whole : ℕ → List Token → ℕ =
-      λ k ts. overhead_from plan (passed_places plan k) (message_places (turn_from Initiator k) (n + 1) (ts ∷ [])) in
-      let back : (n + 1) - 1 ≡ n = omega arith in
-      ap (λ (k : ℕ). whole k (get_or plan.messages k [])) back ∙ ap (whole n) (tokens_at-read plan.messages n [] h)
-      ∙ overhead-message (n + 1) (passed_places plan n) (turn_from Initiator n) 0 (length m) m
+  overhead-is n h = search (rules, tokens_at-read, overhead-message)

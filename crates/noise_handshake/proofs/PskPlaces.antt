@@ -1,25 +1,17 @@
 -- The place of a psk token among tokens.
-use Rattle.std.proofs.Common.{◌≡◌, ℕ, suc, ◌+◌, ◌≤◌, List, [], ◌∷◌, ◌++◌, length, take, drop, ap, sym, ◌∙◌, arith, length-take}
-use Rattle.std.proofs.Math.Seq.{take-append_seam}
-use Rattle.std.proofs.lemmas.List.Sums.{sum_by-append}
-use Rattle.std.specs.Prelude.{cond, count_by}
-use Rattle.noise_names.specs.declared.token.Token.{Token}
+use Rattle.std.proofs.Common.{rules, ◌≡◌, ℕ, suc, ◌+◌, ◌≤◌, List, [], ◌∷◌, ◌++◌, length, take, ap, sym, ◌∙◌, arith, length-take}
+use Rattle.noise_handshake.proofs.Common.{take-append_seam, sum_by-append, count_by, Token, is_psk, IsPskAfter}
 use Rattle.noise_names.specs.declared.token.Token.TheVariants.{Psk}
-use Rattle.noise_names.specs.Tokens.{is_psk}
-use Rattle.noise_handshake.specs.inner.Late.{IsPskAfter}
 use Rattle.noise_handshake.proofs.Later.{count-take, count-less}
 use Rattle.noise_handshake.proofs.Wanted.{take-through}
 use Rattle.noise_handshake.proofs.Once.{same-place}
 
 count-one : (before : List Token) → count_by is_psk (before ++ Psk ∷ []) ≡ suc (count_by is_psk before)
-count-one before =
-    let h : count_by is_psk (before ++ Psk ∷ []) ≡ count_by is_psk before + 1 = sum_by-append (λ (t : Token). cond (is_psk t) 1 0) before (Psk ∷ []) in
-    omega (arith, h)
+count-one before = search (rules, sum_by-append)
 
 -- as far as a psk token there is one more
 pub count-through : (ts before later : List Token) → ts ≡ before ++ Psk ∷ later → count_by is_psk (take (suc (length before)) ts) ≡ suc (count_by is_psk before)
-count-through ts before later e =
-    ap (λ (us : List Token). count_by is_psk (take (suc (length before)) us)) e ∙ ap (count_by is_psk) (take-through before later Psk) ∙ count-one before
+count-through ts before later e = search (rules, take-through, count-one)
 
 -- where there are few psk tokens none comes after so many others
 pub no-psk : (ts before later : List Token) (n : ℕ) → count_by is_psk ts ≤ n → ts ≡ before ++ Psk ∷ later → count_by is_psk before ≡ n → ⊥
@@ -30,8 +22,7 @@ pub psk-place : (ts before later : List Token) (n k : ℕ) → IsPskAfter ts n k
     → before ≡ take k ts
 psk-place ts before later n k a e c =
     let here : length (take k ts) ≡ k = omega (arith, length-take k ts, a.within) in
-    let mine : count_by is_psk (take (suc k) ts) ≡ suc n =
-    ap (λ (j : ℕ). count_by is_psk (take (suc j) ts)) (sym here) ∙ count-through ts (take k ts) (drop (suc k) ts) a.tokens ∙ ap suc a.count in
+    let mine : count_by is_psk (take (suc k) ts) ≡ suc n = search (rules, count-through) in
     let theirs : count_by is_psk (take (suc (length before)) ts) ≡ suc n = count-through ts before later e ∙ ap suc c in
     let seam : take (length before) ts ≡ before = ap (take (length before)) e ∙ take-append_seam before (Psk ∷ later) in
     let count : count_by is_psk (take (length before) ts) ≡ n = ap (count_by is_psk) seam ∙ c in

@@ -1,15 +1,8 @@
 -- Tokens and psks.
-use Rattle.std.proofs.Common.{◌≡◌, ℕ, List, [], ◌∷◌, ◌++◌, drop, get_or, refl, sym, subst}
-use Rattle.std.specs.Prelude.{Result, MatchResult, IfOk, is_some}
-use Rattle.noise_names.specs.declared.token.Token.{Token}
+use Rattle.std.proofs.Common.{rules, ◌≡◌, ℕ, List, [], ◌∷◌, ◌++◌, drop, get_or, refl, sym, subst}
+use Rattle.std.specs.Prelude.{is_some}
+use Rattle.noise_handshake.proofs.Common.{Result, MatchResult, IfOk, Token, History, MixKeyAndHash, and_then, cipher_key, Cause, Remote, token_bytes, after_token, Reader, Fits, known_after, first_psk, cause_of, Writer, Gives, Fails}
 use Rattle.noise_names.specs.declared.token.Token.TheVariants.{Psk}
-use Rattle.noise_state.specs.History.{History, MixKeyAndHash, and_then, cipher_key}
-use Rattle.noise_handshake.specs.declared.faults.Cause.{Cause}
-use Rattle.noise_handshake.specs.declared.remote.Remote.{Remote}
-use Rattle.noise_handshake.specs.Message.{token_bytes, after_token}
-use Rattle.noise_handshake.specs.Party.{Reader, Fits, known_after, first_psk, cause_of}
-use Rattle.noise_handshake.specs.Writing.{Writer, Gives}
-use Rattle.noise_handshake.specs.inner.Listening.{Fails}
 
 pub first_psk-read : (psks : List (List ℕ)) → get_or psks 0 [] ≡ first_psk psks
 first_psk-read [] = refl
@@ -36,11 +29,7 @@ pub read-as : {St : Type 0} (matches : St → History → Type 0) (state : St) (
     (λ n. (x : List ℕ) × Fits v known psks u x × (m ≡ token_bytes r u x ++ drop n m) × matches state (after_token v.has_psks r u x)
     × (known2 ≡ known_after known u x))
     (λ cause. Fails v known psks r u m × (cause ≡ cause_of (is_some (cipher_key r)) u m))
-read-as matches state v known known2 psks r m result t u e h =
-    subst (λ (w : Token). MatchResult result
-    (λ n. (x : List ℕ) × Fits v known psks w x × (m ≡ token_bytes r w x ++ drop n m) × matches state (after_token v.has_psks r w x)
-    × (known2 ≡ known_after known w x))
-    (λ cause. Fails v known psks r w m × (cause ≡ cause_of (is_some (cipher_key r)) w m))) (sym e) h
+read-as matches state v known known2 psks r m result t u e h = search rules
 
 pub of_width : (result : Result ℕ Cause) (n m : ℕ) → n ≡ m → IfOk result (λ k. k ≡ n) → IfOk result (λ k. k ≡ m)
 of_width result n m e h = subst (λ (i : ℕ). IfOk result (λ k. k ≡ i)) e h
@@ -50,5 +39,4 @@ pub written-as : {St : Type 0} (matches : St → History → Type 0) (state : St
     (out : List ℕ) (t u : Token) → u ≡ t
     → (x : List ℕ) × Gives w known psks t x × (out ≡ token_bytes r t x) × matches state (after_token w.has_psks r t x)
     → (x : List ℕ) × Gives w known psks u x × (out ≡ token_bytes r u x) × matches state (after_token w.has_psks r u x)
-written-as matches state w known psks r out t u e h =
-    subst (λ (z : Token). (x : List ℕ) × Gives w known psks z x × (out ≡ token_bytes r z x) × matches state (after_token w.has_psks r z x)) (sym e) h
+written-as matches state w known psks r out t u e h = search rules

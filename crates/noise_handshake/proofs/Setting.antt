@@ -1,23 +1,11 @@
 -- What a setup without a fault has.
 use Rattle.std.proofs.Common.{◌≡◌, ℕ, List, refl, ap, sym, ◌∙◌, arith}
-use Rattle.std.proofs.lemmas.Bool.Decides.{nat_tests}
-use Rattle.std.specs.Prelude.{Bool, true, false, not, ◌||◌, ◌&&◌, ◌==◌, ◌↔◌, IsTrue, IsFalse, Option, Some, None, is_some, is_none, if◌then◌else◌}
-use Rattle.noise_names.specs.declared.token.Role.{Role}
-use Rattle.noise_names.specs.declared.token.Role.TheVariants.{Initiator, Responder}
-use Rattle.noise_names.specs.declared.token.Token.{Token}
-use Rattle.noise_names.specs.declared.token.Token.TheVariants.{E, S}
-use Rattle.noise_names.specs.Tokens.{other}
-use Rattle.noise_names.specs.Plan.{Plan, places_of, message_places}
-use Rattle.noise_names.specs.Validity.{is_among}
-use Rattle.noise_keys.specs.declared.keys.Own.{Own}
-use Rattle.noise_keys.specs.declared.keys.Own.TheVariants.{Ephemeral, Static}
-use Rattle.noise_handshake.specs.declared.remote.Remote.{Remote}
+use Rattle.std.specs.Prelude.{Bool, true, false, not, is_some, if◌then◌else◌}
+use Rattle.noise_handshake.proofs.Common.{nat_tests, ◌||◌, ◌&&◌, ◌==◌, ◌↔◌, IsTrue, IsFalse, Option, Some, None, is_none, Role, Initiator, Responder, Token, E, S, other, Plan, places_of, message_places, is_among, Own, Ephemeral, Static, Remote, keys_of, public_keys, psks_of, setup_fault, lacks_own, lacks_remote, has_unexpected, has_before, token_of, or_parts}
 use Rattle.noise_keys.specs.declared.faults.SetupFault.{SetupFault}
 use Rattle.noise_keys.specs.declared.faults.SetupFault.TheVariants.{EphemeralMissing, StaticMissing, RemoteMissing, RemoteUnexpected, PskCount}
-use Rattle.noise_handshake.specs.Setup.{keys_of, public_keys, psks_of, setup_fault, lacks_own, lacks_remote, has_unexpected, has_before, token_of}
 use Rattle.noise_handshake.specs.inner.PreMessage.{HasPre}
 use Rattle.noise_handshake.proofs.Uses.{matches-places_of}
-use Rattle.std.proofs.lemmas.Bool.{or_parts}
 
 pub flips : (b x : Bool) → (IsTrue b ↔ IsFalse x) → not b ≡ x
 flips true x e = sym (e.0 refl)

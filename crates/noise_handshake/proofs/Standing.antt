@@ -1,25 +1,8 @@
 -- What a handshake matches, and what follows for a message.
-use Rattle.std.proofs.Common.{◌≡◌, ℕ, ◌+◌, ◌<◌, ◌≤◌, List, Bool, true, false, length, drop, sym, ap, subst, refl, ◌∙◌, arith}
-use Rattle.std.proofs.lemmas.Bool.Decides.{nat_tests}
-use Rattle.std.specs.Prelude.{Option, None, Some, count_by, ◌==◌, if◌then◌else◌}
-use Rattle.noise_names.specs.declared.token.Token.{Token}
-use Rattle.noise_names.specs.declared.token.Role.{Role}
-use Rattle.noise_names.specs.declared.token.Role.TheVariants.{Initiator, Responder}
-use Rattle.noise_names.specs.Tokens.{is_psk, other, same_role, turn_from}
-use Rattle.noise_names.specs.Plan.{Plan, has_psk}
-use Rattle.noise_state.specs.Standing.{StateMatches}
-use Rattle.noise_state.specs.declared.symmetric.SymmetricState.{SymmetricState}
-use Rattle.noise_keys.specs.declared.keys.Own.{Own}
-use Rattle.noise_handshake.specs.declared.remote.Remote.{Remote}
-use Rattle.noise_handshake.specs.declared.faults.Cause.{Cause}
-use Rattle.noise_handshake.specs.declared.faults.ReadFault.{ReadFault}
+use Rattle.std.proofs.Common.{rules, ◌≡◌, ℕ, ◌+◌, ◌<◌, ◌≤◌, List, Bool, true, false, length, drop, sym, ap, subst, refl, ◌∙◌}
+use Rattle.std.specs.Prelude.{if◌then◌else◌}
+use Rattle.noise_handshake.proofs.Common.{Option, None, Some, count_by, ◌==◌, Token, Role, Initiator, is_psk, other, same_role, turn_from, Plan, has_psk, StateMatches, SymmetricState, Own, Remote, Cause, ReadFault, after_payload, Party, Reader, reader, Listens, Reads, Stops, Accepts, Refuses, remote_after, tokens_at, tokens_now, Listening, HandshakeValue, read_fault, is_turn, Matches, DoesNotRead, after_not_read, after_message, ended_party, same_role-true}
 use Rattle.noise_handshake.specs.declared.faults.ReadFault.TheVariants as read
-use Rattle.noise_handshake.specs.Message.{after_payload}
-use Rattle.noise_handshake.specs.Party.{Party, Reader, reader, Listens, Reads, Stops, Accepts, Refuses, remote_after, tokens_at, tokens_now}
-use Rattle.noise_handshake.specs.inner.Listening.{Listening}
-use Rattle.noise_handshake.specs.HandshakeValue.{HandshakeValue, read_fault, is_turn}
-use Rattle.noise_handshake.specs.Matching.{Matches, DoesNotRead, after_not_read, after_message, ended_party}
-use Rattle.noise_names.specs.Roles.{same_role-true, same_role-false}
 
 -- whose turn it is
 abbrev pub Reported : (ended all ours : Bool) → Option ReadFault → Type 0
@@ -43,28 +26,13 @@ no-fault false true ours e a o = absurd (cc)
 no-fault false false true e a o = absurd (cc)
 no-fault false false false e a o = refl
 
-not-self : (a b : Role) → a ≡ other b → same_role a b ≡ false
-not-self Initiator Initiator e = absurd (cc)
-not-self Initiator Responder e = refl
-not-self Responder Initiator e = refl
-not-self Responder Responder e = absurd (cc)
-
 -- where a message is due there is one
 pub due : {K : Type 0} (h : HandshakeValue K) → h.passed ≤ length h.pattern.messages → read_fault h ≡ None → h.passed < length h.pattern.messages
-due h w e =
-    let t : Reported h.ended (h.passed == length h.pattern.messages) (is_turn h.role h.passed) None =
-    subst (Reported h.ended (h.passed == length h.pattern.messages) (is_turn h.role h.passed)) e
-    (reported h.ended (h.passed == length h.pattern.messages) (is_turn h.role h.passed)) in
-    let unequal : (h.passed == length h.pattern.messages) ≡ false = t.1 in
-    grind (arith, nat_tests)
+due h w e = search rules
 
 -- and it is the other party's turn
 pub reads-turn : {K : Type 0} (h : HandshakeValue K) → read_fault h ≡ None → turn_from Initiator h.passed ≡ other h.role
-reads-turn h e =
-    let t : Reported h.ended (h.passed == length h.pattern.messages) (is_turn h.role h.passed) None =
-    subst (Reported h.ended (h.passed == length h.pattern.messages) (is_turn h.role h.passed)) e
-    (reported h.ended (h.passed == length h.pattern.messages) (is_turn h.role h.passed)) in
-    same_role-false (turn_from Initiator h.passed) h.role t.2
+reads-turn h e = search rules
 
 module _ {K : Type 0} (public_of : K → Own → Option (List ℕ)) (agreement : K → Own → List ℕ → Option (List ℕ)) (h : HandshakeValue K) (v : Party)
     (s : Matches public_of agreement h v) where
@@ -72,44 +40,26 @@ module _ {K : Type 0} (public_of : K → Own → Option (List ℕ)) (agreement :
   going e = sym s.ended ∙ e
 
   pub few : h.passed ≤ length h.pattern.messages → (h.passed == length h.pattern.messages) ≡ false → v.passed < length v.pattern.messages
-  few w e =
-      let less : h.passed < length h.pattern.messages = grind (arith, nat_tests) in
-      subst (λ (k : ℕ). k < length v.pattern.messages) s.passed (subst (λ (p : Plan). h.passed < length p.messages) s.pattern less)
+  few w e = search rules
 
   pub turn : (b : Bool) → is_turn h.role h.passed ≡ b → same_role (turn_from Initiator v.passed) v.role ≡ b
-  turn b e = ap (λ (k : ℕ). same_role (turn_from Initiator k) v.role) (sym s.passed)
-      ∙ ap (λ (r : Role). same_role (turn_from Initiator h.passed) r) (sym s.role) ∙ e
+  turn b e = search
 
   pub whole : (h.passed == length h.pattern.messages) ≡ true → v.passed ≡ length v.pattern.messages
-  whole e =
-      let same : h.passed ≡ length h.pattern.messages = grind (arith, nat_tests) in
-      sym s.passed ∙ same ∙ ap (λ (p : Plan). length p.messages) s.pattern
+  whole e = search rules
 
   -- a message of the other party is due
   pub listens : h.passed ≤ length h.pattern.messages → read_fault h ≡ None → Listens v
-  listens w e =
-      let t : Reported h.ended (h.passed == length h.pattern.messages) (is_turn h.role h.passed) None =
-      subst (Reported h.ended (h.passed == length h.pattern.messages) (is_turn h.role h.passed)) e
-      (reported h.ended (h.passed == length h.pattern.messages) (is_turn h.role h.passed)) in
-      record { going = going t.0; more = few w t.1; turn = same_role-false (turn_from Initiator v.passed) v.role (turn false t.2) }
+  listens w e = search rules
 
   -- where one is due there is no fault
   pub reads-due : Listens v → read_fault h ≡ None
-  reads-due l =
-      let less : h.passed < length h.pattern.messages =
-      subst (λ (k : ℕ). k < length h.pattern.messages) (sym s.passed) (subst (λ (p : Plan). v.passed < length p.messages) (sym s.pattern) l.more) in
-      let all : (h.passed == length h.pattern.messages) ≡ false = grind (arith, nat_tests) in
-      no-fault h.ended (h.passed == length h.pattern.messages) (is_turn h.role h.passed) (s.ended ∙ l.going) all
-      (ap (λ (k : ℕ). same_role (turn_from Initiator k) h.role) s.passed ∙ ap (λ (r : Role). same_role (turn_from Initiator v.passed) r) s.role
-      ∙ not-self (turn_from Initiator v.passed) v.role l.turn)
+  reads-due l = search rules
 
   -- where there is a fault the message is declined for it
   pub faulted : (fault : ReadFault) (m : List ℕ) → h.passed ≤ length h.pattern.messages → read_fault h ≡ Some fault
       → DoesNotRead v m fault × Matches public_of agreement h (after_not_read v fault)
-  faulted fault m w e =
-      declined fault m w
-      (subst (Reported h.ended (h.passed == length h.pattern.messages) (is_turn h.role h.passed)) e
-      (reported h.ended (h.passed == length h.pattern.messages) (is_turn h.role h.passed)))
+  faulted fault m w e = search rules
     where
       declined : (fault : ReadFault) (m : List ℕ) → h.passed ≤ length h.pattern.messages
           → Reported h.ended (h.passed == length h.pattern.messages) (is_turn h.role h.passed) (Some fault)
@@ -195,14 +145,7 @@ module _ (v : Party) (role : Role) (has_psks : Bool) (agree : Own → List ℕ �
     (l : Listening v role has_psks agree psks known tokens) where
   pub for-view : (P : Reader → Remote → List (List ℕ) → List Token → Type 0) → P (record { role = role; has_psks = has_psks; agree = agree }) known psks tokens
       → P (reader v) v.remote v.psks (tokens_now v)
-  for-view P h =
-      let h1 = subst (λ (z : Role). P (record { role = z; has_psks = has_psks; agree = agree }) known psks tokens) l.role_is h in
-      let h2 = subst (λ (z : Bool). P (record { role = v.role; has_psks = z; agree = agree }) known psks tokens) l.psks_is h1 in
-      let h3 = subst (λ (z : Own → List ℕ → Option (List ℕ)). P (record { role = v.role; has_psks = has_psk v.pattern; agree = z }) known psks tokens)
-      l.agree_is h2 in
-      let h4 = subst (λ (z : Remote). P (reader v) z psks tokens) l.known_is h3 in
-      let h5 = subst (λ (z : List (List ℕ)). P (reader v) v.remote z tokens) l.psks_are h4 in
-      subst (λ (ts : List Token). P (reader v) v.remote v.psks ts) l.tokens_are h5
+  for-view P h = search rules
 
   pub accepted : (m : List ℕ) (xs : List (List ℕ)) (payload : List ℕ) → length m ≤ 65535
       → Reads (record { role = role; has_psks = has_psks; agree = agree }) known psks v.history tokens m xs payload → Accepts v m xs payload

@@ -1,17 +1,8 @@
 -- What a pattern asks of a setup: how many psks, and whether there is a key after a pre-message.
-use Rattle.std.proofs.Common.{◌≡◌, ℕ, zero, suc, ◌+◌, ◌<◌, ◌≤◌, List, [], ◌∷◌, ◌++◌, length, drop, cond, eqb, refl, ap, ◌∙◌, arith}
-use Rattle.std.specs.Prelude.{Bool, true, false, ◌||◌, ◌&&◌, IsTrue, nat_le, count_by}
-use Rattle.std.specs.List.{list_any}
-use Rattle.std.proofs.lemmas.Bool.Decides.{nat_tests}
-use Rattle.std.proofs.lemmas.Bool.{and_parts, leb-true}
-use Rattle.std.proofs.lemmas.List.Sums.{sum_by-append}
-use Rattle.noise_names.specs.declared.token.Token.{Token}
-use Rattle.noise_names.specs.declared.token.Token.TheVariants.{E, S, Ee, Es, Se, Ss, Psk}
-use Rattle.noise_names.specs.Tokens.{is_psk, same_token, own_tokens}
-use Rattle.noise_names.specs.Plan.{Plan}
-use Rattle.noise_names.specs.Limits.{IsPattern, HavePsksAt, psk_if, with_psk_tokens, is_pre_message}
-use Rattle.noise_handshake.specs.Length.{keyed_after_tokens}
-use Rattle.noise_handshake.specs.Setup.{psks_of}
+use Rattle.std.proofs.Common.{rules, ◌≡◌, ℕ, zero, suc, ◌+◌, ◌<◌, ◌≤◌, List, [], ◌∷◌, length, drop, cond, eqb, refl, ap, ◌∙◌, arith}
+use Rattle.std.specs.Prelude.{Bool, true, false}
+use Rattle.noise_handshake.proofs.Common.{◌||◌, ◌&&◌, IsTrue, nat_le, count_by, list_any, nat_tests, and_parts, leb-true, sum_by-append, Token, E, S, Ee, Es, Se, Ss, is_psk, same_token, own_tokens, Plan, IsPattern, HavePsksAt, psk_if, with_psk_tokens, is_pre_message, keyed_after_tokens, psks_of}
+use Rattle.noise_names.specs.declared.token.Token.TheVariants.{Psk}
 
 -- ---- psks
 
@@ -37,8 +28,7 @@ few_in : (places : List ℕ) (n : ℕ) (ts : List Token) (front : Bool) (b : ℕ
 few_in places n ts front b e f h =
     let first : List Token = cond (eqb n 1) (psk_if 0 places) [] in
     let sum : count_by is_psk ts ≡ (count_by is_psk first + count_by is_psk (own_tokens ts)) + count_by is_psk (psk_if n places) =
-    ap (count_by is_psk) h ∙ sum_by-append (λ t. cond (is_psk t) 1 0) (first ++ own_tokens ts) (psk_if n places)
-    ∙ ap (λ (k : ℕ). k + count_by is_psk (psk_if n places)) (sum_by-append (λ t. cond (is_psk t) 1 0) first (own_tokens ts)) in
+    search (rules, sum_by-append) in
     let low : count_by is_psk first ≤ cond (eqb n 1) 1 0 = by (eqb n 1) in
     let same : cond (eqb n 1) 1 0 ≡ b = ap (λ (c : Bool). cond c 1 0) e ∙ f in
     omega (arith, sum, low, same, no_psk_among ts, at_most_one n places)

@@ -1,15 +1,8 @@
 -- A static key in a message.
-use Rattle.std.proofs.Common.{◌≡◌, ℕ, ◌+◌, ◌<◌, ◌≤◌, List, ◌++◌, length, take, refl, ap, sym, ◌∙◌, arith, rules, length-append, length-take}
-use Rattle.std.proofs.Math.Seq.{take-append_seam}
+use Rattle.std.proofs.Common.{◌≡◌, ℕ, ◌+◌, ◌<◌, ◌≤◌, List, ◌++◌, length, take, refl, ap, sym, ◌∙◌, arith, rules, length-append}
 use Rattle.std.specs.Prelude.{Bool, true, false, is_some, if◌then◌else◌, nat_lt}
-use Rattle.noise_state.specs.History.{History, cipher_key, ciphertext}
-use Rattle.noise_state.specs.Ciphertexts.{length-ciphertext}
-use Rattle.noise_names.specs.declared.token.Token.TheVariants.{S}
-use Rattle.noise_state.specs.Standing.{StateMatches, keyed, keyed-is}
-use Rattle.noise_state.specs.declared.symmetric.SymmetricState.{SymmetricState}
-use Rattle.noise_handshake.specs.Length.{tag_width, token_width}
+use Rattle.noise_handshake.proofs.Common.{take-append_seam, History, cipher_key, ciphertext, length-ciphertext, S, StateMatches, keyed, keyed-is, SymmetricState, tag_width, token_width, width_of_key}
 use Rattle.noise_handshake.specs.declared.faults.Cause.TheVariants.{Short, Tag}
-use Rattle.noise_handshake.specs.inner.Listening.{width_of_key}
 
 key_width : (k : Bool) → 32 + tag_width k ≡ (if k then 48 else 32)
 key_width true = refl
@@ -52,7 +45,4 @@ wrong-key r m n e bad x rest f s =
 -- what was opened fills the first 32 bytes
 pub opened-key : (r : History) (old new : List ℕ) (n : ℕ) → length old ≡ width_of_key r → length new ≡ length old → n ≤ length new
     → old ≡ ciphertext r (take n new) → take n new ≡ take 32 new
-opened-key r old new n w same h e =
-    let l : length (take n new) ≡ 32 = length-of_key r (take n new) (ap length (sym e) ∙ w) in
-    let k : n ≡ 32 = omega (arith, length-take n new) in
-    ap (λ (j : ℕ). take j new) k
+opened-key r old new n w same h e = search (rules, length-of_key)

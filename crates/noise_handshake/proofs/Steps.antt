@@ -1,35 +1,21 @@
 -- The steps of reading, as the code's values have them.
-use Rattle.std.proofs.Common.{◌≡◌, ℕ, suc, ◌+◌, ◌-◌, ◌<◌, ◌≤◌, List, [], ◌∷◌, ◌++◌, length, take, drop, refl, ap, sym, subst, ◌∙◌, arith}
-use Rattle.std.proofs.Common.{drop-drop, length-take, length-drop, append-nil}
-use Rattle.std.proofs.lemmas.List.{take-append-le, drop_at, length-take-le, nil_from_length}
-use Rattle.std.proofs.Math.Seq.{drop-append_seam}
+use Rattle.std.proofs.Common.{rules, ◌≡◌, ℕ, suc, ◌+◌, ◌-◌, ◌<◌, ◌≤◌, List, [], ◌∷◌, ◌++◌, length, take, drop, ap, sym, subst, ◌∙◌, arith, drop-drop, length-take, length-drop, append-nil}
 use Rattle.std.specs.Prelude.{is_some}
+use Rattle.noise_handshake.proofs.Common.{take-append-le, drop_at, length-take-le, nil_from_length, drop-append_seam, Token, History, cipher_key, Remote, Cause, StateMatches, SymmetricState, token_bytes, after_token, after_tokens, Reader, Fits, BeginsAs, known_after, psks_after, remote_after, cause_of, Fails, StopsKnowing}
 use borrow.Rule.Slice.PartMut.{put_mid}
-use Rattle.noise_names.specs.declared.token.Token.{Token}
-use Rattle.noise_state.specs.History.{History, cipher_key}
-use Rattle.noise_handshake.specs.declared.remote.Remote.{Remote}
-use Rattle.noise_handshake.specs.declared.faults.Cause.{Cause}
-use Rattle.noise_state.specs.Standing.{StateMatches}
-use Rattle.noise_state.specs.declared.symmetric.SymmetricState.{SymmetricState}
-use Rattle.noise_handshake.specs.Message.{token_bytes, after_token, after_tokens}
-use Rattle.noise_handshake.specs.Party.{Reader, Fits, BeginsAs, known_after, psks_after, remote_after, cause_of}
-use Rattle.noise_handshake.specs.inner.Listening.{Fails, StopsKnowing}
-use Rattle.noise_handshake.proofs.Apart.{leads-none, leads-more, stops-here, stops-later}
+use Rattle.noise_handshake.proofs.Apart.{leads-more, stops-later}
 
 pub stopped : (v : Reader) (known : Remote) (psks : List (List ℕ)) (r : History) (tokens ts : List Token) (t : Token) (m : List ℕ) (cause : Cause)
     (here : Remote)
     → tokens ≡ t ∷ ts → Fails v known psks r t m → cause ≡ cause_of (is_some (cipher_key r)) t m → here ≡ known
     → StopsKnowing v known psks r tokens m 0 cause here
-stopped v known psks r tokens ts t m cause here e bad why same =
-    subst (λ (us : List Token). StopsKnowing v known psks r us m 0 cause here) (sym e)
-    (subst (λ (z : Remote). StopsKnowing v known psks r (t ∷ ts) m 0 cause z) (sym same) (stops-here v known psks r t ts m cause bad why))
+stopped v known psks r tokens ts t m cause here e bad why same = search rules
 
 -- what stands in a list after its first n bytes, once those after were written
 pub written-at : (m buf post : List ℕ) (n len : ℕ) → n ≤ length m → len ≤ length buf → take ((n + len) - n) (drop n (take n m ++ (buf ++ post))) ≡ take len buf
 written-at m buf post n len h b =
     let whole : length (take n m) ≡ n = omega (arith, length-take n m) in
-    let after : drop n (take n m ++ (buf ++ post)) ≡ buf ++ post =
-    ap (λ (k : ℕ). drop k (take n m ++ (buf ++ post))) (sym whole) ∙ drop-append_seam (take n m) (buf ++ post) in
+    let after : drop n (take n m ++ (buf ++ post)) ≡ buf ++ post = search (rules, drop-append_seam) in
     let count : (n + len) - n ≡ len = omega arith in
     ap (λ (k : ℕ). take k (drop n (take n m ++ (buf ++ post)))) count ∙ ap (take len) after ∙ take-append-le len buf post b
 
@@ -82,7 +68,4 @@ module _ (v : Reader) (known known2 : Remote) (psks secrets2 : List (List ℕ)) 
 pub led-none : (v : Reader) (known : Remote) (psks : List (List ℕ)) (r : History) (tokens : List Token) (m : List ℕ) (state : SymmetricState)
     → tokens ≡ [] → StateMatches state r
     → (xs : List (List ℕ)) × BeginsAs v known psks r tokens xs m m × StateMatches state (after_tokens v.has_psks r tokens xs) × (known ≡ remote_after known tokens xs)
-led-none v known psks r tokens m state e s =
-    subst (λ (ts : List Token). (xs : List (List ℕ)) × BeginsAs v known psks r ts xs m m × StateMatches state (after_tokens v.has_psks r ts xs)
-    × (known ≡ remote_after known ts xs))
-    (sym e) ([], leads-none v known psks r m, s, refl)
+led-none v known psks r tokens m state e s = search rules

@@ -1,17 +1,8 @@
 -- What a message's tokens ask and leave, reported of its first token and of those after it.
-use Rattle.std.proofs.Common.{◌≡◌, ℕ, suc, ◌+◌, ◌-◌, ◌^◌, ◌<◌, ◌≤◌, List, [], ◌∷◌, length, take, refl, sym, ap, subst, ◌∙◌, arith}
-use Rattle.std.proofs.lemmas.Bool.{and_parts}
-use Rattle.std.specs.Prelude.{Bool, IsTrue, count_by}
-use Rattle.noise_names.specs.declared.token.Token.{Token}
-use Rattle.noise_names.specs.declared.token.Token.TheVariants.{E, S, Ee, Es, Se, Ss, Psk}
-use Rattle.noise_names.specs.Tokens.{is_psk}
-use Rattle.noise_handshake.specs.Length.{keyed_after, keyed_after_tokens, token_width, tokens_width}
-use Rattle.noise_handshake.specs.declared.remote.Remote.{Remote}
-use Rattle.noise_handshake.specs.Writing.{Writer, Gives, Given, LacksDhResultAt}
-use Rattle.noise_handshake.specs.Nonces.{nonce_after, nonce_after_tokens}
-use Rattle.noise_handshake.specs.inner.Keying.{Keying, keying_after, keying_after_tokens}
-use Rattle.std.specs.List.{list_all}
-use Rattle.noise_handshake.specs.Party.{psks_after, other_psks}
+use Rattle.std.proofs.Common.{rules, ◌≡◌, ℕ, suc, ◌+◌, ◌-◌, ◌^◌, ◌<◌, ◌≤◌, List, [], ◌∷◌, length, take, sym, ap, subst, ◌∙◌, arith}
+use Rattle.std.specs.Prelude.{Bool}
+use Rattle.noise_handshake.proofs.Common.{and_parts, IsTrue, count_by, Token, E, S, Ee, Es, Se, Ss, is_psk, keyed_after, keyed_after_tokens, token_width, tokens_width, Remote, Writer, Gives, Given, LacksDhResultAt, nonce_after, nonce_after_tokens, Keying, keying_after, keying_after_tokens, list_all, psks_after, other_psks}
+use Rattle.noise_names.specs.declared.token.Token.TheVariants.{Psk}
 use Rattle.noise_handshake.proofs.Counting.{nonce-most}
 use Rattle.noise_handshake.proofs.Later.{one-more}
 
@@ -32,19 +23,15 @@ left-after Ss ts psks h = h
 module _ (tokens ts : List Token) (t : Token) (split : tokens ≡ t ∷ ts) where
   pub keyed-on : (has_psks key key2 key3 : Bool) → key2 ≡ keyed_after has_psks key t → key3 ≡ keyed_after_tokens has_psks key2 ts
       → key3 ≡ keyed_after_tokens has_psks key tokens
-  keyed-on has_psks key key2 key3 e f =
-      f ∙ ap (λ (b : Bool). keyed_after_tokens has_psks b ts) e ∙ ap (λ (us : List Token). keyed_after_tokens has_psks key us) (sym split)
+  keyed-on has_psks key key2 key3 e f = search
 
   pub keying-on : (has_psks : Bool) (k k2 k3 : Keying) → k2 ≡ keying_after has_psks k t → k3 ≡ keying_after_tokens has_psks k2 ts
       → k3 ≡ keying_after_tokens has_psks k tokens
-  keying-on has_psks k k2 k3 e f =
-      f ∙ ap (λ (z : Keying). keying_after_tokens has_psks z ts) e ∙ ap (λ (us : List Token). keying_after_tokens has_psks k us) (sym split)
+  keying-on has_psks k k2 k3 e f = search rules
 
   pub nonce-on : (has_psks key key2 : Bool) (n n2 n3 : ℕ) → key2 ≡ keyed_after has_psks key t → n2 ≡ nonce_after has_psks key n t
       → n3 ≡ nonce_after_tokens has_psks key2 n2 ts → n3 ≡ nonce_after_tokens has_psks key n tokens
-  nonce-on has_psks key key2 n n2 n3 e f g =
-      g ∙ ap (λ (b : Bool). nonce_after_tokens has_psks b n2 ts) e ∙ ap (λ (i : ℕ). nonce_after_tokens has_psks (keyed_after has_psks key t) i ts) f
-      ∙ ap (λ (us : List Token). nonce_after_tokens has_psks key n us) (sym split)
+  nonce-on has_psks key key2 n n2 n3 e f g = search
 
   pub some-token : 0 < length tokens
   some-token = omega (arith, ap length split)
@@ -69,20 +56,14 @@ module _ (tokens ts : List Token) (t : Token) (split : tokens ≡ t ∷ ts) wher
   -- how many bytes they take
   pub width-on : (has_psks key key2 : Bool) (n k : ℕ) → n ≡ token_width key t → key2 ≡ keyed_after has_psks key t → k ≡ tokens_width has_psks key2 ts
       → n + k ≡ tokens_width has_psks key tokens
-  width-on has_psks key key2 n k e f g =
-      ap (λ (i : ℕ). i + k) e ∙ ap (λ (i : ℕ). token_width key t + i) (g ∙ ap (λ (b : Bool). tokens_width has_psks b ts) f)
-      ∙ ap (λ (us : List Token). tokens_width has_psks key us) (sym split)
+  width-on has_psks key key2 n k e f g = search
 
   pub room-first : (has_psks key : Bool) (room : ℕ) → tokens_width has_psks key tokens ≤ room → token_width key t ≤ room
-  room-first has_psks key room h =
-      let all : token_width key t + tokens_width has_psks (keyed_after has_psks key t) ts ≤ room =
-      subst (λ (us : List Token). tokens_width has_psks key us ≤ room) split h in
-      omega (arith, all)
+  room-first has_psks key room h = search rules
 
   pub room-later : (has_psks key key2 : Bool) (room n : ℕ) → tokens_width has_psks key tokens ≤ room → n ≡ token_width key t → key2 ≡ keyed_after has_psks key t
       → n + tokens_width has_psks key2 ts ≤ room
-  room-later has_psks key key2 room n h e f =
-      subst (λ (i : ℕ). i ≤ room) (sym (width-on has_psks key key2 n (tokens_width has_psks key2 ts) e f refl)) h
+  room-later has_psks key key2 room n h e f = search rules
 
   -- the first is a DH without a result
   pub lacks-first : (w : Writer) (known : Remote) (psks : List (List ℕ)) → ((x : List ℕ) → Gives w known psks t x → ⊥)
@@ -111,9 +92,7 @@ module _ (tokens ts : List Token) (t : Token) (split : tokens ≡ t ∷ ts) wher
 
   pub psks-later : (psks others : List (List ℕ)) → others ≡ psks_after psks t → count_by is_psk tokens ≤ length psks
       → count_by is_psk ts ≤ length others
-  psks-later psks others e h =
-      subst (λ (z : List (List ℕ)). count_by is_psk ts ≤ length z) (sym e)
-      (left-after t ts psks (subst (λ (us : List Token). count_by is_psk us ≤ length psks) split h))
+  psks-later psks others e h = search (rules, left-after)
 
   pub nonces-later : (has_psks key : Bool) (n n2 : ℕ) → n2 ≡ nonce_after has_psks key n t → n + length tokens < 2 ^ 64 - 1
       → n2 + length ts < 2 ^ 64 - 1

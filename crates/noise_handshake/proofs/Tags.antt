@@ -1,10 +1,10 @@
 -- Tags of the symmetric state.
 use Rattle.std.proofs.Common.{◌≡◌, ℕ, ◌+◌, ◌-◌, ◌^◌, ◌<◌, ◌≤◌, refl, arith}
 use Rattle.std.specs.Prelude.{Bool, true, false}
+use Rattle.noise_handshake.proofs.Common.{tag_width}
 use Rattle.noise_state.specs.declared.cipher.CipherFault.{CipherFault}
 use Rattle.noise_state.specs.declared.cipher.CipherFault.TheVariants.{Exhausted, Tag, Short, TooLong}
 use Rattle.noise_state.specs.Cipher.{sealed_len, EncryptRefused}
-use Rattle.noise_handshake.specs.Length.{tag_width}
 
 -- a text with its tag
 pub sealed_len-tag : (keyed : Bool) (n : ℕ) → sealed_len keyed n ≡ n + tag_width keyed

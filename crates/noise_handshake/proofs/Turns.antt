@@ -1,9 +1,6 @@
 -- Whose turn it is, by whether the messages that passed are an even number.
 use Rattle.std.proofs.Common.{◌≡◌, ◌⊎◌, inl, inr, ℕ, zero, suc, ◌%◌, nat_eq, refl, ap, sym, ◌∙◌, arith}
-use Rattle.noise_names.specs.declared.token.Role.{Role}
-use Rattle.noise_names.specs.declared.token.Role.TheVariants.{Initiator, Responder}
-use Rattle.noise_names.specs.Tokens.{other, same_role, turn_from}
-use Rattle.noise_names.specs.Roles.{other-other}
+use Rattle.noise_handshake.proofs.Common.{Role, Initiator, Responder, other, same_role, turn_from, other-other}
 
 turns : (a : Role) (k : ℕ) → ((k % 2 ≡ 0) × (turn_from a k ≡ a)) ⊎ ((k % 2 ≡ 1) × (turn_from a k ≡ other a))
 turns a zero = inl (refl, refl)

@@ -1,27 +1,12 @@
 -- Which DH result the next message lacks: reading.
-use Rattle.std.proofs.Common.{◌≡◌, ℕ, zero, suc, ◌+◌, ◌<◌, ◌≤◌, List, [], ◌∷◌, ◌++◌, length, take, drop, get_or, refl, ap, sym, subst, ◌∙◌, arith}
-use Rattle.std.proofs.Common.{append_assoc, length-take}
-use Rattle.std.proofs.Math.Seq.{take-append_seam}
-use Rattle.std.specs.Prelude.{Bool, true, false, Option, Some, None, is_some, nat_lt, if◌then◌else◌, MatchOption}
-use Rattle.noise_names.specs.declared.token.Token.{Token}
-use Rattle.noise_names.specs.declared.token.Token.TheVariants.{E, S, Ee, Es, Se, Ss, Psk}
-use Rattle.noise_names.specs.declared.token.Role.{Role}
-use Rattle.noise_state.specs.History.{History, cipher_key}
-use Rattle.noise_keys.specs.declared.keys.Own.{Own}
-use Rattle.noise_handshake.specs.declared.remote.Remote.{Remote}
-use Rattle.noise_handshake.specs.declared.faults.Cause.TheVariants.{Short, Tag, Agreement}
-use Rattle.noise_handshake.specs.declared.layout.PlacedToken.{PlacedToken}
-use Rattle.noise_handshake.specs.Message.{token_bytes, after_token, before_payload, after_tokens}
-use Rattle.noise_handshake.specs.Party.{Party, Reader, reader, Listens, Fit, BeginsAs, CanBegin, Stops, Refuses, known_after, psks_after, remote_after}
-use Rattle.noise_handshake.specs.Party.{first_psk, own_at, remote_at, cause_of, cause_at, tokens_now}
-use Rattle.noise_handshake.specs.Wanting.{StopsFor, WantsToRead}
-use Rattle.noise_handshake.specs.inner.Known.{is_known, are_known, has_after, has_after_tokens}
-use Rattle.noise_handshake.specs.inner.Layout.{tokens_of}
-use Rattle.noise_handshake.specs.inner.Listening.{Listening, StopsKnowing}
-use Rattle.noise_handshake.proofs.Apart.{leads-none, leads-more, reads-leads}
-use Rattle.noise_handshake.proofs.Knowing.{is_some-remote, known-dh, split-at}
+use Rattle.std.proofs.Common.{rules, ◌≡◌, ℕ, zero, suc, ◌+◌, ◌<◌, ◌≤◌, List, [], ◌∷◌, ◌++◌, length, take, drop, get_or, refl, ap, sym, subst, ◌∙◌, arith, append_assoc, length-take}
+use Rattle.std.specs.Prelude.{Bool, true, is_some, nat_lt, if◌then◌else◌}
+use Rattle.noise_handshake.proofs.Common.{take-append_seam, Option, Some, None, MatchOption, Token, E, S, Ee, Es, Se, Ss, Role, History, cipher_key, Own, Remote, Agreement, PlacedToken, token_bytes, after_token, before_payload, after_tokens, Party, Reader, reader, Listens, Fit, BeginsAs, CanBegin, Stops, Refuses, known_after, psks_after, remote_after, first_psk, own_at, remote_at, cause_of, cause_at, tokens_now, StopsFor, WantsToRead, is_known, are_known, has_after, has_after_tokens, tokens_of, Listening, StopsKnowing, and_parts}
+use Rattle.noise_names.specs.declared.token.Token.TheVariants.{Psk}
+use Rattle.noise_handshake.specs.declared.faults.Cause.TheVariants.{Short, Tag}
+use Rattle.noise_handshake.proofs.Apart.{leads-more, reads-leads}
+use Rattle.noise_handshake.proofs.Knowing.{split-at}
 use Rattle.noise_handshake.proofs.Standing.{for-view}
-use Rattle.std.proofs.lemmas.Bool.{and_parts}
 
 -- ---- a token of a list
 
@@ -42,9 +27,7 @@ token-placed (p ∷ ps) (suc k) d h = token-placed ps k d (omega arith)
 known-there : (role : Role) (e s : Bool) (before later : List Token) (t : Token) → are_known role e s (before ++ t ∷ later) ≡ true
     → is_known role (has_after_tokens E e before) (has_after_tokens S s before) t ≡ true
 known-there role e s [] later t h = (and_parts (is_known role e s t) (are_known role (has_after E e t) (has_after S s t) later) h).0
-known-there role e s (u ∷ before) later t h =
-    known-there role (has_after E e u) (has_after S s u) before later t
-    (and_parts (is_known role e s u) (are_known role (has_after E e u) (has_after S s u) (before ++ t ∷ later)) h).1
+known-there role e s (u ∷ before) later t h = search (rules, (known-there role (has_after E e u) (has_after S s u) before later t))
 
 e-one : (known : Remote) (t : Token) (x : List ℕ) → is_some (known_after known t x).e ≡ has_after E (is_some known.e) t
 e-one known E x = refl
@@ -68,24 +51,15 @@ e-many : (v : Reader) (known : Remote) (psks : List (List ℕ)) (ts : List Token
     → is_some (remote_after known ts xs).e ≡ has_after_tokens E (is_some known.e) ts
 e-many v known psks [] xs f = refl
 e-many v known psks (t ∷ ts) [] f = absurd f
-e-many v known psks (t ∷ ts) (x ∷ xs) f =
-    e-many v (known_after known t x) (psks_after psks t) ts xs f.1 ∙ ap (λ (b : Bool). has_after_tokens E b ts) (e-one known t x)
+e-many v known psks (t ∷ ts) (x ∷ xs) f = search (e-one, (e-many v (known_after known t x) (psks_after psks t) ts xs f.1))
 
 s-many : (v : Reader) (known : Remote) (psks : List (List ℕ)) (ts : List Token) (xs : List (List ℕ)) → Fit v known psks ts xs
     → is_some (remote_after known ts xs).s ≡ has_after_tokens S (is_some known.s) ts
 s-many v known psks [] xs f = refl
 s-many v known psks (t ∷ ts) [] f = absurd f
-s-many v known psks (t ∷ ts) (x ∷ xs) f =
-    s-many v (known_after known t x) (psks_after psks t) ts xs f.1 ∙ ap (λ (b : Bool). has_after_tokens S b ts) (s-one known t x)
+s-many v known psks (t ∷ ts) (x ∷ xs) f = search (s-one, (s-many v (known_after known t x) (psks_after psks t) ts xs f.1))
 
 -- ---- why reading stops at a token
-
-no-short : Agreement ≡ Short → ⊥
-no-short e = cc
-
-no-cause : (b : Bool) → Agreement ≡ (if b then Short else Tag) → ⊥
-no-cause true e = cc
-no-cause false e = cc
 
 cause-there : (keyed : Bool) (before later : List Token) (t : Token) (rest : List ℕ) → cause_at keyed (before ++ t ∷ later) (length before) rest ≡ cause_of keyed t rest
 cause-there keyed [] later t rest = refl
@@ -96,15 +70,10 @@ cause-end keyed [] k rest h = refl
 cause-end keyed (t ∷ ts) zero rest h = absurd (omega arith)
 cause-end keyed (t ∷ ts) (suc k) rest h = cause-end keyed ts k rest (omega arith)
 
-below : (k n : ℕ) → (n ≤ k → ⊥) → k < n
-below k n f = grind arith
-
 -- for want of a DH result it stops at a token
 pub stops-within : (v : Reader) (known : Remote) (psks : List (List ℕ)) (r : History) (ts : List Token) (m : List ℕ) (k : ℕ)
     → Stops v known psks r ts m k Agreement → k < length ts
-stops-within v known psks r ts m k s =
-    let keyed : Bool = is_some (cipher_key (after_tokens v.has_psks r (take k ts) s.carried)) in
-    below k (length ts) (λ h. no-cause (nat_lt (length s.rest) 16) (s.why ∙ cause-end keyed ts k s.rest h))
+stops-within v known psks r ts m k s = search (rules, cause-end)
 
 -- where all tokens are read it stops at none
 pub all-read : (v : Reader) (known : Remote) (psks : List (List ℕ)) (r : History) (ts : List Token) (xs : List (List ℕ)) (m rest : List ℕ) (k : ℕ)
@@ -118,8 +87,7 @@ psk-goes : (v : Reader) (known : Remote) (psks : List (List ℕ)) (r : History) 
 psk-goes v known psks r [] xs m rest l = record {
   carried = first_psk psks ∷ [];
   rest = m;
-  leads = leads-more v known psks r Psk (first_psk psks) [] [] m m m refl refl
-      (leads-none v known (psks_after psks Psk) (after_token v.has_psks r Psk (first_psk psks)) m);
+  leads = search;
 }
 psk-goes v known psks r (t ∷ before) [] m rest l = absurd l.fit
 psk-goes v known psks r (t ∷ before) (x ∷ xs) m rest l =
@@ -165,14 +133,7 @@ module _ (v : Reader) (known : Remote) (psks : List (List ℕ)) (r : History) (m
 
   -- the token is a DH, whose remote key is known there
   remote-there : remote_at v.role (remote_after known before s.carried) t ≡ None → ⊥
-  remote-there =
-      none-some (remote_at v.role (remote_after known before s.carried) t)
-      (is_some-remote v.role (remote_after known before s.carried) t
-      ∙ known-dh v.role (is_some (remote_after known before s.carried).e) (is_some (remote_after known before s.carried).s) t
-      (λ e. no-short (why ∙ ap (λ (u : Token). cause_of keyed-there u s.rest) e))
-      (λ e. no-cause (nat_lt (length s.rest) (if keyed-there then 48 else 32)) (why ∙ ap (λ (u : Token). cause_of keyed-there u s.rest) e))
-      (λ e. on (subst (λ (u : Token). CanBegin v known psks r (before ++ u ∷ []) m) (sym e) (psk-goes v known psks r before s.carried m s.rest leads)))
-      here)
+  remote-there = search (rules, why, on, psk-goes, leads, here)
 
   asked-there : (o : Option (Own × List ℕ))
       → MatchOption o (remote_at v.role (remote_after known before s.carried) t ≡ None)
@@ -203,8 +164,7 @@ asked v known here psks r ts m k t less is knows s o h =
     let count : k ≡ length before = omega (arith, length-take k ts, less) in
     let s1 = subst (λ (us : List Token). StopsKnowing v known psks r us m k Agreement here) split s in
     let s2 = subst (λ (i : ℕ). StopsKnowing v known psks r (before ++ t ∷ later) m i Agreement here) count s1 in
-    let same : here ≡ remote_after known before s2.0.carried =
-    s2.1 ∙ ap (λ (us : List Token). remote_after known us s2.0.carried) (take-append_seam before (t ∷ later)) in
+    let same : here ≡ remote_after known before s2.0.carried = search in
     let knows1 = subst (λ (us : List Token). are_known v.role (is_some known.e) (is_some known.s) us ≡ true) split knows in
     let h1 = subst (λ (z : Remote). MatchOption o (remote_at v.role z t ≡ None)
     (λ want. (want.0 ≡ own_at v.role t) × (remote_at v.role z t ≡ Some want.1))) same h in

@@ -1,8 +1,6 @@
 -- What stands in a buffer after writes to parts of it.
-use Rattle.std.proofs.Common.{◌≡◌, ℕ, ◌+◌, ◌-◌, ◌≤◌, List, [], ◌++◌, length, take, drop, ap, sym, ◌∙◌, arith, drop-drop, take_all, append-nil}
-use Rattle.std.proofs.Common.{length-take, length-drop}
-use Rattle.std.proofs.lemmas.List.{take-append-le, drop-append-le, drop_all}
-use Rattle.std.proofs.Math.Seq.{drop-append_seam, take-append-add, drop-append-add}
+use Rattle.std.proofs.Common.{rules, ◌≡◌, ℕ, ◌+◌, ◌-◌, ◌≤◌, List, ◌++◌, length, take, drop, ap, sym, ◌∙◌, arith, drop-drop, take_all, length-take, length-drop}
+use Rattle.noise_handshake.proofs.Common.{take-append-le, drop_all, drop-append_seam, take-append-add, drop-append-add}
 
 -- the rest is as it was, where a text of len bytes was put there first, and then written over with a tag after it
 pub rest-unchanged : (old put new : List ℕ) (len tag width n : ℕ) → width ≡ len + tag → n ≡ width → length new ≡ width → drop len put ≡ drop len old
@@ -18,18 +16,8 @@ module _ (first second : List ℕ) (n k : ℕ) (fits : n ≤ length first) (long
   count = omega (arith, length-take n first)
 
   pub joined : (post : List ℕ) → take (n + k) (take n first ++ (second ++ post)) ≡ take n first ++ take k second
-  joined post =
-      ap (λ (i : ℕ). take (i + k) (take n first ++ (second ++ post))) (sym count)
-      ∙ take-append-add (take n first) (second ++ post) k ∙ ap (λ (z : List ℕ). take n first ++ z) (take-append-le k second post long)
+  joined post = search (rules, take-append-add, take-append-le)
 
   pub rest-after : (old : List ℕ) → drop n first ≡ drop n old → drop k second ≡ drop k (take (length first - n) (drop n first))
       → drop (n + k) (take n first ++ (second ++ drop (length first - n) (drop n first))) ≡ drop (n + k) old
-  rest-after old same unchanged =
-      let left : List ℕ = drop n first in
-      let post : List ℕ = drop (length first - n) left in
-      let whole : take (length first - n) left ≡ left = take_all (length first - n) left (omega (arith, length-drop n first)) in
-      let none : post ≡ [] = drop_all (length first - n) left (omega (arith, length-drop n first)) in
-      ap (λ (i : ℕ). drop (i + k) (take n first ++ (second ++ post))) (sym count)
-      ∙ drop-append-add (take n first) (second ++ post) k ∙ drop-append-le k second post long
-      ∙ ap (λ (z : List ℕ). drop k second ++ z) none ∙ append-nil (drop k second)
-      ∙ unchanged ∙ ap (drop k) whole ∙ ap (drop k) same ∙ drop-drop k n old
+  rest-after old same unchanged = search (rules, take_all, length-drop, drop_all, drop-append-add, drop-drop)

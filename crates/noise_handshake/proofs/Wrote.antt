@@ -1,32 +1,10 @@
 -- What a handshake that writes asks and leaves.
-use Rattle.std.proofs.Common.{◌≡◌, ℕ, ◌+◌, ◌<◌, ◌≤◌, List, Bool, true, false, length, drop, sym, ap, subst, refl, ◌∙◌, arith, not}
-use Rattle.std.proofs.lemmas.Bool.Decides.{nat_tests}
-use Rattle.std.specs.Prelude.{Option, None, Some, count_by, nat_lt, ◌==◌, IsTrue, if◌then◌else◌}
-use Rattle.std.specs.List.{list_all}
-use Rattle.noise_names.specs.declared.token.Token.{Token}
-use Rattle.noise_names.specs.declared.token.Role.{Role}
-use Rattle.noise_names.specs.declared.token.Role.TheVariants.{Initiator}
-use Rattle.noise_names.specs.Tokens.{is_psk, turn_from}
-use Rattle.noise_names.specs.Plan.{Plan, has_psk}
-use Rattle.noise_names.specs.Overhead.{has_key, overhead_of}
-use Rattle.noise_state.specs.Standing.{StateMatches, keyed}
-use Rattle.noise_state.specs.declared.symmetric.SymmetricState.{SymmetricState}
-use Rattle.noise_keys.specs.declared.keys.Own.{Own}
-use Rattle.noise_handshake.specs.declared.faults.WriteFault.{WriteFault}
-use Rattle.noise_handshake.specs.declared.faults.WriteFault.TheVariants as write
-use Rattle.noise_handshake.specs.declared.remote.Remote.{Remote}
-use Rattle.noise_handshake.specs.Writing.{Writer, writer, Given, LacksDhResultAt, Writes, LacksDhResult}
-use Rattle.noise_handshake.specs.Message.{message_bytes, after_payload}
-use Rattle.noise_handshake.specs.Length.{added_width}
-use Rattle.noise_handshake.specs.Party.{Party, Speaks, tokens_at, tokens_now}
-use Rattle.noise_handshake.specs.inner.Speaking.{Speaking, has_own}
-use Rattle.noise_handshake.specs.HandshakeValue.{HandshakeValue, write_fault, is_turn, length_now, length_unless, message_len_of}
-use Rattle.noise_handshake.specs.inner.Sound.{IsSound}
-use Rattle.noise_handshake.specs.Passed.{passed_places}
-use Rattle.noise_handshake.specs.Matching.{Matches, after_own}
+use Rattle.std.proofs.Common.{rules, ◌≡◌, ℕ, ◌+◌, ◌<◌, ◌≤◌, List, Bool, true, false, length, drop, sym, ap, subst, refl, ◌∙◌, arith, not}
+use Rattle.std.specs.Prelude.{nat_lt, if◌then◌else◌}
+use Rattle.noise_handshake.proofs.Common.{nat_tests, Option, None, Some, count_by, ◌==◌, IsTrue, list_all, Token, Role, Initiator, is_psk, turn_from, Plan, has_psk, has_key, overhead_of, StateMatches, keyed, SymmetricState, Own, WriteFault, Remote, Writer, writer, Given, LacksDhResultAt, Writes, LacksDhResult, message_bytes, after_payload, added_width, Party, Speaks, tokens_at, tokens_now, Speaking, has_own, HandshakeValue, write_fault, is_turn, length_now, length_unless, message_len_of, IsSound, passed_places, Matches, after_own, same_role-true}
 use Rattle.noise_handshake.proofs.Owned.{owned}
 use Rattle.noise_handshake.proofs.Places.{overhead-is}
-use Rattle.noise_names.specs.Roles.{same_role-true}
+use Rattle.noise_handshake.specs.declared.faults.WriteFault.TheVariants as write
 
 -- what no fault reports
 record Clear (ended all ours long : Bool) : Type 0 where
@@ -51,10 +29,7 @@ module _ {K : Type 0} (public_of : K → Own → Option (List ℕ)) (h : Handsha
 
   -- there is a message, of this party
   pub writes-due : h.passed < length h.pattern.messages
-  writes-due =
-      let unequal : (h.passed == length h.pattern.messages) ≡ false = clear-now.more in
-      let most : h.passed ≤ length h.pattern.messages = s.within in
-      grind (arith, nat_tests)
+  writes-due = search rules
 
   pub writes-turn : turn_from Initiator h.passed ≡ h.role
   writes-turn = same_role-true (turn_from Initiator h.passed) h.role clear-now.turn
@@ -130,16 +105,7 @@ module _ (v : Party) (role : Role) (has_psks : Bool) (own : Own → Option (List
   pub for-view : (P : Writer → Remote → List (List ℕ) → List Token → Type 0)
       → P (record { role = role; has_psks = has_psks; own = own; agree = agree }) known psks tokens
       → P (writer v) v.remote v.psks (tokens_now v)
-  for-view P h =
-      let h1 = subst (λ (z : Role). P (record { role = z; has_psks = has_psks; own = own; agree = agree }) known psks tokens) l.role_is h in
-      let h2 = subst (λ (z : Bool). P (record { role = v.role; has_psks = z; own = own; agree = agree }) known psks tokens) l.psks_is h1 in
-      let h3 = subst (λ (z : Own → Option (List ℕ)). P (record { role = v.role; has_psks = has_psk v.pattern; own = z; agree = agree }) known psks
-      tokens) l.own_is h2 in
-      let h4 = subst (λ (z : Own → List ℕ → Option (List ℕ)). P (record { role = v.role; has_psks = has_psk v.pattern; own = v.own; agree = z }) known
-      psks tokens) l.agree_is h3 in
-      let h5 = subst (λ (z : Remote). P (writer v) z psks tokens) l.known_is h4 in
-      let h6 = subst (λ (z : List (List ℕ)). P (writer v) v.remote z tokens) l.psks_are h5 in
-      subst (λ (ts : List Token). P (writer v) v.remote v.psks ts) l.tokens_are h6
+  for-view P h = search rules
 
   pub written : (payload : List ℕ) (xs : List (List ℕ)) (m : List ℕ) → length m ≤ 65535
       → Given (record { role = role; has_psks = has_psks; own = own; agree = agree }) known psks tokens xs → m ≡ message_bytes has_psks v.history tokens xs payload

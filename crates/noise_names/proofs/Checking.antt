@@ -1,19 +1,9 @@
 -- The first fault of a pattern as a function, and that it is what the definitions say.
-use Rattle.std.proofs.Common.{◌≡◌, ℕ, List, [], ◌∷◌, ◌++◌, Option, Some, None, Result, Ok, Err, refl, Bool, true, false, ◌||◌, ap, sym, ◌∙◌, subst}
-use Rattle.std.proofs.Common.{append_assoc, append-nil, ◌<◌, ◌≤◌, ◌+◌, length, drop, get_or, drop-cons, add-one}
-use Rattle.std.specs.List.{list_any}
-use Rattle.std.proofs.lemmas.List.{drop_all}
+use Rattle.std.proofs.Common.{rules, ◌≡◌, ℕ, List, [], ◌∷◌, ◌++◌, Option, Some, None, Result, Ok, Err, refl, Bool, true, false, ◌||◌, ap, sym, ◌∙◌, subst, append_assoc, append-nil, ◌<◌, ◌≤◌, ◌+◌, length, drop, get_or, drop-cons}
+use Rattle.noise_names.proofs.Common.{list_any, drop_all, Role, Initiator, Responder, Token, E, S, Ee, Es, Se, Ss, Psk, Seen, Plan, Place, Step, does, payload, transport, place, token_places, message_places, places_of, is_one_way, other, with_place, rules_by, lowest_of, Walks, fault_or, first_fault_by, first_fault, broken_rules, IsValid, IsFirstFault}
 use Rattle.noise_names.specs.declared.faults.RuleFault.{RuleFault}
-use Rattle.noise_names.specs.declared.token.Role.{Role}
-use Rattle.noise_names.specs.declared.token.Role.TheVariants.{Initiator, Responder}
-use Rattle.noise_names.specs.declared.token.Token.{Token}
-use Rattle.noise_names.specs.declared.token.Token.TheVariants.{E, S, Ee, Es, Se, Ss, Psk}
-use Rattle.noise_names.specs.declared.seen.Seen.{Seen}
-use Rattle.noise_names.specs.Plan.{Plan, Place, Step, does, payload, transport, place, token_places, message_places, places_of, is_one_way}
-use Rattle.noise_names.specs.Tokens.{other}
-use Rattle.noise_names.specs.Checking.{seen_of, with_place, rules_by, lowest_of, Walks}
-use Rattle.noise_names.specs.Validity.{fault_or, first_fault_by, first_fault_from, first_fault}
-use Rattle.noise_names.specs.Validity.{broken_rules, IsValid, IsFirstFault}
+use Rattle.noise_names.specs.Checking.{seen_of}
+use Rattle.noise_names.specs.Validity.{first_fault_from}
 
 -- each of the places, wherever it stands, breaks none after the earlier ones and those before it
 pub record Keeps (broken : List Place → Place → List ℕ) (earlier places : List Place) : Type 0 where
@@ -183,10 +173,7 @@ lowest-same old earlier p e = sym (ap (λ (s : Seen). lowest_of (rules_by s p.pa
 
 -- one place without a fault
 pub walks_one : (old new : Seen) (p : Place) → lowest_of (rules_by old p.party p.step) ≡ None → new ≡ with_place old p → Walks old new (p ∷ []) (Ok tt)
-walks_one old new p kept more earlier later e = (
-  more ∙ ap (λ (s : Seen). with_place s p) e ∙ sym (seen_of-snoc earlier p),
-  kept_goes_on earlier p later (lowest-same old earlier p e ∙ kept),
-)
+walks_one old new p kept more earlier later e = search (rules, seen_of-snoc, kept_goes_on, lowest-same)
 
 -- one place with a fault
 pub walks_fault : (old new : Seen) (p : Place) (rule : ℕ) → lowest_of (rules_by old p.party p.step) ≡ Some rule
@@ -198,14 +185,11 @@ pub walks_on : (old mid new : Seen) (ps qs : List Place) (result : Result (Unit 
     → Walks old new (ps ++ qs) result
 walks_on old mid new ps qs (Ok x) a b earlier later e =
     let first : (mid ≡ seen_of (earlier ++ ps)) × (first_fault_from earlier (ps ++ (qs ++ later)) ≡ first_fault_from (earlier ++ ps) (qs ++ later)) =
-    a earlier (qs ++ later) e in
+    search in
     let second : (new ≡ seen_of ((earlier ++ ps) ++ qs))
     × (first_fault_from (earlier ++ ps) (qs ++ later) ≡ first_fault_from ((earlier ++ ps) ++ qs) later) = b (earlier ++ ps) later first.0 in
     (rw append_assoc at second.0, rw append_assoc (first.1 ∙ rw append_assoc at second.1))
-walks_on old mid new ps qs (Err fault) a b earlier later e =
-    let first : (mid ≡ seen_of (earlier ++ ps)) × (first_fault_from earlier (ps ++ (qs ++ later)) ≡ first_fault_from (earlier ++ ps) (qs ++ later)) =
-    a earlier (qs ++ later) e in
-    rw append_assoc (first.1 ∙ b (earlier ++ ps) later first.0)
+walks_on old mid new ps qs (Err fault) a b earlier later e = search (rules, append_assoc)
 
 -- a fault among the first places
 pub walks_fault_before : (old new : Seen) (ps qs : List Place) (fault : RuleFault) → Walks old new ps (Err fault) → Walks old new (ps ++ qs) (Err fault)
@@ -214,10 +198,7 @@ walks_fault_before old new ps qs fault a earlier later e = rw append_assoc (a ea
 -- the places of the tokens from the one at i on
 pub token_places-at : (party : Role) (message k : ℕ) (tokens : List Token) (i : ℕ) (d : Token) → i < length tokens
     → token_places party message k (drop i tokens) ≡ place party (does (get_or tokens i d)) message k ∷ token_places party message (k + 1) (drop (i + 1) tokens)
-token_places-at party message k tokens i d h =
-    let e : drop i tokens ≡ get_or tokens i d ∷ drop (i + 1) tokens = drop-cons tokens i d h
-    ∙ ap (λ (n : ℕ). get_or tokens i d ∷ drop n tokens) (sym (add-one i)) in
-    ap (λ (ts : List Token). token_places party message k ts) e
+token_places-at party message k tokens i d h = search (rules, drop-cons)
 
 -- the places of a message
 abbrev pub whole_message : Role → ℕ → List Token → List Place
@@ -226,12 +207,7 @@ whole_message party n tokens = token_places party n 0 tokens ++ place party payl
 -- the places of the messages from the one at i on
 pub message_places-at : (party : Role) (n : ℕ) (messages : List (List Token)) (i : ℕ) (m : List Token) → i < length messages → m ≡ get_or messages i m
     → message_places party n (drop i messages) ≡ whole_message party n m ++ message_places (other party) (n + 1) (drop (i + 1) messages)
-message_places-at party n messages i m h is =
-    let e : drop i messages ≡ get_or messages i m ∷ drop (i + 1) messages = drop-cons messages i m h
-    ∙ ap (λ (k : ℕ). get_or messages i m ∷ drop k messages) (sym (add-one i)) in
-    let f : drop i messages ≡ m ∷ drop (i + 1) messages = e ∙ ap (λ (x : List Token). x ∷ drop (i + 1) messages) (sym is) in
-    ap (λ (ms : List (List Token)). message_places party n ms) f
-    ∙ sym (append_assoc (token_places party n 0 m) (place party payload n (length m) ∷ []) (message_places (other party) (n + 1) (drop (i + 1) messages)))
+message_places-at party n messages i m h is = search (rules, drop-cons, append_assoc)
 
 no_more : (earlier : List Place) → first_fault_from earlier [] ≡ None
 unfolding first_fault_from
@@ -268,12 +244,9 @@ seen-more earlier done old new q e f = f ∙ ap (λ (s : Seen). with_place s q) 
 pub tokens-more : (party : Role) (message : ℕ) (tokens : List Token) (i : ℕ) (d : Token) (done all : List Place) → i < length tokens
     → done ++ token_places party message i (drop i tokens) ≡ all
     → (done ++ place party (does (get_or tokens i d)) message i ∷ []) ++ token_places party message (i + 1) (drop (i + 1) tokens) ≡ all
-tokens-more party message tokens i d done all h e =
-    append_assoc done (place party (does (get_or tokens i d)) message i ∷ []) (token_places party message (i + 1) (drop (i + 1) tokens))
-    ∙ ap (λ (ps : List Place). done ++ ps) (sym (token_places-at party message i tokens i d h)) ∙ e
+tokens-more party message tokens i d done all h e = search (rules, append_assoc, token_places-at)
 
 -- no token is left
 pub tokens-all : (party : Role) (message : ℕ) (tokens : List Token) (i : ℕ) (done all : List Place) → length tokens ≤ i
     → done ++ token_places party message i (drop i tokens) ≡ all → done ≡ all
-tokens-all party message tokens i done all h e =
-    sym (append-nil done) ∙ ap (λ (ts : List Token). done ++ token_places party message i ts) (sym (drop_all i tokens h)) ∙ e
+tokens-all party message tokens i done all h e = search (rules, drop_all)

@@ -1,28 +1,16 @@
 -- The first fault of a text, from what was judged of its lines.
-use Rattle.std.proofs.Common.{◌≡◌, ◌≢◌, ◌⊎◌, ◌↔◌, ℕ, ◌+◌, Bool, true, false, ◌&&◌, not, leb, eqb, List, [], ◌∷◌, ◌++◌, refl, ap, sym, ◌∙◌, cond}
-use Rattle.std.proofs.Common.{append_assoc, append-nil, length, arith, inl, inr, subst}
-use Rattle.std.specs.Prelude.{codes, IsTrue}
-use Rattle.std.specs.List.{list_all}
-use Rattle.std.proofs.lemmas.Bool.Decides.{nat_tests}
+use Rattle.std.proofs.Common.{rules, ◌≡◌, ◌≢◌, ◌⊎◌, ◌↔◌, ℕ, ◌+◌, Bool, true, false, ◌&&◌, not, leb, eqb, List, [], ◌∷◌, ◌++◌, refl, ap, sym, ◌∙◌, cond, append_assoc, append-nil, length, arith, inl, inr, subst}
+use Rattle.std.specs.Prelude.{IsTrue}
+use Rattle.noise_names.proofs.Common.{codes, list_all, nat_tests, TextFaultKind, Role, Initiator, Responder, Token, IsLineBefore, IsNextOf, IsWrong, Passed, Matches, passed_lines, Section, IsSection, section_bytes, line, message_lines, pre_line, pre_lines, words, BeginsRight, IsAfter, IsLike, IsTextFault, IsTextFaultAt, IsWrongLine, arrow_then, body_of, first_line, has_dots, heading_of, line_feeds, nil_from_length}
 use Rattle.noise_names.specs.declared.text.fault.Judged.{Judged}
 use Rattle.noise_names.specs.declared.faults.TextFault.{TextFault}
-use Rattle.noise_names.specs.declared.faults.TextFaultKind.{TextFaultKind}
-use Rattle.noise_names.specs.declared.faults.TextFaultKind.TheVariants as kinds
-use Rattle.noise_names.specs.declared.token.Role.{Role}
-use Rattle.noise_names.specs.declared.token.Role.TheVariants.{Initiator, Responder}
-use Rattle.noise_names.specs.declared.token.Token.{Token}
-use Rattle.noise_names.specs.Judging.{IsLineBefore, IsNextOf, IsWrong, Passed, Matches, passed_lines}
-use Rattle.noise_names.specs.Names.{Section, IsSection, section_bytes}
-use Rattle.noise_names.specs.Text.{line, message_lines, pre_line, pre_lines, words}
-use Rattle.noise_names.specs.WrongText.{BeginsRight, IsAfter, IsLike, IsTextFault, IsTextFaultAt, IsWrongLine}
-use Rattle.noise_names.specs.WrongText.{arrow_then, body_of, first_line, has_dots, heading_of, line_feeds}
-use Rattle.noise_names.proofs.Judging.{AreRight, after-lines, ahead-lines}
+use Rattle.noise_names.proofs.Judging.{AreRight, ahead-lines}
 use Rattle.noise_names.proofs.Lines.{dots-line, is_other, take-while-all}
 use Rattle.noise_names.proofs.RightTexts.{IsExtended, extended, whole}
 use Rattle.noise_names.proofs.Rows.{no_feed-row, tokens_of}
 use Rattle.noise_names.proofs.WrongLines.{excluded}
-use Rattle.std.proofs.lemmas.List.{nil_from_length}
 use Rattle.noise_names.specs.FaultLines.{feeds-append}
+use Rattle.noise_names.specs.declared.faults.TextFaultKind.TheVariants as kinds
 
 -- ---- lines before the line after the pre-messages
 
@@ -50,12 +38,7 @@ text_with s lines = line (heading_of s) ++ lines
 
 like-lines : (places lines body : List ℕ) (dotted : Bool) (s : Passed) (x : IsExtended places dotted s) → dotted ≡ has_dots lines → lines ≡ body
     → IsLike places body x.p
-like-lines places lines body dotted s x d e = record {
-  is_pattern = x.is_pattern;
-  own_name = x.own_name;
-  places_are = x.places_are;
-  pre_messages = subst (λ (b : Bool). pre_lines x.p.initiator x.p.responder ≢ [] ↔ IsTrue b) (d ∙ ap has_dots e) x.pre_messages;
-}
+like-lines places lines body dotted s x d e = search rules
 
 abbrev begins-so : (s : Section) (lines rest : List ℕ) (number : ℕ) (j : Judged) (passed : Passed) → IsSection s → (r : AreRight s.places lines rest number j)
     → (x : IsExtended s.places (has_dots lines) passed) → (more : List ℕ) × (body_of x.p ≡ passed_lines r.passed ++ more)
@@ -75,11 +58,7 @@ abbrev begins-right : (s : Section) (lines rest : List ℕ) (number : ℕ) (j : 
 begins-right s lines rest number j h r x = begins-so s lines rest number j r.passed h r x x.begun
 
 at-message : (places : List ℕ) (dotted : Bool) (s : Passed) (x : IsExtended places dotted s) → s.ahead ≡ false → IsAfter x.p s.messages (passed_lines s)
-at-message places dotted s x h =
-    let same = x.same h in
-    after-lines s h
-    ∙ ap (λ (i : List Token). pre_lines i s.responder ++ message_lines Initiator s.messages) (sym same.0)
-    ∙ ap (λ (r : List Token). pre_lines x.p.initiator r ++ message_lines Initiator s.messages) (sym same.1)
+at-message places dotted s x h = search rules
 
 -- ---- a wrong line
 
@@ -158,8 +137,7 @@ line-more places lines rest bytes after number j next r is whole n = record {
   passed = n.passed;
   matches = n.matches;
   are = n.are_right;
-  lines_are = r.lines_are ∙ ap (λ (y : List ℕ). passed_lines r.passed ++ y) whole ∙ sym (append_assoc (passed_lines r.passed) (line bytes) after)
-      ∙ ap (λ (y : List ℕ). y ++ after) (sym n.lines);
+  lines_are = search (rules, append_assoc);
   counted =
       let one : line_feeds (line bytes) ≡ 1 = feeds-append bytes (10 ∷ []) ∙ ap (λ (k : ℕ). k + 1)
       (feeds-none bytes (ap (list_all is_other) is ∙ take-while-all is_other rest)) in
@@ -287,15 +265,7 @@ right-start places lines j e =
     at b d = record {
       passed = record { ahead = b; initiator = []; responder = []; messages = [] };
       matches = record { ahead = refl; initiator = refl; responder = refl; messages = refl };
-      are = record {
-        initiator = refl;
-        responder = refl;
-        none = λ t. refl;
-        count = omega arith;
-        sizes = refl;
-        psks = tt;
-        form = subst (λ (c : Bool). IsTrue c ↔ (IsTrue b ⊎ (pre_lines [] [] ≢ []))) (sym d) (form b);
-      };
+      are = search rules;
       lines_are = ap (λ (y : List ℕ). y ++ lines) (sym (none b));
       counted = ap (λ (y : List ℕ). line_feeds y + 2) (sym (none b));
       ended = inl (none b);

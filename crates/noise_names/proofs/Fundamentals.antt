@@ -1,17 +1,10 @@
 -- The fundamental patterns are within the limits, and each is found by its base.
-use Rattle.std.proofs.Common.{◌≡◌, ℕ, ◌≤◌, ◌+◌, Bool, true, false, ◌&&◌, cond, List, [], ◌∷◌, ◌++◌, Option, Some, None, refl, map, ap, sym, subst, ◌∙◌, length}
-use Rattle.std.proofs.Common.{get_or, arith, append-nil, zero, suc}
-use Rattle.std.specs.Prelude.{find, nat_le, nat_eq, MatchOption, ⊤, slice_get, bytes_eq}
-use Rattle.std.specs.List.{list_all}
-use Rattle.noise_names.specs.declared.token.Token.{Token}
-use Rattle.noise_names.specs.Tokens.{own_tokens}
-use Rattle.noise_names.specs.Plan.{Plan, plain_of}
-use Rattle.noise_names.specs.Names.{is_base, are_places}
-use Rattle.noise_names.specs.Limits.{IsPattern, HavePsks, HavePsksAt, Placed, is_pre_message, has_few_tokens}
+use Rattle.std.proofs.Common.{rules, ◌≡◌, ℕ, ◌≤◌, ◌+◌, Bool, true, false, ◌&&◌, cond, List, [], ◌∷◌, ◌++◌, Option, Some, None, refl, map, ap, sym, subst, ◌∙◌, length, get_or, arith, append-nil, zero, suc}
+use Rattle.std.specs.Prelude.{nat_eq}
+use Rattle.noise_names.proofs.Common.{find, nat_le, MatchOption, ⊤, slice_get, bytes_eq, list_all, Token, own_tokens, Plan, plain_of, is_base, are_places, IsPattern, HavePsksAt, Placed, is_pre_message, has_few_tokens, IsValid, first_fault, and_parts, leb-true}
 use Rattle.noise_names.specs.Fundamental.{fundamentals, fundamental_of}
-use Rattle.noise_names.specs.Validity.{IsValid, first_fault, first_fault_from}
+use Rattle.noise_names.specs.Validity.{first_fault_from}
 use Rattle.noise_names.proofs.Checking.{none_valid}
-use Rattle.std.proofs.lemmas.Bool.{and_parts, leb-true}
 
 -- what is found has what all elements have
 found_all : {X : Type 0} (test keeps : X → Bool) (xs : List X) (x : X) → find test xs ≡ Some x → list_all keeps xs ≡ true → keeps x ≡ true
@@ -92,8 +85,7 @@ known_is_pattern base p found =
       responder = c.0;
       count = d.0;
       sizes = e.0;
-      psks = subst (λ (ns : List ℕ). HavePsks ns p.messages) no_places
-          (record { tokens = plain_messages 1 p.messages (ap (λ (q : Plan). q.messages) plain); in_range = refl });
+      psks = search (rules, plain_messages);
       known = subst (λ (o : Option Plan). MatchOption o ⊤ (λ f. plain_of p ≡ f)) (sym known) plain;
     }
 
@@ -106,29 +98,12 @@ known_is_valid base p found =
 -- one that is found by its base is itself with no psk tokens added
 pub known_is_placed : (base : List ℕ) (p : Plan) → fundamental_of base ≡ Some p → Placed p [] p
 unfolding fundamental_of
-known_is_placed base p found =
-    let plain : plain_of p ≡ p = found_map (λ q. bytes_eq q.base base) plain_of (λ q. q) fundamentals p found fundamentals_plain in
-    let no_places : p.places ≡ [] = sym (ap (λ (q : Plan). q.places) plain) in
-    record {
-      without = plain;
-      places_are = no_places;
-      psks = subst (λ (ns : List ℕ). HavePsks ns p.messages) no_places (known_is_pattern base p found).psks;
-    }
-
-each_short : (messages : List (List Token)) (i : ℕ) → list_all (λ tokens. nat_le (length tokens) 10) messages ≡ true → length (get_or messages i []) ≤ 10
-each_short [] i h = omega arith
-each_short (m ∷ ms) zero h = leb-true (length m) 10 (and_parts (nat_le (length m) 10) (list_all (λ tokens. nat_le (length tokens) 10) ms) h).0
-each_short (m ∷ ms) (suc i) h = each_short ms i (and_parts (nat_le (length m) 10) (list_all (λ tokens. nat_le (length tokens) 10) ms) h).1
+known_is_placed base p found = search rules
 
 -- its messages are short
 pub known_is_short : (base : List ℕ) (p : Plan) (i : ℕ) → fundamental_of base ≡ Some p → length (get_or p.messages i []) ≤ 10
 unfolding fundamental_of
-known_is_short base p i found =
-    let within : is_within p ≡ true = found_all (λ q. bytes_eq q.base base) is_within fundamentals p found fundamentals_within in
-    let b = and_parts (is_pre_message p.initiator) _ (and_parts (is_base p.base) _ within).1 in
-    let c = and_parts (is_pre_message p.responder) _ b.1 in
-    let e = and_parts (list_all has_few_tokens p.messages) _ (and_parts (nat_le 1 (length p.messages) && nat_le (length p.messages) 8) _ c.1).1 in
-    each_short p.messages i e.1
+known_is_short base p i found = search rules
 
 pub known_is_few : (base : List ℕ) (p : Plan) → fundamental_of base ≡ Some p → length p.messages ≤ 8
 known_is_few base p found =

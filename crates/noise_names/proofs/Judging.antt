@@ -1,22 +1,9 @@
 -- What is judged of one more line.
-use Rattle.std.proofs.Common.{◌≡◌, ◌≢◌, ◌⊎◌, ℕ, suc, zero, ◌+◌, ◌<◌, ◌%◌, Bool, true, false, ◌&&◌, leb, List, [], ◌∷◌, ◌++◌, refl, ap, sym, ◌∙◌, cond}
-use Rattle.std.proofs.Common.{add-one, append_assoc, append-nil, length, length-append, arith, inl, inr, subst, Result}
-use Rattle.std.specs.Prelude.{MatchResult}
-use Rattle.std.specs.List.{list_all}
-use Rattle.std.proofs.lemmas.List.Folds.{list_all-append}
+use Rattle.std.proofs.Common.{rules, ◌≡◌, ◌≢◌, ◌⊎◌, ℕ, suc, zero, ◌+◌, ◌<◌, ◌%◌, Bool, true, false, leb, List, [], ◌∷◌, ◌++◌, refl, ap, sym, ◌∙◌, add-one, append-nil, length, length-append, arith, inl, inr, subst, Result}
+use Rattle.noise_names.proofs.Common.{MatchResult, list_all-append, TextFaultKind, Role, Initiator, Responder, Token, IsNextOf, IsPassed, IsWrong, Passed, Matches, is_some, passed_lines, has_few_tokens, is_pre_message, with_psk_tokens, pre_line, words, other, own_tokens, turn_from, IsEnded, has_dots, line_feeds, arrow_then, dots, and_from, false_from_ne_true, le-leb}
 use Rattle.noise_names.specs.declared.text.fault.Judged.{Judged}
-use Rattle.noise_names.specs.declared.faults.TextFaultKind.{TextFaultKind}
-use Rattle.noise_names.specs.declared.faults.TextFaultKind.TheVariants as kinds
-use Rattle.noise_names.specs.declared.token.Role.{Role}
-use Rattle.noise_names.specs.declared.token.Role.TheVariants.{Initiator, Responder}
-use Rattle.noise_names.specs.declared.token.Token.{Token}
-use Rattle.noise_names.specs.Judging.{IsNextOf, IsPassed, IsWrong, Passed, Matches, is_some, passed_lines}
-use Rattle.noise_names.specs.Limits.{has_few_tokens, is_pre_message, with_psk_tokens}
-use Rattle.noise_names.specs.Text.{line, message_lines, pre_line, pre_lines, token_line, words}
-use Rattle.noise_names.specs.Tokens.{other, own_tokens, turn_from}
-use Rattle.noise_names.specs.WrongText.{IsEnded, has_dots, line_feeds, arrow_then, dots}
 use Rattle.noise_names.proofs.RightTexts.{have_psks-append, message_lines-append}
-use Rattle.std.proofs.lemmas.Bool.{and_from, false_from_ne_true, le-leb}
+use Rattle.noise_names.specs.declared.faults.TextFaultKind.TheVariants as kinds
 
 -- whose turn it is
 pub turns-even : (n : ℕ) → n % 2 ≡ 0 → (turn_from Initiator n ≡ Initiator) × (turn_from Responder n ≡ Responder)
@@ -46,31 +33,7 @@ is-some [] h = absurd (h refl)
 is-some (x ∷ xs) h = refl
 
 pub ahead-lines : (s : Passed) → s.ahead ≡ true → passed_lines s ≡ pre_line Initiator s.initiator ++ pre_line Responder s.responder
-ahead-lines s h =
-    ap (λ (b : Bool). cond b (pre_line Initiator s.initiator ++ pre_line Responder s.responder)
-    (pre_lines s.initiator s.responder ++ message_lines Initiator s.messages)) h
-
-pub after-lines : (s : Passed) → s.ahead ≡ false → passed_lines s ≡ pre_lines s.initiator s.responder ++ message_lines Initiator s.messages
-after-lines s h =
-    ap (λ (b : Bool). cond b (pre_line Initiator s.initiator ++ pre_line Responder s.responder)
-    (pre_lines s.initiator s.responder ++ message_lines Initiator s.messages)) h
-
-pre-some : (i r : List Token) → (i ≢ []) ⊎ (r ≢ []) → pre_lines i r ≡ (pre_line Initiator i ++ pre_line Responder r) ++ line dots
-pre-some [] [] (inl h) = absurd (h refl)
-pre-some [] [] (inr h) = absurd (h refl)
-pre-some [] (u ∷ us) h = refl
-pre-some (t ∷ ts) r h = refl
-
-pub pre-filled : (i r : List Token) → (i ≢ []) ⊎ (r ≢ []) → pre_lines i r ≢ []
-pre-filled i r h e =
-    let count : length (pre_lines i r) ≡ length (pre_line Initiator i ++ pre_line Responder r) + length (line dots) =
-    ap length (pre-some i r h) ∙ length-append (pre_line Initiator i ++ pre_line Responder r) (line dots) in
-    let none : length (pre_lines i r) ≡ 0 = ap length e in
-    absurd (omega arith)
-
-pre-line-some : (party : Role) (tokens : List Token) → tokens ≢ [] → pre_line party tokens ≡ token_line party tokens
-pre-line-some party [] h = absurd (h refl)
-pre-line-some party (t ∷ ts) h = refl
+ahead-lines s h = search
 
 -- what stands for those parts
 abbrev judged : Bool → Bool → Bool → ℕ → Judged
@@ -88,18 +51,8 @@ next-dots places s dotted j ahead begun st p =
     record {
       passed = record { ahead = false; initiator = s.initiator; responder = s.responder; messages = s.messages };
       matches = record { ahead = refl; initiator = st.initiator; responder = st.responder; messages = st.messages };
-      are_right = record {
-        initiator = p.initiator;
-        responder = p.responder;
-        none = λ e. absurd (cc);
-        count = p.count;
-        sizes = p.sizes;
-        psks = p.psks;
-        form = (λ d. inr (pre-filled s.initiator s.responder some), λ x. p.form.1 (inl is_ahead));
-      };
-      lines = ap (λ (ms : List (List Token)). pre_lines s.initiator s.responder ++ message_lines Initiator ms) (p.none is_ahead)
-          ∙ append-nil (pre_lines s.initiator s.responder) ∙ pre-some s.initiator s.responder some
-          ∙ ap (λ (x : List ℕ). x ++ line dots) (sym (ahead-lines s is_ahead));
+      are_right = search rules;
+      lines = search rules;
     }
 
 -- a pre-message of the initiator
@@ -116,18 +69,8 @@ next-first places s dotted tokens j ahead no_first no_second some pre st p =
     record {
       passed = next;
       matches = record { ahead = st.ahead; initiator = sym (is-some tokens some); responder = st.responder; messages = st.messages };
-      are_right = record {
-        initiator = pre;
-        responder = p.responder;
-        none = p.none;
-        count = p.count;
-        sizes = p.sizes;
-        psks = p.psks;
-        form = (λ d. inl is_ahead, λ x. p.form.1 (inl is_ahead));
-      };
-      lines = ahead-lines next is_ahead ∙ ap (λ (ts : List Token). pre_line Initiator tokens ++ pre_line Responder ts) second
-          ∙ append-nil (pre_line Initiator tokens) ∙ pre-line-some Initiator tokens some
-          ∙ ap (λ (x : List ℕ). x ++ token_line Initiator tokens) (sym before);
+      are_right = search rules;
+      lines = search rules;
     }
 
 -- a pre-message of the responder
@@ -143,17 +86,8 @@ next-second places s dotted tokens j ahead no_second some pre st p =
     record {
       passed = next;
       matches = record { ahead = st.ahead; initiator = st.initiator; responder = sym (is-some tokens some); messages = st.messages };
-      are_right = record {
-        initiator = p.initiator;
-        responder = pre;
-        none = p.none;
-        count = p.count;
-        sizes = p.sizes;
-        psks = p.psks;
-        form = (λ d. inl is_ahead, λ x. p.form.1 (inl is_ahead));
-      };
-      lines = ahead-lines next is_ahead ∙ ap (λ (x : List ℕ). pre_line Initiator s.initiator ++ x) (pre-line-some Responder tokens some)
-          ∙ ap (λ (x : List ℕ). x ++ token_line Responder tokens) (sym before);
+      are_right = search rules;
+      lines = search rules;
     }
 
 -- a message
@@ -172,23 +106,8 @@ next-message places s dotted tokens role j ahead turn less some few psks st p =
     record {
       passed = next;
       matches = record { ahead = st.ahead; initiator = st.initiator; responder = st.responder; messages = omega arith };
-      are_right = record {
-        initiator = p.initiator;
-        responder = p.responder;
-        none = λ e. absurd (let bad : true ≡ false = sym e ∙ is_behind in cc);
-        count = omega arith;
-        sizes = list_all-append has_few_tokens s.messages (tokens ∷ [])
-            ∙ and_from (list_all has_few_tokens s.messages) (has_few_tokens tokens && true) p.sizes (and_from (has_few_tokens tokens) true few refl);
-        psks = have_psks-append places 1 s.messages (tokens ∷ []) p.psks
-            (subst (λ (n : ℕ). tokens ≡ with_psk_tokens places n (own_tokens tokens)) number psks, tt);
-        form = p.form;
-      };
-      lines = after-lines next is_behind
-          ∙ ap (λ (x : List ℕ). pre_lines s.initiator s.responder ++ x) (message_lines-append Initiator s.messages (tokens ∷ [])
-          ∙ ap (λ (x : List ℕ). message_lines Initiator s.messages ++ x) (append-nil (token_line (turn_from Initiator (length s.messages)) tokens)
-          ∙ ap (λ (r : Role). token_line r tokens) here))
-          ∙ sym (append_assoc (pre_lines s.initiator s.responder) (message_lines Initiator s.messages) (token_line role tokens))
-          ∙ ap (λ (x : List ℕ). x ++ token_line role tokens) (sym (after-lines s is_behind));
+      are_right = search (rules, list_all-append, have_psks-append);
+      lines = search (rules, message_lines-append);
     }
 
 -- with the party of the line
@@ -223,8 +142,7 @@ arrow-line bytes list role tokens e f = ap (arrow_then role) (sym f) ∙ sym e
 pub judged-line : (places : List ℕ) (dotted : Bool) (s : Passed) (r : Result Judged TextFaultKind) (a b : List ℕ) → a ≡ b
     → MatchResult r (λ j. IsNextOf places dotted s a j) (λ kind. IsWrong places s a kind)
     → MatchResult r (λ j. IsNextOf places dotted s b j) (λ kind. IsWrong places s b kind)
-judged-line places dotted s r a b e h =
-    subst (λ (x : List ℕ). MatchResult r (λ j. IsNextOf places dotted s x j) (λ kind. IsWrong places s x kind)) e h
+judged-line places dotted s r a b e h = search rules
 
 -- ---- the lines after the heading, of which some were judged right
 pub record AreRight (places lines rest : List ℕ) (number : ℕ) (j : Judged) : Type 0 where

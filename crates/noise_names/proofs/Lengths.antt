@@ -1,14 +1,7 @@
 -- The overhead of a message, from what is kept of the places before it.
-use Rattle.std.proofs.Common.{◌≡◌, ℕ, ◌+◌, Bool, true, false, cond, ◌&&◌, ◌||◌, List, [], ◌∷◌, ◌++◌, refl, ap, sym, ◌∙◌, append_assoc, append-nil, arith}
-use Rattle.noise_names.specs.declared.token.Role.{Role}
-use Rattle.noise_names.specs.declared.token.Role.TheVariants.{Initiator, Responder}
-use Rattle.noise_names.specs.declared.token.Token.TheVariants.{E, S, Ee, Es, Se, Ss, Psk}
-use Rattle.noise_names.specs.declared.seen.Seen.{Seen}
-use Rattle.noise_names.specs.Tokens.{same_role}
-use Rattle.noise_names.specs.Plan.{Plan, Step, does, payload, transport, Place, has_psk}
-use Rattle.noise_names.specs.Validity.{is_at, is_among, occurs}
-use Rattle.noise_names.specs.Overhead.{has_key, added_len, overhead_from}
-use Rattle.noise_names.specs.Checking.{seen_of, key_by, added_by}
+use Rattle.std.proofs.Common.{rules, ◌≡◌, ℕ, ◌+◌, Bool, true, false, cond, ◌&&◌, ◌||◌, List, [], ◌∷◌, ◌++◌, refl, ap, append_assoc, append-nil, arith}
+use Rattle.noise_names.proofs.Common.{Role, Initiator, Responder, E, S, Ee, Es, Se, Ss, Psk, Seen, same_role, Plan, Step, does, payload, transport, Place, has_psk, is_among, occurs, has_key, added_len, overhead_from, key_by, added_by}
+use Rattle.noise_names.specs.Checking.{seen_of}
 
 by_party : (party : Role) (x a b : Bool) → x || (a || b) ≡ ((x && same_role party Initiator) || a) || ((x && same_role party Responder) || b)
 by_party Initiator true a b = refl
@@ -20,14 +13,11 @@ by_party Responder false a b = refl
 -- an e is of either party
 occurs-e : (places : List Place) → occurs E places ≡ is_among Initiator E places || is_among Responder E places
 occurs-e [] = refl
-occurs-e (p ∷ places) = ap (λ (b : Bool). is_at E p.step || b) (occurs-e places)
-    ∙ by_party p.party (is_at E p.step) (is_among Initiator E places) (is_among Responder E places)
+occurs-e (p ∷ places) = search (by_party, (occurs-e places))
 
 pub key_by-seen_of : (plan : Plan) (earlier : List Place) → key_by (seen_of earlier) (has_psk plan) ≡ has_key plan earlier
 unfolding seen_of
-key_by-seen_of plan earlier =
-    ap (λ (b : Bool). occurs Ee earlier || occurs Es earlier || occurs Se earlier || occurs Ss earlier || occurs Psk earlier || (has_psk plan && b))
-    (sym (occurs-e earlier))
+key_by-seen_of plan earlier = search occurs-e
 
 -- what is kept reports what a place adds
 pub added_by-seen_of : (plan : Plan) (earlier : List Place) (step : Step) → added_by (seen_of earlier) (has_psk plan) step ≡ added_len plan earlier step
@@ -48,9 +38,8 @@ overhead_from-append plan earlier [] qs = rw (append-nil earlier) (omega arith)
 overhead_from-append plan earlier (p ∷ ps) qs =
     let next : List Place = earlier ++ p ∷ [] in
     let more : overhead_from plan next (ps ++ qs) ≡ overhead_from plan next ps + overhead_from plan (next ++ ps) qs =
-    overhead_from-append plan next ps qs in
-    let same : overhead_from plan (next ++ ps) qs ≡ overhead_from plan (earlier ++ p ∷ ps) qs =
-    ap (λ (es : List Place). overhead_from plan es qs) (append_assoc earlier (p ∷ []) ps) in
+    search ((overhead_from-append plan next ps qs)) in
+    let same : overhead_from plan (next ++ ps) qs ≡ overhead_from plan (earlier ++ p ∷ ps) qs = search append_assoc in
     joined (added_len plan earlier p.step) _ _ _ _ more same where
       joined : (here a b c d : ℕ) → a ≡ b + c → c ≡ d → here + a ≡ (here + b) + d
       joined here a b c d e f = omega arith
@@ -59,9 +48,4 @@ overhead_from-append plan earlier (p ∷ ps) qs =
 pub sum-more : (plan : Plan) (earlier done : List Place) (seen : Seen) (psk : Bool) (p : Place) (sum more : ℕ) →
     seen ≡ seen_of (earlier ++ done) → psk ≡ has_psk plan → sum ≡ overhead_from plan earlier done → more ≡ added_by seen psk p.step →
     sum + more ≡ overhead_from plan earlier (done ++ p ∷ [])
-sum-more plan earlier done seen psk p sum more e f g h =
-    let one : more ≡ overhead_from plan (earlier ++ done) (p ∷ []) =
-    h ∙ ap (λ (s : Seen). added_by s psk p.step) e ∙ ap (λ (b : Bool). added_by (seen_of (earlier ++ done)) b p.step) f
-    ∙ added_by-seen_of plan (earlier ++ done) p.step ∙ omega arith in
-    ap (λ (k : ℕ). k + more) g ∙ ap (λ (k : ℕ). overhead_from plan earlier done + k) one
-    ∙ sym (overhead_from-append plan earlier done (p ∷ []))
+sum-more plan earlier done seen psk p sum more e f g h = search (rules, added_by-seen_of, overhead_from-append)

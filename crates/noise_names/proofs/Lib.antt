@@ -1,3 +1,4 @@
+pub mod Common
 pub mod Checking
 pub mod DotsLine
 pub mod FirstFaults

@@ -1,18 +1,9 @@
 -- The first line of a text, and the lines that end the pre-messages.
-use Rattle.std.proofs.Common.{◌≡◌, ◌≢◌, ℕ, ◌<◌, Bool, true, false, not, ◌||◌, cond, eqb, List, [], ◌∷◌, ◌++◌, refl, ap, sym, ◌∙◌, append_assoc, append-nil}
-use Rattle.std.proofs.Common.{length, length-append, arith, take, drop, take-append-drop, take_while, subst, ◌&&◌, All}
+use Rattle.std.proofs.Common.{rules, ◌≡◌, ◌≢◌, ℕ, ◌<◌, Bool, true, false, not, ◌||◌, cond, eqb, List, [], ◌∷◌, ◌++◌, refl, ap, sym, ◌∙◌, append_assoc, append-nil, length, length-append, arith, take, drop, take-append-drop, take_while, subst, ◌&&◌, All}
 use Rattle.std.proofs.lemmas.List.Elements.{All-nil, All-cons}
-use Rattle.std.specs.Prelude.{bytes_eq}
-use Rattle.std.specs.List.{list_all, list_any}
-use Rattle.std.proofs.lemmas.Bool.Decides.{nat_tests}
 use Rattle.std.proofs.lemmas.List.Sums.{take_while-cons}
+use Rattle.noise_names.proofs.Common.{bytes_eq, list_all, slice_split_none, slice_split_at, IsLineBefore, line, first_line, dots, has_dots, append_cancel_left, nil_from_length, or-false}
 use Rattle.noise_names.proofs.Sections.{front_is, take-front}
-use Rattle.std.proofs.lemmas.List.Splits.{slice_split_none, slice_split_at}
-use Rattle.noise_names.specs.Judging.{IsLineBefore}
-use Rattle.noise_names.specs.Text.{line}
-use Rattle.noise_names.specs.WrongText.{first_line, dots, has_dots}
-use Rattle.std.proofs.lemmas.List.{append_cancel_left, nil_from_length}
-use Rattle.noise_names.specs.Tests.{or-false}
 
 abbrev pub is_other : ℕ → Bool
 is_other b = not (eqb b 10)
@@ -48,20 +39,12 @@ drop-while p (x ∷ xs) y ys e =
     at true h f more = more f
     at false h f more = let same : x ≡ y = cc in ap p (sym same) ∙ h
 
-pub feed-is : (b : ℕ) → not (eqb b 10) ≡ false → b ≡ 10
-feed-is b h = grind (arith, nat_tests)
-
 pub line-bytes : (text bytes : List ℕ) (n : ℕ) → n ≡ length (first_line text) → bytes ≡ take n text → bytes ≡ first_line text
 line-bytes text bytes n count front = front ∙ ap (λ (k : ℕ). take k text) count ∙ take-front is_other text
 
 pub line-ended : (text bytes back after : List ℕ) (b n : ℕ) → n ≡ length (first_line text) → bytes ≡ take n text → back ≡ drop n text → back ≡ b ∷ after
     → text ≡ line bytes ++ after
-line-ended text bytes back after b n count front rest cut =
-    let here : drop (length (first_line text)) text ≡ b ∷ after = ap (λ (k : ℕ). drop k text) (sym count) ∙ sym rest ∙ cut in
-    let feed : b ≡ 10 = feed-is b (drop-while is_other text b after here) in
-    let parts : take n text ++ drop n text ≡ bytes ++ 10 ∷ after =
-    ap (λ (x : List ℕ). x ++ drop n text) (sym front) ∙ ap (λ (x : List ℕ). bytes ++ x) (sym rest ∙ cut ∙ ap (λ (k : ℕ). k ∷ after) feed) in
-    sym (take-append-drop n text) ∙ parts ∙ sym (append_assoc bytes (10 ∷ []) after)
+line-ended text bytes back after b n count front rest cut = search (rules, drop-while, take-append-drop, append_assoc)
 
 pub line-cut : (text bytes back : List ℕ) (n : ℕ) → n ≡ length (first_line text) → bytes ≡ take n text → back ≡ drop n text → length back ≡ 0
     → (text ≡ bytes) × (back ≡ [])
@@ -81,13 +64,10 @@ none_feeds (b ∷ bs) h = at (eqb b 10) refl h (none_feeds bs) where
   at false e k more = All-cons (λ x. eqb x 10 ≡ false) b bs e (more k)
 
 pub dots-line : (bytes after : List ℕ) → no_feed bytes ≡ true → has_dots (line bytes ++ after) ≡ bytes_eq bytes dots || has_dots after
-dots-line bytes after h =
-    ap has_dots (append_assoc bytes (10 ∷ []) after)
-    ∙ ap (list_any (λ words. bytes_eq words dots)) (slice_split_at (λ b. eqb b 10) bytes 10 after (none_feeds bytes h) refl)
+dots-line bytes after h = search (append_assoc, slice_split_at, none_feeds)
 
 pub dots-last : (bytes : List ℕ) → no_feed bytes ≡ true → has_dots bytes ≡ bytes_eq bytes dots
-dots-last bytes h =
-    ap (list_any (λ words. bytes_eq words dots)) (slice_split_none (λ b. eqb b 10) bytes (none_feeds bytes h)) ∙ or-false (bytes_eq bytes dots)
+dots-last bytes h = search (rules, slice_split_none, none_feeds)
 
 -- what a first line adds
 pub dots-first : (text bytes after : List ℕ) (ended : Bool) → bytes ≡ first_line text → IsLineBefore text bytes ended after

@@ -1,16 +1,7 @@
 -- The modifiers of a pattern section: what spells them, and that nothing else does.
-use Rattle.std.proofs.Common.{◌≡◌, ℕ, ◌+◌, ◌-◌, ◌<◌, ◌≤◌, Bool, true, false, ◌&&◌, not, cond, eqb, leb, ltb, List, [], ◌∷◌, ◌++◌, Ok, Err, refl, ap, sym, ◌∙◌}
-use Rattle.std.proofs.Common.{map, length, arith}
-use Rattle.std.specs.Prelude.{codes}
-use Rattle.std.specs.List.{list_all, join_with_byte, slice_split, starts_with}
-use Rattle.std.proofs.lemmas.Bool.Decides.{nat_tests}
-use Rattle.std.proofs.lemmas.List.Splits.{join_with_byte-slice_split}
-use Rattle.noise_names.specs.declared.faults.NameFault.TheVariants.{ModifierOrder}
-use Rattle.noise_names.specs.Names.{modifier, pieces_of, is_modifier, digit_of, rises, are_places}
+use Rattle.std.proofs.Common.{rules, ◌≡◌, ℕ, ◌+◌, ◌-◌, ◌<◌, ◌≤◌, Bool, true, false, ◌&&◌, not, cond, eqb, leb, ltb, List, [], ◌∷◌, ◌++◌, Ok, Err, refl, ap, sym, ◌∙◌, map, length, arith}
+use Rattle.noise_names.proofs.Common.{list_all, join_with_byte, slice_split, nat_tests, join_with_byte-slice_split, ModifierOrder, modifier, pieces_of, is_modifier, digit_of, rises, are_places, number_in, modifiers_read, and_from, and_parts, leb-true, eqb-true, le-leb, cons-same}
 use Rattle.noise_names.proofs.Numbers.{places_from-few, are_places-from}
-use Rattle.noise_names.specs.Sections.{number_in, modifiers_read}
-use Rattle.std.proofs.lemmas.Bool.{and_from, and_parts, leb-true, eqb-true, le-leb}
-use Rattle.noise_names.specs.Lists.{cons-same}
 
 -- these numbers have a digit
 abbrev pub are_numbers : List ℕ → Bool
@@ -67,13 +58,7 @@ modifier_is (a ∷ b ∷ c ∷ d ∷ []) h =
     let at_most : d ≤ 56 = leb-true d 56 last.1 in
     let d_is : d ≡ 48 + (d - 48) = omega arith in
     (rw (← p_is, ← s_is, ← k_is) (ap (λ (n : ℕ). 112 ∷ 115 ∷ 107 ∷ n ∷ []) d_is), omega arith)
-modifier_is piece h =
-    let four : length piece ≡ 4 =
-    eqb-true (length piece) 4
-    (and_parts (starts_with eqb piece (codes "psk")) (eqb (length piece) 4)
-    (and_parts (starts_with eqb piece (codes "psk") && eqb (length piece) 4) (leb 48 (digit_of piece))
-    (and_parts (starts_with eqb piece (codes "psk") && eqb (length piece) 4 && leb 48 (digit_of piece)) (leb (digit_of piece) 56) h).0).0).1 in
-    absurd (omega arith)
+modifier_is piece h = search rules
 
 not_plus : (n : ℕ) → n ≤ 8 → eqb (48 + n) 43 ≡ false
 not_plus n h = grind (arith, nat_tests)
@@ -81,8 +66,7 @@ not_plus n h = grind (arith, nat_tests)
 -- the pieces of modifiers
 split_modifiers : (n : ℕ) (ns : List ℕ) → are_numbers (n ∷ ns) ≡ true
     → slice_split (λ c. eqb c 43) (join_with_byte 43 (map modifier (n ∷ ns))) ≡ map modifier (n ∷ ns)
-split_modifiers n [] h =
-    let e : eqb (48 + n) 43 ≡ false = not_plus n (leb-true n 8 (and_parts (leb n 8) true h).0) in rw e refl
+split_modifiers n [] h = search rules
 split_modifiers n (m ∷ ns) h =
     let a : (leb n 8 ≡ true) × (are_numbers (m ∷ ns) ≡ true) = and_parts (leb n 8) (are_numbers (m ∷ ns)) h in
     let e : eqb (48 + n) 43 ≡ false = not_plus n (leb-true n 8 a.0) in
@@ -160,8 +144,7 @@ if_not false x y = refl
 
 pub modifiers_read-all : (ns : List ℕ) → are_numbers ns ≡ true
     → modifiers_read (join_with_byte 43 (map modifier ns)) ≡ cond (are_places ns) (Ok ns) (Err ModifierOrder)
-modifiers_read-all ns h =
-    rw (pieces_of-modifiers ns h, are_modifiers ns h, digits_rise ns, same_numbers ns, places_rise ns h) (if_not (rises ns) (Err ModifierOrder) (Ok ns))
+modifiers_read-all ns h = search (pieces_of-modifiers, are_modifiers, digits_rise, same_numbers, places_rise, if_not)
 
 pub too_many_places : (ns : List ℕ) → 9 < length ns → are_places ns ≡ false
 too_many_places ns h = at (are_places ns) refl where

@@ -1,19 +1,8 @@
 -- The next line of a pattern's text after right lines.
-use Rattle.std.proofs.Common.{◌≡◌, ◌≢◌, ◌⊎◌, ℕ, Bool, true, false, List, [], ◌∷◌, ◌++◌, refl, ap, sym, ◌∙◌, append_assoc, length, inl, inr, ◌↔◌}
-use Rattle.std.proofs.Common.{IsTrue}
-use Rattle.noise_names.specs.declared.token.Role.{Role}
-use Rattle.noise_names.specs.declared.token.Role.TheVariants.{Initiator, Responder}
-use Rattle.noise_names.specs.declared.token.Token.{Token}
-use Rattle.noise_names.specs.Judging.{IsPassed, Passed, passed_lines}
-use Rattle.noise_names.specs.Limits.{IsPattern, is_pre_message}
-use Rattle.noise_names.specs.Plan.{Plan}
-use Rattle.noise_names.specs.Text.{line, pre_lines}
-use Rattle.noise_names.specs.Tokens.{other, turn_from}
-use Rattle.noise_names.specs.WrongText.{body_of}
-use Rattle.noise_names.proofs.Rows.{IsNextRow, Row, content, ending, is_row, lines_of}
-use Rattle.noise_names.proofs.Rows.{next_row, tokens_of}
-use Rattle.noise_names.specs.Lists.{cons-same}
-use Rattle.noise_names.proofs.PatternRows.{pre_same, all_lines, all_right, all_rows, first_lines, first_right, first_rows, message_rows, pre_rows}
+use Rattle.std.proofs.Common.{rules, ◌≡◌, ◌≢◌, ◌⊎◌, ℕ, Bool, true, false, List, [], ◌∷◌, ◌++◌, refl, ap, sym, ◌∙◌, length, inl, inr, ◌↔◌, IsTrue}
+use Rattle.noise_names.proofs.Common.{Role, Initiator, Token, IsPassed, Passed, passed_lines, IsPattern, is_pre_message, Plan, line, pre_lines, other, turn_from, body_of, cons-same}
+use Rattle.noise_names.proofs.Rows.{IsNextRow, Row, content, ending, is_row, lines_of, next_row, tokens_of}
+use Rattle.noise_names.proofs.PatternRows.{all_lines, all_right, all_rows, first_lines, first_right, first_rows, message_rows}
 use Rattle.noise_names.proofs.Lines.{no_feed}
 
 -- the row after those of some messages is the next message
@@ -46,22 +35,6 @@ IsNextPre i r row =
     ((row ≡ ending) × (i ≡ [] → r ≡ [] → ⊥))
     ⊎ ((party : Role) × (tokens : List Token) × (row ≡ tokens_of party tokens) × (is_pre_message tokens ≡ true) × (r ≡ []) × (party ≡ Initiator → i ≡ []))
 
-next_pre : (i r j s : List Token) (rest more : List Row) (row : Row) → is_pre_message j ≡ true → is_pre_message s ≡ true → pre_lines j s ≢ []
-    → pre_rows j s ++ rest ≡ first_rows i r ++ row ∷ more → IsNextPre i r row
-next_pre i r [] [] rest more row pj ps some e = absurd (some refl)
-next_pre [] [] [] (v ∷ vs) rest more row pj ps some e = inr (Responder, v ∷ vs, cc, ps, refl, λ f. refl)
-next_pre [] [] (u ∷ us) [] rest more row pj ps some e = inr (Initiator, u ∷ us, cc, pj, refl, λ f. refl)
-next_pre [] [] (u ∷ us) (v ∷ vs) rest more row pj ps some e = inr (Initiator, u ∷ us, cc, pj, refl, λ f. refl)
-next_pre [] (t ∷ ts) [] (v ∷ vs) rest more row pj ps some e = inl (cc, λ f g. cc)
-next_pre [] (t ∷ ts) (u ∷ us) [] rest more row pj ps some e = absurd (cc)
-next_pre [] (t ∷ ts) (u ∷ us) (v ∷ vs) rest more row pj ps some e = absurd (cc)
-next_pre (t ∷ ts) [] [] (v ∷ vs) rest more row pj ps some e = absurd (cc)
-next_pre (t ∷ ts) [] (u ∷ us) [] rest more row pj ps some e = inl (cc, λ f g. cc)
-next_pre (t ∷ ts) [] (u ∷ us) (v ∷ vs) rest more row pj ps some e = inr (Responder, v ∷ vs, cc, ps, refl, λ f. absurd (cc))
-next_pre (t ∷ ts) (x ∷ r) [] (v ∷ vs) rest more row pj ps some e = absurd (cc)
-next_pre (t ∷ ts) (x ∷ r) (u ∷ us) [] rest more row pj ps some e = absurd (cc)
-next_pre (t ∷ ts) (x ∷ r) (u ∷ us) (v ∷ vs) rest more row pj ps some e = inl (cc, λ f g. cc)
-
 -- the next line of a right text after right lines
 pub record IsNextLine (s : Passed) (q : Plan) (reported : List ℕ) : Type 0 where
   pub row : Row
@@ -85,16 +58,11 @@ at_messages places dotted s reported rest q b none_ahead =
     let before : List Row = all_rows s.initiator s.responder s.messages in
     let rows : List Row = all_rows q.initiator q.responder q.messages in
     let lines : passed_lines s ≡ lines_of before = rw none_ahead (sym (all_lines s.initiator s.responder s.messages)) in
-    let begun : lines_of rows ≡ lines_of before ++ (line reported ++ rest) =
-    all_lines q.initiator q.responder q.messages ∙ b.begins ∙ ap (λ (text : List ℕ). text ++ (line reported ++ rest)) lines in
-    let next : IsNextRow reported before rows =
-    next_row reported rest b.feedless before rows (all_right s.initiator s.responder s.messages b.passed.sizes)
-    (all_right q.initiator q.responder q.messages b.right.sizes) begun in
+    let begun : lines_of rows ≡ lines_of before ++ (line reported ++ rest) = search (rules, all_lines) in
+    let next : IsNextRow reported before rows = search (next_row, all_right) in
     let there : pre_lines s.initiator s.responder ≢ [] → pre_lines q.initiator q.responder ≢ [] = λ f. b.form.1 (b.passed.form.1 (inr f)) in
     let back : pre_lines q.initiator q.responder ≢ [] → pre_lines s.initiator s.responder ≢ [] = λ f. not_ahead (b.passed.form.0 (b.form.0 f)) in
-    let messages : message_rows Initiator q.messages ≡ message_rows Initiator s.messages ++ next.row ∷ next.more =
-    (pre_same q.initiator q.responder s.initiator s.responder (message_rows Initiator q.messages) (message_rows Initiator s.messages ++ next.row ∷ next.more)
-    back there (next.rows_are ∙ append_assoc (pre_rows s.initiator s.responder) (message_rows Initiator s.messages) (next.row ∷ next.more))).2 in
+    let messages : message_rows Initiator q.messages ≡ message_rows Initiator s.messages ++ next.row ∷ next.more = search rules in
     record {
       row = next.row;
       right = next.right;
@@ -115,15 +83,13 @@ at_pre_messages places dotted s reported rest q b ahead =
     let lines : passed_lines s ≡ lines_of before = rw ahead (sym (first_lines s.initiator s.responder)) in
     let begun : lines_of rows ≡ lines_of before ++ (line reported ++ rest) =
     all_lines q.initiator q.responder q.messages ∙ b.begins ∙ ap (λ (text : List ℕ). text ++ (line reported ++ rest)) lines in
-    let next : IsNextRow reported before rows =
-    next_row reported rest b.feedless before rows (first_right s.initiator s.responder) (all_right q.initiator q.responder q.messages b.right.sizes) begun in
+    let next : IsNextRow reported before rows = search (next_row, first_right, all_right) in
     record {
       row = next.row;
       right = next.right;
       reported_is = next.reported_is;
       message = λ f. absurd (let bad : false ≡ true = sym f ∙ ahead in cc);
-      pre_message = λ f. next_pre s.initiator s.responder q.initiator q.responder (message_rows Initiator q.messages) next.more next.row b.right.initiator
-          b.right.responder (b.form.1 (b.passed.form.1 (inl ahead))) next.rows_are;
+      pre_message = search rules;
     }
 
 pub next_line : (places : List ℕ) (dotted : Bool) (s : Passed) (reported rest : List ℕ) (q : Plan) → IsBegun places dotted s reported rest q → IsNextLine s q reported

@@ -1,9 +1,6 @@
 -- Two faults of one text are after the same right lines.
 use Rattle.std.proofs.Common.{◌≡◌, ◌≢◌, ◌⊎◌, inl, inr, ℕ, List, [], ◌∷◌, ◌++◌, refl, ap, sym, ◌∙◌, subst}
-use Rattle.std.proofs.lemmas.List.{same_from_push}
-use Rattle.noise_names.specs.Names.{IsSection, Section, section_bytes}
-use Rattle.noise_names.specs.Text.{line}
-use Rattle.noise_names.specs.WrongText.{BeginsRight, IsAfter, IsCutShort, IsEnded, IsLike, IsWrongLine, body_of, first_line, heading_of}
+use Rattle.noise_names.proofs.Common.{same_from_push, IsSection, Section, section_bytes, line, BeginsRight, IsAfter, IsCutShort, IsEnded, IsLike, IsWrongLine, body_of, first_line, heading_of}
 use Rattle.noise_names.proofs.OneText.{heading_all}
 use Rattle.noise_names.proofs.Sections.{one_section}
 use Rattle.noise_names.proofs.WholeLines.{IsBefore, IsFurther, compare, next_of, no_further, same_division}

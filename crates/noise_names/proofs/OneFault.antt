@@ -1,19 +1,8 @@
 -- A text has one fault at most.
-use Rattle.std.proofs.Common.{◌≡◌, ◌≢◌, ◌↔◌, ◌⊎◌, inl, inr, ℕ, ◌+◌, true, false, not, eqb, leb, List, [], ◌∷◌, ◌++◌, refl, ap, sym, ◌∙◌, subst}
-use Rattle.std.proofs.Common.{append_assoc, append-nil, length}
+use Rattle.std.proofs.Common.{rules, ◌≡◌, ◌≢◌, ◌↔◌, ◌⊎◌, inl, inr, ℕ, ◌+◌, true, false, not, eqb, leb, List, [], ◌∷◌, ◌++◌, refl, ap, sym, ◌∙◌, subst, append_assoc, append-nil, length}
 use Rattle.std.specs.Prelude.{◌&&◌, IsTrue}
-use Rattle.std.specs.List.{list_all}
+use Rattle.noise_names.proofs.Common.{list_all, TextFaultKind, Token, IsPattern, Section, Plan, line, pre_lines, BeginsRight, EndsInHeading, HasNoHeading, HasPlaceBeyond, HasTakenName, IsCutShort, IsEnded, IsTextFault, IsTextFaultAt, IsWrongLine, body_of, has_dots, line_feeds, and-false}
 use Rattle.noise_names.specs.declared.faults.TextFault.{TextFault}
-use Rattle.noise_names.specs.declared.faults.TextFaultKind.{TextFaultKind}
-use Rattle.noise_names.specs.declared.faults.TextFaultKind.TheVariants as kinds
-use Rattle.noise_names.specs.declared.token.Role.TheVariants.{Initiator}
-use Rattle.noise_names.specs.declared.token.Token.{Token}
-use Rattle.noise_names.specs.Limits.{IsPattern}
-use Rattle.noise_names.specs.Names.{Section}
-use Rattle.noise_names.specs.Plan.{Plan}
-use Rattle.noise_names.specs.Text.{line, message_lines, pre_lines}
-use Rattle.noise_names.specs.WrongText.{BeginsRight, EndsInHeading, HasNoHeading, HasPlaceBeyond, HasTakenName, IsCutShort, IsEnded, IsTextFault}
-use Rattle.noise_names.specs.WrongText.{IsTextFaultAt, IsWrongLine, body_of, has_dots, heading_of, line_feeds}
 use Rattle.noise_names.proofs.DotsLine.{dots_form}
 use Rattle.noise_names.proofs.OneDivision.{cut_cut, cut_whole, same_body, wrong_cut, wrong_lines, wrong_whole}
 use Rattle.noise_names.proofs.OneText.{heading_all}
@@ -21,7 +10,7 @@ use Rattle.noise_names.proofs.Rows.{Row, content, lines_of}
 use Rattle.noise_names.proofs.WrongKinds.{IsWrongKind, after_same, one_kind}
 use Rattle.noise_names.proofs.PatternRows.{all_lines, all_rows}
 use Rattle.noise_names.proofs.Lines.{no_feed}
-use Rattle.noise_names.specs.Tests.{and-false}
+use Rattle.noise_names.specs.declared.faults.TextFaultKind.TheVariants as kinds
 
 -- ---- a text of a taken name has right lines
 
@@ -41,9 +30,7 @@ taken_begins : {text : List ℕ} (t : HasTakenName text) → BeginsRight text (b
 taken_begins (p, base, h, own, is_base, e) = record {
   heading = heading;
   is_section = record { base = is_base; places = h.places };
-  text_is = e
-      ∙ append_assoc (line (heading_of heading)) (pre_lines p.initiator p.responder) (message_lines Initiator p.messages)
-      ∙ ap (λ (v : List ℕ). line (heading_of heading) ++ v) (sym whole);
+  text_is = search (rules, append_assoc);
   ended = ended_body p;
   p = p;
   like = record {
@@ -168,8 +155,7 @@ end_later text n k (s, h, e) later =
     let begins = later_begins text n k later in
     let it : BeginsRight text begins.0 begins.1 = begins.2 in
     let none : no_feed text ≡ true = ap (λ (v : List ℕ). no_feed v) e ∙ heading_all s h in
-    let some : no_feed text ≡ false =
-    ap (λ (v : List ℕ). no_feed v) it.text_is ∙ has_feed (heading_of it.heading) (begins.0 ++ begins.1) in
+    let some : no_feed text ≡ false = search (rules, has_feed) in
     let bad : true ≡ false = sym none ∙ some in
     cc
 

@@ -1,17 +1,6 @@
 -- No text spells two patterns.
-use Rattle.std.proofs.Common.{◌≡◌, ℕ, true, ◌++◌, refl, ap, sym, ◌∙◌, append_assoc}
-use Rattle.std.proofs.Common.{arith}
-use Rattle.std.specs.Prelude.{codes}
-use Rattle.std.proofs.lemmas.Bool.Decides.{nat_tests}
-use Rattle.std.proofs.lemmas.List.{same_from_push}
-use Rattle.std.proofs.lemmas.List.Folds.{list_all-append}
-use Rattle.noise_names.specs.declared.token.Role.TheVariants.{Initiator}
-use Rattle.noise_names.specs.Facts.{section_bytes-all}
-use Rattle.noise_names.specs.Limits.{IsPattern}
-use Rattle.noise_names.specs.Names.{is_section_byte, Section, IsSection, section_bytes}
-use Rattle.noise_names.specs.Plan.{Plan}
-use Rattle.noise_names.specs.Text.{line, message_lines, pre_lines, text_of}
-use Rattle.noise_names.specs.WrongText.{body_of, heading_of}
+use Rattle.std.proofs.Common.{rules, ◌≡◌, ℕ, true, ◌++◌, refl, ap, ◌∙◌, append_assoc, arith}
+use Rattle.noise_names.proofs.Common.{codes, nat_tests, same_from_push, list_all-append, section_bytes-all, IsPattern, is_section_byte, Section, IsSection, section_bytes, Plan, line, text_of, body_of, heading_of}
 use Rattle.noise_names.proofs.Lines.{first_same, is_other, no_feed}
 use Rattle.noise_names.proofs.PatternRows.{lines_same}
 use Rattle.noise_names.proofs.Reading.{plan-same}
@@ -32,9 +21,7 @@ one_text p q h k e =
     let t : Section = record { base = q.base; places = q.places } in
     let hs : IsSection s = record { base = h.base; places = h.places } in
     let kt : IsSection t = record { base = k.base; places = k.places } in
-    let cut : line (heading_of s) ++ body_of p ≡ line (heading_of t) ++ body_of q =
-    sym (append_assoc (line (heading_of s)) (pre_lines p.initiator p.responder) (message_lines Initiator p.messages)) ∙ e
-    ∙ append_assoc (line (heading_of t)) (pre_lines q.initiator q.responder) (message_lines Initiator q.messages) in
+    let cut : line (heading_of s) ++ body_of p ≡ line (heading_of t) ++ body_of q = search (rules, append_assoc) in
     let parts = first_same (heading_of s) (heading_of t) (body_of p) (body_of q) (heading_all s hs) (heading_all t kt) cut in
     let sections : s ≡ t = one_section s t hs kt (same_from_push (section_bytes p.base p.places) (section_bytes q.base q.places) 58 58 parts.0).0 in
     let rest = lines_same p.initiator p.responder q.initiator q.responder p.messages q.messages h.sizes k.sizes parts.1 in

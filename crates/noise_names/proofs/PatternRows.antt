@@ -1,18 +1,7 @@
 -- The rows of a pattern, which has those of its pre-messages, the line after them, and its messages.
-use Rattle.std.proofs.Common.{◌≡◌, ◌≢◌, ℕ, Bool, true, false, List, [], ◌∷◌, ◌++◌, refl, ap, sym, ◌∙◌, append_assoc, append-nil}
-use Rattle.std.specs.List.{list_all, list_any}
-use Rattle.std.proofs.lemmas.Bool.{and_parts}
-use Rattle.std.proofs.lemmas.List.Folds.{list_all-append, list_any-append}
-use Rattle.noise_names.specs.declared.token.Role.{Role}
-use Rattle.noise_names.specs.declared.token.Role.TheVariants.{Initiator, Responder}
-use Rattle.noise_names.specs.declared.token.Token.{Token}
-use Rattle.noise_names.specs.Limits.{has_few_tokens}
-use Rattle.noise_names.specs.Lists.{cons-same}
-use Rattle.noise_names.specs.Text.{line, message_lines, pre_line, pre_lines, token_line}
-use Rattle.noise_names.specs.Tokens.{other}
-use Rattle.noise_names.specs.WrongText.{dots}
-use Rattle.noise_names.proofs.Rows.{Row, content, ending, is_row, lines_of, rows_same, tokens_of}
-use Rattle.noise_names.specs.Tests.{or-false}
+use Rattle.std.proofs.Common.{rules, ◌≡◌, ◌≢◌, ℕ, Bool, true, false, List, [], ◌∷◌, ◌++◌, refl, ap, sym, ◌∙◌, append_assoc, append-nil}
+use Rattle.noise_names.proofs.Common.{list_all, list_any, and_parts, list_all-append, Role, Initiator, Responder, Token, has_few_tokens, cons-same, line, message_lines, pre_line, pre_lines, token_line, other, dots}
+use Rattle.noise_names.proofs.Rows.{Row, ending, is_row, lines_of, rows_same, tokens_of}
 
 abbrev pub pre_row : Role → List Token → List Row
 pre_row party [] = []
@@ -28,9 +17,7 @@ message_rows party (tokens ∷ more) = tokens_of party tokens ∷ message_rows (
 
 pub lines_of-append : (xs ys : List Row) → lines_of (xs ++ ys) ≡ lines_of xs ++ lines_of ys
 lines_of-append [] ys = refl
-lines_of-append (x ∷ xs) ys =
-    ap (λ (text : List ℕ). line (content x) ++ text) (lines_of-append xs ys)
-    ∙ sym (append_assoc (line (content x)) (lines_of xs) (lines_of ys))
+lines_of-append (x ∷ xs) ys = search (append_assoc, (lines_of-append xs ys))
 
 pub lines_of-pre : (party : Role) (tokens : List Token) → lines_of (pre_row party tokens) ≡ pre_line party tokens
 lines_of-pre party [] = refl
@@ -38,11 +25,7 @@ lines_of-pre party (t ∷ ts) = append-nil (token_line party (t ∷ ts))
 
 lines_of-some : (i r : List Token)
     → lines_of (pre_row Initiator i ++ pre_row Responder r ++ ending ∷ []) ≡ pre_line Initiator i ++ pre_line Responder r ++ line dots
-lines_of-some i r =
-    lines_of-append (pre_row Initiator i ++ pre_row Responder r) (ending ∷ [])
-    ∙ ap (λ (text : List ℕ). text ++ line dots)
-    (lines_of-append (pre_row Initiator i) (pre_row Responder r)
-    ∙ rw (lines_of-pre Initiator i, lines_of-pre Responder r) refl)
+lines_of-some i r = search (lines_of-append, lines_of-pre)
 
 pub lines_of-both : (i r : List Token) → lines_of (pre_rows i r) ≡ pre_lines i r
 lines_of-both [] [] = refl
@@ -71,7 +54,7 @@ all_rows-messages : (party : Role) (ms : List (List Token)) → list_all has_few
 all_rows-messages party [] h = refl
 all_rows-messages party ([] ∷ ms) h = absurd (let bad : false ≡ true = h in cc)
 all_rows-messages party ((t ∷ ts) ∷ ms) h =
-    all_rows-messages (other party) ms (and_parts (has_few_tokens (t ∷ ts)) (list_all has_few_tokens ms) h).1
+    search ((all_rows-messages (other party) ms (and_parts (has_few_tokens (t ∷ ts)) (list_all has_few_tokens ms) h).1))
 
 -- those of both pre-messages alone, and all
 abbrev pub first_rows : List Token → List Token → List Row
@@ -104,9 +87,7 @@ any_messages party (m ∷ ms) = any_messages (other party) ms
 
 -- it is a row of the pre-messages alone
 pub ending_all : (i r : List Token) (ms : List (List Token)) → list_any is_ending (all_rows i r ms) ≡ list_any is_ending (pre_rows i r)
-ending_all i r ms =
-    list_any-append is_ending (pre_rows i r) (message_rows Initiator ms)
-    ∙ rw (any_messages Initiator ms) (or-false (list_any is_ending (pre_rows i r)))
+ending_all i r ms = search (rules, any_messages)
 
 pub ending_some : (i r : List Token) → pre_lines i r ≢ [] → list_any is_ending (pre_rows i r) ≡ true
 ending_some [] [] some = absurd (some refl)
@@ -158,10 +139,8 @@ messages_same party (m ∷ ms) (k ∷ ks) e =
 pub lines_same : (i r j s : List Token) (ms ks : List (List Token)) → list_all has_few_tokens ms ≡ true → list_all has_few_tokens ks ≡ true
     → pre_lines i r ++ message_lines Initiator ms ≡ pre_lines j s ++ message_lines Initiator ks → (i ≡ j) × (r ≡ s) × (ms ≡ ks)
 lines_same i r j s ms ks h k e =
-    let rows : all_rows i r ms ≡ all_rows j s ks =
-    rows_same (all_rows i r ms) (all_rows j s ks) (all_right i r ms h) (all_right j s ks k) (all_lines i r ms ∙ e ∙ sym (all_lines j s ks)) in
-    let endings : list_any is_ending (pre_rows i r) ≡ list_any is_ending (pre_rows j s) =
-    sym (ending_all i r ms) ∙ ap (list_any is_ending) rows ∙ ending_all j s ks in
+    let rows : all_rows i r ms ≡ all_rows j s ks = search (rows_same, all_right, all_lines) in
+    let endings : list_any is_ending (pre_rows i r) ≡ list_any is_ending (pre_rows j s) = search (rules, ending_all) in
     let same = pre_same i r j s (message_rows Initiator ms) (message_rows Initiator ks) (λ f. some_ending j s (sym endings ∙ ending_some i r f))
     (λ f. some_ending i r (endings ∙ ending_some j s f)) rows in
     (same.0, same.1, messages_same Initiator ms ks same.2)

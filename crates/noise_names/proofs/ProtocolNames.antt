@@ -1,32 +1,8 @@
 -- A protocol name is read exactly if it is spelled so, and else its first fault is reported.
-use Rattle.std.proofs.Common.{◌≡◌, ℕ, ◌+◌, ◌*◌, ◌<◌, ◌≤◌, Bool, true, false, not, cond, eqb, ltb, List, [], ◌∷◌, ◌++◌, Result, Ok, Err, refl, ap, sym, ◌∙◌}
-use Rattle.std.proofs.Common.{subst, map, length, length-append, take, drop, take_while, arith}
-use Rattle.std.specs.Prelude.{codes, bytes_eq}
-use Rattle.std.specs.List.{join_with_byte}
-use Rattle.std.proofs.lemmas.List.{take-append-drop, drop_at, drop-drop}
-use Rattle.std.proofs.lemmas.Slice.Eq.{bytes_eq-Decides}
-use Rattle.noise_names.specs.declared.faults.NameFault.{NameFault}
-use Rattle.noise_names.specs.declared.faults.NameFault.TheVariants.{Length, Prefix, Base, Modifier, ModifierOrder, Algorithm}
-use Rattle.noise_names.specs.Names.{is_section_byte, Section, IsSection, Names, modifier, section_bytes, name_bytes, prefix, suffix, section_part}
-use Rattle.noise_names.specs.Names.{algorithm_part, has_fault, number_of, IsFirstNameFault}
-use Rattle.noise_names.specs.Sections.{unless_section_fault, section_in, section_read, name_read}
+use Rattle.std.proofs.Common.{rules, ◌≡◌, ℕ, ◌+◌, ◌*◌, ◌≤◌, Bool, true, false, not, cond, eqb, ltb, List, [], ◌∷◌, ◌++◌, Result, Ok, Err, refl, ap, sym, ◌∙◌, subst, map, length, length-append, take, drop, take_while, arith}
+use Rattle.noise_names.proofs.Common.{codes, bytes_eq, join_with_byte, drop_at, drop-drop, bytes_eq-Decides, NameFault, Length, Prefix, Base, Modifier, ModifierOrder, Algorithm, is_section_byte, Section, IsSection, Names, modifier, section_bytes, name_bytes, prefix, suffix, section_part, algorithm_part, has_fault, IsFirstNameFault, unless_section_fault, section_in, section_read, name_read, section_bytes-all, eqb-true, le-ltb, not-false}
 use Rattle.noise_names.proofs.Numbers.{places_from-few, are_places-from}
-use Rattle.noise_names.specs.Facts.{section_bytes-all}
-use Rattle.noise_names.proofs.Sections.{base_few, front_is, front_split, section_keeps, section_in-spelled, unless_section_ok, unless_section_err}
-use Rattle.noise_names.proofs.Sections.{unless_section_kept, take-front, kept_section, all_weaker}
-use Rattle.std.proofs.lemmas.Bool.{eqb-true, le-ltb, not-false}
-
--- the faults of a lower number than n do not hold
-lowers : (bytes : List ℕ) (n : ℕ)
-    → (1 < n → has_fault bytes Length ≡ false) → (2 < n → has_fault bytes Prefix ≡ false) → (3 < n → has_fault bytes Base ≡ false)
-    → (4 < n → has_fault bytes Modifier ≡ false) → (5 < n → has_fault bytes ModifierOrder ≡ false) → (6 < n → has_fault bytes Algorithm ≡ false)
-    → (lower : NameFault) → number_of lower < n → has_fault bytes lower ≡ false
-lowers bytes n a b c d e f Length h = a h
-lowers bytes n a b c d e f Prefix h = b h
-lowers bytes n a b c d e f Base h = c h
-lowers bytes n a b c d e f Modifier h = d h
-lowers bytes n a b c d e f ModifierOrder h = e h
-lowers bytes n a b c d e f Algorithm h = f h
+use Rattle.noise_names.proofs.Sections.{base_few, front_is, front_split, section_keeps, section_in-spelled, unless_section_ok, take-front, kept_section, all_weaker}
 
 -- the first of the tests that holds
 first_by : (bytes : List ℕ) (fault : NameFault) (result : Section) (l p b m o a : Bool)
@@ -35,52 +11,16 @@ first_by : (bytes : List ℕ) (fault : NameFault) (result : Section) (l p b m o 
     → cond l (Err Length) (cond p (Err Prefix)
     (cond b (Err Base) (cond m (Err Modifier) (cond o (Err ModifierOrder) (cond a (Err Algorithm) (Ok result)))))) ≡ Err fault
     → IsFirstNameFault bytes fault
-first_by bytes fault result true p b m o a hl hp hb hm ho ha e =
-    let same : Length ≡ fault = cc in
-    subst (λ (f : NameFault). IsFirstNameFault bytes f) same
-    (record {
-      holds = hl;
-      lowest = lowers bytes 1 (λ h. absurd (omega arith)) (λ h. absurd (omega arith)) (λ h. absurd (omega arith))
-          (λ h. absurd (omega arith)) (λ h. absurd (omega arith)) (λ h. absurd (omega arith));
-    })
-first_by bytes fault result false true b m o a hl hp hb hm ho ha e =
-    let same : Prefix ≡ fault = cc in
-    subst (λ (f : NameFault). IsFirstNameFault bytes f) same
-    (record {
-      holds = hp;
-      lowest = lowers bytes 2 (λ h. hl) (λ h. absurd (omega arith)) (λ h. absurd (omega arith)) (λ h. absurd (omega arith))
-          (λ h. absurd (omega arith)) (λ h. absurd (omega arith));
-    })
-first_by bytes fault result false false true m o a hl hp hb hm ho ha e =
-    let same : Base ≡ fault = cc in
-    subst (λ (f : NameFault). IsFirstNameFault bytes f) same
-    (record {
-      holds = hb;
-      lowest = lowers bytes 3 (λ h. hl) (λ h. hp) (λ h. absurd (omega arith)) (λ h. absurd (omega arith))
-          (λ h. absurd (omega arith)) (λ h. absurd (omega arith));
-    })
-first_by bytes fault result false false false true o a hl hp hb hm ho ha e =
-    let same : Modifier ≡ fault = cc in
-    subst (λ (f : NameFault). IsFirstNameFault bytes f) same
-    (record {
-      holds = hm;
-      lowest = lowers bytes 4 (λ h. hl) (λ h. hp) (λ h. hb) (λ h. absurd (omega arith)) (λ h. absurd (omega arith))
-          (λ h. absurd (omega arith));
-    })
-first_by bytes fault result false false false false true a hl hp hb hm ho ha e =
-    let same : ModifierOrder ≡ fault = cc in
-    subst (λ (f : NameFault). IsFirstNameFault bytes f) same
-    (record { holds = ho; lowest = lowers bytes 5 (λ h. hl) (λ h. hp) (λ h. hb) (λ h. hm) (λ h. absurd (omega arith)) (λ h. absurd (omega arith)) })
-first_by bytes fault result false false false false false true hl hp hb hm ho ha e =
-    let same : Algorithm ≡ fault = cc in
-    subst (λ (f : NameFault). IsFirstNameFault bytes f) same
-    (record { holds = ha; lowest = lowers bytes 6 (λ h. hl) (λ h. hp) (λ h. hb) (λ h. hm) (λ h. ho) (λ h. absurd (omega arith)) })
+first_by bytes fault result true p b m o a hl hp hb hm ho ha e = search rules
+first_by bytes fault result false true b m o a hl hp hb hm ho ha e = search rules
+first_by bytes fault result false false true m o a hl hp hb hm ho ha e = search rules
+first_by bytes fault result false false false true o a hl hp hb hm ho ha e = search rules
+first_by bytes fault result false false false false true a hl hp hb hm ho ha e = search rules
+first_by bytes fault result false false false false false true hl hp hb hm ho ha e = search rules
 first_by bytes fault result false false false false false false hl hp hb hm ho ha e = absurd (cc)
 
 pub name_fault : (bytes : List ℕ) (fault : NameFault) → name_read bytes ≡ Err fault → IsFirstNameFault bytes fault
-name_fault bytes fault e =
-    first_by bytes fault (section_in (section_part bytes)) (has_fault bytes Length) (has_fault bytes Prefix) (has_fault bytes Base)
-    (has_fault bytes Modifier) (has_fault bytes ModifierOrder) (has_fault bytes Algorithm) refl refl refl refl refl refl e
+name_fault bytes fault e = search first_by
 
 -- what is read spells the name
 name_ok : (l p a : Bool) (s : Section) (rest : Result Section NameFault) → cond l (Err Length) (cond p (Err Prefix) rest) ≡ Ok s
@@ -104,11 +44,8 @@ name_spelled bytes s e =
     let suffix_is : algorithm_part bytes ≡ suffix = (bytes_eq-Decides (algorithm_part bytes) suffix).0 last.0 in
     let after : drop 6 bytes ≡ section_part bytes ++ algorithm_part bytes =
     front_split (λ b. not (eqb b 95)) (drop 6 bytes) ∙ ap (λ (xs : List ℕ). section_part bytes ++ xs) (drop-drop (length (section_part bytes)) 6 bytes) in
-    let whole : bytes ≡ prefix ++ (section_part bytes ++ suffix) =
-    sym (take-append-drop 6 bytes) ∙ ap (λ (xs : List ℕ). xs ++ drop 6 bytes) prefix_is
-    ∙ ap (λ (xs : List ℕ). prefix ++ xs) (after ∙ ap (λ (xs : List ℕ). section_part bytes ++ xs) suffix_is) in
-    let spelled : bytes ≡ name_bytes (section_in (section_part bytes)) =
-    whole ∙ ap (λ (xs : List ℕ). prefix ++ (xs ++ suffix)) kept.1 in
+    let whole : bytes ≡ prefix ++ (section_part bytes ++ suffix) = search rules in
+    let spelled : bytes ≡ name_bytes (section_in (section_part bytes)) = search in
     subst (λ (t : Section). Names bytes t) last.1 (record { is_section = kept.0; spelled = spelled })
 
 -- what spells a name is read
@@ -133,10 +70,7 @@ part_of s h = front_is (λ b. not (eqb b 95)) (section_bytes s.base s.places) 95
     (all_weaker is_section_byte (λ b. not (eqb b 95)) (section_bytes s.base s.places) no_underscore (section_bytes-all s h)) refl
 
 after_of : (s : Section) → IsSection s → algorithm_part (name_bytes s) ≡ suffix
-after_of s h =
-    ap (λ (n : ℕ). drop n (name_bytes s)) (ap (λ (xs : List ℕ). 6 + length xs) (part_of s h))
-    ∙ drop_at (prefix ++ section_bytes s.base s.places) suffix (6 + length (section_bytes s.base s.places))
-    (length-append prefix (section_bytes s.base s.places))
+after_of s h = search (rules, part_of, drop_at)
 
 pub name_every : (bytes : List ℕ) (s : Section) → Names bytes s → name_read bytes ≡ Ok s
 name_every bytes s h = ap name_read h.spelled ∙ read where
@@ -159,8 +93,7 @@ name_every bytes s h = ap name_read h.spelled ∙ read where
 -- the parts of a name that is read
 pub section_is : (bytes after section : List ℕ) (n : ℕ) → after ≡ drop 6 bytes → n ≡ length (take_while (λ b. not (eqb b 95)) after)
     → section ≡ take n after → section ≡ section_part bytes
-section_is bytes after section n here e f =
-    f ∙ ap (λ (k : ℕ). take k after) e ∙ take-front (λ b. not (eqb b 95)) after ∙ ap (take_while (λ b. not (eqb b 95))) here
+section_is bytes after section n here e f = search (rules, take-front)
 
 pub algorithm_is : (bytes after algorithm : List ℕ) (n : ℕ) → after ≡ drop 6 bytes → n ≡ length (take_while (λ b. not (eqb b 95)) after)
     → algorithm ≡ drop n after → algorithm ≡ algorithm_part bytes
@@ -175,19 +108,9 @@ within bytes rest short front = rw (le-ltb 255 (length bytes) short, front) refl
 
 pub name_section_err : (bytes section : List ℕ) (fault : NameFault) → length bytes ≤ 255 → bytes_eq (take 6 bytes) prefix ≡ true
     → section ≡ section_part bytes → section_read section ≡ Err fault → name_read bytes ≡ Err fault
-name_section_err bytes section fault short front here read =
-    within bytes (unless_section_fault (section_part bytes)
-    (cond (not (bytes_eq (algorithm_part bytes) suffix)) (Err Algorithm) (Ok (section_in (section_part bytes))))) short front
-    ∙ unless_section_err (section_part bytes) fault
-    (cond (not (bytes_eq (algorithm_part bytes) suffix)) (Err Algorithm) (Ok (section_in (section_part bytes)))) (ap section_read (sym here) ∙ read)
+name_section_err bytes section fault short front here read = search rules
 
 pub name_section_ok : (bytes section algorithm : List ℕ) (s : Section) → length bytes ≤ 255 → bytes_eq (take 6 bytes) prefix ≡ true
     → section ≡ section_part bytes → algorithm ≡ algorithm_part bytes → section_read section ≡ Ok s
     → name_read bytes ≡ cond (not (bytes_eq algorithm suffix)) (Err Algorithm) (Ok s)
-name_section_ok bytes section algorithm s short front here end read =
-    let kept = unless_section_kept (section_part bytes) s
-    (cond (not (bytes_eq (algorithm_part bytes) suffix)) (Err Algorithm) (Ok (section_in (section_part bytes)))) (ap section_read (sym here) ∙ read) in
-    within bytes (unless_section_fault (section_part bytes)
-    (cond (not (bytes_eq (algorithm_part bytes) suffix)) (Err Algorithm) (Ok (section_in (section_part bytes))))) short front
-    ∙ kept.0 ∙ ap (λ (t : Section). cond (not (bytes_eq (algorithm_part bytes) suffix)) (Err Algorithm) (Ok t)) kept.1
-    ∙ ap (λ (bs : List ℕ). cond (not (bytes_eq bs suffix)) (Err Algorithm) (Ok s)) (sym end)
+name_section_ok bytes section algorithm s short front here end read = search rules

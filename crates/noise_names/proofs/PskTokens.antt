@@ -1,18 +1,7 @@
 -- A plain pattern with psk tokens: its limits, and that its psk tokens stand where its places say.
-use Rattle.std.proofs.Common.{◌≡◌, ℕ, suc, zero, ◌+◌, ◌<◌, ◌≤◌, Bool, true, false, ◌&&◌, ◌||◌, not, cond, eqb, leb, ltb, List, [], ◌∷◌, ◌++◌, Some, None, refl}
-use Rattle.std.proofs.Common.{ap, sym, ◌∙◌, subst, append-nil, map, length, get_or, arith}
-use Rattle.std.specs.Prelude.{find, MatchOption, ⊤}
-use Rattle.std.specs.List.{list_any, list_all}
-use Rattle.std.proofs.lemmas.Bool.Decides.{nat_tests}
-use Rattle.noise_names.specs.declared.token.Token.{Token}
-use Rattle.noise_names.specs.declared.token.Token.TheVariants.{Psk}
-use Rattle.noise_names.specs.Tokens.{is_psk, own_tokens}
-use Rattle.noise_names.specs.Plan.{Plan, plan_of, plain_of, has_psk}
-use Rattle.noise_names.specs.Names.{are_places}
+use Rattle.std.proofs.Common.{rules, ◌≡◌, ℕ, suc, zero, ◌+◌, ◌<◌, ◌≤◌, Bool, true, false, ◌&&◌, ◌||◌, not, cond, eqb, leb, ltb, List, [], ◌∷◌, ◌++◌, Some, None, refl, ap, sym, ◌∙◌, subst, append-nil, map, length, get_or, arith}
+use Rattle.noise_names.proofs.Common.{find, MatchOption, ⊤, list_any, list_all, nat_tests, Token, Psk, is_psk, own_tokens, Plan, plain_of, has_psk, are_places, psk_if, with_psk_tokens, with_psks_from, HavePsksAt, HavePsks, Placed, has_few_tokens, IsPattern, and_from, and_parts, leb-true, or_right, or_parts, cons-same}
 use Rattle.noise_names.specs.Fundamental.{fundamental_of}
-use Rattle.noise_names.specs.Limits.{psk_if, with_psk_tokens, with_psks_from, HavePsksAt, HavePsks, Placed, has_few_tokens, IsPattern}
-use Rattle.std.proofs.lemmas.Bool.{and_from, and_parts, leb-true, or_right, or_left, or_parts}
-use Rattle.noise_names.specs.Lists.{cons-same}
 
 pub own-append : (xs ys : List Token) → own_tokens (xs ++ ys) ≡ own_tokens xs ++ own_tokens ys
 own-append [] ys = refl
@@ -34,9 +23,7 @@ own_psk_front false places = refl
 
 -- the other tokens of a message with its psk tokens
 own_tokens-with : (places : List ℕ) (n : ℕ) (own : List Token) → own_tokens own ≡ own → own_tokens (with_psk_tokens places n own) ≡ own
-own_tokens-with places n own e =
-    own-append (cond (eqb n 1) (psk_if 0 places) [] ++ own) (psk_if n places)
-    ∙ rw (own-append (cond (eqb n 1) (psk_if 0 places) []) own, own_psk_front (eqb n 1) places, own_psk_if n places, e) (append-nil own)
+own_tokens-with places n own e = search (own-append, own_psk_front, own_psk_if, append-nil)
 
 -- a message with no psk token
 pub no_psk_own : (tokens : List Token) → list_any is_psk tokens ≡ false → own_tokens tokens ≡ tokens
@@ -83,13 +70,9 @@ few_psks places n (m ∷ ms) h few =
 -- a message of a plain pattern has at most 8 tokens
 pub few_plain : (messages : List (List Token)) (i : ℕ) → any_psk messages ≡ false → list_all has_few_tokens messages ≡ true → length (get_or messages i []) ≤ 8
 few_plain [] i h few = omega arith
-few_plain (m ∷ ms) zero h few =
-    let a = or_parts (list_any is_psk m) (any_psk ms) h in
-    let b = and_parts (has_few_tokens m) (list_all has_few_tokens ms) few in
-    let own : leb (length (own_tokens m)) 8 ≡ true = (and_parts (leb 1 (length (own_tokens m))) (leb (length (own_tokens m)) 8) b.0).1 in
-    subst (λ (ts : List Token). length ts ≤ 8) (no_psk_own m a.0) (leb-true (length (own_tokens m)) 8 own)
+few_plain (m ∷ ms) zero h few = search (rules, no_psk_own)
 few_plain (m ∷ ms) (suc i) h few =
-    few_plain ms i (or_parts (list_any is_psk m) (any_psk ms) h).1 (and_parts (has_few_tokens m) (list_all has_few_tokens ms) few).1
+    search ((few_plain ms i (or_parts (list_any is_psk m) (any_psk ms) h).1 (and_parts (has_few_tokens m) (list_all has_few_tokens ms) few).1))
 
 pub few_messages : (messages : List (List Token)) → leb 1 (length messages) && leb (length messages) 8 ≡ true → length messages ≤ 8
 few_messages messages h = leb-true (length messages) 8 (and_parts (leb 1 (length messages)) (leb (length messages) 8) h).1
@@ -117,13 +100,7 @@ any-snoc (t ∷ ts) = at (is_psk t) (any-snoc ts) where
 shows : (places : List ℕ) (k d : ℕ) (messages : List (List Token)) → d < length messages → list_any (λ m. eqb m (k + d)) places ≡ true
     → HavePsksAt places k messages → any_psk messages ≡ true
 shows places k d [] less there h = absurd (omega arith)
-shows places k zero (m ∷ ms) less there h =
-    let none : k + 0 ≡ k = omega arith in
-    let there_now : list_any (λ p. eqb p k) places ≡ true = subst (λ (n : ℕ). list_any (λ p. eqb p n) places ≡ true) none there in
-    let psk : psk_if k places ≡ Psk ∷ [] = ap (λ (b : Bool). cond b (Psk ∷ []) []) there_now in
-    let ends : m ≡ (cond (eqb k 1) (psk_if 0 places) [] ++ own_tokens m) ++ Psk ∷ [] = h.0
-    ∙ ap (λ (ts : List Token). (cond (eqb k 1) (psk_if 0 places) [] ++ own_tokens m) ++ ts) psk in
-    or_left (list_any is_psk m) (any_psk ms) (ap (list_any is_psk) ends ∙ any-snoc (cond (eqb k 1) (psk_if 0 places) [] ++ own_tokens m))
+shows places k zero (m ∷ ms) less there h = search (rules, any-snoc)
 shows places k (suc d) (m ∷ ms) less there h =
     let next : k + suc d ≡ (k + 1) + d = omega arith in
     let later : list_any (λ p. eqb p ((k + 1) + d)) places ≡ true = subst (λ (n : ℕ). list_any (λ p. eqb p n) places ≡ true) next there in
@@ -132,11 +109,7 @@ shows places k (suc d) (m ∷ ms) less there h =
 pub plain_places : (places : List ℕ) (messages : List (List Token)) → any_psk messages ≡ false → HavePsks places messages → 1 ≤ length messages → places ≡ []
 plain_places [] messages none h some = refl
 plain_places (zero ∷ ns) [] none h some = absurd (omega arith)
-plain_places (zero ∷ ns) (m ∷ ms) none h some =
-    let front : m ≡ Psk ∷ (own_tokens m ++ psk_if 1 (0 ∷ ns)) = h.tokens.0 in
-    let has : list_any is_psk m ≡ true = ap (list_any is_psk) front in
-    let not_here : list_any is_psk m ≡ false = (or_parts (list_any is_psk m) (any_psk ms) none).0 in
-    absurd (let bad : true ≡ false = sym has ∙ not_here in cc)
+plain_places (zero ∷ ns) (m ∷ ms) none h some = search rules
 plain_places (suc n ∷ ns) messages none h some =
     let range : leb (suc n) (length messages) ≡ true = (and_parts (leb (suc n) (length messages)) (list_all (λ k. leb k (length messages)) ns) h.in_range).0 in
     let less : n < length messages = less_from_test n (length messages) range in
@@ -154,13 +127,8 @@ abbrev pub with_psks : Plan → List ℕ → Plan
 with_psks plain places =
     record { base = plain.base; places = places; initiator = plain.initiator; responder = plain.responder; messages = with_psks_from places 1 plain.messages }
 
-one_message : (messages : List (List Token)) → leb 1 (length messages) && leb (length messages) 8 ≡ true → 1 ≤ length messages
-one_message messages h = leb-true 1 (length messages) (and_parts (leb 1 (length messages)) (leb (length messages) 8) h).0
-
 pub plain_of-with : (plain : Plan) (places : List ℕ) → has_psk plain ≡ false → IsPattern plain → plain_of (with_psks plain places) ≡ plain
-plain_of-with plain places none limits =
-    ap (λ (ms : List (List Token)). plan_of plain.base [] plain.initiator plain.responder ms) (own_of_psks places 1 plain.messages none)
-    ∙ ap (λ (ns : List ℕ). plan_of plain.base ns plain.initiator plain.responder plain.messages) (sym (plain_places plain.places plain.messages none limits.psks (one_message plain.messages limits.count)))
+plain_of-with plain places none limits = search (rules, own_of_psks, plain_places)
 
 pub psks_placed : (plain : Plan) (places : List ℕ) → has_psk plain ≡ false → IsPattern plain → find (λ n. ltb (length plain.messages) n) places ≡ None
     → Placed plain places (with_psks plain places)
@@ -177,8 +145,7 @@ pub psks_pattern : (plain : Plan) (places : List ℕ) → has_psk plain ≡ fals
     → find (λ n. ltb (length plain.messages) n) places ≡ None → IsPattern (with_psks plain places)
 psks_pattern plain places none limits rising range =
     let placed : Placed plain places (with_psks plain places) = psks_placed plain places none limits range in
-    let same : plain_of plain ≡ plain_of (with_psks plain places) =
-    ap (λ (ms : List (List Token)). plan_of plain.base [] plain.initiator plain.responder ms) (own_of_plain plain.messages none ∙ sym (own_of_psks places 1 plain.messages none)) in
+    let same : plain_of plain ≡ plain_of (with_psks plain places) = search (own_of_plain, own_of_psks) in
     record {
       base = limits.base;
       places = rising;
@@ -194,7 +161,4 @@ psks_pattern plain places none limits rising range =
 pub psks-push : (places : List ℕ) (n : ℕ) (messages : List (List Token)) (m : List Token)
     → with_psks_from places n (messages ++ m ∷ []) ≡ with_psks_from places n messages ++ with_psk_tokens places (n + length messages) m ∷ []
 psks-push places n [] m = let e : n ≡ n + 0 = omega arith in ap (λ (k : ℕ). with_psk_tokens places k m ∷ []) e
-psks-push places n (x ∷ xs) m =
-    let e : (n + 1) + length xs ≡ n + suc (length xs) = omega arith in
-    ap (λ (ms : List (List Token)). with_psk_tokens places n x ∷ ms)
-    (psks-push places (n + 1) xs m ∙ ap (λ (k : ℕ). with_psks_from places (n + 1) xs ++ with_psk_tokens places k m ∷ []) e)
+psks-push places n (x ∷ xs) m = search (rules, (psks-push places (n + 1) xs m))

@@ -1,35 +1,14 @@
 -- What is read of a written text.
-use Rattle.std.proofs.Common.{◌≡◌, ◌≢◌, ℕ, ◌+◌, ◌<◌, ◌≤◌, Bool, true, false, not, cond, List, [], ◌∷◌, ◌++◌, refl, ap, sym, ◌∙◌, append_assoc, append-nil}
-use Rattle.std.proofs.Common.{length, length-append, arith, map, subst, get_or, take, drop, take-append-drop, eqb, suc, Some, None, Bor, ◌⊎◌, inl, inr, ◌&&◌, leb}
-use Rattle.std.proofs.Common.{Result}
-use Rattle.std.proofs.Common.{Ok, Err}
+use Rattle.std.proofs.Common.{rules, ◌≡◌, ◌≢◌, ℕ, ◌+◌, ◌<◌, ◌≤◌, Bool, true, false, not, cond, List, [], ◌∷◌, ◌++◌, refl, ap, sym, ◌∙◌, append_assoc, append-nil, length, length-append, arith, map, subst, get_or, take, drop, take-append-drop, eqb, suc, Some, None, Bor, ◌⊎◌, inl, inr, ◌&&◌, leb, Result, Ok, Err}
 use Rattle.std.specs.Cmp.Lexicographic.{pointwise}
-use Rattle.std.proofs.lemmas.Bool.Decides.{Decides-eqb, nat_tests}
-use Rattle.std.proofs.lemmas.Slice.Eq.{strip_prefix_is}
-use Rattle.std.proofs.lemmas.List.{length-map}
-use Rattle.std.proofs.lemmas.List.Folds.{list_any-append, list_all-append}
-use Rattle.noise_names.specs.declared.faults.NameFault.{NameFault}
-use Rattle.noise_names.specs.Plan.{Plan, plan_of, plain_of, has_psk}
-use Rattle.noise_names.specs.Names.{is_section_byte, Section, IsSection, section_bytes, is_base}
-use Rattle.noise_names.specs.Sections.{section_read}
+use Rattle.noise_names.proofs.Common.{Decides-eqb, nat_tests, strip_prefix_is, length-map, list_any-append, list_all-append, NameFault, Plan, plan_of, plain_of, has_psk, is_section_byte, Section, IsSection, section_bytes, is_base, section_read, IsPattern, Placed, first_beyond, has_few_tokens, is_pre_message, codes, bytes_eq, ⊤, list_all, list_any, Role, Initiator, Responder, Token, E, S, Ee, Es, Se, Ss, Psk, other, is_psk, own_tokens, words, word_of, line, arrow_of, token_line, message_lines, pre_line, pre_lines, Spells, is_lower, and_parts, body_of}
 use Rattle.noise_names.specs.Fundamental.{fundamental_of, fundamentals}
-use Rattle.noise_names.specs.Limits.{IsPattern, HavePsks, Placed, first_beyond, has_few_tokens, is_pre_message}
 use Rattle.noise_names.proofs.Fundamentals.{found_map, fundamentals_plain, plain_messages}
 use Rattle.noise_names.proofs.PskTokens.{no_psk_own, own_of_plain}
 use Rattle.noise_names.proofs.Sections.{all_weaker, front_is, section_read-every, section_read-spelled}
-use Rattle.std.specs.Prelude.{codes, take_while, bytes_eq, ⊤}
+use Rattle.std.specs.Prelude.{take_while}
 use Rattle.std.proofs.Math.Seq.{take-append_seam, drop-append_seam}
 use Rattle.std.proofs.lemmas.Option.{MatchOption-at_some}
-use Rattle.std.specs.List.{list_all, list_any}
-use Rattle.noise_names.specs.declared.token.Role.{Role}
-use Rattle.noise_names.specs.declared.token.Role.TheVariants.{Initiator, Responder}
-use Rattle.noise_names.specs.declared.token.Token.{Token}
-use Rattle.noise_names.specs.declared.token.Token.TheVariants.{E, S, Ee, Es, Se, Ss, Psk}
-use Rattle.noise_names.specs.Tokens.{other, is_psk, own_tokens}
-use Rattle.noise_names.specs.Text.{words, word_of, line, arrow_of, token_line, message_lines, pre_line, pre_lines, Spells}
-use Rattle.noise_names.specs.Reading.{is_lower}
-use Rattle.std.proofs.lemmas.Bool.{and_parts, leb-true}
-use Rattle.noise_names.specs.WrongText.{body_of}
 use Rattle.noise_names.specs.Placing.{none-beyond, placed-once}
 
 own-first : (u : Token) (us : List Token) → own_tokens (u ∷ us) ≡ own_tokens (u ∷ []) ++ own_tokens us
@@ -39,10 +18,7 @@ own-first u us = at (not (is_psk u)) where
   at false = refl
 
 two_heads : (list xs ys : List ℕ) (x y : ℕ) → list ≡ x ∷ xs → list ≡ y ∷ ys → x < y → ⊥
-two_heads list xs ys x y e f h =
-    let a : get_or list 0 0 ≡ x = ap (λ (k : List ℕ). get_or k 0 0) e in
-    let b : get_or list 0 0 ≡ y = ap (λ (k : List ℕ). get_or k 0 0) f in
-    omega arith
+two_heads list xs ys x y e f h = search rules
 
 -- what `strip_prefix` says
 pub stripped : (s p : List ℕ) (x : Bor (List ℕ))
@@ -132,21 +108,11 @@ There role lines tokens rest = (t : Token) (ts : List Token) (more : List ℕ) �
 abbrev pub Absent : Role → List ℕ → List Token → List ℕ → Type 0
 Absent role lines tokens rest = ((x : List ℕ) → lines ≡ codes "  " ++ (arrow_of role ++ x) → ⊥) → (tokens ≡ []) × (rest ≡ lines)
 
-own-pre : (ts : List Token) → is_pre_message ts ≡ true → (own_tokens ts ≡ ts) × (length (own_tokens ts) ≤ 8)
-own-pre [] h = (refl, omega arith)
-own-pre (E ∷ []) h = (refl, omega arith)
-own-pre (S ∷ []) h = (refl, omega arith)
-own-pre (E ∷ S ∷ []) h = (refl, omega arith)
-own-pre _ h = absurd (cc)
-
 pre-read : (role : Role) (ts tokens : List Token) (lines rest more : List ℕ) → There role lines tokens rest → Absent role lines tokens rest
     → is_pre_message ts ≡ true → lines ≡ pre_line role ts ++ more → ((x : List ℕ) → more ≡ codes "  " ++ (arrow_of role ++ x) → ⊥)
     → (tokens ≡ ts) × (rest ≡ more)
 pre-read role [] tokens lines rest more there absent pre e other_line = let a = absent (λ x f. other_line x (sym e ∙ f)) in (a.0, a.1 ∙ e)
-pre-read role (t ∷ ts) tokens lines rest more there absent pre e other_line =
-    let own = own-pre (t ∷ ts) pre in
-    let a = there t ts more own.1 e in
-    (a.0 ∙ own.0, a.1)
+pre-read role (t ∷ ts) tokens lines rest more there absent pre e other_line = search rules
 
 third_differs : (xs ys : List ℕ) (a b : ℕ) → get_or xs 2 0 ≡ a → get_or ys 2 0 ≡ b → xs ≡ ys → (a ≡ b → ⊥) → ⊥
 third_differs xs ys a b p q e differ = differ (sym p ∙ ap (λ (k : List ℕ). get_or k 2 0) e ∙ q)
@@ -164,20 +130,15 @@ messages-first Initiator (m ∷ ms) x e = third_differs _ _ 45 46 refl refl e (�
 messages-first Responder (m ∷ ms) x e = third_differs _ _ 60 46 refl refl e (λ h. omega arith)
 
 few : (m : List Token) → has_few_tokens m ≡ true → (1 ≤ length (own_tokens m)) × (length (own_tokens m) ≤ 8)
-few m h =
-    let a = and_parts (leb 1 (length (own_tokens m))) (leb (length (own_tokens m)) 8) h in
-    (leb-true _ _ a.0, leb-true _ _ a.1)
+few m h = search rules
 
 -- a line of messages is passed
 message-read : (role : Role) (ms : List (List Token)) (tokens : List Token) (lines rest : List ℕ) → There role lines tokens rest
     → Absent role lines tokens rest → list_all has_few_tokens ms ≡ true → lines ≡ message_lines role ms
     → (more : List (List Token)) × (rest ≡ message_lines (other role) more) × (list_all has_few_tokens more ≡ true)
-message-read role [] tokens lines rest there absent sizes e =
-    ([], (absent (λ x f. let bad : [] ≡ 32 ∷ 32 ∷ (arrow_of role ++ x) = sym e ∙ f in cc)).1 ∙ e, refl)
+message-read role [] tokens lines rest there absent sizes e = search rules
 message-read role ([] ∷ ms) tokens lines rest there absent sizes e = absurd (let bad : false ≡ true = sizes in cc)
-message-read role ((t ∷ ts) ∷ ms) tokens lines rest there absent sizes e =
-    let a = and_parts (has_few_tokens (t ∷ ts)) (list_all has_few_tokens ms) sizes in
-    (ms, (there t ts (message_lines (other role) ms) (few (t ∷ ts) a.0).1 e).1, a.1)
+message-read role ((t ∷ ts) ∷ ms) tokens lines rest there absent sizes e = search (rules, and_parts)
 
 -- what is read of both pre-messages
 pub record ArePreMessages (i r first second : List Token) (lines rest : List ℕ) (ms : List (List Token)) : Type 0 where
@@ -210,9 +171,7 @@ pre-both [] [] first second lines beyond rest ms there absent there2 absent2 pi 
     let a = message-read Initiator ms first lines beyond there absent sizes e in
     let b = message-read Responder a.0 second beyond rest there2 absent2 a.2 a.1 in
     inr (record { no_first = refl; no_second = refl; lines_are = e; no_dots = λ x f. messages-first Initiator b.0 x (sym b.1 ∙ f) })
-pre-both [] (u ∷ us) first second lines beyond rest ms there absent there2 absent2 pi pr sizes e =
-    inl (pre-there [] (u ∷ us) first second lines beyond rest ms there absent there2 absent2 pi pr (e
-    ∙ append_assoc (pre_line Responder (u ∷ us)) (codes "  ...\n") (message_lines Initiator ms)))
+pre-both [] (u ∷ us) first second lines beyond rest ms there absent there2 absent2 pi pr sizes e = search (rules, append_assoc)
 pre-both (t ∷ ts) r first second lines beyond rest ms there absent there2 absent2 pi pr sizes e =
     inl (pre-there (t ∷ ts) r first second lines beyond rest ms there absent there2 absent2 pi pr (e
     ∙ append_assoc (pre_line Initiator (t ∷ ts) ++ pre_line Responder r) (codes "  ...\n") (message_lines Initiator ms)
@@ -255,8 +214,7 @@ next-line kept own role left rest tokens l shorter line = at l.more l.messages l
         room = omega arith;
         after = record {
           more = ms;
-          messages = o ∙ ap (λ (k : List Token). kept ++ k ∷ map own_tokens ms) (sym c.0)
-              ∙ sym (append_assoc kept (tokens ∷ []) (map own_tokens ms));
+          messages = search (rules, append_assoc);
           sizes = a.1;
           spelled = c.1;
         };
@@ -278,12 +236,7 @@ plain-push kept m a b = list_any-append (λ tokens. list_any is_psk tokens) kept
 
 pub sizes-push : (kept : List (List Token)) (m : List Token) → list_all has_few_tokens kept ≡ true → list_any is_psk m ≡ false → 1 ≤ length m → length m ≤ 8
     → list_all has_few_tokens (kept ++ m ∷ []) ≡ true
-sizes-push kept m a b low high =
-    let own : own_tokens m ≡ m = no_psk_own m b in
-    let one : leb 1 (length m) ≡ true = grind (arith, nat_tests) in
-    let eight : leb (length m) 8 ≡ true = grind (arith, nat_tests) in
-    let here : has_few_tokens m ≡ true = rw (own, one, eight) refl in
-    list_all-append has_few_tokens kept (m ∷ []) ∙ rw (a, here) refl
+sizes-push kept m a b low high = search (rules, no_psk_own, list_all-append)
 
 pub length-own : (ms : List (List Token)) → length (map own_tokens ms) ≡ length ms
 length-own ms = length-map ms own_tokens
@@ -322,10 +275,7 @@ pub section-of : (s : Section) (front : List ℕ) (read : Result Section NameFau
 section-of s front read h e r = r ∙ ap section_read e ∙ section_read-every s h
 
 pub within-eight : (n : ℕ) → 1 ≤ n → n ≤ 8 → leb 1 n && leb n 8 ≡ true
-within-eight n low high =
-    let one : leb 1 n ≡ true = grind (arith, nat_tests) in
-    let eight : leb n 8 ≡ true = grind (arith, nat_tests) in
-    rw (one, eight) refl
+within-eight n low high = search rules
 
 -- the pattern of these parts, whose base is no fundamental pattern's
 pub plain-pattern : (base : List ℕ) (i r : List Token) (ms : List (List Token)) → is_base base ≡ true → fundamental_of base ≡ None → is_pre_message i ≡ true
@@ -368,11 +318,7 @@ known-same p f base h same found = sym (MatchOption-at_some ⊤ (λ g. plain_of 
 
 -- a pattern has psk tokens at its places
 placed-itself : (p plain : Plan) (places : List ℕ) → IsPattern p → plain ≡ plain_of p → places ≡ p.places → Placed plain places p
-placed-itself p plain places h is places_is = record {
-  without = sym is;
-  places_are = sym places_is;
-  psks = subst (λ (ns : List ℕ). HavePsks ns p.messages) (sym places_is) h.psks;
-}
+placed-itself p plain places h is places_is = search rules
 
 pub placed-same : (p q plain : Plan) (places : List ℕ) → IsPattern p → plain ≡ plain_of p → places ≡ p.places → Placed plain places q → q ≡ p
 placed-same p q plain places h is places_is placed = placed-once plain places q p placed (placed-itself p plain places h is places_is)
@@ -398,10 +344,7 @@ differ_from_test b n k e t = let same : eqb n k ≡ false = sym e ∙ t in grind
 
 -- the parts of a text
 pub spelled-parts : (text : List ℕ) (p : Plan) → Spells text p → text ≡ (section_bytes p.base p.places ++ codes ":") ++ 10 ∷ body_of p
-spelled-parts text p h =
-    let heading : List ℕ = section_bytes p.base p.places ++ codes ":" in
-    h.spelled ∙ append_assoc (line heading) (pre_lines p.initiator p.responder) (message_lines Initiator p.messages)
-    ∙ append_assoc heading (10 ∷ []) (body_of p)
+spelled-parts text p h = search (rules, append_assoc)
 
 pub pattern-section : (p : Plan) → IsPattern p → IsSection (record { base = p.base; places = p.places })
 pattern-section p h = record { base = h.base; places = h.places }
@@ -413,6 +356,4 @@ pub true-not-false : (b : Bool) → b ≡ true → b ≡ false → ⊥
 true-not-false b e f = absurd (let bad : true ≡ false = sym e ∙ f in cc)
 
 pub counted : (p : Plan) → IsPattern p → (1 ≤ length p.messages) × (length p.messages ≤ 8)
-counted p h =
-    let a = and_parts (leb 1 (length p.messages)) (leb (length p.messages) 8) h.count in
-    (leb-true _ _ a.0, leb-true _ _ a.1)
+counted p h = search rules

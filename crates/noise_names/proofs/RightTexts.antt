@@ -1,25 +1,10 @@
 -- Lines that were judged right begin the text of a right pattern, and are its whole text where no psk place is beyond the messages.
-use Rattle.std.proofs.Common.{◌≡◌, ◌≢◌, ◌⊎◌, ◌↔◌, inl, inr, ℕ, suc, zero, ◌+◌, ◌-◌, ◌≤◌, Bool, true, false, leb, List, [], ◌∷◌, ◌++◌, None}
-use Rattle.std.proofs.Common.{refl, ap, sym, ◌∙◌, subst, append_assoc, length, length-append, arith, replicate}
-use Rattle.std.specs.Prelude.{IsTrue, IsFalse}
-use Rattle.std.specs.List.{list_all, list_any}
-use Rattle.std.proofs.lemmas.List.{length-replicate}
-use Rattle.std.proofs.lemmas.List.Folds.{list_all-append}
-use Rattle.noise_names.specs.declared.token.Role.{Role}
-use Rattle.noise_names.specs.declared.token.Role.TheVariants.{Initiator, Responder}
-use Rattle.noise_names.specs.declared.token.Token.{Token}
-use Rattle.noise_names.specs.declared.token.Token.TheVariants.{E, S}
-use Rattle.noise_names.specs.Tokens.{is_psk, other, turn_from}
-use Rattle.noise_names.specs.Plan.{Plan, plan_of}
-use Rattle.noise_names.specs.Names.{are_places, rises}
+use Rattle.std.proofs.Common.{rules, ◌≡◌, ◌≢◌, ◌⊎◌, ◌↔◌, inl, inr, ℕ, suc, zero, ◌+◌, ◌-◌, ◌≤◌, Bool, true, false, leb, List, [], ◌∷◌, ◌++◌, None, refl, ap, sym, ◌∙◌, subst, append_assoc, length, length-append, arith, replicate}
+use Rattle.std.specs.Prelude.{IsTrue}
+use Rattle.noise_names.proofs.Common.{IsFalse, list_all, list_any, length-replicate, list_all-append, Role, Initiator, Responder, Token, E, S, is_psk, other, turn_from, Plan, plan_of, are_places, rises, HavePsksAt, IsPattern, has_few_tokens, is_pre_message, with_psks_from, line, message_lines, pre_line, pre_lines, body_of, dots, IsPassed, Passed, passed_lines, and_parts}
 use Rattle.noise_names.specs.Fundamental.{fundamental_of, fundamentals}
-use Rattle.noise_names.specs.Limits.{HavePsksAt, IsPattern, has_few_tokens, is_pre_message, with_psks_from}
-use Rattle.noise_names.specs.Text.{line, message_lines, pre_line, pre_lines, token_line}
-use Rattle.noise_names.specs.WrongText.{body_of, dots}
-use Rattle.noise_names.specs.Judging.{IsPassed, Passed, passed_lines}
 use Rattle.noise_names.proofs.PskTokens.{few_psks, have_psks, length-psks}
 use Rattle.noise_names.proofs.Reading.{within-eight}
-use Rattle.std.proofs.lemmas.Bool.{and_parts}
 
 -- ---- messages and then others
 
@@ -27,9 +12,7 @@ use Rattle.std.proofs.lemmas.Bool.{and_parts}
 pub message_lines-append : (party : Role) (xs ys : List (List Token))
     → message_lines party (xs ++ ys) ≡ message_lines party xs ++ message_lines (turn_from party (length xs)) ys
 message_lines-append party [] ys = refl
-message_lines-append party (x ∷ xs) ys =
-    ap (λ (k : List ℕ). token_line party x ++ k) (message_lines-append (other party) xs ys)
-    ∙ sym (append_assoc (token_line party x) (message_lines (other party) xs) (message_lines (turn_from (other party) (length xs)) ys))
+message_lines-append party (x ∷ xs) ys = search (rules, append_assoc, (message_lines-append (other party) xs ys))
 
 -- their psk tokens
 pub have_psks-append : (places : List ℕ) (n : ℕ) (xs ys : List (List Token)) → HavePsksAt places n xs → HavePsksAt places (n + length xs) ys
@@ -65,15 +48,11 @@ filled_psks places ms h =
     turned n = omega arith
 
 filled_few : (places : List ℕ) (ms : List (List Token)) → list_all has_few_tokens ms ≡ true → list_all has_few_tokens (filled places ms) ≡ true
-filled_few places ms h =
-    let more : list_all has_few_tokens (added places ms) ≡ true =
-    few_psks places (length ms + 1) (replicate (8 - length ms) (E ∷ [])) (plain_fill (8 - length ms)) (few_fill (8 - length ms)) in
-    list_all-append has_few_tokens ms (added places ms) ∙ rw (h, more) refl
+filled_few places ms h = search (rules, few_psks, plain_fill, few_fill, list_all-append)
 
 filled_length : (places : List ℕ) (ms : List (List Token)) → length ms ≤ 8 → length (filled places ms) ≡ 8
 filled_length places ms h =
-    let more : length (added places ms) ≡ 8 - length ms =
-    length-psks places (length ms + 1) (replicate (8 - length ms) (E ∷ [])) ∙ length-replicate (8 - length ms) (E ∷ []) in
+    let more : length (added places ms) ≡ 8 - length ms = search (length-psks, length-replicate) in
     length-append ms (added places ms) ∙ sum (length ms) (length (added places ms)) h more
   where
     sum : (n k : ℕ) → n ≤ 8 → k ≡ 8 - n → n + k ≡ 8

@@ -1,18 +1,6 @@
 -- The lines after the heading of a text as rows: the line after the pre-messages, or a party and its tokens. Each row has one line.
-use Rattle.std.proofs.Common.{◌≡◌, ℕ, Bool, true, false, List, [], ◌∷◌, ◌++◌, refl, ap, sym, ◌∙◌, append_assoc}
-use Rattle.std.proofs.Common.{arith}
-use Rattle.std.specs.Prelude.{codes}
-use Rattle.std.specs.List.{list_all}
-use Rattle.std.proofs.lemmas.Bool.{and_parts}
-use Rattle.std.proofs.lemmas.Bool.Decides.{nat_tests}
-use Rattle.std.proofs.lemmas.List.Folds.{list_all-append}
-use Rattle.noise_names.specs.declared.token.Role.{Role}
-use Rattle.noise_names.specs.declared.token.Role.TheVariants.{Initiator, Responder}
-use Rattle.noise_names.specs.declared.token.Token.{Token}
-use Rattle.noise_names.specs.Lists.{cons-same}
-use Rattle.noise_names.specs.Reading.{is_lower}
-use Rattle.noise_names.specs.Text.{line, word_of, words}
-use Rattle.noise_names.specs.WrongText.{arrow_then, dots}
+use Rattle.std.proofs.Common.{rules, ◌≡◌, ℕ, Bool, true, false, List, [], ◌∷◌, ◌++◌, refl, ap, sym, ◌∙◌, append_assoc, arith}
+use Rattle.noise_names.proofs.Common.{list_all, and_parts, nat_tests, list_all-append, Role, Initiator, Responder, Token, cons-same, is_lower, line, word_of, words, arrow_then, dots}
 use Rattle.noise_names.proofs.Lines.{first_same, is_other, no_feed}
 use Rattle.noise_names.proofs.Sections.{all_weaker}
 use Rattle.noise_names.proofs.TokenLines.{IsSameLine, apart, line_same, word_lower}
@@ -49,8 +37,7 @@ no_feed-word t = all_weaker is_lower is_other (word_of t) other_byte (word_lower
 no_feed-words : (tokens : List Token) → no_feed (words tokens) ≡ true
 no_feed-words [] = refl
 no_feed-words (t ∷ []) = no_feed-word t
-no_feed-words (t ∷ u ∷ ts) =
-    no_feed-append (word_of t ++ codes ", ") (words (u ∷ ts)) (no_feed-append (word_of t) (codes ", ") (no_feed-word t) refl) (no_feed-words (u ∷ ts))
+no_feed-words (t ∷ u ∷ ts) = search (no_feed-append, no_feed-word, (no_feed-words (u ∷ ts)))
 
 pub no_feed-row : (r : Row) → no_feed (content r) ≡ true
 no_feed-row ending = refl
@@ -101,8 +88,7 @@ next_row reported rest n [] [] h k e = absurd (no_line reported rest e)
 next_row reported rest n [] (r ∷ rs) h k e =
     let same = first_same (content r) reported (lines_of rs) rest (no_feed-row r) n e in
     record { row = r; more = rs; right = (and_parts (is_row r) (list_all is_row rs) k).0; rows_are = refl; reported_is = sym same.0 }
-next_row reported rest n (s ∷ ss) [] h k e =
-    absurd (no_line (content s) (lines_of ss ++ (line reported ++ rest)) (e ∙ append_assoc (line (content s)) (lines_of ss) (line reported ++ rest)))
+next_row reported rest n (s ∷ ss) [] h k e = search rules
 next_row reported rest n (s ∷ ss) (r ∷ rs) h k e =
     let a = and_parts (is_row s) (list_all is_row ss) h in
     let b = and_parts (is_row r) (list_all is_row rs) k in

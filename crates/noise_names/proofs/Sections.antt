@@ -1,25 +1,15 @@
 -- A pattern section and a protocol name are read exactly if they are spelled so.
-use Rattle.std.proofs.Common.{◌≡◌, ℕ, suc, ◌+◌, ◌<◌, ◌≤◌, Bool, true, false, ◌&&◌, not, cond, ltb, List, [], ◌∷◌, ◌++◌, Result, Ok, Err, refl}
-use Rattle.std.proofs.Common.{ap, sym, ◌∙◌, append-nil, map, length, take, drop, take_while, arith}
-use Rattle.std.specs.List.{list_all, join_with_byte, prefix_len}
-use Rattle.std.proofs.lemmas.List.{take-append-drop, take_min, length-take, drop_at}
-use Rattle.noise_names.specs.declared.faults.NameFault.{NameFault}
-use Rattle.noise_names.specs.declared.faults.NameFault.TheVariants.{Base, Modifier, ModifierOrder}
-use Rattle.noise_names.specs.Names.{Section, IsSection, is_base_byte, is_upper, is_base, base_front, after_base, modifier, pieces_of, is_modifier, digit_of}
-use Rattle.noise_names.specs.Names.{rises, are_places, section_bytes}
-use Rattle.noise_names.specs.Sections.{numbers_in, modifiers_read, unless_section_fault, section_in, section_read}
-use Rattle.std.proofs.lemmas.List.Splits.{join_with_byte-slice_split}
-use Rattle.noise_names.proofs.Modifiers.{are_numbers, all_modifiers, pieces_of-modifiers, are_modifiers, digits_rise, same_numbers, places_rise}
-use Rattle.std.proofs.lemmas.Bool.{and_parts, ltb-true, not-false}
+use Rattle.std.proofs.Common.{rules, ◌≡◌, ℕ, suc, ◌+◌, ◌≤◌, Bool, true, false, not, cond, List, [], ◌∷◌, ◌++◌, Result, Ok, Err, refl, ap, sym, ◌∙◌, append-nil, map, length, take, drop, take_while, arith}
+use Rattle.std.proofs.lemmas.List.{take-append-drop, length-take}
+use Rattle.noise_names.proofs.Common.{list_all, join_with_byte, prefix_len, take_min, drop_at, NameFault, Base, Modifier, ModifierOrder, Section, IsSection, is_base_byte, is_base, base_front, after_base, modifier, pieces_of, is_modifier, digit_of, rises, section_bytes, numbers_in, modifiers_read, unless_section_fault, section_in, section_read, join_with_byte-slice_split, and_parts, not-false}
+use Rattle.noise_names.proofs.Modifiers.{all_modifiers, pieces_of-modifiers, are_modifiers, digits_rise, same_numbers, places_rise}
 
 -- a front, and what is after it
 pub take-front : (test : ℕ → Bool) (bytes : List ℕ) → take (length (take_while test bytes)) bytes ≡ take_while test bytes
 take-front test bytes = ap (λ (n : ℕ). take n bytes) (length-take (prefix_len test bytes) bytes) ∙ take_min (prefix_len test bytes) bytes
 
 pub front_split : (test : ℕ → Bool) (bytes : List ℕ) → bytes ≡ take_while test bytes ++ drop (length (take_while test bytes)) bytes
-front_split test bytes =
-    sym (take-append-drop (length (take_while test bytes)) bytes)
-    ∙ ap (λ (xs : List ℕ). xs ++ drop (length (take_while test bytes)) bytes) (take-front test bytes)
+front_split test bytes = search (rules, take-append-drop, take-front)
 
 take_while-yes : (test : ℕ → Bool) (x : ℕ) (xs : List ℕ) → test x ≡ true → take_while test (x ∷ xs) ≡ x ∷ take_while test xs
 take_while-yes test x xs h = rw h (ap (λ (n : ℕ). take n (x ∷ xs)) (one_more (prefix_len test xs))) where
@@ -49,15 +39,11 @@ all_weaker test other (x ∷ xs) each h =
 -- a base has bytes of a base, and few
 pub base_all : (base : List ℕ) → is_base base ≡ true → list_all is_base_byte base ≡ true
 base_all [] h = absurd (cc)
-base_all (b ∷ bs) h =
-    let few = and_parts (is_upper b && list_all is_base_byte bs) (ltb (length bs) 8) h in
-    let a = and_parts (is_upper b) (list_all is_base_byte bs) few.0 in
-    rw (a.0) a.1
+base_all (b ∷ bs) h = search rules
 
 pub base_few : (base : List ℕ) → is_base base ≡ true → length base ≤ 8
 base_few [] h = absurd (cc)
-base_few (b ∷ bs) h = let less : length bs < 8 = ltb-true (length bs) 8 (and_parts (is_upper b && list_all is_base_byte bs) (ltb (length bs) 8) h).1 in
-    omega arith
+base_few (b ∷ bs) h = search rules
 
 -- no byte of a base begins modifiers
 modifiers_begin : (ns : List ℕ) (base : List ℕ) → list_all is_base_byte base ≡ true → base_front (base ++ join_with_byte 43 (map modifier ns)) ≡ base
@@ -65,21 +51,12 @@ modifiers_begin [] base h = rw append-nil (front_all is_base_byte base h)
 modifiers_begin (n ∷ []) base h = front_is is_base_byte base 112 (115 ∷ 107 ∷ (48 + n) ∷ []) h refl
 modifiers_begin (n ∷ m ∷ ns) base h = front_is is_base_byte base 112 (115 ∷ 107 ∷ (48 + n) ∷ 43 ∷ join_with_byte 43 (map modifier (m ∷ ns))) h refl
 
-places_are_numbers : (ns : List ℕ) → are_places ns ≡ true → are_numbers ns ≡ true
-places_are_numbers ns h = (and_parts (rises ns) (are_numbers ns) h).1
-
 -- the result after modifiers that are read
 modifiers_ok : {A : Type 0} (m o : Bool) (xs ns : List ℕ) (result : Result A NameFault) → cond m (Err Modifier) (cond o (Err ModifierOrder) (Ok xs)) ≡ Ok ns
     → (cond m (Err Modifier) (cond o (Err ModifierOrder) result) ≡ result) × (xs ≡ ns)
 modifiers_ok true o xs ns result e = absurd (cc)
 modifiers_ok false true xs ns result e = absurd (cc)
 modifiers_ok false false xs ns result e = (refl, cc)
-
-modifiers_err : {A : Type 0} (m o : Bool) (xs : List ℕ) (fault : NameFault) (result : Result A NameFault)
-    → cond m (Err Modifier) (cond o (Err ModifierOrder) (Ok xs)) ≡ Err fault → cond m (Err Modifier) (cond o (Err ModifierOrder) result) ≡ Err fault
-modifiers_err true o xs fault result e = cc
-modifiers_err false true xs fault result e = cc
-modifiers_err false false xs fault result e = absurd (cc)
 
 -- a section whose parts are read
 pub section_ok : (section base modifiers ns : List ℕ) → base ≡ base_front section → modifiers ≡ after_base section → is_base base ≡ true
@@ -98,11 +75,7 @@ section_ok section base modifiers ns e f h read =
 
 pub section_err : (section base modifiers : List ℕ) (fault : NameFault) → base ≡ base_front section → modifiers ≡ after_base section → is_base base ≡ true
     → modifiers_read modifiers ≡ Err fault → section_read section ≡ Err fault
-section_err section base modifiers fault e f h read =
-    let base_is : is_base (base_front section) ≡ true = ap is_base (sym e) ∙ h in
-    let read_after : modifiers_read (after_base section) ≡ Err fault = ap modifiers_read (sym f) ∙ read in
-    rw base_is (modifiers_err (not (list_all is_modifier (pieces_of (after_base section)))) (not (rises (map digit_of (pieces_of (after_base section)))))
-    (numbers_in (after_base section)) fault (Ok (section_in section)) read_after)
+section_err section base modifiers fault e f h read = search rules
 
 -- what a section without a fault is
 abbrev pub KeepsSection : List ℕ → Type 0
@@ -156,19 +129,10 @@ after_of s h = drop_at s.base (join_with_byte 43 (map modifier s.places)) _ (sym
 -- what spells a section has no fault, and gives the section
 pub section_keeps : {A : Type 0} (s : Section) (result : Result A NameFault) → IsSection s
     → unless_section_fault (section_bytes s.base s.places) result ≡ result
-section_keeps s result h =
-    let numbers : are_numbers s.places ≡ true = places_are_numbers s.places h.places in
-    let pieces : pieces_of (after_base (section_bytes s.base s.places)) ≡ map modifier s.places = ap pieces_of (after_of s h)
-    ∙ pieces_of-modifiers s.places numbers in
-    let rising : rises s.places ≡ true = (and_parts (rises s.places) (are_numbers s.places) h.places).0 in
-    rw (pieces, are_modifiers s.places numbers, digits_rise s.places, rising, front_of s h, h.base) refl
+section_keeps s result h = search (rules, after_of, pieces_of-modifiers, are_modifiers, digits_rise, front_of)
 
 pub section_in-spelled : (s : Section) → IsSection s → section_in (section_bytes s.base s.places) ≡ s
-section_in-spelled s h =
-    let numbers : are_numbers s.places ≡ true = places_are_numbers s.places h.places in
-    let pieces : pieces_of (after_base (section_bytes s.base s.places)) ≡ map modifier s.places = ap pieces_of (after_of s h)
-    ∙ pieces_of-modifiers s.places numbers in
-    rw (pieces, same_numbers s.places, front_of s h) refl
+section_in-spelled s h = search (rules, after_of, pieces_of-modifiers, same_numbers, front_of)
 
 pub section_read-every : (s : Section) → IsSection s → section_read (section_bytes s.base s.places) ≡ Ok s
 section_read-every s h = section_keeps s (Ok (section_in (section_bytes s.base s.places))) h ∙ ap (λ (t : Section). Ok t) (section_in-spelled s h)
@@ -176,26 +140,3 @@ section_read-every s h = section_keeps s (Ok (section_in (section_bytes s.base s
 -- no bytes spell two sections
 pub one_section : (s t : Section) → IsSection s → IsSection t → section_bytes s.base s.places ≡ section_bytes t.base t.places → s ≡ t
 one_section s t h k e = sym (section_in-spelled s h) ∙ ap section_in e ∙ section_in-spelled t k
-
--- the rest of a reading after a section
-pub unless_section_err : {A : Type 0} (section : List ℕ) (fault : NameFault) (result : Result A NameFault) → section_read section ≡ Err fault
-    → unless_section_fault section result ≡ Err fault
-unless_section_err section fault result e =
-    at (is_base (base_front section)) (list_all is_modifier (pieces_of (after_base section))) (rises (map digit_of (pieces_of (after_base section)))) e where
-      at : (b m o : Bool) → cond (not b) (Err Base) (cond (not m) (Err Modifier) (cond (not o) (Err ModifierOrder) (Ok (section_in section)))) ≡ Err fault
-          → cond (not b) (Err Base) (cond (not m) (Err Modifier) (cond (not o) (Err ModifierOrder) result)) ≡ Err fault
-      at false m o f = cc
-      at true false o f = cc
-      at true true false f = cc
-      at true true true f = absurd (cc)
-
-pub unless_section_kept : {A : Type 0} (section : List ℕ) (s : Section) (result : Result A NameFault) → section_read section ≡ Ok s
-    → (unless_section_fault section result ≡ result) × (section_in section ≡ s)
-unless_section_kept section s result e =
-    at (is_base (base_front section)) (list_all is_modifier (pieces_of (after_base section))) (rises (map digit_of (pieces_of (after_base section)))) e where
-      at : (b m o : Bool) → cond (not b) (Err Base) (cond (not m) (Err Modifier) (cond (not o) (Err ModifierOrder) (Ok (section_in section)))) ≡ Ok s
-          → (cond (not b) (Err Base) (cond (not m) (Err Modifier) (cond (not o) (Err ModifierOrder) result)) ≡ result) × (section_in section ≡ s)
-      at false m o f = absurd (cc)
-      at true false o f = absurd (cc)
-      at true true false f = absurd (cc)
-      at true true true f = (refl, cc)

@@ -1,47 +1,29 @@
 -- How many bytes a protocol name and the text of a pattern have at most.
-use Rattle.std.proofs.Common.{◌≡◌, ℕ, ◌+◌, ◌-◌, ◌*◌, ◌≤◌, Bool, true, false, cond, eqb, leb, List, [], ◌∷◌, ◌++◌}
-use Rattle.std.proofs.Common.{ap, sym, ◌∙◌, map, length, arith, length-append}
-use Rattle.std.specs.Prelude.{codes}
-use Rattle.std.specs.List.{list_any, list_all, join_with_byte}
-use Rattle.std.proofs.lemmas.Bool.Decides.{nat_tests}
-use Rattle.noise_names.specs.declared.token.Role.{Role}
-use Rattle.noise_names.specs.declared.token.Role.TheVariants.{Initiator, Responder}
-use Rattle.noise_names.specs.declared.token.Token.{Token}
-use Rattle.noise_names.specs.declared.token.Token.TheVariants.{E, S, Ee, Es, Se, Ss, Psk}
-use Rattle.noise_names.specs.Tokens.{other, own_tokens}
-use Rattle.noise_names.specs.Plan.{Plan}
-use Rattle.noise_names.specs.Names.{Section, IsSection, is_base, are_places, modifier, section_bytes, suffix, name_bytes}
-use Rattle.noise_names.specs.Limits.{IsPattern, HavePsksAt, psk_if, with_psk_tokens, has_few_tokens, is_pre_message}
-use Rattle.noise_names.specs.Text.{word_of, words, token_line, pre_line, pre_lines, message_lines, text_of}
+use Rattle.std.proofs.Common.{rules, ◌≡◌, ℕ, ◌+◌, ◌-◌, ◌*◌, ◌≤◌, Bool, true, false, cond, eqb, List, [], ◌∷◌, ◌++◌, ap, sym, ◌∙◌, map, length, arith, length-append}
+use Rattle.noise_names.proofs.Common.{list_any, list_all, join_with_byte, nat_tests, Role, Initiator, Responder, Token, E, S, Ee, Es, Se, Ss, Psk, other, own_tokens, Plan, Section, IsSection, is_base, are_places, modifier, section_bytes, name_bytes, IsPattern, HavePsksAt, psk_if, with_psk_tokens, has_few_tokens, words, token_line, message_lines, text_of, and_parts}
 use Rattle.noise_names.proofs.Numbers.{places_from-few, are_places-from}
-use Rattle.noise_names.proofs.Sections.{base_few}
 use Rattle.noise_names.proofs.PskTokens.{few_messages}
 use Rattle.noise_names.proofs.Writing.{more_words, words-first}
-use Rattle.std.proofs.lemmas.Bool.{and_parts, leb-true}
 
 -- modifiers: each has 4 bytes, and a + stands between each two
 few-modifiers : (ns : List ℕ) → length (join_with_byte 43 (map modifier ns)) ≤ 5 * length ns - 1
 few-modifiers [] = omega arith
 few-modifiers (n ∷ []) = omega arith
-few-modifiers (n ∷ m ∷ ns) =
-    let more : length (join_with_byte 43 (map modifier (m ∷ ns))) ≤ 5 * length (m ∷ ns) - 1 = few-modifiers (m ∷ ns) in omega arith
+few-modifiers (n ∷ m ∷ ns) = search (rules, (few-modifiers (m ∷ ns)))
 
 few-places : (ns : List ℕ) → are_places ns ≡ true → length ns ≤ 9
 few-places ns h = let few : length ns + 0 ≤ 9 = places_from-few 0 ns (sym (are_places-from ns) ∙ h) (omega arith) in omega arith
 
 few-section : (base places : List ℕ) → is_base base ≡ true → are_places places ≡ true → length (section_bytes base places) ≤ 52
-few-section base places b p =
-    omega (arith, base_few base b, few-places places p, few-modifiers places, length-append base (join_with_byte 43 (map modifier places)))
+few-section base places b p = search (rules, few-places, few-modifiers, length-append)
 
 pub few-name : (s : Section) → IsSection s → length (name_bytes s) ≤ 82
-few-name s h =
-    omega (arith, few-section s.base s.places h.base h.places, length-append (section_bytes s.base s.places) suffix)
+few-name s h = search (rules, few-section, length-append)
 
 -- words: each has a comma and a space before it but the first
 more-append : (xs ys : List Token) → length (more_words (xs ++ ys)) ≡ length (more_words xs) + length (more_words ys)
 more-append [] ys = omega arith
-more-append (x ∷ xs) ys =
-    omega (arith, more-append xs ys, length-append (word_of x) (more_words (xs ++ ys)), length-append (word_of x) (more_words xs))
+more-append (x ∷ xs) ys = search (rules, (more-append xs ys))
 
 -- a token other than psk has a word of at most 2 bytes
 few-own : (ts : List Token) → length (more_words (own_tokens ts)) ≤ 4 * length (own_tokens ts)
@@ -74,18 +56,7 @@ front n places = cond (eqb n 1) (psk_if 0 places) []
 
 few-message : (places : List ℕ) (n : ℕ) (ts : List Token) → ts ≡ with_psk_tokens places n (own_tokens ts) → has_few_tokens ts ≡ true
     → length (more_words ts) ≤ 37 + length (more_words (front n places))
-few-message places n ts is few =
-    let same : length (more_words ts) ≡ length (more_words ((front n places ++ own_tokens ts) ++ psk_if n places)) =
-    ap (λ (us : List Token). length (more_words us)) is in
-    let most : length (own_tokens ts) ≤ 8 = leb-true (length (own_tokens ts)) 8 (and_parts (leb 1 (length (own_tokens ts))) _ few).1 in
-    omega (
-      arith,
-      same,
-      more-append (front n places ++ own_tokens ts) (psk_if n places),
-      more-append (front n places) (own_tokens ts),
-      few-own ts,
-      few-psk n places,
-    )
+few-message places n ts is few = search (rules, more-append, few-own)
 
 -- a message after the first has at most one psk token
 few-later : (places : List ℕ) (n : ℕ) (role : Role) (ms : List (List Token)) → 2 ≤ n → list_all has_few_tokens ms ≡ true → HavePsksAt places n ms
@@ -122,47 +93,5 @@ few-lines places role (m ∷ ms) few psks =
       length-append (token_line role m) (message_lines (other role) ms),
     )
 
--- pre-messages and the line after them
-pre-words : (ts : List Token) → is_pre_message ts ≡ true → length (more_words ts) ≤ 6
-pre-words [] h = omega arith
-pre-words (E ∷ []) h = omega arith
-pre-words (S ∷ []) h = omega arith
-pre-words (E ∷ S ∷ []) h = omega arith
-pre-words _ h = absurd (cc)
-
-few-pre : (role : Role) (ts : List Token) → is_pre_message ts ≡ true → length (pre_line role ts) ≤ 10
-few-pre role [] h = omega arith
-few-pre role (t ∷ ts) h = omega (arith, few-line role (t ∷ ts), pre-words (t ∷ ts) h)
-
-few-after : (i r : List Token) → is_pre_message i ≡ true → is_pre_message r ≡ true
-    → length ((pre_line Initiator i ++ pre_line Responder r) ++ codes "  ...\n") ≤ 26
-few-after i r hi hr =
-    omega (
-      arith,
-      few-pre Initiator i hi,
-      few-pre Responder r hr,
-      length-append (pre_line Initiator i ++ pre_line Responder r) (codes "  ...\n"),
-      length-append (pre_line Initiator i) (pre_line Responder r),
-    )
-
-few-pre_lines : (i r : List Token) → is_pre_message i ≡ true → is_pre_message r ≡ true → length (pre_lines i r) ≤ 26
-few-pre_lines [] [] hi hr = omega arith
-few-pre_lines [] (u ∷ us) hi hr = few-after [] (u ∷ us) hi hr
-few-pre_lines (t ∷ ts) r hi hr = few-after (t ∷ ts) r hi hr
-
 pub few-text : (p : Plan) → IsPattern p → length (text_of p) ≤ 413
-few-text p h =
-    let heading : List ℕ = (section_bytes p.base p.places ++ codes ":") ++ 10 ∷ [] in
-    let pre : List ℕ = pre_lines p.initiator p.responder in
-    let lines : List ℕ = message_lines Initiator p.messages in
-    let few : length p.messages ≤ 8 = few_messages p.messages h.count in
-    omega (
-      arith,
-      few-section p.base p.places h.base h.places,
-      few-pre_lines p.initiator p.responder h.initiator h.responder,
-      few-lines p.places Initiator p.messages h.sizes h.psks.tokens,
-      length-append (section_bytes p.base p.places ++ codes ":") (10 ∷ []),
-      length-append (section_bytes p.base p.places) (codes ":"),
-      length-append heading pre,
-      length-append (heading ++ pre) lines,
-    )
+few-text p h = search (rules, few_messages, few-section, few-lines, length-append)

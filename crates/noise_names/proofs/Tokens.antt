@@ -1,9 +1,8 @@
 -- Tokens are compared.
 use Rattle.std.proofs.Common.{◌≡◌, true, refl, subst, rules}
 use Rattle.std.specs.Bool.{Decides}
+use Rattle.noise_names.proofs.Common.{Token, E, S, Ee, Es, Se, Ss, Psk}
 use denote.Enum.Bare.{same_true}
-use Rattle.noise_names.specs.declared.token.Token.{Token}
-use Rattle.noise_names.specs.declared.token.Token.TheVariants.{E, S, Ee, Es, Se, Ss, Psk}
 use Rattle.noise_names.specs.contracts.token.Token.{the_type}
 use Rattle.noise_names.specs.contracts.token.TokenPartialEq.TheImpl.{eq-value}
 

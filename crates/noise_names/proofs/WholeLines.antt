@@ -1,12 +1,7 @@
 -- Two divisions of a text into whole lines and what is left.
-use Rattle.std.proofs.Common.{◌≡◌, ◌⊎◌, inl, inr, ℕ, ◌+◌, Bool, true, false, not, eqb, List, [], ◌∷◌, ◌++◌, refl, ap, sym, ◌∙◌, subst}
-use Rattle.std.proofs.Common.{append_assoc, append-nil, length, length-append, arith}
-use Rattle.std.proofs.lemmas.Bool.Decides.{nat_tests}
-use Rattle.std.proofs.lemmas.List.{nil_from_length, same_from_push}
-use Rattle.noise_names.specs.Text.{line}
-use Rattle.noise_names.specs.WrongText.{IsEnded, first_line}
+use Rattle.std.proofs.Common.{◌≡◌, ◌⊎◌, inl, inr, ℕ, ◌+◌, Bool, true, false, not, eqb, List, [], ◌∷◌, ◌++◌, refl, ap, sym, ◌∙◌, subst, append_assoc, append-nil, length, length-append, arith}
+use Rattle.noise_names.proofs.Common.{nat_tests, nil_from_length, same_from_push, line, IsEnded, first_line, cons-same}
 use Rattle.noise_names.proofs.Sections.{front_is}
-use Rattle.noise_names.specs.Lists.{cons-same}
 use Rattle.noise_names.proofs.Lines.{no_feed}
 
 -- the lines g go on after those of f

@@ -1,28 +1,14 @@
 -- Lists of words of which some were read.
-use Rattle.std.proofs.Common.{◌≡◌, ◌≢◌, ℕ, ◌<◌, suc, zero, Bool, true, false, not, cond, List, [], ◌∷◌, ◌++◌, refl, ap, sym, ◌∙◌, append_assoc, append-nil}
-use Rattle.std.proofs.Common.{length, arith, take, eqb, leb, ◌≤◌, ◌&&◌, ◌⊎◌, inl, inr, min}
-use Rattle.std.specs.Prelude.{codes}
-use Rattle.std.proofs.lemmas.Bool.Decides.{nat_tests}
-use Rattle.noise_names.specs.declared.token.Token.{Token}
-use Rattle.noise_names.specs.declared.token.Token.TheVariants.{E, S, Ee, Es, Se, Ss, Psk}
+use Rattle.std.proofs.Common.{rules, ◌≡◌, ◌≢◌, ℕ, ◌<◌, suc, zero, Bool, true, false, not, cond, List, [], ◌∷◌, ◌++◌, refl, ap, sym, ◌∙◌, append_assoc, append-nil, length, arith, take, eqb, leb, ◌≤◌, ◌&&◌, ◌⊎◌, inl, inr, min}
+use Rattle.noise_names.proofs.Common.{codes, nat_tests, Token, E, S, Ee, Es, Se, Ss, Psk, HasTokens, has_few_tokens, is_pre_message, nil_from_length, is_psk, own_tokens, word_of, words, is_lower}
 use Rattle.noise_names.specs.declared.text.fault.Words.{Words}
-use Rattle.noise_names.specs.Judging.{HasTokens}
-use Rattle.noise_names.specs.Limits.{has_few_tokens, is_pre_message}
-use Rattle.std.proofs.lemmas.List.{length-take, nil_from_length}
-use Rattle.noise_names.specs.Tokens.{is_psk, own_tokens}
-use Rattle.noise_names.specs.Text.{word_of, words}
-use Rattle.noise_names.specs.Reading.{is_lower}
+use Rattle.std.proofs.lemmas.List.{length-take}
 use Rattle.noise_names.proofs.PskTokens.{own-append}
-use Rattle.noise_names.proofs.TokenLines.{first_word_same}
 
 -- words, each with a comma and a space after it
 abbrev pub with_commas : List Token → List ℕ
 with_commas [] = []
 with_commas (t ∷ ts) = word_of t ++ 44 ∷ 32 ∷ with_commas ts
-
-words-cons : (r : Token) (ys : List Token) → ys ≢ [] → words (r ∷ ys) ≡ word_of r ++ 44 ∷ 32 ∷ words ys
-words-cons r [] some = absurd (some refl)
-words-cons r (y ∷ ys) some = append_assoc (word_of r) (codes ", ") (words (y ∷ ys))
 
 some-append : (xs : List Token) (t : Token) (ys : List Token) → xs ++ t ∷ ys ≢ []
 some-append [] t ys e = cc
@@ -30,34 +16,20 @@ some-append (x ∷ xs) t ys e = cc
 
 words-more : (read : List Token) (t : Token) (others : List Token) → with_commas read ++ words (t ∷ others) ≡ words (read ++ t ∷ others)
 words-more [] t others = refl
-words-more (r ∷ rs) t others =
-    append_assoc (word_of r) (44 ∷ 32 ∷ with_commas rs) (words (t ∷ others))
-    ∙ ap (λ (x : List ℕ). word_of r ++ 44 ∷ 32 ∷ x) (words-more rs t others)
-    ∙ sym (words-cons r (rs ++ t ∷ others) (some-append rs t others))
+words-more (r ∷ rs) t others = search (rules, some-append, (words-more rs t others))
 
 commas-push : (read : List Token) (t : Token) (x : List ℕ) → with_commas (read ++ t ∷ []) ++ x ≡ with_commas read ++ (word_of t ++ 44 ∷ 32 ∷ x)
 commas-push [] t x = append_assoc (word_of t) (44 ∷ 32 ∷ []) x
-commas-push (r ∷ rs) t x =
-    append_assoc (word_of r) (44 ∷ 32 ∷ with_commas (rs ++ t ∷ [])) x
-    ∙ ap (λ (y : List ℕ). word_of r ++ 44 ∷ 32 ∷ y) (commas-push rs t x)
-    ∙ sym (append_assoc (word_of r) (44 ∷ 32 ∷ with_commas rs) (word_of t ++ 44 ∷ 32 ∷ x))
+commas-push (r ∷ rs) t x = search (append_assoc, (commas-push rs t x))
 
 -- what is left of words is words
 rest-is : (read : List Token) (left : List ℕ) (t : Token) (ts : List Token) → with_commas read ++ left ≡ words (t ∷ ts)
     → (u : Token) × (us : List Token) × (left ≡ words (u ∷ us))
 rest-is [] left t ts e = (t, ts, e)
-rest-is (r ∷ rs) left t [] e =
-    let f : word_of r ++ 44 ∷ ((32 ∷ (with_commas rs ++ left)) ++ 10 ∷ []) ≡ word_of t ++ 10 ∷ [] =
-    sym (append_assoc (word_of r) (44 ∷ 32 ∷ (with_commas rs ++ left)) (10 ∷ []))
-    ∙ ap (λ (x : List ℕ). x ++ 10 ∷ []) (sym (append_assoc (word_of r) (44 ∷ 32 ∷ with_commas rs) left) ∙ e) in
-    let h : 44 ∷ ((32 ∷ (with_commas rs ++ left)) ++ 10 ∷ []) ≡ 10 ∷ [] =
-    (first_word_same r t 44 10 ((32 ∷ (with_commas rs ++ left)) ++ 10 ∷ []) [] refl refl f).1 in
-    absurd (cc)
+rest-is (r ∷ rs) left t [] e = search rules
 rest-is (r ∷ rs) left t (v ∷ vs) e =
-    let f : word_of r ++ 44 ∷ (32 ∷ (with_commas rs ++ left)) ≡ word_of t ++ 44 ∷ (32 ∷ words (v ∷ vs)) =
-    sym (append_assoc (word_of r) (44 ∷ 32 ∷ with_commas rs) left) ∙ e ∙ append_assoc (word_of t) (codes ", ") (words (v ∷ vs)) in
-    let h : 44 ∷ 32 ∷ (with_commas rs ++ left) ≡ 44 ∷ 32 ∷ words (v ∷ vs) =
-    (first_word_same r t 44 44 (32 ∷ (with_commas rs ++ left)) (32 ∷ words (v ∷ vs)) refl refl f).1 in
+    let f : word_of r ++ 44 ∷ (32 ∷ (with_commas rs ++ left)) ≡ word_of t ++ 44 ∷ (32 ∷ words (v ∷ vs)) = search rules in
+    let h : 44 ∷ 32 ∷ (with_commas rs ++ left) ≡ 44 ∷ 32 ∷ words (v ∷ vs) = search rules in
     rest-is rs left v vs (cc)
 
 pub take-take : {A : Type 0} (n : ℕ) (xs ys : List A) → take n (take n xs ++ ys) ≡ take n (xs ++ ys)

@@ -1,11 +1,6 @@
 -- The written text of a pattern, part by part.
-use Rattle.std.proofs.Common.{◌≡◌, ℕ, ◌+◌, ◌<◌, List, [], ◌∷◌, ◌++◌, ap, sym, ◌∙◌, append_assoc, append-nil, drop, get_or, length}
-use Rattle.std.specs.Prelude.{codes}
-use Rattle.std.proofs.lemmas.List.{at_drop_more}
-use Rattle.noise_names.specs.declared.token.Role.{Role}
-use Rattle.noise_names.specs.declared.token.Token.{Token}
-use Rattle.noise_names.specs.Tokens.{other}
-use Rattle.noise_names.specs.Text.{words, word_of, message_lines, token_line}
+use Rattle.std.proofs.Common.{rules, ◌≡◌, ℕ, ◌+◌, ◌<◌, List, [], ◌∷◌, ◌++◌, ap, sym, ◌∙◌, append_assoc, append-nil, drop, get_or, length}
+use Rattle.noise_names.proofs.Common.{codes, at_drop_more, Role, Token, other, words, word_of, message_lines, token_line}
 
 -- the words of further tokens, a comma and a space before each
 abbrev pub more_words : List Token → List ℕ
@@ -39,7 +34,4 @@ lines-step out out' before role ms i d h w e =
 -- the first token was written
 pub words-start : (tokens : List Token) (first : Token) (others : List Token) (out out' w : List ℕ) → tokens ≡ first ∷ others → out' ≡ out ++ w
     → w ≡ word_of first → out' ++ more_words others ≡ out ++ words tokens
-words-start tokens first others out out' w is e f =
-    ap (λ (k : List ℕ). k ++ more_words others) (e ∙ ap (λ (k : List ℕ). out ++ k) f)
-    ∙ append_assoc out (word_of first) (more_words others)
-    ∙ ap (λ (k : List ℕ). out ++ k) (sym (ap words is ∙ words-first first others))
+words-start tokens first others out out' w is e f = search (rules, append_assoc, words-first)

@@ -1,26 +1,13 @@
 -- One wrong line has one kind of fault.
-use Rattle.std.proofs.Common.{◌≡◌, ◌⊎◌, inl, inr, ℕ, ◌+◌, true, false, List, [], ◌∷◌, ◌++◌, refl, ap, sym, ◌∙◌, append_assoc, length, arith}
-use Rattle.std.specs.Prelude.{codes}
-use Rattle.std.specs.List.{list_all}
-use Rattle.std.proofs.lemmas.List.{append_cancel_left}
-use Rattle.noise_names.specs.declared.faults.TextFaultKind.{TextFaultKind}
-use Rattle.noise_names.specs.declared.faults.TextFaultKind.TheVariants as kinds
-use Rattle.noise_names.specs.declared.token.Role.{Role}
-use Rattle.noise_names.specs.declared.token.Role.TheVariants.{Initiator, Responder}
-use Rattle.noise_names.specs.declared.token.Token.{Token}
-use Rattle.noise_names.specs.declared.token.Token.TheVariants.{E, S, Ee, Es, Se, Ss, Psk}
-use Rattle.noise_names.specs.Limits.{has_few_tokens}
-use Rattle.noise_names.specs.Text.{message_lines, pre_lines, token_line, word_of, words}
-use Rattle.noise_names.specs.Tokens.{other, turn_from}
-use Rattle.noise_names.specs.WrongText.{BeginsRight, IsAfter, IsArrowFault, IsAtMessage, IsLimitFault, IsMessage, IsPreMessageFault}
-use Rattle.noise_names.specs.WrongText.{IsPskFault, IsTokenFault, IsTokens, IsTurnFault, IsWrongLine, arrow_then, dots, first_line, has_dots, is_within, wrong_line}
+use Rattle.std.proofs.Common.{rules, ◌≡◌, ◌⊎◌, inl, inr, ℕ, ◌+◌, true, false, List, [], ◌∷◌, ◌++◌, refl, ap, sym, ◌∙◌, append_assoc, length, arith}
+use Rattle.noise_names.proofs.Common.{codes, list_all, TextFaultKind, Role, Initiator, Responder, Token, E, S, Ee, Es, Se, Ss, Psk, has_few_tokens, message_lines, token_line, word_of, words, other, turn_from, BeginsRight, IsAfter, IsArrowFault, IsAtMessage, IsLimitFault, IsMessage, IsPreMessageFault, IsPskFault, IsTokenFault, IsTokens, IsTurnFault, IsWrongLine, arrow_then, dots, first_line, is_within, wrong_line, and_parts}
 use Rattle.noise_names.proofs.DotsLine.{not_ahead}
 use Rattle.noise_names.proofs.Rows.{no_feed-row, tokens_of}
 use Rattle.noise_names.proofs.WrongLines.{next_turn, not_dots}
-use Rattle.std.proofs.lemmas.Bool.{and_parts}
 use Rattle.noise_names.proofs.PatternRows.{lines_same}
 use Rattle.noise_names.proofs.TokenLines.{apart, words_same}
 use Rattle.noise_names.proofs.Lines.{first_same}
+use Rattle.noise_names.specs.declared.faults.TextFaultKind.TheVariants as kinds
 
 -- ---- the party and the tokens of a line
 
@@ -74,11 +61,7 @@ messages_few party (m ∷ ms) (k ∷ ks) rest h e =
     rw few (messages_few (other party) ms ks rest parts.1 same.1)
 
 few_after : {text f x : List ℕ} (b : BeginsRight text f x) (ms : List (List Token)) → IsAfter b.p ms f → list_all has_few_tokens ms ≡ true
-few_after b ms e =
-    let pre : List ℕ = pre_lines b.p.initiator b.p.responder in
-    messages_few Initiator b.p.messages ms b.begun.0 b.like.is_pattern.sizes
-    (append_cancel_left pre (message_lines Initiator b.p.messages) (message_lines Initiator ms ++ b.begun.0) (b.begun.1
-    ∙ ap (λ (k : List ℕ). k ++ b.begun.0) e ∙ append_assoc pre (message_lines Initiator ms) b.begun.0))
+few_after b ms e = search (rules, messages_few)
 
 -- they are known from the lines
 pub after_same : {text f x g y : List ℕ} (b : BeginsRight text f x) (c : BeginsRight text g y) (ms ks : List (List Token)) → f ≡ g → IsAfter b.p ms f
@@ -104,8 +87,7 @@ turn_message : {text : List ℕ} {m n : ℕ} (w : IsWrongLine text m) (v : IsWro
     → IsTurnFault w → IsMessage v ms ts → ⊥
 turn_message w v ms ts s (ks, us, at, are) message =
     let same : ks ≡ ms = after_same w.it v.it ks ms s.0 at message.0 in
-    let party : turn_from Initiator (length ks + 1) ≡ turn_from Initiator (length ms) =
-    (tokens_one _ _ us ts (sym are.1 ∙ s.1 ∙ message.1.1)).0 in
+    let party : turn_from Initiator (length ks + 1) ≡ turn_from Initiator (length ms) = search rules in
     next_turn (length ks) (ap (λ (k : List (List Token)). turn_from Initiator (length k)) same ∙ sym party)
 
 limit_psk : {text : List ℕ} {m n : ℕ} (w : IsWrongLine text m) (v : IsWrongLine text n) → AreSame w v → IsLimitFault w → IsPskFault v → ⊥
@@ -151,8 +133,7 @@ at_some w k (inr (inr (e, (ms, ts, is, _)))) = record { before = ms; at = is.0; 
 pre_message : {text : List ℕ} {m n : ℕ} (w : IsWrongLine text m) (v : IsWrongLine text n) → w.front ≡ v.front → w.left ≡ v.left → wrong_line w ≡ wrong_line v
     → IsPreMessageFault w → IsAtSome v → ⊥
 pre_message w v e f g (inl h) i = not_dots i.party (words i.tokens) (sym h ∙ g ∙ i.are.1)
-pre_message w v e f g (inr (h, _)) i =
-    not_ahead v.it.p.initiator v.it.p.responder i.before v.front v.left i.at v.it.like.pre_messages (ap has_dots (sym e) ∙ h.0) (ap has_dots (sym f) ∙ h.1)
+pre_message w v e f g (inr (h, _)) i = search (rules, not_ahead)
 
 abbrev IsListedFault : {text : List ℕ} {number : ℕ} → IsWrongLine text number → TextFaultKind → Type 0
 IsListedFault w kind = ((kind ≡ kinds.PreMessage) × IsPreMessageFault w) ⊎ IsMessageFault w kind
@@ -173,8 +154,7 @@ listed_kinds w v k l e f g (inr h) (inr i) = messages w v k l (e, g) h i
 
 token_listed : {text : List ℕ} {n : ℕ} (w : IsWrongLine text n) (line : List ℕ) → wrong_line w ≡ line → IsTokenFault w → IsListed line → ⊥
 token_listed w line e (party, list, is, none) (inl h) = not_dots party list (sym h ∙ sym e ∙ is)
-token_listed w line e (party, list, is, none) (inr (role, tokens, are)) =
-    none tokens are.0 (arrow_same party role list (words tokens) (sym is ∙ e ∙ are.1)).1
+token_listed w line e (party, list, is, none) (inr (role, tokens, are)) = search rules
 
 arrow_token : {text : List ℕ} {m n : ℕ} (w : IsWrongLine text m) (v : IsWrongLine text n) → wrong_line w ≡ wrong_line v → IsArrowFault w → IsTokenFault v → ⊥
 arrow_token w v e h (party, list, is, none) = h.1 party list (e ∙ is)

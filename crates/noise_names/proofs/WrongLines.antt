@@ -1,25 +1,10 @@
 -- A line that is wrong after right lines is in no right text after those.
-use Rattle.std.specs.Prelude.{◌==◌}
-use Rattle.std.proofs.Common.{◌≡◌, ◌≢◌, ◌⊎◌, ◌↔◌, ℕ, suc, zero, ◌+◌, Bool, true, false, ◌&&◌, not, leb, List, [], ◌∷◌, ◌++◌, refl, ap, sym, ◌∙◌}
-use Rattle.std.proofs.Common.{IsTrue, add-one, length, length-append, inl, inr, subst, arith}
-use Rattle.std.specs.List.{list_all}
-use Rattle.std.proofs.lemmas.Bool.Decides.{nat_tests}
-use Rattle.std.proofs.lemmas.List.Folds.{list_all-append}
-use Rattle.noise_names.specs.declared.faults.TextFaultKind.{TextFaultKind}
-use Rattle.noise_names.specs.declared.faults.TextFaultKind.TheVariants as kinds
-use Rattle.noise_names.specs.declared.token.Role.{Role}
-use Rattle.noise_names.specs.declared.token.Role.TheVariants.{Initiator, Responder}
-use Rattle.noise_names.specs.declared.token.Token.{Token}
-use Rattle.noise_names.specs.Judging.{IsBarred, IsPassed, IsWrong, Passed, passed_lines}
-use Rattle.noise_names.specs.Limits.{HavePsksAt, IsPattern, has_few_tokens, is_pre_message, with_psk_tokens}
-use Rattle.noise_names.specs.Plan.{Plan}
-use Rattle.noise_names.specs.Text.{line, pre_lines, words}
-use Rattle.noise_names.specs.Tokens.{other, own_tokens, turn_from}
-use Rattle.noise_names.specs.WrongText.{IsTokens, arrow_then, body_of, dots, is_within}
+use Rattle.std.proofs.Common.{rules, ◌≡◌, ◌≢◌, ◌⊎◌, ◌↔◌, ℕ, suc, zero, ◌+◌, Bool, true, false, ◌&&◌, not, leb, List, [], ◌∷◌, ◌++◌, refl, ap, sym, ◌∙◌, IsTrue, add-one, length, length-append, inl, inr, arith}
+use Rattle.noise_names.proofs.Common.{◌==◌, list_all, nat_tests, list_all-append, TextFaultKind, Role, Initiator, Responder, Token, IsBarred, IsPassed, IsWrong, Passed, passed_lines, HavePsksAt, IsPattern, has_few_tokens, is_pre_message, with_psk_tokens, Plan, line, pre_lines, words, other, own_tokens, turn_from, IsTokens, arrow_then, body_of, dots, is_within, and_parts}
 use Rattle.noise_names.proofs.NextLines.{IsBegun, IsNextLine, IsNextMessage, IsNextPre, next_line}
 use Rattle.noise_names.proofs.Rows.{Row, content, ending, is_row, row_same, tokens_of}
-use Rattle.std.proofs.lemmas.Bool.{and_parts}
 use Rattle.noise_names.proofs.TokenLines.{apart}
+use Rattle.noise_names.specs.declared.faults.TextFaultKind.TheVariants as kinds
 
 -- what an arrow and a token list are
 row_arrow : (row : Row) → is_row row ≡ true → content row ≢ dots → ((party : Role) (list : List ℕ) → content row ≢ arrow_then party list) → ⊥
@@ -75,10 +60,8 @@ next_turn n e = turn_apart n Initiator (sym (e ∙ ap (λ (k : ℕ). turn_from I
 within : (q : Plan) (before more : List (List Token)) (m : List Token) → IsPattern q → q.messages ≡ before ++ m ∷ more → is_within before m ≡ true
 within q before more m h e =
     let count : length q.messages ≡ length before + suc (length more) = ap length e ∙ length-append before (m ∷ more) in
-    let few : leb (length before + 1) 8 ≡ true =
-    one_more (length q.messages) (length before) (length more) count (and_parts (leb 1 (length q.messages)) (leb (length q.messages) 8) h.count).1 in
-    let all : (list_all has_few_tokens before && list_all has_few_tokens (m ∷ more)) ≡ true =
-    sym (ap (λ (ms : List (List Token)). list_all has_few_tokens ms) e ∙ list_all-append has_few_tokens before (m ∷ more)) ∙ h.sizes in
+    let few : leb (length before + 1) 8 ≡ true = search rules in
+    let all : (list_all has_few_tokens before && list_all has_few_tokens (m ∷ more)) ≡ true = search (rules, list_all-append) in
     let rest : list_all has_few_tokens (m ∷ more) ≡ true = (and_parts (list_all has_few_tokens before) (list_all has_few_tokens (m ∷ more)) all).1 in
     let here : has_few_tokens m ≡ true = (and_parts (has_few_tokens m) (list_all has_few_tokens more) rest).0 in
     rw (few, here) refl
@@ -89,9 +72,7 @@ within q before more m h e =
 psks_at : (places : List ℕ) (n : ℕ) (before more : List (List Token)) (m : List Token) → HavePsksAt places n (before ++ m ∷ more)
     → m ≡ with_psk_tokens places (length before + n) (own_tokens m)
 psks_at places n [] more m h = let e : n ≡ 0 + n = omega arith in h.0 ∙ ap (λ (k : ℕ). with_psk_tokens places k (own_tokens m)) e
-psks_at places n (x ∷ before) more m h =
-    let e : length before + (n + 1) ≡ suc (length before) + n = omega arith in
-    psks_at places (n + 1) before more m h.1 ∙ ap (λ (k : ℕ). with_psk_tokens places k (own_tokens m)) e
+psks_at places n (x ∷ before) more m h = search (rules, (psks_at places (n + 1) before more m h.1))
 
 -- ---- each kind of wrong line, where the next line of a right text is this
 
@@ -141,8 +122,7 @@ message_at : (s : Passed) (q : Plan) (reported : List ℕ) (party : Role) (token
     → IsMessageAt s q party tokens
 message_at s q reported party tokens n none_ahead are =
     let next : IsNextMessage Initiator s.messages q.messages n.row = n.message none_ahead in
-    let same : tokens_of party tokens ≡ tokens_of (turn_from Initiator (length s.messages)) next.message =
-    sym (row_tokens n.row reported party tokens n.right n.reported_is are) ∙ next.row_is in
+    let same : tokens_of party tokens ≡ tokens_of (turn_from Initiator (length s.messages)) next.message = search (rules, row_tokens) in
     let is : tokens ≡ next.message = tokens_same party (turn_from Initiator (length s.messages)) tokens next.message same in
     record {
       more = next.more;
@@ -152,8 +132,7 @@ message_at s q reported party tokens n none_ahead are =
 
 no_turn : (s : Passed) (q : Plan) (reported : List ℕ) (tokens : List Token) → IsNextLine s q reported → s.ahead ≡ false
     → IsTokens (turn_from Initiator (length s.messages + 1)) tokens reported → ⊥
-no_turn s q reported tokens n none_ahead are =
-    next_turn (length s.messages) (sym (message_at s q reported (turn_from Initiator (length s.messages + 1)) tokens n none_ahead are).turn)
+no_turn s q reported tokens n none_ahead are = search (rules, next_turn)
 
 no_limit : (s : Passed) (q : Plan) (reported : List ℕ) (tokens : List Token) → IsPattern q → IsNextLine s q reported → s.ahead ≡ false
     → IsTokens (turn_from Initiator (length s.messages)) tokens reported → is_within s.messages tokens ≡ false → ⊥
@@ -167,8 +146,7 @@ no_psk : (places : List ℕ) (s : Passed) (q : Plan) (reported : List ℕ) (toke
     → tokens ≢ with_psk_tokens places (length s.messages + 1) (own_tokens tokens) → ⊥
 no_psk places s q reported tokens h same n none_ahead are wrong =
     let at = message_at s q reported (turn_from Initiator (length s.messages)) tokens n none_ahead are in
-    let psks : HavePsksAt q.places 1 (s.messages ++ tokens ∷ at.more) =
-    subst (λ (ms : List (List Token)). HavePsksAt q.places 1 ms) at.messages_are h.psks.tokens in
+    let psks : HavePsksAt q.places 1 (s.messages ++ tokens ∷ at.more) = search rules in
     wrong (psks_at q.places 1 s.messages at.more tokens psks
     ∙ ap (λ (ns : List ℕ). with_psk_tokens ns (length s.messages + 1) (own_tokens tokens)) same)
 
@@ -190,6 +168,5 @@ pub excluded : (places : List ℕ) (dotted : Bool) (s : Passed) (reported : List
     → list_all (λ b. not (b == 10)) reported ≡ true → (q : Plan) → IsPattern q → q.places ≡ places
     → (pre_lines q.initiator q.responder ≢ [] ↔ IsTrue dotted) → (rest : List ℕ) → ¬ (body_of q ≡ passed_lines s ++ (line reported ++ rest))
 excluded places dotted s reported kind passed wrong feedless q right same form rest e =
-    let begun : IsBegun places dotted s reported rest q =
-    record { passed = passed; feedless = feedless; right = right; places_are = same; form = form; begins = e } in
+    let begun : IsBegun places dotted s reported rest q = search in
     wrong_line places s reported kind q right same (next_line places dotted s reported rest q begun) wrong

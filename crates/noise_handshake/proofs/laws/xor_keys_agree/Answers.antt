@@ -1,5 +1,5 @@
+use Rattle.noise_handshake.proofs.Common.{xor_agreement, xor_public}
 use Rattle.noise_keys.specs.Keys.{key_of, xor_dh_result-commutes}
-use Rattle.noise_handshake.specs.Counterparts.{xor_agreement, xor_public}
 use Rattle.noise_handshake.proofs.Meeting.{agreeing-meet}
 use Rattle.noise_handshake.proofs.laws.xor_keys_agree.Goals as goal
 

@@ -1,12 +1,6 @@
 use Rattle.std.proofs.Common.{◌≡◌, ℕ, List, subst}
 use Rattle.std.specs.Prelude.{Bool}
-use Rattle.noise_names.specs.declared.token.Token.{Token}
-use Rattle.noise_names.specs.Plan.{Plan, has_psk}
-use Rattle.noise_names.specs.Overhead.{has_key}
-use Rattle.noise_handshake.specs.Passed.{passed_places}
-use Rattle.noise_handshake.specs.Party.{tokens_at}
-use Rattle.noise_handshake.specs.declared.layout.MessageLayout.{MessageLayout}
-use Rattle.noise_handshake.specs.inner.Layout.{IsLaid}
+use Rattle.noise_handshake.proofs.Common.{Token, Plan, has_psk, has_key, passed_places, tokens_at, MessageLayout, IsLaid}
 use Rattle.noise_handshake.proofs.Parties.{tokens_at-index}
 use Rattle.noise_handshake.proofs.layout.lay_next.Goals as goal
 

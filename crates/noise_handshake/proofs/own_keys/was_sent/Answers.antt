@@ -1,8 +1,5 @@
 use Rattle.std.proofs.Common.{List, ap, ◌∙◌, take}
-use Rattle.noise_names.specs.declared.token.Role.TheVariants.{Initiator}
-use Rattle.noise_names.specs.declared.token.Token.{Token}
-use Rattle.noise_names.specs.Plan.{message_places, pre_of}
-use Rattle.noise_names.specs.Validity.{is_among}
+use Rattle.noise_handshake.proofs.Common.{Initiator, Token, message_places, pre_of, is_among}
 use Rattle.noise_handshake.proofs.Uses.{found-after, matches-first}
 use Rattle.noise_handshake.proofs.own_keys.was_sent.Goals as goal
 

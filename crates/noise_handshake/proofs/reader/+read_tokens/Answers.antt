@@ -1,21 +1,11 @@
-use Rattle.noise_handshake.specs.inner.Means.{reader_of}
 use Rattle.std.proofs.Common.{◌≡◌, suc, ap, ℕ, ◌+◌, List, ◌∷◌, ◌++◌, length, drop, sym, subst, arith, drop-drop}
 use Rattle.std.specs.Prelude.{Bool, is_some}
-use Rattle.noise_names.specs.declared.token.Token.{Token}
-use Rattle.noise_state.specs.Standing.{StateMatches, keyed, nonce_now}
-use Rattle.noise_state.specs.History.{cipher_key}
-use Rattle.noise_handshake.specs.declared.layout.PlacedToken.{PlacedToken}
-use Rattle.noise_handshake.specs.Message.{token_bytes, after_token, after_tokens}
-use Rattle.noise_handshake.specs.Party.{Reader, BeginsAs, cause_of}
-use Rattle.noise_handshake.specs.inner.Layout.{tokens_of}
-use Rattle.noise_handshake.specs.inner.Listening.{Fails}
-use Rattle.noise_handshake.specs.inner.Keying.{Keying, keying_of, keying_after_tokens}
+use Rattle.noise_handshake.proofs.Common.{reader_of, Token, StateMatches, keyed, nonce_now, cipher_key, PlacedToken, token_bytes, after_token, after_tokens, Reader, BeginsAs, cause_of, tokens_of, Fails, Keying, keying_of, keying_after_tokens, nil_from_length}
 use Rattle.noise_handshake.proofs.DhTokens.{none_taken}
 use Rattle.noise_handshake.proofs.Layouts.{first-placed, later-placed, rest-first}
 use Rattle.noise_handshake.proofs.Stepwise.{keying-on, some-token, one-later, place-fits, nonce-left, psk-due, none-after, psks-later, nonces-later}
 use Rattle.noise_handshake.proofs.Steps.{led-none, stopped, led, learned-on, stopped-later}
 use Rattle.noise_handshake.proofs.reader.+read_tokens.Goals as goal
-use Rattle.std.proofs.lemmas.List.{nil_from_length}
 
 pub bytes_from-rest-requires : goal.bytes_from-rest-requires
 bytes_from-rest-requires g t c =

@@ -1,13 +1,5 @@
 use Rattle.std.proofs.Common.{◌≡◌, List, true, is_some, arith, sym, subst}
-use Rattle.std.specs.Prelude.{MatchOption, None, Some}
-use Rattle.noise_names.specs.declared.token.Token.{Token}
-use Rattle.noise_names.specs.declared.token.Role.{Role}
-use Rattle.noise_handshake.specs.declared.faults.Cause.{Cause}
-use Rattle.noise_handshake.specs.declared.faults.Cause.TheVariants.{Agreement}
-use Rattle.noise_handshake.specs.Party.{own_at, remote_at}
-use Rattle.noise_handshake.specs.inner.Known.{are_known}
-use Rattle.noise_handshake.specs.inner.Layout.{tokens_of}
-use Rattle.noise_handshake.specs.inner.Listening.{StopsKnowing}
+use Rattle.noise_handshake.proofs.Common.{MatchOption, None, Some, Token, Role, Cause, Agreement, own_at, remote_at, are_known, tokens_of, StopsKnowing}
 use Rattle.noise_handshake.proofs.Layouts.{length-tokens_of}
 use Rattle.noise_handshake.proofs.Once.{stops-one}
 use Rattle.noise_handshake.proofs.Wanted.{asked, stops-within}

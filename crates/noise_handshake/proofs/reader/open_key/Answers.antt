@@ -1,7 +1,5 @@
 use Rattle.std.proofs.Common.{◌≡◌, ℕ, List, length, take, sym, ap, subst, ◌∙◌, arith}
-use Rattle.noise_state.specs.Standing.{StateMatches, keyed}
-use Rattle.noise_state.specs.Standing.{nonce_now-is}
-use Rattle.noise_state.specs.History.{Ciphertext, and_then, ciphertext}
+use Rattle.noise_handshake.proofs.Common.{StateMatches, keyed, nonce_now-is, Ciphertext, and_then, ciphertext}
 use Rattle.noise_handshake.proofs.Tags.{sealed_len-tag}
 use Rattle.noise_handshake.proofs.Static.{opened-key, length-of_key}
 use Rattle.noise_handshake.proofs.reader.open_key.Goals as goal

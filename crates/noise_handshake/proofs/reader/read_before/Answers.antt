@@ -1,14 +1,5 @@
-use Rattle.noise_handshake.specs.inner.Means.{reader_of}
 use Rattle.std.proofs.Common.{◌<◌, ◌+◌, List, length, take, drop, sym, ap, subst, refl, ◌∙◌, arith, length-take}
-use Rattle.std.specs.Prelude.{count_by}
-use Rattle.noise_names.specs.declared.token.Token.{Token}
-use Rattle.noise_names.specs.Tokens.{is_psk}
-use Rattle.noise_state.specs.Standing.{StateMatches, keyed, nonce_now}
-use Rattle.noise_state.specs.declared.symmetric.SymmetricState.{SymmetricState}
-use Rattle.noise_handshake.specs.declared.remote.Remote.{Remote}
-use Rattle.noise_handshake.specs.Party.{Reader, BeginsAs, remote_after}
-use Rattle.noise_handshake.specs.inner.Layout.{tokens_of, ArePlaced}
-use Rattle.noise_handshake.specs.inner.Listening.{StopsKnowing}
+use Rattle.noise_handshake.proofs.Common.{reader_of, count_by, Token, is_psk, StateMatches, keyed, nonce_now, SymmetricState, Remote, Reader, BeginsAs, remote_after, tokens_of, ArePlaced, StopsKnowing}
 use Rattle.noise_handshake.proofs.Fronts.{tokens-take, placed-take, stops-all}
 use Rattle.noise_handshake.proofs.Later.{count-take}
 use Rattle.noise_handshake.proofs.Layouts.{length-tokens_of}

@@ -1,5 +1,5 @@
 use Rattle.std.proofs.Common.{◌≡◌, ◌++◌, ℕ, List, length, take, drop, sym, ap, refl, ◌∙◌, arith, length-take}
-use Rattle.std.proofs.lemmas.List.{take-append-drop}
+use Rattle.noise_handshake.proofs.Common.{take-append-drop}
 use Rattle.noise_handshake.proofs.reader.read_e.Goals as goal
 
 pub returns-clause-read : goal.returns-clause-read

@@ -1,9 +1,5 @@
-use Rattle.noise_handshake.specs.inner.Means.{reader_of}
 use Rattle.std.proofs.Common.{arith, refl, sym, subst}
-use Rattle.noise_state.specs.Standing.{StateMatches, keyed}
-use Rattle.noise_state.specs.declared.symmetric.SymmetricState.{SymmetricState}
-use Rattle.noise_handshake.specs.Party.{Reader}
-use Rattle.noise_handshake.specs.inner.Layout.{tokens_of, ArePlaced}
+use Rattle.noise_handshake.proofs.Common.{reader_of, StateMatches, keyed, SymmetricState, Reader, tokens_of, ArePlaced}
 use Rattle.noise_handshake.proofs.Wanted.{all-read}
 use Rattle.noise_handshake.proofs.reader.read_lacking.Goals as goal
 

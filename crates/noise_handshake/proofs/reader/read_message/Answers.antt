@@ -1,19 +1,8 @@
-use Rattle.noise_handshake.specs.inner.Means.{reader_of}
-use Rattle.std.proofs.Common.{◌≡◌, ◌<◌, ◌≤◌, ◌^◌, ℕ, ◌+◌, ◌-◌, List, length, take, drop, slice_range, ap, sym, subst, ◌∙◌, arith, length-drop}
-use Rattle.std.proofs.Common.{rules, length-take, take_all, nat_lt, if◌then◌else◌}
-use Rattle.std.proofs.lemmas.List.{take_rest}
+use Rattle.std.proofs.Common.{◌≡◌, ◌<◌, ◌≤◌, ◌^◌, ℕ, ◌+◌, ◌-◌, List, length, take, drop, slice_range, ap, sym, subst, ◌∙◌, arith, length-drop, rules, length-take, take_all, nat_lt, if◌then◌else◌}
 use Rattle.std.proofs.lemmas.Slice.{take-put_mid_below}
+use Rattle.noise_handshake.proofs.Common.{reader_of, take_rest, StateMatches, keyed, nonce_now, nonce_now-is, History, Ciphertext, and_then, ciphertext, nonce, after_tokens, Token, Reader, BeginsAs, StopsKnowing, tokens_of, Keying}
 use borrow.Rule.Slice.PartMut.{put_mid}
-use Rattle.noise_state.specs.Standing.{StateMatches, keyed, nonce_now}
-use Rattle.noise_state.specs.Standing.{nonce_now-is}
-use Rattle.noise_state.specs.History.{History, Ciphertext, and_then, ciphertext, nonce}
-use Rattle.noise_handshake.specs.Message.{after_tokens}
-use Rattle.noise_names.specs.declared.token.Token.{Token}
-use Rattle.noise_handshake.specs.Party.{Reader, BeginsAs}
-use Rattle.noise_handshake.specs.inner.Listening.{StopsKnowing}
-use Rattle.noise_handshake.specs.inner.Layout.{tokens_of}
 use Rattle.noise_handshake.specs.declared.faults.Cause.TheVariants.{Short, Tag}
-use Rattle.noise_handshake.specs.inner.Keying.{Keying}
 use Rattle.noise_handshake.proofs.Counting.{nonces-most}
 use Rattle.noise_handshake.proofs.Tags.{sealed_len-tag}
 use Rattle.noise_handshake.proofs.Layouts.{length-tokens_of}

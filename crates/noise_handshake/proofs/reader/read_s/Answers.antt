@@ -1,5 +1,5 @@
 use Rattle.std.proofs.Common.{◌≡◌, ℕ, length, take, ap, ◌∙◌, arith, length-take}
-use Rattle.noise_handshake.specs.inner.Listening.{width_of_key}
+use Rattle.noise_handshake.proofs.Common.{width_of_key}
 use Rattle.noise_handshake.proofs.Static.{short-key, why-short, wrong-key, why-tag, width-is}
 use Rattle.noise_handshake.proofs.reader.read_s.Goals as goal
 

@@ -1,12 +1,6 @@
-use Rattle.noise_handshake.specs.inner.Means.{reader_of}
-use Rattle.noise_state.specs.Standing.{StateMatches, keyed, nonce_now}
-use Rattle.noise_state.specs.History.{cipher_key}
 use Rattle.std.proofs.Common.{◌≡◌, [], get_or, length, refl, sym, ap, subst, ◌∙◌}
-use Rattle.std.specs.Prelude.{true, is_some, IfOk, OnOk}
-use Rattle.noise_names.specs.declared.token.Token.{Token}
-use Rattle.noise_names.specs.declared.token.Token.TheVariants.{E, S}
-use Rattle.noise_handshake.specs.Length.{token_width}
-use Rattle.noise_handshake.specs.inner.Keying.{keying_of, keying_after}
+use Rattle.std.specs.Prelude.{true, is_some}
+use Rattle.noise_handshake.proofs.Common.{reader_of, StateMatches, keyed, nonce_now, cipher_key, IfOk, OnOk, Token, E, S, token_width, keying_of, keying_after}
 use Rattle.noise_handshake.proofs.DhTokens.{dh-width, dh-keying, dh-read, dh-fails, none_taken, keying-is}
 use Rattle.noise_handshake.proofs.Psks.{first_psk-read, psk-read, read-as, of_width}
 use Rattle.noise_handshake.proofs.reader.read_token.Goals as goal

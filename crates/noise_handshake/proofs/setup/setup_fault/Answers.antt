@@ -1,5 +1,5 @@
 use Rattle.std.proofs.Common.{◌≡◌, ap, ◌∙◌, arith}
-use Rattle.noise_handshake.specs.Setup.{psks_of}
+use Rattle.noise_handshake.proofs.Common.{psks_of}
 use Rattle.noise_handshake.proofs.Starting.{few-psks}
 use Rattle.noise_handshake.proofs.setup.setup_fault.Goals as goal
 

@@ -1,9 +1,7 @@
 use Rattle.std.proofs.Common.{◌≡◌, ap, subst, ◌∙◌}
 use Rattle.std.specs.Prelude.{Bool, not}
-use Rattle.noise_names.specs.Plan.{has_psk}
+use Rattle.noise_handshake.proofs.Common.{has_psk, History, StateMatches, keyed}
 use Rattle.noise_names.specs.Names.{name_bytes}
-use Rattle.noise_state.specs.History.{History}
-use Rattle.noise_state.specs.Standing.{StateMatches, keyed}
 use Rattle.noise_handshake.proofs.Beginning.{start-is, start-key}
 use Rattle.noise_handshake.proofs.Setting.{flips}
 use Rattle.noise_handshake.proofs.setup.start.Goals as goal

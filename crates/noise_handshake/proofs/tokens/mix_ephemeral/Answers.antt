@@ -1,7 +1,6 @@
 use Rattle.std.proofs.Common.{sym, subst}
 use Rattle.std.specs.Prelude.{Bool}
-use Rattle.noise_state.specs.Standing.{StateMatches}
-use Rattle.noise_handshake.specs.Message.{with_ephemeral}
+use Rattle.noise_handshake.proofs.Common.{StateMatches, with_ephemeral}
 use Rattle.noise_handshake.proofs.tokens.mix_ephemeral.Goals as goal
 
 pub returns-then-has_psks-clause-mixed : goal.returns-then-has_psks-clause-mixed

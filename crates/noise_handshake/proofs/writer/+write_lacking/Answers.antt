@@ -1,11 +1,7 @@
-use Rattle.noise_handshake.specs.inner.Means.{writer_of}
 use Rattle.std.proofs.Common.{◌≡◌, suc, ap, refl, length, arith}
 use Rattle.std.specs.Prelude.{is_some}
-use Rattle.noise_handshake.specs.inner.Known.{is_known}
-use Rattle.noise_handshake.specs.inner.Speaking.{has_own}
+use Rattle.noise_handshake.proofs.Common.{writer_of, is_known, has_own, Writer, tokens_of}
 use Rattle.noise_handshake.proofs.Stepwise.{psk-due, all-first, all-later, psks-later}
-use Rattle.noise_handshake.specs.Writing.{Writer}
-use Rattle.noise_handshake.specs.inner.Layout.{tokens_of}
 use Rattle.noise_handshake.proofs.Lacked.{asked-later, asked-first}
 use Rattle.noise_handshake.proofs.writer.+write_lacking.Goals as goal
 

@@ -1,18 +1,8 @@
-use Rattle.noise_handshake.specs.inner.Means.{writer_of}
-use Rattle.noise_state.specs.Standing.{StateMatches, keyed, nonce_now}
 use Rattle.std.proofs.Common.{◌≡◌, suc, ap, ℕ, ◌+◌, ◌-◌, ◌≤◌, List, ◌∷◌, length, take, drop, sym, ◌∙◌, arith, length-take, length-drop}
 use Rattle.std.specs.Prelude.{Bool}
-use Rattle.noise_names.specs.declared.token.Token.{Token}
-use Rattle.noise_state.specs.History.{History}
-use Rattle.noise_handshake.specs.Message.{after_token}
-use Rattle.noise_handshake.specs.Writing.{Writer}
-use Rattle.noise_handshake.specs.inner.Layout.{tokens_of}
+use Rattle.noise_handshake.proofs.Common.{writer_of, StateMatches, keyed, nonce_now, Token, History, after_token, Writer, tokens_of, keyed_after_tokens, tokens_width, nonce_after_tokens, nil_from_length, has_own}
 use Rattle.noise_handshake.proofs.Giving.{widths, given-on, front-on, after-on, lacks-on}
-use Rattle.noise_handshake.specs.Length.{keyed_after_tokens, tokens_width}
-use Rattle.noise_handshake.specs.Nonces.{nonce_after_tokens}
-use Rattle.std.proofs.lemmas.List.{nil_from_length}
 use Rattle.noise_handshake.proofs.Stepwise.{keyed-on, nonce-on, some-token, one-later, nonce-left, psk-due, place-fits, width-on, room-first, room-later, lacks-first, all-first, all-later, psks-later, nonces-later}
-use Rattle.noise_handshake.specs.inner.Speaking.{has_own}
 use Rattle.noise_handshake.proofs.Written.{joined, rest-after}
 use Rattle.noise_handshake.proofs.writer.+write_tokens.Goals as goal
 

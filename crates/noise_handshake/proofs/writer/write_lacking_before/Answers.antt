@@ -1,14 +1,6 @@
-use Rattle.noise_handshake.specs.inner.Means.{writer_of}
 use Rattle.std.proofs.Common.{◌≡◌, ℕ, List, true, sym, ap, subst, arith}
-use Rattle.std.specs.Prelude.{MatchOption, count_by, is_some}
-use Rattle.std.specs.List.{list_all}
-use Rattle.noise_names.specs.declared.token.Token.{Token}
-use Rattle.noise_names.specs.Tokens.{is_psk}
-use Rattle.noise_handshake.specs.Wanting.{LacksDhResultFor}
-use Rattle.noise_handshake.specs.Writing.{Writer, LacksDhResultAt}
-use Rattle.noise_handshake.specs.inner.Known.{is_known}
-use Rattle.noise_handshake.specs.inner.Layout.{tokens_of}
-use Rattle.noise_handshake.specs.inner.Speaking.{has_own}
+use Rattle.std.specs.Prelude.{is_some}
+use Rattle.noise_handshake.proofs.Common.{writer_of, MatchOption, count_by, list_all, Token, is_psk, LacksDhResultFor, Writer, LacksDhResultAt, is_known, tokens_of, has_own}
 use Rattle.noise_handshake.proofs.Fronts.{tokens-take, all-take}
 use Rattle.noise_handshake.proofs.Later.{count-take}
 use Rattle.noise_handshake.proofs.writer.write_lacking_before.Goals as goal

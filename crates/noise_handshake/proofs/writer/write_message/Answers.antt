@@ -1,7 +1,5 @@
-use Rattle.noise_state.specs.Standing.{keyed, nonce_now}
 use Rattle.std.proofs.Common.{ℕ, ◌+◌, ◌-◌, ◌≤◌, List, ◌++◌, length, take, drop, ap, ◌∙◌, arith, length-take, length-drop}
-use Rattle.noise_handshake.specs.Message.{before_payload, after_tokens}
-use Rattle.noise_handshake.specs.inner.Layout.{tokens_of}
+use Rattle.noise_handshake.proofs.Common.{keyed, nonce_now, before_payload, after_tokens, tokens_of}
 use Rattle.noise_handshake.proofs.Counting.{nonces-most}
 use Rattle.noise_handshake.proofs.Giving.{widths-last}
 use Rattle.noise_handshake.proofs.Written.{joined, rest-after}

@@ -1,5 +1,5 @@
 use Rattle.std.proofs.Common.{◌≡◌, ℕ, ◌+◌, List, length, refl, arith, length-take}
-use Rattle.noise_state.specs.Standing.{keyed, nonce_now}
+use Rattle.noise_handshake.proofs.Common.{keyed, nonce_now}
 use Rattle.noise_handshake.proofs.Tags.{sealed_len-tag, not-refused}
 use Rattle.noise_handshake.proofs.Written.{rest-unchanged}
 use Rattle.noise_handshake.proofs.writer.write_part.Goals as goal

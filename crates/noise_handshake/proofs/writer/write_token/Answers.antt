@@ -1,10 +1,6 @@
-use Rattle.noise_handshake.specs.inner.Means.{writer_of}
-use Rattle.noise_state.specs.Standing.{StateMatches, keyed, nonce_now}
 use Rattle.std.proofs.Common.{◌≡◌, ℕ, List, [], length, take, get_or, refl, sym, ap, ◌∙◌, arith}
-use Rattle.noise_handshake.specs.Length.{keyed_after, token_width}
-use Rattle.noise_handshake.specs.Nonces.{nonce_after}
-use Rattle.noise_handshake.specs.Writing.{Writer}
-use Rattle.noise_names.specs.declared.token.Token.TheVariants.{E, S, Psk}
+use Rattle.noise_handshake.proofs.Common.{writer_of, StateMatches, keyed, nonce_now, keyed_after, token_width, nonce_after, Writer, E, S}
+use Rattle.noise_names.specs.declared.token.Token.TheVariants.{Psk}
 use Rattle.noise_handshake.proofs.Psks.{first_psk-read, written-as}
 use Rattle.noise_handshake.proofs.writer.write_token.Goals as goal
 

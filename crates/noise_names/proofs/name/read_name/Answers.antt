@@ -1,6 +1,5 @@
 use Rattle.std.proofs.Common.{Bool, not, cond, ap, sym, ◌∙◌, Ok, Err}
-use Rattle.std.proofs.lemmas.Result.{err_from_is_err_and}
-use Rattle.noise_names.specs.declared.faults.NameFault.TheVariants.{Algorithm}
+use Rattle.noise_names.proofs.Common.{err_from_is_err_and, Algorithm}
 use Rattle.noise_names.proofs.ProtocolNames.{section_is, algorithm_is, name_section_err, name_section_ok}
 use Rattle.noise_names.proofs.name.read_name.Goals as goal
 

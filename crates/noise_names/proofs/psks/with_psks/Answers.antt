@@ -1,7 +1,5 @@
 use Rattle.std.proofs.Common.{◌≡◌, ℕ, ◌+◌, List, [], ◌∷◌, ◌++◌, length, take, sym, ap, ◌∙◌, arith}
-use Rattle.std.proofs.lemmas.List.{take_more, length-take-le}
-use Rattle.noise_names.specs.declared.token.Token.{Token}
-use Rattle.noise_names.specs.Limits.{with_psk_tokens, with_psks_from}
+use Rattle.noise_names.proofs.Common.{take_more, length-take-le, Token, with_psk_tokens, with_psks_from}
 use Rattle.noise_names.proofs.PskTokens.{psks-push}
 use Rattle.noise_names.proofs.psks.with_psks.Goals as goal
 

@@ -1,5 +1,5 @@
 use Rattle.std.proofs.Common.{◌≡◌, ◌+◌, ◌≤◌, take, length}
-use Rattle.noise_names.specs.Limits.{with_psks_from}
+use Rattle.noise_names.proofs.Common.{with_psks_from}
 use Rattle.noise_names.proofs.psks.with_psks.Given as goal
 
 abbrev pub invariant-loop-message : goal.invariant-loop-message

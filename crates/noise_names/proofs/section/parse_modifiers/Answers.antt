@@ -1,19 +1,11 @@
-use Rattle.std.proofs.Common.{◌≡◌, ◌↔◌, ℕ, List, [], ◌∷◌, ◌++◌, Bool, true, false, ◌&&◌, cond, length, map, take, drop, refl}
-use Rattle.std.proofs.Common.{sym, ap, ◌∙◌, subst, append_assoc, arith, Option, Some, None, Result, Err, Ok, eqb, inl, inr}
-use Rattle.std.specs.Prelude.{IsSome, IfSome, IsTrue}
+use Rattle.std.proofs.Common.{◌≡◌, ◌↔◌, ℕ, List, [], ◌∷◌, ◌++◌, Bool, true, false, ◌&&◌, cond, length, map, take, drop, refl, sym, ap, ◌∙◌, subst, append_assoc, arith, Option, Some, None, Result, Err, Ok, eqb, inl, inr}
+use Rattle.std.specs.Prelude.{IsTrue}
 use Rattle.std.specs.Option.{ok_or}
-use Rattle.std.specs.List.{join_with_byte}
 use Rattle.std.specs.Cmp.Lexicographic.{pointwise}
-use Rattle.std.proofs.lemmas.List.{length-take-le, take_all}
-use Rattle.noise_names.specs.declared.faults.NameFault.{NameFault}
-use Rattle.noise_names.specs.declared.faults.NameFault.TheVariants.{ModifierOrder}
-use Rattle.noise_names.specs.Names.{modifier, are_places}
-use Rattle.noise_names.specs.Sections.{modifiers_read}
-use Rattle.noise_names.proofs.Modifiers.{fronts, fronts-push, join-push, are_numbers, are_numbers-push, refused_at, refused_after, modifiers_read-all}
-use Rattle.noise_names.proofs.Modifiers.{too_many_places}
+use Rattle.noise_names.proofs.Common.{IsSome, IfSome, join_with_byte, length-take-le, take_all, NameFault, ModifierOrder, modifier, are_places, modifiers_read, cases_lt, eqb-true}
+use Rattle.noise_names.proofs.Modifiers.{fronts, fronts-push, join-push, are_numbers, are_numbers-push, refused_at, refused_after, modifiers_read-all, too_many_places}
 use Rattle.noise_names.proofs.WordLists.{take-take}
 use Rattle.noise_names.proofs.section.parse_modifiers.Goals as goal
-use Rattle.std.proofs.lemmas.Bool.{cases_lt, eqb-true}
 
 not_empty : (xs : List ℕ) → eqb (length xs) 0 ≡ false → xs ≡ [] → ⊥
 not_empty [] e f = cc

@@ -1,6 +1,5 @@
 use Rattle.std.proofs.Common.{◌≡◌, ℕ, List, length, take, drop, ap, sym, ◌∙◌, Ok}
-use Rattle.std.proofs.lemmas.Result.{err_from_is_err_and}
-use Rattle.noise_names.specs.Names.{Section, is_base_byte, base_front, after_base}
+use Rattle.noise_names.proofs.Common.{err_from_is_err_and, Section, is_base_byte, base_front, after_base}
 use Rattle.noise_names.proofs.Sections.{take-front, section_ok, section_err}
 use Rattle.noise_names.proofs.section.parse_section.Goals as goal
 

@@ -1,6 +1,5 @@
 use Rattle.std.proofs.Common.{◌≡◌, ℕ, List, Option, Some, None, sym, ◌∙◌}
-use Rattle.std.specs.Prelude.{IfSome, IsFalse}
-use Rattle.noise_names.specs.Plan.{Plan, has_psk}
+use Rattle.noise_names.proofs.Common.{IfSome, IsFalse, Plan, has_psk}
 use Rattle.noise_names.specs.Fundamental.{fundamental_of}
 use Rattle.noise_names.proofs.Reading.{known-plain}
 use Rattle.noise_names.proofs.table.fundamental.Goals as goal

@@ -1,8 +1,6 @@
 use Rattle.std.proofs.Common.{◌≡◌, ◌≤◌, ◌++◌, ◌∷◌, List, [], map, length, get_or, sym, ap, ◌∙◌, subst, refl, arith, take}
-use Rattle.std.proofs.lemmas.List.{length-map, get_or-map, take_all, map_more}
-use Rattle.noise_names.specs.declared.token.Token.{Token}
+use Rattle.noise_names.proofs.Common.{length-map, get_or-map, take_all, map_more, Token, Plan}
 use Rattle.noise_names.specs.Fundamental.{plain}
-use Rattle.noise_names.specs.Plan.{Plan}
 use Rattle.noise_names.proofs.Fundamentals.{known_is_pattern, known_is_short, known_is_few}
 use Rattle.noise_names.proofs.table.plain.Goals as goal
 

@@ -1,8 +1,7 @@
 use Rattle.std.proofs.Common.{◌∙◌, length, refl, ap, arith}
-use Rattle.noise_handshake.specs.inner.Keying.{Keying}
+use Rattle.noise_handshake.proofs.Common.{Keying}
 use Rattle.noise_handshake.proofs.Layouts.{length-tokens_of}
-use Rattle.noise_handshake.proofs.Next.{reads-next, reads-theirs, reads-unended, places-next, psks-next, nonces-next, known-next, used-next, key-next, unchanged-read, advances-next}
-use Rattle.noise_handshake.proofs.Next.{trial-next, listening-next, after-read}
+use Rattle.noise_handshake.proofs.Next.{reads-next, reads-theirs, reads-unended, places-next, psks-next, nonces-next, known-next, used-next, key-next, unchanged-read, advances-next, trial-next, listening-next, after-read}
 use Rattle.noise_handshake.proofs.Standing.{accepted, refused}
 use Rattle.noise_handshake.proofs.Wanted.{wants}
 use Rattle.noise_handshake.proofs.handshake.Handshake.attempt.Goals as goal

@@ -1,17 +1,7 @@
 use Rattle.std.proofs.Common.{◌≡◌, ℕ, length, ap, sym, subst, ◌∙◌, arith}
-use Rattle.std.specs.Prelude.{Bool, not, false, None}
-use Rattle.noise_names.specs.declared.token.Role.TheVariants.{Initiator, Responder}
-use Rattle.noise_names.specs.Plan.{Plan, has_psk}
-use Rattle.noise_names.specs.Limits.{IsPattern}
-use Rattle.noise_handshake.specs.declared.remote.Remote.{Remote}
-use Rattle.noise_handshake.specs.HandshakeValue.{HandshakeValue}
-use Rattle.noise_handshake.specs.Setup.{keys_of, setup_fault, psks_of}
+use Rattle.std.specs.Prelude.{Bool, not, false}
+use Rattle.noise_handshake.proofs.Common.{None, Initiator, Responder, Plan, has_psk, IsPattern, Remote, HandshakeValue, keys_of, setup_fault, psks_of, IsSound, LaysNext, E, S, other, KnowsRemote}
 use Rattle.noise_handshake.specs.inner.PreMessage.{HasPre}
-use Rattle.noise_handshake.specs.inner.Sound.{IsSound}
-use Rattle.noise_handshake.specs.inner.Layout.{LaysNext}
-use Rattle.noise_names.specs.declared.token.Token.TheVariants.{E, S}
-use Rattle.noise_names.specs.Tokens.{other}
-use Rattle.noise_handshake.specs.inner.Known.{KnowsRemote}
 use Rattle.noise_handshake.proofs.Knowing.{matches-start}
 use Rattle.noise_handshake.proofs.Setting.{flips, has-pre, remote-exactly, counted, own-e, own-s}
 use Rattle.noise_handshake.proofs.Starting.{few-messages}

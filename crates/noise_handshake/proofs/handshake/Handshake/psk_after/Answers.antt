@@ -1,10 +1,5 @@
 use Rattle.std.proofs.Common.{List, length, subst, sym, ◌<◌, ◌≤◌}
-use Rattle.std.specs.Prelude.{MatchOption, count_by}
-use Rattle.noise_names.specs.declared.token.Token.{Token}
-use Rattle.noise_names.specs.Tokens.{is_psk}
-use Rattle.noise_handshake.specs.HandshakeValue.{HandshakeValue}
-use Rattle.noise_handshake.specs.Party.{tokens_at}
-use Rattle.noise_handshake.specs.inner.Late.{IsPskAfter}
+use Rattle.noise_handshake.proofs.Common.{MatchOption, count_by, Token, is_psk, HandshakeValue, tokens_at, IsPskAfter}
 use Rattle.noise_handshake.proofs.Next.{tokens-next}
 use Rattle.noise_handshake.proofs.handshake.Handshake.psk_after.Goals as goal
 

@@ -1,10 +1,5 @@
 use Rattle.std.proofs.Common.{ℕ, ◌<◌, ◌≤◌, length, refl, ap, sym, subst, arith}
-use Rattle.std.specs.Prelude.{MatchOption, MatchResult}
-use Rattle.noise_handshake.specs.declared.faults.Cause.TheVariants.{Agreement}
-use Rattle.noise_handshake.specs.HandshakeValue.{HandshakeValue}
-use Rattle.noise_handshake.specs.Party.{Stops, tokens_at}
-use Rattle.noise_handshake.specs.Wanting.{StopsFor}
-use Rattle.noise_handshake.specs.inner.Listening.{BeginsBefore}
+use Rattle.noise_handshake.proofs.Common.{MatchOption, MatchResult, Agreement, HandshakeValue, Stops, tokens_at, StopsFor, BeginsBefore}
 use Rattle.noise_handshake.proofs.Before.{before-of}
 use Rattle.noise_handshake.proofs.Layouts.{length-tokens_of}
 use Rattle.noise_handshake.proofs.Next.{reads-next, tokens-next, places-next, psks-next, nonces-next, known-next, trial-next, listening-next}

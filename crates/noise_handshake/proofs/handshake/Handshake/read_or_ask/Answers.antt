@@ -1,13 +1,6 @@
 use Rattle.std.proofs.Common.{ℕ, List, refl, sym, subst, ◌∙◌}
-use Rattle.std.specs.Prelude.{Option, MatchOption, true}
-use Rattle.noise_handshake.specs.declared.faults.Cause.TheVariants.{Agreement}
-use Rattle.noise_handshake.specs.declared.faults.ReadFault.{ReadFault}
-use Rattle.noise_keys.specs.declared.keys.Own.{Own}
-use Rattle.noise_handshake.specs.HandshakeValue.{HandshakeValue, ended_as}
-use Rattle.noise_handshake.specs.Matching.{Matches, DoesNotRead, after_not_read}
-use Rattle.noise_handshake.specs.Party.{Refuses}
-use Rattle.noise_handshake.specs.Wanting.{WantsToRead}
-use Rattle.noise_handshake.specs.inner.Kept.{held_in}
+use Rattle.std.specs.Prelude.{true}
+use Rattle.noise_handshake.proofs.Common.{Option, MatchOption, Agreement, ReadFault, Own, HandshakeValue, ended_as, Matches, DoesNotRead, after_not_read, Refuses, WantsToRead, held_in}
 use Rattle.noise_handshake.proofs.Standing.{faulted, faulted-not, ends}
 use Rattle.noise_handshake.proofs.handshake.Handshake.read_or_ask.Goals as goal
 

@@ -1,7 +1,5 @@
 use Rattle.std.proofs.Common.{ℕ, ◌+◌, List, drop, set, ap, ◌∙◌}
-use Rattle.std.proofs.lemmas.List.{drop-set-add}
-use Rattle.noise_handshake.specs.HandshakeValue.{HandshakeValue}
-use Rattle.noise_handshake.specs.inner.Kept.{held_in}
+use Rattle.noise_handshake.proofs.Common.{drop-set-add, HandshakeValue, held_in}
 use Rattle.noise_handshake.proofs.LateParties.{refilled}
 use Rattle.noise_handshake.proofs.handshake.Handshake.replace_psk.Goals as goal
 

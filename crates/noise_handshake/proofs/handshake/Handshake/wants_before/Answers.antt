@@ -1,9 +1,5 @@
 use Rattle.std.proofs.Common.{ℕ, ◌≤◌, length, take, ap, sym, subst, arith}
-use Rattle.std.specs.Prelude.{MatchOption}
-use Rattle.noise_handshake.specs.HandshakeValue.{HandshakeValue}
-use Rattle.noise_handshake.specs.Party.{tokens_at}
-use Rattle.noise_handshake.specs.Wanting.{LacksDhResultFor}
-use Rattle.noise_handshake.specs.Writing.{LacksDhResultAt}
+use Rattle.noise_handshake.proofs.Common.{MatchOption, HandshakeValue, tokens_at, LacksDhResultFor, LacksDhResultAt}
 use Rattle.noise_handshake.proofs.Layouts.{length-tokens_of}
 use Rattle.noise_handshake.proofs.Next.{speaks-next, speaks-ours, tokens-next, psks-next, own-ours, known-ours, due-next}
 use Rattle.noise_handshake.proofs.Wrote.{for-view}

@@ -1,14 +1,8 @@
 use Rattle.std.proofs.Common.{◌≡◌, ℕ, ◌+◌, ◌≤◌, length, take, refl, ap, sym, subst, true, ◌∙◌, arith, length-take}
-use Rattle.std.specs.Prelude.{Some}
-use Rattle.noise_handshake.specs.declared.faults.WriteFault.{WriteFault}
-use Rattle.noise_handshake.specs.HandshakeValue.{HandshakeValue, write_fault}
-use Rattle.noise_handshake.specs.Matching.{Matches}
-use Rattle.noise_handshake.specs.Party.{Party}
-use Rattle.noise_handshake.specs.inner.Kept.{held_in}
+use Rattle.noise_handshake.proofs.Common.{Some, WriteFault, HandshakeValue, write_fault, Matches, Party, held_in}
 use Rattle.noise_handshake.proofs.LateParties.{fault-no-agreement, withheld-view}
 use Rattle.noise_handshake.proofs.Layouts.{length-tokens_of}
-use Rattle.noise_handshake.proofs.Next.{writes-next, writes-ours, writes-unended, writes-long, writes-wide, writes-room, writes-most, psks-next, nonces-next, own-ours}
-use Rattle.noise_handshake.proofs.Next.{used-next, key-next, unchanged-wrote, advances-next, trial-next, speaking-next, after-wrote, short-next}
+use Rattle.noise_handshake.proofs.Next.{writes-next, writes-ours, writes-unended, writes-long, writes-wide, writes-room, writes-most, psks-next, nonces-next, own-ours, used-next, key-next, unchanged-wrote, advances-next, trial-next, speaking-next, after-wrote, short-next}
 use Rattle.noise_handshake.proofs.Standing.{ends}
 use Rattle.noise_handshake.proofs.Withheld.{withholds-of}
 use Rattle.noise_handshake.proofs.Wrote.{written, lacking}

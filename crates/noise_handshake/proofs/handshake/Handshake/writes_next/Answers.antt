@@ -1,8 +1,5 @@
 use Rattle.std.proofs.Common.{ap, sym, ◌∙◌}
-use Rattle.noise_names.specs.declared.token.Role.{Role}
-use Rattle.noise_names.specs.declared.token.Role.TheVariants.{Initiator}
-use Rattle.noise_names.specs.Tokens.{same_role, turn_from}
-use Rattle.noise_handshake.specs.HandshakeValue.{HandshakeValue, is_turn}
+use Rattle.noise_handshake.proofs.Common.{Role, Initiator, same_role, turn_from, HandshakeValue, is_turn}
 use Rattle.noise_handshake.proofs.Turns.{initiator-writes, responder-writes}
 use Rattle.noise_handshake.proofs.handshake.Handshake.writes_next.Goals as goal
 

@@ -1,6 +1,5 @@
 use Rattle.std.proofs.Common.{◌≡◌, ◌-◌, ◌++◌, ℕ, List, length, take, ap, sym, ◌∙◌, arith}
-use Rattle.std.specs.Prelude.{None}
-use Rattle.noise_handshake.specs.Setup.{psks_of, setup_fault}
+use Rattle.noise_handshake.proofs.Common.{None, psks_of, setup_fault}
 use Rattle.noise_handshake.proofs.Setting.{counted}
 use Rattle.noise_handshake.proofs.Standing.{with-psks}
 use Rattle.noise_handshake.proofs.late.LateHandshake.new.Goals as goal

@@ -1,7 +1,5 @@
 use Rattle.std.proofs.Common.{◌-◌, ◌++◌, ℕ, List, length, take, drop, ap, subst}
-use Rattle.std.proofs.lemmas.List.{take-append-drop}
-use Rattle.noise_handshake.specs.HandshakeValue.{HandshakeValue}
-use Rattle.noise_handshake.specs.Late.{IsLateWhole}
+use Rattle.noise_handshake.proofs.Common.{take-append-drop, HandshakeValue, IsLateWhole}
 use Rattle.noise_handshake.proofs.LateParties.{whole-late}
 use Rattle.noise_handshake.proofs.late.LateHandshake.progress.Goals as goal
 

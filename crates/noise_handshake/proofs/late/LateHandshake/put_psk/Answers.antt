@@ -1,6 +1,5 @@
 use Rattle.std.proofs.Common.{◌≡◌, ◌<◌, ◌-◌, ℕ, length, take, drop, true, false, sym, subst, arith, length-take}
-use Rattle.noise_handshake.specs.HandshakeValue.{HandshakeValue}
-use Rattle.noise_handshake.specs.Setup.{psks_of}
+use Rattle.noise_handshake.proofs.Common.{HandshakeValue, psks_of}
 use Rattle.noise_handshake.proofs.late.LateHandshake.put_psk.Goals as goal
 
 wrong : false ≡ true → ⊥

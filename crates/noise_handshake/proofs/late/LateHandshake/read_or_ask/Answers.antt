@@ -1,14 +1,8 @@
 use Rattle.std.proofs.Common.{ℕ, sym, subst, arith}
+use Rattle.noise_handshake.proofs.Common.{with_later, Matches, DoesNotRead, after_not_read, Refuses, Agreement, ReadFault, without_last}
 use Rattle.noise_handshake.specs.Asking.{LeavesUnread, after_asked}
-use Rattle.noise_handshake.specs.Late.{with_later}
-use Rattle.noise_handshake.specs.Matching.{Matches, DoesNotRead, after_not_read}
-use Rattle.noise_handshake.specs.Party.{Refuses}
-use Rattle.noise_handshake.specs.declared.faults.Cause.TheVariants.{Agreement}
-use Rattle.noise_handshake.specs.declared.faults.ReadFault.{ReadFault}
 use Rattle.noise_handshake.specs.declared.faults.Unread.{Unread}
-use Rattle.noise_handshake.specs.inner.Late.{without_last}
-use Rattle.noise_handshake.proofs.LateParties.{holding, matches-filled, few-now, left-after, advances-after, after-read}
-use Rattle.noise_handshake.proofs.LateParties.{matches-same, matches-declined, matches-ended, psk-here, read-accepts, read-dh-result, read-declines, read-none}
+use Rattle.noise_handshake.proofs.LateParties.{holding, matches-filled, few-now, left-after, advances-after, after-read, matches-same, matches-declined, matches-ended, psk-here, read-accepts, read-dh-result, read-declines, read-none}
 use Rattle.noise_handshake.proofs.late.LateHandshake.read_or_ask.Goals as goal
 
 pub invariant_of-self-in-None : goal.invariant_of-self-in-None

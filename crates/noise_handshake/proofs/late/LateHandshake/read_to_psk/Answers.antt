@@ -1,6 +1,5 @@
 use Rattle.std.proofs.Common.{◌≡◌, ◌≤◌, List, ℕ, length, refl, ap, sym, subst, ◌∙◌}
-use Rattle.std.specs.Prelude.{None, Ok, Option}
-use Rattle.noise_handshake.specs.HandshakeValue.{HandshakeValue, read_fault}
+use Rattle.noise_handshake.proofs.Common.{None, Ok, Option, HandshakeValue, read_fault}
 use Rattle.noise_handshake.specs.declared.late_faults.Want.TheVariants.{Psk}
 use Rattle.noise_handshake.proofs.LateParties.{holding, matches-filled, psk-there, before-psk, before-one, before-refused, before-not, before-declined, before-dh-result}
 use Rattle.noise_handshake.proofs.late.LateHandshake.read_to_psk.Goals as goal

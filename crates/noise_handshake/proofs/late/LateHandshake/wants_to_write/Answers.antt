@@ -1,6 +1,5 @@
 use Rattle.std.proofs.Common.{◌≤◌, length, ap, sym, subst, ◌∙◌, arith}
-use Rattle.noise_handshake.specs.HandshakeValue.{HandshakeValue}
-use Rattle.noise_handshake.specs.declared.remote.Remote.{Remote}
+use Rattle.noise_handshake.proofs.Common.{HandshakeValue, Remote}
 use Rattle.noise_handshake.proofs.Lacked.{due-within}
 use Rattle.noise_handshake.proofs.LateParties.{holding, matches-filled, write-none, write-dh-result, write-before, write-before-not, write-psk}
 use Rattle.noise_handshake.proofs.late.LateHandshake.wants_to_write.Goals as goal

@@ -1,14 +1,7 @@
 use Rattle.std.proofs.Common.{◌≤◌, ℕ, [], length, sym, subst, ◌∙◌, arith, suc}
-use Rattle.std.specs.Prelude.{Option, MatchOption, count_by}
-use Rattle.noise_names.specs.Tokens.{is_psk}
-use Rattle.noise_handshake.specs.HandshakeValue.{IsAgreement}
-use Rattle.noise_handshake.specs.Late.{WantsLate}
-use Rattle.noise_handshake.specs.Matching.{Matches}
-use Rattle.noise_handshake.specs.Party.{Party, tokens_at, tokens_now}
-use Rattle.noise_handshake.specs.Writing.{LacksDhResult}
+use Rattle.noise_handshake.proofs.Common.{Option, MatchOption, count_by, is_psk, IsAgreement, WantsLate, Matches, Party, tokens_at, tokens_now, LacksDhResult}
 use Rattle.noise_handshake.specs.declared.late_faults.Want.{Want}
-use Rattle.noise_handshake.proofs.LateParties.{holding, matches-filled, agrees, few-now, taken-within, left-after, advances-after, after-written, writes-partial}
-use Rattle.noise_handshake.proofs.LateParties.{matches-same, fault-no-agreement, written-no-agreement, withholds-partial, lacks-partial, withheld-view}
+use Rattle.noise_handshake.proofs.LateParties.{holding, matches-filled, agrees, few-now, taken-within, left-after, advances-after, after-written, writes-partial, matches-same, fault-no-agreement, written-no-agreement, withholds-partial, lacks-partial, withheld-view}
 use Rattle.noise_handshake.proofs.Later.{count-take}
 use Rattle.noise_handshake.proofs.late.LateHandshake.write_or_ask.Goals as goal
 

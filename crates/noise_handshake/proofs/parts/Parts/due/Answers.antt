@@ -1,7 +1,5 @@
 use Rattle.std.proofs.Common.{◌≡◌, ◌-◌, ℕ, List, length, drop, ap, ◌∙◌, arith, length-drop, take_all}
-use Rattle.noise_names.specs.declared.token.Token.{Token}
-use Rattle.noise_names.specs.Plan.{Plan}
-use Rattle.noise_handshake.specs.Setup.{psks_of}
+use Rattle.noise_handshake.proofs.Common.{Token, Plan, psks_of}
 use Rattle.noise_handshake.proofs.Starting.{few-left}
 use Rattle.noise_handshake.proofs.parts.Parts.due.Goals as goal
 

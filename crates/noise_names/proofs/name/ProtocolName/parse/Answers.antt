@@ -1,8 +1,5 @@
 use Rattle.std.proofs.Common.{◌≡◌, ℕ, List, Result, Ok, Err, sym, ◌∙◌}
-use Rattle.std.specs.Prelude.{IfOk, IfErr}
-use Rattle.noise_names.specs.declared.faults.NameFault.{NameFault}
-use Rattle.noise_names.specs.Names.{Section, Names, IsFirstNameFault}
-use Rattle.noise_names.specs.Sections.{name_read}
+use Rattle.noise_names.proofs.Common.{IfOk, IfErr, NameFault, Section, Names, IsFirstNameFault, name_read}
 use Rattle.noise_names.proofs.ProtocolNames.{name_spelled, name_every, name_fault}
 use Rattle.noise_names.proofs.name.ProtocolName.parse.Goals as goal
 

@@ -1,5 +1,5 @@
 use Rattle.std.proofs.Common.{subst}
-use Rattle.noise_names.specs.Names.{Section, IsSection}
+use Rattle.noise_names.proofs.Common.{Section, IsSection}
 use Rattle.noise_names.proofs.TextLengths.{few-name}
 use Rattle.noise_names.proofs.name.ProtocolName.write.Goals as goal
 

@@ -1,7 +1,5 @@
 use Rattle.std.proofs.Common.{◌≡◌, None, length, ltb, refl, sym, ◌∙◌, subst}
-use Rattle.std.specs.Prelude.{find}
-use Rattle.noise_names.specs.Plan.{Plan}
-use Rattle.noise_names.specs.Limits.{Placed}
+use Rattle.noise_names.proofs.Common.{find, Plan, Placed}
 use Rattle.noise_names.proofs.PskTokens.{few_plain, with_psks, psks_placed, psks_pattern}
 use Rattle.noise_names.proofs.pattern.Pattern.with_psks.Goals as goal
 

@@ -1,5 +1,5 @@
+use Rattle.noise_names.proofs.Common.{slice_eq-Decides}
 use Rattle.noise_names.proofs.Tokens.{token-Decides}
-use Rattle.std.proofs.lemmas.Slice.Eq.{slice_eq-Decides}
 use Rattle.noise_names.proofs.text.fault.are_same.Goals as goal
 
 pub returns : goal.returns

@@ -1,5 +1,5 @@
-use Rattle.std.specs.Prelude.{codes}
 use Rattle.std.proofs.Common.{sym, ◌∙◌}
+use Rattle.noise_names.proofs.Common.{codes}
 use Rattle.noise_names.proofs.FirstFaults.{no-heading, wrong-heading, after-heading}
 use Rattle.noise_names.proofs.Reading.{differ_from_test, stripped, not-stripped}
 use Rattle.noise_names.proofs.text.fault.first_fault.Goals as goal

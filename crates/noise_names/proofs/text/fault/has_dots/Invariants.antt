@@ -1,5 +1,5 @@
 use Rattle.std.proofs.Common.{◌≡◌, length}
-use Rattle.noise_names.specs.WrongText.{has_dots}
+use Rattle.noise_names.proofs.Common.{has_dots}
 use Rattle.noise_names.proofs.text.fault.has_dots.Given as goal
 
 abbrev pub invariant-loop-rest : goal.invariant-loop-rest

@@ -1,15 +1,9 @@
 use Rattle.std.proofs.Common.{◌≡◌, ◌∷◌, sym, ◌∙◌, ap}
-use Rattle.std.specs.Prelude.{Some, codes}
-use Rattle.std.proofs.lemmas.Bool.Decides.{Decides-eqb}
-use Rattle.std.proofs.lemmas.Slice.Eq.{slice_eq-Decides}
-use Rattle.noise_names.specs.Plan.{Plan}
-use Rattle.noise_names.specs.Names.{Section}
-use Rattle.noise_names.specs.Text.{text_of}
-use Rattle.noise_names.proofs.Reading.{line-after, stripped, not-stripped, placed-same, within-places, spelled-parts, pattern-section}
-use Rattle.noise_names.proofs.Reading.{none-not-some, true-not-false}
-use Rattle.noise_names.proofs.text.read.read.Goals as goal
+use Rattle.std.specs.Prelude.{Some}
+use Rattle.noise_names.proofs.Common.{codes, Decides-eqb, slice_eq-Decides, Plan, Section, text_of, body_of}
+use Rattle.noise_names.proofs.Reading.{line-after, stripped, not-stripped, placed-same, within-places, spelled-parts, pattern-section, none-not-some, true-not-false}
 use Rattle.std.proofs.lemmas.Option.{same_Some}
-use Rattle.noise_names.specs.WrongText.{body_of}
+use Rattle.noise_names.proofs.text.read.read.Goals as goal
 
 pub returns-in_err-name-clause-every : goal.returns-in_err-name-clause-every
 returns-in_err-name-clause-every c = λ p h.

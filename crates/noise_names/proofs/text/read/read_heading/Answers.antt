@@ -1,7 +1,5 @@
-use Rattle.std.specs.Prelude.{codes}
 use Rattle.std.proofs.Common.{sym, ◌∙◌}
-use Rattle.noise_names.specs.Names.{section_bytes}
-use Rattle.noise_names.specs.Facts.{section_bytes-all}
+use Rattle.noise_names.proofs.Common.{codes, section_bytes, section_bytes-all}
 use Rattle.noise_names.proofs.Reading.{heading-spelled, heading-parts, heading-rest, section-of, stripped, not-stripped, ok-same, ok-not-err}
 use Rattle.noise_names.proofs.text.read.read_heading.Goals as goal
 

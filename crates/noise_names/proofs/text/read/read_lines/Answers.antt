@@ -1,11 +1,9 @@
 use Rattle.std.proofs.Common.{arith, refl, ap, sym, ◌∙◌, length, map, []}
 use Rattle.std.specs.Prelude.{Some}
-use Rattle.noise_names.specs.Plan.{Plan}
-use Rattle.noise_names.specs.Tokens.{own_tokens}
-use Rattle.noise_names.specs.Limits.{is_pre_message}
+use Rattle.noise_names.proofs.Common.{Plan, own_tokens, is_pre_message}
 use Rattle.noise_names.proofs.Reading.{plain-pattern, plan-same, counted, length-own, equal_from_test, differ_from_test, true-not-false}
-use Rattle.noise_names.proofs.text.read.read_lines.Goals as goal
 use Rattle.noise_names.proofs.text.read.read_lines.Goals.{then-is_empty-via-then-is_empty, then-is_empty-via-else-is_empty+then-not-are_pre_messages}
+use Rattle.noise_names.proofs.text.read.read_lines.Goals as goal
 
 pub of-requires : goal.of-requires
 of-requires c =

@@ -1,7 +1,7 @@
 use Rattle.std.proofs.Common.{length, arith, ap}
 use Rattle.noise_names.proofs.Reading.{next-line, last-line, plain-push, sizes-push, length-own, equal_from_test, differ_from_test}
-use Rattle.noise_names.proofs.text.read.read_messages.Goals as goal
 use Rattle.noise_names.proofs.text.read.read_messages.Goals.{then-is_empty-via-then-is_empty, then-is_empty-via-else-is_empty+then-is_full}
+use Rattle.noise_names.proofs.text.read.read_messages.Goals as goal
 
 pub returns-then-is_empty-clause-every : goal.returns-then-is_empty-clause-every
 returns-then-is_empty-clause-every c = λ ms few sizes e.

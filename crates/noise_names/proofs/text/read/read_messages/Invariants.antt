@@ -1,10 +1,5 @@
 use Rattle.std.proofs.Common.{◌≡◌, ◌≤◌, List, length, false, true, map}
-use Rattle.std.specs.List.{list_any, list_all}
-use Rattle.noise_names.specs.declared.token.Token.{Token}
-use Rattle.noise_names.specs.declared.token.Role.TheVariants.{Initiator}
-use Rattle.noise_names.specs.Tokens.{is_psk, own_tokens}
-use Rattle.noise_names.specs.Limits.{has_few_tokens}
-use Rattle.noise_names.specs.Text.{message_lines}
+use Rattle.noise_names.proofs.Common.{list_any, list_all, Token, Initiator, is_psk, own_tokens, has_few_tokens, message_lines}
 use Rattle.noise_names.proofs.Reading.{AreLeft}
 use Rattle.noise_names.proofs.text.read.read_messages.Given as goal
 

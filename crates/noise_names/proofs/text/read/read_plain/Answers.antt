@@ -1,6 +1,6 @@
 use Rattle.std.proofs.Common.{sym, ◌∙◌, ap}
 use Rattle.std.specs.Prelude.{Some}
-use Rattle.noise_names.specs.Plan.{Plan}
+use Rattle.noise_names.proofs.Common.{Plan}
 use Rattle.noise_names.proofs.Reading.{known-same}
 use Rattle.noise_names.proofs.text.read.read_plain.Goals as goal
 

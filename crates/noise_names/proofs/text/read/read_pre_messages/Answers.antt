@@ -1,5 +1,5 @@
-use Rattle.std.specs.Prelude.{codes}
 use Rattle.std.proofs.Common.{inl, inr, sym, ◌∙◌}
+use Rattle.noise_names.proofs.Common.{codes}
 use Rattle.noise_names.proofs.Reading.{stripped, not-stripped, pre-both, dots-stripped}
 use Rattle.noise_names.proofs.text.read.read_pre_messages.Goals as goal
 

@@ -1,5 +1,5 @@
 use Rattle.std.proofs.Common.{refl, arith}
-use Rattle.std.specs.Prelude.{codes}
+use Rattle.noise_names.proofs.Common.{codes}
 use Rattle.noise_names.proofs.Reading.{left-start, left-more, left-end, left-word, stripped, not-stripped}
 use Rattle.noise_names.proofs.text.read.read_words.Goals as goal
 

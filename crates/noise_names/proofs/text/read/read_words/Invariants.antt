@@ -1,8 +1,5 @@
 use Rattle.std.proofs.Common.{◌≡◌, ◌≤◌, ◌++◌, ◌∷◌, ℕ, List, length, false}
-use Rattle.std.specs.List.{list_any}
-use Rattle.noise_names.specs.declared.token.Token.{Token}
-use Rattle.noise_names.specs.Tokens.{is_psk, own_tokens}
-use Rattle.noise_names.specs.Text.{words}
+use Rattle.noise_names.proofs.Common.{list_any, Token, is_psk, own_tokens, words}
 use Rattle.noise_names.proofs.Reading.{IsLeft}
 use Rattle.noise_names.proofs.text.read.read_words.Given as goal
 

@@ -1,8 +1,5 @@
 use Rattle.std.proofs.Common.{arith, sym, ap, ◌∙◌, ◌++◌, append-nil, length, drop, List, ◌+◌}
-use Rattle.noise_names.specs.declared.token.Role.{Role}
-use Rattle.noise_names.specs.declared.token.Token.{Token}
-use Rattle.std.proofs.lemmas.List.{at_drop_all}
-use Rattle.noise_names.specs.Text.{message_lines, token_line}
+use Rattle.noise_names.proofs.Common.{Role, Token, at_drop_all, message_lines, token_line}
 use Rattle.noise_names.proofs.Writing.{lines-step}
 use Rattle.noise_names.proofs.text.write.push_messages.Goals as goal
 

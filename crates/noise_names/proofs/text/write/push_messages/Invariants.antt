@@ -1,6 +1,5 @@
 use Rattle.std.proofs.Common.{◌≡◌, ◌≤◌, ◌+◌, ◌*◌, ◌++◌, length, drop}
-use Rattle.noise_names.specs.declared.token.Role.TheVariants.{Initiator}
-use Rattle.noise_names.specs.Text.{message_lines}
+use Rattle.noise_names.proofs.Common.{Initiator, message_lines}
 use Rattle.noise_names.proofs.text.write.push_messages.Given as goal
 
 abbrev pub invariant-loop-message : goal.invariant-loop-message

@@ -1,5 +1,5 @@
 use Rattle.std.proofs.Common.{arith, sym, ap, ◌∙◌, ◌++◌, append-nil}
-use Rattle.std.proofs.lemmas.List.{at_drop_all}
+use Rattle.noise_names.proofs.Common.{at_drop_all}
 use Rattle.noise_names.proofs.Writing.{words-start, words-step, more_words}
 use Rattle.noise_names.proofs.text.write.push_words.Goals as goal
 

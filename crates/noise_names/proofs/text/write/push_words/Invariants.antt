@@ -1,5 +1,5 @@
 use Rattle.std.proofs.Common.{◌≡◌, ◌≤◌, ◌+◌, ◌*◌, ◌++◌, length, drop}
-use Rattle.noise_names.specs.Text.{words}
+use Rattle.noise_names.proofs.Common.{words}
 use Rattle.noise_names.proofs.Writing.{more_words}
 use Rattle.noise_names.proofs.text.write.push_words.Given as goal
 

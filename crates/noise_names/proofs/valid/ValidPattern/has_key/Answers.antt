@@ -1,8 +1,7 @@
 use Rattle.std.proofs.Common.{ℕ, ap, ◌∙◌}
 use Rattle.std.specs.Prelude.{Bool}
-use Rattle.noise_names.specs.declared.seen.Seen.{Seen}
-use Rattle.noise_names.specs.Checking.{key_by, seen_of}
-use Rattle.noise_names.specs.Plan.{Plan, has_psk, first_places}
+use Rattle.noise_names.proofs.Common.{Seen, key_by, Plan, has_psk, first_places}
+use Rattle.noise_names.specs.Checking.{seen_of}
 use Rattle.noise_names.proofs.Lengths.{key_by-seen_of}
 use Rattle.noise_names.proofs.valid.ValidPattern.has_key.Goals as goal
 

@@ -1,9 +1,6 @@
 use Rattle.std.proofs.Common.{◌≡◌, ℕ, List, [], ◌++◌, length, take, ap, refl, ◌∙◌, arith, length-take}
-use Rattle.noise_names.specs.declared.token.Role.TheVariants.{Initiator, Responder}
-use Rattle.noise_names.specs.declared.token.Token.{Token}
+use Rattle.noise_names.proofs.Common.{Initiator, Responder, Token, turn_from, Plan, Place, first_places, token_places, message_places}
 use Rattle.noise_names.specs.Checking.{seen_of}
-use Rattle.noise_names.specs.Tokens.{turn_from}
-use Rattle.noise_names.specs.Plan.{Plan, Place, first_places, token_places, message_places}
 use Rattle.noise_names.proofs.valid.ValidPattern.seen_after.Goals as goal
 
 places-are : (plan : Plan) (n : ℕ) (initiator responder : List Token) (messages : List (List Token))

@@ -1,9 +1,7 @@
 use Rattle.std.proofs.Common.{◌∙◌, ◌≡◌, ◌≢◌, ℕ, true, false, eqb, sym, arith}
-use Rattle.std.proofs.lemmas.Bool.Decides.{nat_tests}
-use Rattle.noise_names.specs.declared.token.Role.TheVariants.{Initiator}
+use Rattle.noise_names.proofs.Common.{nat_tests, Initiator, not-true, not-false}
 use Rattle.noise_names.proofs.Judging.{turns-even, turns-odd, turn-more}
 use Rattle.noise_names.proofs.text.fault.Judged.is_turn.Goals as goal
-use Rattle.std.proofs.lemmas.Bool.{not-true, not-false}
 
 is : (n : ℕ) → eqb n 0 ≡ true → n ≡ 0
 is n h = grind (arith, nat_tests)

@@ -1,5 +1,5 @@
 use Rattle.std.proofs.Common.{◌≡◌, ◌∙◌, sym, ap, inl, inr, true}
-use Rattle.noise_names.specs.Limits.{is_pre_message}
+use Rattle.noise_names.proofs.Common.{is_pre_message}
 use Rattle.noise_names.proofs.Judging.{next-first, next-second, next-of-role}
 use Rattle.noise_names.proofs.WordLists.{pre-kept}
 use Rattle.noise_names.proofs.text.fault.Judged.judge_pre_message.Goals as goal

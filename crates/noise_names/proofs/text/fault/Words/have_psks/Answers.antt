@@ -1,7 +1,5 @@
 use Rattle.std.proofs.Common.{sym, ap, ◌∙◌, ◌≡◌, arith, length, List, ◌≤◌}
-use Rattle.noise_names.specs.declared.token.Token.{Token}
-use Rattle.noise_names.specs.Limits.{with_psk_tokens}
-use Rattle.noise_names.specs.Tokens.{own_tokens}
+use Rattle.noise_names.proofs.Common.{Token, with_psk_tokens, own_tokens}
 use Rattle.noise_names.proofs.WordLists.{kept-same, same-kept, own-kept}
 use Rattle.noise_names.proofs.text.fault.Words.have_psks.Goals as goal
 

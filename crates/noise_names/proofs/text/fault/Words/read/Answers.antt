@@ -1,4 +1,4 @@
-use Rattle.std.specs.Prelude.{codes}
+use Rattle.noise_names.proofs.Common.{codes}
 use Rattle.noise_names.proofs.Reading.{stripped, not-stripped, equal_from_test, differ_from_test}
 use Rattle.noise_names.proofs.WordLists.{no-word, no-comma, read-end, read-more}
 use Rattle.noise_names.proofs.text.fault.Words.read.Goals as goal
