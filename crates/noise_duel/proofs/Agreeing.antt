@@ -1,29 +1,10 @@
 -- Keys that agree give the same DH results, token by token.
-use Rattle.std.proofs.Common.{◌≡◌, ℕ, ◌+◌, List, ◌∷◌, drop, count_by, refl, ap, sym, subst, ◌∙◌, []}
-use Rattle.std.specs.Prelude.{Bool, true, false, not, Option, Some}
-use Rattle.noise_names.specs.declared.token.Role.{Role}
-use Rattle.noise_names.specs.declared.token.Role.TheVariants.{Initiator, Responder}
-use Rattle.noise_names.specs.declared.token.Token.{Token}
-use Rattle.noise_names.specs.declared.token.Token.TheVariants.{E, S, Ee, Es, Se, Ss, Psk}
-use Rattle.noise_names.specs.Tokens.{is_psk, same_role, turn_from, other}
-use Rattle.noise_names.specs.Plan.{Plan, has_psk}
-use Rattle.noise_state.specs.History.{History, ciphertext}
-use Rattle.noise_state.specs.Ciphertexts.{ciphertext-same}
-use Rattle.noise_keys.specs.declared.keys.Own.{Own}
-use Rattle.noise_keys.specs.declared.keys.Own.TheVariants.{Ephemeral, Static}
-use Rattle.noise_handshake.specs.declared.remote.Remote.{Remote}
-use Rattle.noise_handshake.specs.Message.{token_bytes, after_token, after_tokens, message_bytes, after_payload}
-use Rattle.noise_handshake.specs.Party.{Party, Reader, Fit, Fits, reader, known_after, remote_after, psks_after, tokens_at, tokens_now, dh_result_of, own_at, remote_at}
-use Rattle.noise_handshake.specs.Writing.{Writer, Given, Gives, writer}
-use Rattle.noise_handshake.specs.Matching.{after_own, after_message}
-use Rattle.noise_duel.specs.Messages.{HandshakeMessage, Exchanged, Start}
-use Rattle.noise_duel.specs.Messages.Exchanged.{none, wrote, took}
-use Rattle.noise_duel.specs.Agreement.{KeysAgree, Knows}
+use Rattle.std.proofs.Common.{rules, ◌≡◌, ℕ, ◌+◌, List, ◌∷◌, drop, count_by, refl, ap, sym, subst, ◌∙◌, []}
+use Rattle.std.specs.Prelude.{Bool, true, false, Option, Some}
+use Rattle.noise_duel.proofs.Common.{not, Role, Initiator, Responder, Token, E, S, Ee, Es, Se, Ss, Psk, is_psk, same_role, turn_from, other, Plan, has_psk, History, ciphertext, ciphertext-same, Own, Ephemeral, Static, Remote, token_bytes, after_token, after_tokens, after_payload, Party, Reader, Fit, Fits, reader, known_after, remote_after, psks_after, tokens_at, tokens_now, dh_result_of, own_at, remote_at, Writer, Given, Gives, after_own, after_message, HandshakeMessage, Exchanged, Start, none, wrote, took, KeysAgree, Knows, same_role-other, cons-same}
 use Rattle.noise_duel.proofs.HashedTexts.{Alike}
 use Rattle.noise_duel.proofs.HashedMessages.{AreLines, AllAlike}
 use Rattle.noise_duel.proofs.Forward.{PskAt, PsksFit, UsePsks, message-same}
-use Rattle.noise_names.specs.Roles.{same_role-self, same_role-other}
-use Rattle.noise_names.specs.Lists.{cons-same}
 
 -- ---- what a party's texts are, whether it wrote them or not
 
@@ -81,17 +62,12 @@ given-uses w known psks _ _ h = tt
 
 fit-uses : (v : Reader) (own : Own → Option (List ℕ)) (known : Remote) (psks : List (List ℕ)) (ts : List Token) (xs : List (List ℕ))
     → Fit v known psks ts xs → Uses false v.role own v.agree known ts xs
-fit-uses v own known psks (t ∷ ts) (x ∷ xs) h =
-    (fits-uses v own known psks t x h.0, fit-uses v own (known_after known t x) (psks_after psks t) ts xs h.1)
+fit-uses v own known psks (t ∷ ts) (x ∷ xs) h = search (fits-uses, (fit-uses v own (known_after known t x) (psks_after psks t) ts xs h.1))
 fit-uses v own known psks _ _ h = tt
 
 pub passes-uses : (v w : Party) (ps : List HandshakeMessage) → Exchanged v ps w → UsesAll v.pattern v.role v.own v.agree v.passed v.remote ps
 passes-uses v w [] (none _) = tt
-passes-uses v w (p ∷ ps) (wrote _ _ _ _ here more) =
-    let mine : writes_now v.role v.passed ≡ true = ap (λ (r : Role). same_role r v.role) here.speaks.turn ∙ same_role-self v.role in
-    subst (λ (b : Bool). Uses b v.role v.own v.agree v.remote (tokens_now v) p.carried
-    × UsesAll v.pattern v.role v.own v.agree (v.passed + 1) (known_after_all b v.remote (tokens_now v) p.carried) ps) (sym mine)
-    (given-uses (writer v) v.remote v.psks (tokens_now v) p.carried here.given, passes-uses (after_own v p.carried p.payload) w ps more)
+passes-uses v w (p ∷ ps) (wrote _ _ _ _ here more) = search (rules, given-uses, (passes-uses (after_own v p.carried p.payload) w ps more))
 passes-uses v w (p ∷ ps) (took _ _ _ _ here more) =
     let mine : writes_now v.role v.passed ≡ false = ap (λ (r : Role). same_role r v.role) here.listens.turn ∙ same_role-other v.role in
     subst (λ (b : Bool). Uses b v.role v.own v.agree v.remote (tokens_now v) p.carried
@@ -198,11 +174,9 @@ module _ (a b : Start) (agrees : KeysAgree a b) where
       let payload : x.payload ≡ y.payload =
       ciphertext-same (after_tokens (has_psk p) r ts x.carried) x.payload y.payload
       (h.0.1 ∙ ap (λ (zs : List (List ℕ)). ciphertext (after_tokens (has_psk p) r ts zs) y.payload) (sym here.texts)) in
-      let message : x.message ≡ y.message =
-      c.0.1 ∙ ap (λ (zs : List (List ℕ)). message_bytes (has_psk p) r ts zs x.payload) here.texts ∙ ap (message_bytes (has_psk p) r ts y.carried) payload ∙ sym d.0.1 in
+      let message : x.message ≡ y.message = search in
       let one : x ≡ y = message-same x y message here.texts payload in
-      let after : after_payload (has_psk p) r ts x.carried x.payload ≡ after_payload (has_psk p) r ts y.carried y.payload =
-      ap (λ (z : HandshakeMessage). after_payload (has_psk p) r ts z.carried z.payload) one in
+      let after : after_payload (has_psk p) r ts x.carried x.payload ≡ after_payload (has_psk p) r ts y.carried y.payload = search in
       cons-same one
       (all-agree p (n + 1) (known_after_all mine ka ts x.carried) (known_after_all (not mine) kb ts y.carried) (drop (count_by is_psk ts) psks)
       (after_payload (has_psk p) r ts x.carried x.payload) xs ys

@@ -1,9 +1,7 @@
 -- A chain of hashes: where two of one length and one start end alike, they hashed the same, or two of their texts collide.
 use Rattle.std.proofs.Common.{◌≡◌, ◌≢◌, ℕ, List, ◌∷◌, ◌++◌, length, refl, sym, subst, ◌∙◌, arith, inl, inr, ◌⊎◌, slice_get, Some, length-append, []}
-use Rattle.sha2.specs.Sha256.{sha256}
+use Rattle.noise_duel.proofs.Common.{sha256, CollisionAt, split-apart, get-front, get-last, cons-same, same-or}
 use Rattle.sha2.proofs.Facts256.{length-sha256}
-use Rattle.noise_duel.specs.Collision.{CollisionAt}
-use Rattle.noise_names.specs.Lists.{split-apart, get-front, get-last, cons-same, same-or}
 
 abbrev pub chained : List ℕ → List (List ℕ) → List ℕ
 chained start [] = start

@@ -1,32 +1,19 @@
 -- The first position at which two histories clash.
-use Rattle.std.proofs.Common.{◌≡◌, ◌≢◌, ◌≤◌, ◌+◌, ℕ, zero, suc, List, ◌∷◌, refl, ap, sym, subst, ◌∙◌, arith, inl, inr, []}
-use Rattle.std.specs.Prelude.{Bool, true, false, not, Some, if◌then◌else◌, bytes_eq}
+use Rattle.std.proofs.Common.{rules, ◌≡◌, ◌≢◌, ◌≤◌, ◌+◌, ℕ, zero, suc, List, ◌∷◌, refl, arith, inl, inr, []}
+use Rattle.std.specs.Prelude.{Bool, true, false, Some, if◌then◌else◌}
 use Rattle.std.proofs.lemmas.Slice.Eq.{bytes_eq-Decides}
-use Rattle.sha2.specs.Sha256.{sha256}
+use Rattle.noise_duel.proofs.Common.{not, bytes_eq, sha256, hash_texts, CollisionAt, HashesReport, and_parts, same_Some}
 use Rattle.noise_duel.specs.Clash.{clash, first_clash, clash_position, ClashIsCollision, ClashFound, ClashReported}
-use Rattle.noise_duel.specs.Collision.{hash_texts, CollisionAt}
-use Rattle.noise_duel.specs.Networks.{HashesReport}
-use Rattle.std.proofs.lemmas.Bool.{and_parts, and_from}
-use Rattle.std.proofs.lemmas.Option.{same_Some}
 
 not-both : (b : Bool) → not b ≡ true → b ≡ true → ⊥
 not-both true e f = cc
 not-both false e f = cc
-
-not-true : (b : Bool) → (b ≡ true → ⊥) → not b ≡ true
-not-true true f = absurd (f refl)
-not-true false f = refl
 
 clash-differs : (x y : List ℕ) → clash x y ≡ true → x ≢ y
 clash-differs x y h e = not-both (bytes_eq x y) (and_parts (not (bytes_eq x y)) (bytes_eq (sha256 x) (sha256 y)) h).0 ((bytes_eq-Decides x y).1 e)
 
 clash-same : (x y : List ℕ) → clash x y ≡ true → sha256 x ≡ sha256 y
 clash-same x y h = (bytes_eq-Decides (sha256 x) (sha256 y)).0 (and_parts (not (bytes_eq x y)) (bytes_eq (sha256 x) (sha256 y)) h).1
-
-is-clash : (x y : List ℕ) → x ≢ y → sha256 x ≡ sha256 y → clash x y ≡ true
-is-clash x y f e =
-    and_from (not (bytes_eq x y)) (bytes_eq (sha256 x) (sha256 y)) (not-true (bytes_eq x y) (λ t. f ((bytes_eq-Decides x y).0 t)))
-    ((bytes_eq-Decides (sha256 x) (sha256 y)).1 e)
 
 later : (x y : List ℕ) (xs ys : List (List ℕ)) (k : ℕ) → CollisionAt xs ys k → CollisionAt (x ∷ xs) (y ∷ ys) (suc k)
 later x y xs ys k c = record { left = c.left; right = c.right; at_left = c.at_left; at_right = c.at_right; differ = c.differ; same = c.same }
@@ -56,11 +43,7 @@ found-by : (b : Bool) (n k : ℕ) (x y : List ℕ) (xs ys : List (List ℕ)) →
     → ((m : ℕ) → CollisionAt xs ys m → FoundFrom (n + 1) m xs ys)
     → (j : ℕ) × ((if b then Some n else first_clash (n + 1) xs ys) ≡ Some j) × (j ≤ n + k)
 found-by true n k x y xs ys c at more = (n, refl, omega arith)
-found-by false n zero x y xs ys c at more =
-    let left : x ≡ at.left = let e = at.at_left in cc in
-    let right : y ≡ at.right = let e = at.at_right in cc in
-    let clashes = is-clash x y (λ e. at.differ (sym left ∙ (e ∙ right))) (ap sha256 left ∙ at.same ∙ sym (ap sha256 right)) in
-    absurd (let both : false ≡ true = sym c ∙ clashes in cc)
+found-by false n zero x y xs ys c at more = search rules
 found-by false n (suc k) x y xs ys c at more =
     let r =
     more k (record { left = at.left; right = at.right; at_left = at.at_left; at_right = at.at_right; differ = at.differ; same = at.same }) in
@@ -74,10 +57,7 @@ found-from n k (x ∷ xs) (y ∷ ys) c = found-by (clash x y) n k x y xs ys refl
 
 pub clash-matches : ClashIsCollision
 unfolding clash_position
-clash-matches r s i e =
-    let w = matches-from 0 i (hash_texts r) (hash_texts s) e in
-    let same : w.0 ≡ i = let count : i ≡ 0 + w.0 = w.1 in omega arith in
-    subst (λ (k : ℕ). CollisionAt (hash_texts r) (hash_texts s) k) same w.2
+clash-matches r s i e = search (rules, matches-from)
 
 pub clash-found : ClashFound
 unfolding clash_position

@@ -1,26 +1,9 @@
 -- Conversations that are the same as far as they can be seen, with the same psks and DH results, are one.
-use Rattle.std.proofs.Common.{◌≡◌, ℕ, ◌+◌, List, ◌∷◌, ◌++◌, length, drop, count_by, refl, ap, sym, subst, ◌∙◌, append_assoc, []}
-use Rattle.std.specs.Prelude.{Bool, is_some, if◌then◌else◌}
-use Rattle.noise_names.specs.declared.token.Role.TheVariants.{Initiator, Responder}
-use Rattle.noise_names.specs.declared.token.Token.{Token}
-use Rattle.noise_names.specs.declared.token.Token.TheVariants.{E, S, Psk}
-use Rattle.noise_names.specs.Tokens.{is_psk}
-use Rattle.noise_names.specs.Plan.{Plan, has_psk, pre_of}
-use Rattle.noise_names.specs.Names.{name_bytes}
-use Rattle.noise_state.specs.History.{History, MixHash, and_then, cipher_key, ciphertext}
-use Rattle.noise_state.specs.Ciphertexts.{length-ciphertext, ciphertext-same}
-use Rattle.noise_handshake.specs.Message.{token_bytes, after_token, before_payload, after_tokens, after_payload}
-use Rattle.noise_handshake.specs.Length.{Carry, Carries}
-use Rattle.noise_handshake.specs.Party.{Party, psks_after, tokens_at, with_premessage}
-use Rattle.noise_handshake.specs.Matching.{after_own, after_message}
-use Rattle.noise_handshake.specs.Setup.{public_keys}
-use Rattle.noise_duel.specs.Below.{LawsBelow}
-use Rattle.noise_duel.specs.Messages.{HandshakeMessage, Exchanged, begun_as, dh_results, dh_results_from, messages_of}
-use Rattle.noise_duel.specs.Messages.Exchanged.{none, wrote, took}
-use Rattle.noise_duel.specs.Agreement.{VisiblyEqualIsOne}
+use Rattle.std.proofs.Common.{rules, ◌≡◌, ℕ, ◌+◌, List, ◌∷◌, ◌++◌, length, drop, count_by, refl, ap, sym, subst, ◌∙◌, append_assoc, []}
+use Rattle.std.specs.Prelude.{Bool, if◌then◌else◌}
+use Rattle.noise_duel.proofs.Common.{is_some, Initiator, Responder, Token, E, S, Psk, is_psk, Plan, has_psk, pre_of, name_bytes, History, MixHash, and_then, cipher_key, ciphertext, length-ciphertext, ciphertext-same, token_bytes, after_token, before_payload, after_tokens, after_payload, Carry, Carries, Party, psks_after, tokens_at, with_premessage, after_own, after_message, public_keys, LawsBelow, HandshakeMessage, Exchanged, begun_as, dh_results, dh_results_from, messages_of, none, wrote, took, VisiblyEqualIsOne, heads, tails, split-apart, cons-same}
 use Rattle.noise_duel.proofs.HashedMessages.{after_all, AreLines, passes-lines}
 use Rattle.noise_duel.proofs.Forward.{PskAt, PsksFit, UsePsks, passes-psks, message-same, pre-same}
-use Rattle.noise_names.specs.Lists.{heads, tails, split-apart, cons-same}
 
 -- each message carries keys of 32 bytes
 abbrev pub AllCarry : Plan → ℕ → List HandshakeMessage → Type 0
@@ -29,10 +12,8 @@ AllCarry p n (m ∷ ms) = Carry (tokens_at p.messages n) m.carried × AllCarry p
 
 pub passes-carry : LawsBelow → (v w : Party) (ps : List HandshakeMessage) → Exchanged v ps w → AllCarry v.pattern v.passed ps
 passes-carry laws v w [] (none _) = tt
-passes-carry laws v w (p ∷ ps) (wrote _ _ _ _ here more) =
-    (laws.written_carries v p.payload p.message p.carried here, passes-carry laws (after_own v p.carried p.payload) w ps more)
-passes-carry laws v w (p ∷ ps) (took _ _ _ _ here more) =
-    (laws.accepted_carries v p.payload p.message p.carried here, passes-carry laws (after_message v p.carried p.payload) w ps more)
+passes-carry laws v w (p ∷ ps) (wrote _ _ _ _ here more) = search (rules, (passes-carry laws (after_own v p.carried p.payload) w ps more))
+passes-carry laws v w (p ∷ ps) (took _ _ _ _ here more) = search (rules, (passes-carry laws (after_message v p.carried p.payload) w ps more))
 
 token-equal : (r : History) (psks : List (List ℕ)) (t : Token) (ts : List Token) (x y p q : List ℕ) (xs ys others rest : List (List ℕ)) → Carries t x
     → Carries t y
@@ -78,8 +59,7 @@ all-equal p n r psks (m ∷ ms) (q ∷ qs) a k l b c f g h =
     ciphertext-same (after_tokens (has_psk p) r ts m.carried) m.payload q.payload
     (here.1 ∙ ap (λ (zs : List (List ℕ)). ciphertext (after_tokens (has_psk p) r ts zs) q.payload) (sym here.0)) in
     let one : m ≡ q = message-same m q bytes here.0 payload in
-    let after : after_payload (has_psk p) r ts m.carried m.payload ≡ after_payload (has_psk p) r ts q.carried q.payload =
-    ap (λ (z : HandshakeMessage). after_payload (has_psk p) r ts z.carried z.payload) one in
+    let after : after_payload (has_psk p) r ts m.carried m.payload ≡ after_payload (has_psk p) r ts q.carried q.payload = search in
     cons-same one
     (all-equal p (n + 1) (after_payload (has_psk p) r ts m.carried m.payload) (drop (count_by is_psk ts) psks) ms qs
     (tails m.message q.message (messages_of ms) (messages_of qs) a) k.1 l.1 b.1

@@ -1,34 +1,15 @@
 -- Two parties of one handshake agree on their datagrams.
-use Rattle.std.proofs.Common.{◌≡◌, ◌≢◌, ℕ, zero, suc, ◌+◌, List, ◌∷◌, ◌++◌, length, length-append, Option, Some, None, Ok, slice_get, refl, sym, ◌∙◌, ap, subst, arith, inl, inr, ◌⊎◌, eq-eqb, []}
-use Rattle.std.proofs.lemmas.Bool.{ne_eqb}
-use Rattle.std.proofs.lemmas.Bool.Decides.{eqb_tells}
-use Rattle.noise_names.specs.declared.token.Role.{Role}
-use Rattle.noise_names.specs.declared.token.Role.TheVariants.{Initiator, Responder}
-use Rattle.noise_names.specs.Tokens.{other}
-use Rattle.noise_state.specs.History.{History}
-use Rattle.noise_handshake.specs.Party.{Party}
-use Rattle.noise_session.specs.Transport.{transport_message}
+use Rattle.std.proofs.Common.{rules, ◌≡◌, ◌≢◌, ℕ, zero, suc, ◌+◌, List, ◌∷◌, ◌++◌, length, length-append, Option, Some, None, Ok, slice_get, refl, sym, ◌∙◌, ap, subst, arith, inl, inr, ◌⊎◌, eq-eqb, []}
+use Rattle.noise_duel.proofs.Common.{ne_eqb, eqb_tells, Role, Initiator, Responder, History, Party, transport_message, AreOnce, DatagramState, IsSealed, Opens, datagram_fault, nonce_named, DatagramEvent, DatagramNote, DatagramHappens, DatagramRun, PartyOpens, PartySeals, is_sealed, is_delivered, is_missing, is_put_in, opens, rejects, seals, seals_nothing, DatagramSide, DatagramSides, NonceMessage, at_nonce, new_party, nonces_of, of_nonce, TransportMessage, begun_as, same-or, same_Some}
 use Rattle.noise_session.specs.Windows.{is_accepted}
-use Rattle.noise_session.specs.Datagrams.{AreOnce, DatagramState, IsSealed, Opens, datagram_fault, nonce_named}
 use Rattle.noise_session.specs.Datagrams.Opens.{opened}
 use Rattle.noise_session.specs.DatagramFaults.{fault-free}
 use Rattle.noise_duel.specs.DatagramAgreement.{AreAtNonces, AreCounted, ArriveOnce, ComesOfDatagrams, DatagramRunsAgree, RunsMakeOneBeginning}
-use Rattle.noise_events.specs.DatagramEvents.{DatagramEvent}
-use Rattle.noise_duel.specs.DatagramNotes.{DatagramNote}
-use Rattle.noise_duel.specs.DatagramRuns.{DatagramHappens, DatagramRun, PartyOpens, PartySeals}
-use Rattle.noise_duel.specs.DatagramRuns.DatagramHappens.{is_sealed, is_delivered, is_missing, is_put_in}
 use Rattle.noise_duel.specs.DatagramRuns.DatagramRun.{begins, ends}
-use Rattle.noise_duel.specs.DatagramRuns.PartyOpens.{opens, rejects}
-use Rattle.noise_duel.specs.DatagramRuns.PartySeals.{seals, seals_nothing}
-use Rattle.noise_duel.specs.DatagramSides.{DatagramSide, DatagramSides, NonceMessage, at_nonce, new_party, nonces_of, of_nonce}
 use Rattle.noise_duel.specs.Forgery.{ForgedMessage}
-use Rattle.noise_duel.specs.Sides.{TransportMessage}
-use Rattle.noise_duel.specs.Messages.{begun_as}
-use Rattle.noise_names.specs.Lists.{same-or}
 use Rattle.noise_duel.proofs.Invariant.{ends-stand}
 use Rattle.noise_duel.proofs.Networks.{passes-role}
 use Rattle.noise_duel.proofs.Prefixes.{transport_message-same}
-use Rattle.std.proofs.lemmas.Option.{same_Some}
 
 -- ---- what is opened is the transport message of a nonce that wasn't accepted
 opened-as : (v : DatagramState) (bytes payload : List ℕ) (w : DatagramState) → Opens v bytes (Ok payload) w → (datagram_fault v bytes ≡ None) × IsSealed v bytes payload
@@ -37,11 +18,7 @@ opened-as v bytes payload w (opened _ _ _ none is) = (none, is)
 -- ---- one event
 counted-more : (r : History) (writer : Role) (n : ℕ) (ms : List NonceMessage) (m : NonceMessage) → AreCounted r writer n ms → m.nonce ≡ n + length ms
     → m.message.message ≡ transport_message r writer 0 (n + length ms) m.message.payload → AreCounted r writer n (ms ++ m ∷ [])
-counted-more r writer n [] m h is e = (
-  is ∙ omega arith,
-  subst (λ (k : ℕ). m.message.message ≡ transport_message r writer 0 k m.message.payload) (omega arith) e,
-  tt,
-)
+counted-more r writer n [] m h is e = search rules
 counted-more r writer n (x ∷ ms) m h is e =
     let next : n + length (x ∷ ms) ≡ (n + 1) + length ms = omega arith in (
       h.0,
@@ -94,11 +71,7 @@ holds-opened role r s bytes next note (opens _ _ payload o) h =
         sending = c.sending;
         accepted = ap (λ (ns : List ℕ). n ∷ ns) c.accepted;
         sealed = c.sealed;
-        opened = (
-          is.1 ∙ ap (λ (q : History). transport_message q (other s.state.role) 0 n payload) c.history
-              ∙ ap (λ (q : Role). transport_message r (other q) 0 n payload) c.role_is,
-          c.opened,
-        );
+        opened = search;
       };
       once = (ap (λ (ns : List ℕ). is_accepted ns n) (sym c.accepted) ∙ (fault-free s.state bytes is.0).fresh, h.once);
     }
@@ -123,7 +96,7 @@ hold-run : (r : History) (d last : DatagramSides) (events : List DatagramEvent) 
     → HoldBoth r d → HoldBoth r last
 hold-run r d last events notes (ends _) h = h
 hold-run r d last events notes (begins _ next _ event more note rest now run) h =
-    hold-run r next last more rest run (hold-happened r d next event note now h)
+    search ((hold-run r next last more rest run (hold-happened r d next event note now h)))
 
 -- ---- the message of a nonce
 abbrev of_parts : ℕ → TransportMessage → NonceMessage

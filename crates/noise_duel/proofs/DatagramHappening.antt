@@ -1,27 +1,14 @@
 -- What comes of events on datagrams, in code, from what comes of one party's part of them.
-use Rattle.std.proofs.Common.{◌≡◌, ℕ, List, ◌∷◌, ◌++◌, length, refl, ap, sym, subst, ◌∙◌, append_assoc, append-nil, Option, Some, None, Ok, Err, MatchOption, slice_get, Vec, Global, IsOk, []}
+use Rattle.std.proofs.Common.{rules, ◌≡◌, ℕ, List, ◌∷◌, ◌++◌, length, refl, ap, sym, subst, ◌∙◌, append_assoc, append-nil, Option, Some, None, Ok, Err, MatchOption, slice_get, Vec, Global, IsOk, []}
 use Rattle.std.specs.Prelude.{Result}
-use Rattle.std.proofs.lemmas.List.{map-append, length-map}
-use Rattle.noise_names.specs.declared.token.Role.{Role}
-use Rattle.noise_names.specs.declared.token.Role.TheVariants.{Initiator, Responder}
-use Rattle.noise_names.specs.Tokens.{other}
+use Rattle.noise_duel.proofs.Common.{map-append, length-map, Role, Initiator, Responder, other, SendFault, DatagramState, DatagramsValue, Opens, DatagramsMatch, accepting, datagram, nonce_named, unsealed, DatagramEvent, Seal, DatagramNote, Rejected, Sealed, DatagramReports, DatagramDuelMatches, DatagramDuelValue, datagram_note_of, datagram_notes_of, DatagramHappens, DatagramRun, PartyOpens, PartySeals, is_sealed, is_delivered, is_missing, is_put_in, opens, rejects, seals, DatagramSide, DatagramSides, party, with_party, sealed_datagrams, opening, sealing, datagram_bytes, bytes_of, DatagramHappened, DatagramsHaveComeTo, HasFound, HasOpened, HasSealed, SealedMatch}
 use Rattle.noise_session.specs.declared.datagram_fault.DatagramFault.{DatagramFault}
-use Rattle.noise_session.specs.declared.faults.SendFault.{SendFault}
-use Rattle.noise_session.specs.Datagrams.{DatagramState, DatagramsValue, Opens, DatagramsMatch, accepting, datagram, nonce_named, unsealed}
 use Rattle.noise_duel.specs.declared.datagram_duel.SealedDatagrams.{SealedDatagrams}
 use Rattle.noise_duel.specs.declared.datagram_report.DatagramEntry.{DatagramEntry}
 use Rattle.noise_duel.specs.declared.datagram_report.DatagramReport.{DatagramReport}
-use Rattle.noise_events.specs.DatagramEvents.{DatagramEvent, Open, Raw, Seal}
-use Rattle.noise_duel.specs.DatagramNotes.{DatagramNote, Payload, Rejected, Sealed}
-use Rattle.noise_duel.specs.DatagramReports.{DatagramReports, DatagramDuelMatches, DatagramDuelValue, datagram_note_of, datagram_notes_of}
-use Rattle.noise_duel.specs.DatagramRuns.{DatagramHappens, DatagramRun, PartyOpens, PartySeals}
-use Rattle.noise_duel.specs.DatagramRuns.DatagramHappens.{is_sealed, is_delivered, is_missing, is_put_in}
+use Rattle.noise_events.specs.DatagramEvents.{Open, Raw}
+use Rattle.noise_duel.specs.DatagramNotes.{Payload}
 use Rattle.noise_duel.specs.DatagramRuns.DatagramRun.{begins, ends}
-use Rattle.noise_duel.specs.DatagramRuns.PartyOpens.{opens, rejects}
-use Rattle.noise_duel.specs.DatagramRuns.PartySeals.{seals}
-use Rattle.noise_duel.specs.DatagramSides.{DatagramSide, DatagramSides, party, with_party, sealed_datagrams, opening, sealing, datagram_bytes}
-use Rattle.noise_names.specs.Lists.{bytes_of}
-use Rattle.noise_duel.specs.OneDatagram.{DatagramHappened, DatagramsHaveComeTo, HasFound, HasOpened, HasSealed, SealedMatch}
 
 -- ---- one party seals
 
@@ -94,10 +81,8 @@ sealed_at sealed Responder = sealed.responder.items
 matches-at : (d : DatagramSides) (role : Role) (s : DatagramSide) (duel next : DatagramDuelValue) → DatagramDuelMatches duel d
     → datagrams_at next (other role) ≡ datagrams_at duel (other role) → DatagramsMatch (datagrams_at next role) s.state
     → DatagramDuelMatches next (with_party d role s)
-matches-at d Initiator s duel next p same here =
-    record { initiator = here; responder = subst (λ (x : DatagramsValue). DatagramsMatch x d.responder.state) (sym same) p.responder }
-matches-at d Responder s duel next p same here =
-    record { initiator = subst (λ (x : DatagramsValue). DatagramsMatch x d.initiator.state) (sym same) p.initiator; responder = here }
+matches-at d Initiator s duel next p same here = search rules
+matches-at d Responder s duel next p same here = search rules
 
 sealed-now : (d : DatagramSides) (role : Role) (sealed : SealedDatagrams) → SealedMatch sealed d → bytes_of (sealed_at sealed role) ≡ sealed_datagrams (party d role)
 sealed-now d Initiator sealed k = k.initiator
@@ -161,19 +146,13 @@ pub found-here : (d : DatagramSides) (role r : Role) (n : ℕ) (found : Option (
     (sealed : SealedDatagrams) → role ≡ r → slice_get (sealed_datagrams (party d (other r))) n ≡ found → DatagramDuelMatches duel d → SealedMatch sealed d
     → datagrams_at next (other r) ≡ datagrams_at duel (other r) → HasFound (party d r) n found entry (datagrams_at next r)
     → DatagramHappened d (Open role n) (role, entry) next sealed
-found-here d role r n found entry duel next sealed is got p k same h =
-    subst (λ (q : Role). DatagramHappened d (Open q n) (q, entry) next sealed) (sym is) (found-at d r n found entry duel next sealed got p k same h)
+found-here d role r n found entry duel next sealed is got p k same h = search (rules, found-at)
 
 -- ---- events, one after another
 
 pub nothing-yet : (d : DatagramSides) (events : List DatagramEvent) (duel : DatagramDuelValue) (sealed : SealedDatagrams) (report : DatagramReport)
     → DatagramDuelMatches duel d → SealedMatch sealed d → report.entries.items ≡ [] → DatagramsHaveComeTo d events events duel sealed report
-nothing-yet d events duel sealed report p k empty = record {
-  now = d;
-  goes_on = λ notes last h. subst (λ (es : List (Role × DatagramEntry)). DatagramRun d events (datagram_notes_of es ++ notes) last) (sym empty) h;
-  matches = p;
-  sealed_match = k;
-}
+nothing-yet d events duel sealed report p k empty = search rules
 
 pub one-more : (d : DatagramSides) (events rest more : List DatagramEvent) (event : DatagramEvent) (reported : Role × DatagramEntry)
     (duel next : DatagramDuelValue) (sealed after : SealedDatagrams) (report beyond : DatagramReport) → rest ≡ event ∷ more
@@ -183,8 +162,7 @@ pub one-more : (d : DatagramSides) (events rest more : List DatagramEvent) (even
 one-more d events rest more event reported duel next sealed after report beyond is pushed h t =
     let note : Role × DatagramNote = (reported.0, datagram_note_of reported.1) in
     let notes_now = datagram_notes_of report.entries.items in
-    let reported_more : datagram_notes_of beyond.entries.items ≡ notes_now ++ note ∷ [] =
-    ap datagram_notes_of pushed ∙ map-append (λ (e : Role × DatagramEntry). (e.0, datagram_note_of e.1)) report.entries.items (reported ∷ []) in
+    let reported_more : datagram_notes_of beyond.entries.items ≡ notes_now ++ note ∷ [] = search (rules, map-append) in
     record {
       now = t.next;
       goes_on = λ notes last run.

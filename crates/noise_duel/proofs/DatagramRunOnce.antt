@@ -1,21 +1,11 @@
 -- A run of datagrams is determined: of two parties and a list of events one list of notes and one pair of parties comes.
-use Rattle.std.proofs.Common.{◌≡◌, ℕ, List, ◌∷◌, refl, ap, sym, subst, ◌∙◌}
+use Rattle.std.proofs.Common.{rules, ◌≡◌, ℕ, List, ◌∷◌, refl, ap, sym, subst, ◌∙◌}
 use Rattle.std.specs.Prelude.{Ok, Err, Result}
-use Rattle.noise_names.specs.declared.token.Role.{Role}
-use Rattle.noise_names.specs.Tokens.{other}
+use Rattle.noise_duel.proofs.Common.{Role, other, DatagramState, Opens, nonce_named, DatagramEvent, DatagramNote, SealFault, DatagramHappens, DatagramRun, DatagramRunOnce, PartyOpens, PartySeals, is_sealed, is_delivered, is_missing, is_put_in, opens, rejects, seals, seals_nothing, DatagramSide, DatagramSides, same_Some}
 use Rattle.noise_session.specs.declared.datagram_fault.DatagramFault.{DatagramFault}
-use Rattle.noise_session.specs.Datagrams.{DatagramState, Opens, nonce_named}
 use Rattle.noise_session.specs.Datagrams.Opens.{opened, refused, forged}
-use Rattle.noise_events.specs.DatagramEvents.{DatagramEvent}
-use Rattle.noise_duel.specs.DatagramNotes.{DatagramNote, Payload, Rejected, SealFault}
-use Rattle.noise_duel.specs.DatagramRuns.{DatagramHappens, DatagramRun, DatagramRunOnce, PartyOpens, PartySeals}
-use Rattle.noise_duel.specs.DatagramRuns.DatagramHappens.{is_sealed, is_delivered, is_missing, is_put_in}
 use Rattle.noise_duel.specs.DatagramRuns.DatagramRun.{begins, ends}
-use Rattle.noise_duel.specs.DatagramRuns.PartyOpens.{opens, rejects}
-use Rattle.noise_duel.specs.DatagramRuns.PartySeals.{seals, seals_nothing}
-use Rattle.noise_duel.specs.DatagramSides.{DatagramSide, DatagramSides, opening, party, with_party}
 use Rattle.noise_duel.proofs.Prefixes.{transport_message-same}
-use Rattle.std.proofs.lemmas.Option.{same_Some}
 
 abbrev opens_as : List ℕ → Result (List ℕ) DatagramFault
 opens_as payload = Ok payload
@@ -48,29 +38,18 @@ party-seals-once s payload x y m n (seals _ _ none) (seals_nothing _ _ why e) = 
 party-seals-once s payload x y m n (seals_nothing _ _ why e) (seals _ _ none) = cc
 
 party-opens-once : (s : DatagramSide) (bytes : List ℕ) (x y : DatagramSide) (m n : DatagramNote) → PartyOpens s bytes m x → PartyOpens s bytes n y → (m ≡ n) × (x ≡ y)
-party-opens-once s bytes x y m n (opens _ _ a o) (opens _ _ b u) =
-    let same : a ≡ b = cc (opens-once s.state bytes _ _ (opens_as a) (opens_as b) o u) in (ap Payload same, ap (opening s bytes) same)
-party-opens-once s bytes x y m n (opens _ _ a o) (rejects _ _ why u) =
-    absurd (not-both a why (opens-once s.state bytes _ _ (opens_as a) (refused_as why) o u))
-party-opens-once s bytes x y m n (rejects _ _ why o) (opens _ _ b u) =
-    absurd (not-both b why (opens-once s.state bytes _ _ (opens_as b) (refused_as why) u o))
-party-opens-once s bytes x y m n (rejects _ _ why o) (rejects _ _ because u) =
-    (ap Rejected (err-same why because (opens-once s.state bytes _ _ (refused_as why) (refused_as because) o u)), refl)
+party-opens-once s bytes x y m n (opens _ _ a o) (opens _ _ b u) = search (rules, opens-once)
+party-opens-once s bytes x y m n (opens _ _ a o) (rejects _ _ why u) = search (rules, opens-once)
+party-opens-once s bytes x y m n (rejects _ _ why o) (opens _ _ b u) = search (rules, opens-once)
+party-opens-once s bytes x y m n (rejects _ _ why o) (rejects _ _ because u) = search (err-same, opens-once)
 
 happens-once : (d x y : DatagramSides) (event : DatagramEvent) (m n : Role × DatagramNote) → DatagramHappens d event m x → DatagramHappens d event n y
     → (m ≡ n) × (x ≡ y)
-happens-once d x y event m n (is_sealed _ role payload note next h) (is_sealed _ _ _ reported after k) =
-    let one = party-seals-once (party d role) payload next after note reported h k in
-    (ap (λ (z : DatagramNote). (role, z)) one.0, ap (with_party d role) one.1)
+happens-once d x y event m n (is_sealed _ role payload note next h) (is_sealed _ _ _ reported after k) = search (rules, party-seals-once)
 happens-once d x y event m n (is_delivered _ role i bytes note next at h) (is_delivered _ _ _ others reported after there k) =
-    let same : bytes ≡ others = same_Some bytes others (sym at ∙ there) in
-    let one = party-opens-once (party d role) bytes next after note reported h
-    (subst (λ (z : List ℕ). PartyOpens (party d role) z reported after) (sym same) k) in
-    (ap (λ (z : DatagramNote). (role, z)) one.0, ap (with_party d role) one.1)
+    search (rules, party-opens-once)
 happens-once d x y event m n (is_missing _ role i none) (is_missing _ _ _ also) = (refl, refl)
-happens-once d x y event m n (is_put_in _ role bytes note next h) (is_put_in _ _ _ reported after k) =
-    let one = party-opens-once (party d role) bytes next after note reported h k in
-    (ap (λ (z : DatagramNote). (role, z)) one.0, ap (with_party d role) one.1)
+happens-once d x y event m n (is_put_in _ role bytes note next h) (is_put_in _ _ _ reported after k) = search (rules, party-opens-once)
 happens-once d x y event m n (is_delivered _ role i bytes note next at h) (is_missing _ _ _ none) = cc
 happens-once d x y event m n (is_missing _ role i none) (is_delivered _ _ _ bytes note next at h) = cc
 

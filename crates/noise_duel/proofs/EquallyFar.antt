@@ -1,39 +1,11 @@
 -- Two ends that have come equally far, and what a line leaves of them.
-use Rattle.std.proofs.Common.{◌≡◌, ℕ, ◌+◌, ◌<◌, ◌≤◌, List, ◌∷◌, ◌++◌, length, drop, count_by, refl, ap, sym, subst, ◌∙◌, arith, append_assoc, length-append, []}
-use Rattle.std.specs.Prelude.{true, false, IsTrue, is_some}
-use Rattle.noise_names.specs.declared.token.Role.{Role}
-use Rattle.noise_names.specs.declared.token.Role.TheVariants.{Initiator, Responder}
-use Rattle.noise_names.specs.declared.token.Token.{Token}
-use Rattle.noise_names.specs.declared.token.Token.TheVariants.{E, S}
-use Rattle.noise_names.specs.Tokens.{other, same_role, turn_from, is_psk}
-use Rattle.noise_names.specs.Plan.{Plan, places_of, has_psk, is_one_way}
-use Rattle.noise_names.specs.Overhead.{has_key, overhead_of}
-use Rattle.noise_names.specs.Validity.{is_among, IsValid}
-use Rattle.noise_state.specs.History.{History, cipher_key}
-use Rattle.noise_keys.specs.declared.keys.Own.{Own}
-use Rattle.noise_handshake.specs.declared.remote.Remote.{Remote}
-use Rattle.noise_handshake.specs.Length.{Carry}
-use Rattle.noise_handshake.specs.Message.{message_bytes, after_payload}
-use Rattle.noise_handshake.specs.Passed.{passed_places}
-use Rattle.noise_handshake.specs.Party.{Party, Speaks, tokens_at, tokens_now}
-use Rattle.noise_handshake.specs.Writing.{Given, writer}
-use Rattle.noise_handshake.specs.Matching.{after_own, after_message}
-use Rattle.noise_handshake.specs.Setup.{token_of}
-use Rattle.noise_handshake.specs.Counterparts.{Counterparts, counterpart, IsEquipped, shown_after}
-use Rattle.noise_duel.specs.Below.{LawsBelow}
-use Rattle.noise_session.specs.Frames.{frame}
-use Rattle.noise_session.specs.Transport.{transport_message, last_nonce}
+use Rattle.std.proofs.Common.{rules, ◌≡◌, ℕ, ◌+◌, ◌<◌, ◌≤◌, List, ◌∷◌, ◌++◌, length, drop, count_by, refl, ap, sym, subst, ◌∙◌, arith, append_assoc, length-append, []}
+use Rattle.std.specs.Prelude.{false}
+use Rattle.noise_duel.proofs.Common.{IsTrue, is_some, Role, Initiator, Responder, other, same_role, turn_from, is_psk, Plan, has_psk, is_one_way, has_key, overhead_of, IsValid, History, cipher_key, Own, Carry, message_bytes, after_payload, passed_places, Party, Speaks, tokens_at, tokens_now, Given, writer, after_own, after_message, Counterparts, counterpart, IsEquipped, LawsBelow, frame, transport_message, last_nonce, HandshakeMessage, TransportMessage, Side, Sides, side, wrote_handshake, accepted_handshake, wrote_transport, accepted_transport, Say, Note, Wrote, Judged, Happens, KeyMaterial, carried_by, transport_messages_of, frames_by, false_from_ne_true, and_left, and_right}
 use Rattle.noise_session.specs.Steps.StepValue.{Payload}
-use Rattle.noise_duel.specs.Messages.{HandshakeMessage}
-use Rattle.noise_duel.specs.Sides.{TransportMessage, Side, Sides, side, wrote_handshake, accepted_handshake, wrote_transport, accepted_transport}
-use Rattle.noise_events.specs.Events.{Say}
-use Rattle.noise_duel.specs.Notes.{Note, Wrote, Judged}
-use Rattle.noise_duel.specs.Runs.{Happens}
-use Rattle.noise_duel.specs.Conversation.{KeyMaterial, carried_by, transport_messages_of, frames_by}
 use Rattle.noise_duel.proofs.Parts.{HasMaterial, equipped, given-carried, true-dh-result}
 use Rattle.noise_duel.proofs.Lines.{say-happens}
 use Rattle.noise_duel.proofs.Steps.{HandshakeStep, step-handshake, TransportStep, step-transport, below-too, not-both}
-use Rattle.std.proofs.lemmas.Bool.{false_from_ne_true, and_left, and_right}
 
 -- ---- two ends that have come equally far
 
@@ -101,50 +73,23 @@ handshake_message payload message xs = record { message = message; carried = xs;
 
 message-same : (payload m : List ℕ) (xs ys : List (List ℕ)) (v : Party) → xs ≡ ys → m ≡ message_bytes (has_psk v.pattern) v.history (tokens_now v) xs payload
     → handshake_message payload m xs ≡ handshake_message payload (message_bytes (has_psk v.pattern) v.history (tokens_now v) ys payload) ys
-message-same payload m xs ys v e f =
-    ap (λ (z : List ℕ). handshake_message payload z xs) f
-    ∙ ap (λ (zs : List (List ℕ)). handshake_message payload (message_bytes (has_psk v.pattern) v.history (tokens_now v) zs payload) zs) e
+message-same payload m xs ys v e f = search
 
 -- what a party's message carries is that of the key material
 carried-is : LawsBelow → (w : KeyMaterial) (v u : Party) (role : Role) (xs : List (List ℕ)) → IsValid v.pattern → Counterparts v u → v.role ≡ role
     → turn_from Initiator v.passed ≡ role
     → HasMaterial w v.pattern role v.own v.agree → HasMaterial w v.pattern (other role) u.own u.agree → Given (writer v) v.remote v.psks (tokens_now v) xs
     → xs ≡ carried_by w role v.psks (tokens_now v)
-carried-is laws w v u role xs valid m is turn mine theirs given =
-    let p : Plan = v.pattern in
-    let at : (t : Token) → is_among (turn_from Initiator v.passed) t (places_of p) ≡ true → is_among role t (places_of p) ≡ true =
-    λ t h. subst (λ (r : Role). is_among r t (places_of p) ≡ true) turn h in
-    let shown : Given (writer v) (shown_after p (other role) v.passed u.own) v.psks (tokens_now v) xs =
-    subst (λ (z : Remote). Given (writer v) z v.psks (tokens_now v) xs) (laws.known v u m ∙ ap (λ (r : Role). shown_after p (other r) v.passed u.own) is)
-    given in
-    let here : Given (record { role = role; has_psks = has_psk p; own = v.own; agree = v.agree }) (shown_after p (other role) v.passed u.own) v.psks
-    (tokens_now v) xs =
-    subst (λ (r : Role). Given (record { role = r; has_psks = has_psk p; own = v.own; agree = v.agree }) (shown_after p (other role) v.passed u.own) v.psks
-    (tokens_now v) xs) is shown in
-    given-carried laws w (has_psk p) role v.own u.own v.agree (is_among (other role) E (passed_places p v.passed))
-    (is_among (other role) S (passed_places p v.passed)) v.psks (tokens_now v) xs (
-      λ x h. mine.keys x (at (token_of x) (laws.sent_is_among p v.passed (token_of x) h)),
-      λ t h d. true-dh-result laws w p valid role v.own u.own v.agree u.agree mine theirs t d
-          (laws.among_occurs (turn_from Initiator v.passed) t (places_of p) (laws.sent_is_among p v.passed t h)),
-    )
-    here
-
-abbrev by_role : Role → List ℕ → Role × List ℕ
-by_role r x = (r, x)
-
-pair-same : (r q : Role) (x y : List ℕ) → r ≡ q → x ≡ y → by_role r x ≡ by_role q y
-pair-same r q x y e f = cc
+carried-is laws w v u role xs valid m is turn mine theirs given = search (rules, given-carried, true-dh-result)
 
 -- a frame more of a role
 frames-on : (role r : Role) (d e : Sides) (message : List ℕ) (rest : List (Role × List ℕ)) → (side e role).frames ≡ (side d role).frames ++ frame message ∷ []
     → (side e (other role)).frames ≡ (side d (other role)).frames
     → (side d r).frames ++ frames_by r ((role, message) ∷ rest) ≡ (side e r).frames ++ frames_by r rest
-frames-on Initiator Initiator d e message rest f g =
-    sym (ap (λ (fs : List (List ℕ)). fs ++ frames_by Initiator rest) f ∙ append_assoc d.initiator.frames (frame message ∷ []) (frames_by Initiator rest))
+frames-on Initiator Initiator d e message rest f g = search (rules, append_assoc)
 frames-on Initiator Responder d e message rest f g = ap (λ (fs : List (List ℕ)). fs ++ frames_by Responder rest) (sym g)
 frames-on Responder Initiator d e message rest f g = ap (λ (fs : List (List ℕ)). fs ++ frames_by Initiator rest) (sym g)
-frames-on Responder Responder d e message rest f g =
-    sym (ap (λ (fs : List (List ℕ)). fs ++ frames_by Responder rest) f ∙ append_assoc d.responder.frames (frame message ∷ []) (frames_by Responder rest))
+frames-on Responder Responder d e message rest f g = search (rules, append_assoc)
 
 module _ (laws : LawsBelow) (w : KeyMaterial) (long : (role : Role) (k : Own) → length (w.public role k) ≡ 32) where
   -- a line of the handshake
@@ -166,9 +111,7 @@ module _ (laws : LawsBelow) (w : KeyMaterial) (long : (role : Role) (k : Own) �
       let due : v.passed < length p.messages = subst (λ (k : ℕ). k < length p.messages) (sym at) more in
       let mine : turn_from Initiator v.passed ≡ Initiator = ap (turn_from Initiator) at ∙ sym turn in
       let speaks : Speaks v = record { going = ap (λ (z : Party). z.ended) a.counterparts.back; more = due; turn = mine ∙ sym a.role } in
-      let has : IsEquipped p v.role v.own v.agree u.own =
-      subst (λ (r : Role). IsEquipped p r v.own v.agree u.own) (sym a.role)
-      (equipped laws w p a.valid Initiator v.own u.own v.agree u.agree long a.mine a.theirs) in
+      let has : IsEquipped p v.role v.own v.agree u.own = search (rules, equipped) in
       let fits : overhead_of p (v.passed + 1) + length payload ≤ 65535 = subst (λ (k : ℕ). overhead_of p (k + 1) + length payload ≤ 65535) (sym at) room in
       step-handshake laws s t payload a.valid a.counterparts has speaks a.keyed fits a.partial_there
   handshake-at n Responder payload d a more turn room =
@@ -187,13 +130,9 @@ module _ (laws : LawsBelow) (w : KeyMaterial) (long : (role : Role) (k : Own) �
       let valid : IsValid u.pattern = there (λ z. IsValid z.pattern) a.valid in
       let has1 : IsEquipped p Responder u.own u.agree v.own = equipped laws w p a.valid Responder u.own v.own u.agree v.agree long a.theirs a.mine in
       let has2 : IsEquipped p u.role u.own u.agree v.own = subst (λ (r : Role). IsEquipped p r u.own u.agree v.own) (sym role) has1 in
-      let has : IsEquipped u.pattern u.role u.own u.agree v.own =
-      subst (λ (q : Plan). IsEquipped q u.role u.own u.agree v.own) (ap (λ (z : Party). z.pattern) turned.there) has2 in
-      let keyed : is_some (cipher_key u.history) ≡ has_key u.pattern (passed_places u.pattern u.passed) =
-      there (λ z. is_some (cipher_key z.history) ≡ has_key z.pattern (passed_places z.pattern z.passed)) a.keyed in
-      let fits : overhead_of u.pattern (u.passed + 1) + length payload ≤ 65535 =
-      there (λ z. overhead_of z.pattern (z.passed + 1) + length payload ≤ 65535)
-      (subst (λ (k : ℕ). overhead_of p (k + 1) + length payload ≤ 65535) (sym at) room) in
+      let has : IsEquipped u.pattern u.role u.own u.agree v.own = search rules in
+      let keyed : is_some (cipher_key u.history) ≡ has_key u.pattern (passed_places u.pattern u.passed) = search rules in
+      let fits : overhead_of u.pattern (u.passed + 1) + length payload ≤ 65535 = search rules in
       step-handshake laws s t payload valid turned has speaks keyed fits a.partial
 
   pub handshake-line : (n : ℕ) (role : Role) (payload : List ℕ) (d e : Sides) (notes : List (Role × Note)) → EquallyFar w n d
@@ -215,9 +154,7 @@ module _ (laws : LawsBelow) (w : KeyMaterial) (long : (role : Role) (k : Own) �
       let after : Sides = record { initiator = wrote_handshake s m; responder = accepted_handshake t m } in
       let out = say-happens d e Initiator payload sp.message notes (wrote_handshake s m) (accepted_handshake t m) sp.lacks sp.written refl sp.receives refl
       does in
-      let is : xs ≡ carried_by w (turn_from Initiator v.passed) v.psks (tokens_now v) =
-      carried-is laws w v u Initiator xs a.valid a.counterparts a.role mine a.mine a.theirs sp.writes.given
-      ∙ ap (λ (r : Role). carried_by w r v.psks (tokens_now v)) (sym mine) in
+      let is : xs ≡ carried_by w (turn_from Initiator v.passed) v.psks (tokens_now v) = search (carried-is, mine) in
       let carry : Carry (tokens_at p.messages v.passed) xs = laws.written_carries v payload sp.message xs sp.writes in
       let equally_far : EquallyFar w (n + 1) after = record {
         valid = a.valid;
@@ -239,8 +176,7 @@ module _ (laws : LawsBelow) (w : KeyMaterial) (long : (role : Role) (k : Own) �
         there = a.there;
         back = a.back;
       } in
-      let same : m ≡ due_of w v payload =
-      message-same payload sp.message xs (carried_by w (turn_from Initiator v.passed) v.psks (tokens_now v)) v is sp.writes.spelled in
+      let same : m ≡ due_of w v payload = search message-same in
       let past_line : AfterLine w n Initiator payload d after =
       record { frames = length-append s.frames (frame sp.message ∷ []); others = refl; interval = refl; equally_far = equally_far } in
       let handshake : InHandshake w payload d after = record {
@@ -251,10 +187,7 @@ module _ (laws : LawsBelow) (w : KeyMaterial) (long : (role : Role) (k : Own) �
         passed = ap (λ (z : HandshakeMessage). s.passed ++ z ∷ []) same;
         sent = refl;
         sent_there = refl;
-        frames = λ r rest. ap (λ (z : Role × List ℕ). (side d r).frames ++ frames_by r (z ∷ rest))
-            (pair-same (turn_from Initiator v.passed) Initiator (due_of w v payload).message sp.message mine
-            (sym (ap (λ (z : HandshakeMessage). z.message) same)))
-            ∙ frames-on Initiator r d after sp.message rest refl refl;
+        frames = search (rules, frames-on);
       } in
       record {
         noted = out.0;
@@ -283,10 +216,7 @@ module _ (laws : LawsBelow) (w : KeyMaterial) (long : (role : Role) (k : Own) �
       let own1 : HasMaterial w u.pattern Responder u.own u.agree = there (λ z. HasMaterial w z.pattern Responder u.own u.agree) a.theirs in
       let own2 : HasMaterial w u.pattern Initiator v.own v.agree = there (λ z. HasMaterial w z.pattern Initiator v.own v.agree) a.mine in
       let whose : turn_from Initiator u.passed ≡ Responder = there (λ z. turn_from Initiator z.passed ≡ Responder) mine in
-      let is : xs ≡ carried_by w (turn_from Initiator v.passed) v.psks (tokens_now v) =
-      carried-is laws w u v Responder xs valid turned role whose own1 own2 sp.writes.given
-      ∙ ap (λ (z : Party). carried_by w Responder z.psks (tokens_now z)) a.counterparts.there
-      ∙ ap (λ (r : Role). carried_by w r v.psks (tokens_now v)) (sym mine) in
+      let is : xs ≡ carried_by w (turn_from Initiator v.passed) v.psks (tokens_now v) = search (rules, carried-is) in
       let carry : Carry (tokens_at p.messages v.passed) xs = laws.accepted_carries v payload sp.message xs sp.accepts in
       let equally_far : EquallyFar w (n + 1) after = record {
         valid = a.valid;
@@ -308,8 +238,7 @@ module _ (laws : LawsBelow) (w : KeyMaterial) (long : (role : Role) (k : Own) �
         there = a.there;
         back = a.back;
       } in
-      let same : m ≡ due_of w v payload =
-      message-same payload sp.message xs (carried_by w (turn_from Initiator v.passed) v.psks (tokens_now v)) v is sp.accepts.reads.spelled in
+      let same : m ≡ due_of w v payload = search message-same in
       let past_line : AfterLine w n Responder payload d after =
       record { frames = length-append s.frames (frame sp.message ∷ []); others = refl; interval = refl; equally_far = equally_far } in
       let handshake : InHandshake w payload d after = record {
@@ -320,10 +249,7 @@ module _ (laws : LawsBelow) (w : KeyMaterial) (long : (role : Role) (k : Own) �
         passed = ap (λ (z : HandshakeMessage). t.passed ++ z ∷ []) same;
         sent = refl;
         sent_there = refl;
-        frames = λ r rest. ap (λ (z : Role × List ℕ). (side d r).frames ++ frames_by r (z ∷ rest))
-            (pair-same (turn_from Initiator v.passed) Responder (due_of w v payload).message sp.message mine
-            (sym (ap (λ (z : HandshakeMessage). z.message) same)))
-            ∙ frames-on Responder r d after sp.message rest refl refl;
+        frames = search (rules, frames-on);
       } in
       record {
         noted = out.0;

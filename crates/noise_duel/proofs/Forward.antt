@@ -1,28 +1,10 @@
 -- With the same psks and DH results the same bytes are the same conversation, from the first message on.
-use Rattle.std.proofs.Common.{◌≡◌, ℕ, ◌+◌, List, ◌∷◌, ◌++◌, drop, count_by, refl, ap, sym, subst, ◌∙◌, inl, inr, []}
-use Rattle.std.specs.Prelude.{Bool, unwrap_or}
-use Rattle.noise_names.specs.declared.token.Role.TheVariants.{Initiator, Responder}
-use Rattle.noise_names.specs.declared.token.Token.{Token}
-use Rattle.noise_names.specs.declared.token.Token.TheVariants.{E, S, Psk}
-use Rattle.noise_names.specs.Tokens.{is_psk}
-use Rattle.noise_names.specs.Plan.{Plan, has_psk, pre_of}
-use Rattle.noise_names.specs.Names.{name_bytes}
-use Rattle.noise_state.specs.History.{History, MixHash, and_then, ciphertext}
-use Rattle.noise_state.specs.Ciphertexts.{ciphertext-same}
-use Rattle.noise_handshake.specs.declared.remote.Remote.{Remote}
-use Rattle.noise_handshake.specs.Message.{token_bytes, after_token, after_tokens, message_bytes, after_payload, with_ephemeral}
-use Rattle.noise_handshake.specs.Party.{Party, Reader, Fit, Fits, reader, known_after, psks_after, first_psk, tokens_at, tokens_now, with_premessage, start}
-use Rattle.noise_handshake.specs.Writing.{Writer, Given, Gives, writer}
-use Rattle.noise_handshake.specs.Matching.{after_own, after_message}
-use Rattle.noise_handshake.specs.Setup.{public_keys}
-use Rattle.noise_duel.specs.Collision.{hashed}
-use Rattle.noise_duel.specs.Messages.{HandshakeMessage, Exchanged, begun_as, dh_results, dh_results_from, pre_keys}
-use Rattle.noise_duel.specs.Messages.Exchanged.{none, wrote, took}
-use Rattle.noise_duel.specs.Agreement.{PsksReport}
+use Rattle.std.proofs.Common.{rules, ◌≡◌, ℕ, ◌+◌, List, ◌∷◌, ◌++◌, drop, count_by, refl, ap, sym, subst, ◌∙◌, inl, inr, []}
+use Rattle.std.specs.Prelude.{Bool}
+use Rattle.noise_duel.proofs.Common.{unwrap_or, Initiator, Responder, Token, E, S, Psk, is_psk, Plan, has_psk, pre_of, name_bytes, History, MixHash, and_then, ciphertext, ciphertext-same, Remote, token_bytes, after_token, after_tokens, after_payload, with_ephemeral, Party, Reader, Fit, Fits, known_after, psks_after, first_psk, tokens_at, with_premessage, start, Writer, Given, Gives, after_own, after_message, public_keys, hashed, HandshakeMessage, Exchanged, begun_as, dh_results, dh_results_from, pre_keys, none, wrote, took, PsksReport, heads, tails, cons-same}
 use Rattle.noise_duel.proofs.HashedTexts.{Alike, pre-back}
 use Rattle.noise_duel.proofs.HashedMessages.{after_all, AreLines, AllAlike, passes-lines}
 use Rattle.noise_duel.proofs.HashReports.{SameBytes, bytes-or}
-use Rattle.noise_names.specs.Lists.{heads, tails, cons-same}
 
 -- ---- psks
 
@@ -51,8 +33,7 @@ gives-psk w known psks _ x h = tt
 
 fit-psks : (v : Reader) (known : Remote) (psks : List (List ℕ)) (ts : List Token) (xs : List (List ℕ)) → Fit v known psks ts xs
     → PsksFit psks ts xs
-fit-psks v known psks (t ∷ ts) (x ∷ xs) h =
-    (fits-psk v known psks t x h.0, fit-psks v (known_after known t x) (psks_after psks t) ts xs h.1)
+fit-psks v known psks (t ∷ ts) (x ∷ xs) h = search (fits-psk, (fit-psks v (known_after known t x) (psks_after psks t) ts xs h.1))
 fit-psks v known psks _ _ h = tt
 
 given-psks : (w : Writer) (known : Remote) (psks : List (List ℕ)) (ts : List Token) (xs : List (List ℕ)) → Given w known psks ts xs
@@ -62,10 +43,8 @@ given-psks w known psks _ _ h = tt
 
 pub passes-psks : (v w : Party) (ps : List HandshakeMessage) → Exchanged v ps w → UsePsks v.pattern v.passed v.psks ps
 passes-psks v w [] (none _) = tt
-passes-psks v w (p ∷ ps) (wrote _ _ _ _ here more) =
-    (given-psks (writer v) v.remote v.psks (tokens_now v) p.carried here.given, passes-psks (after_own v p.carried p.payload) w ps more)
-passes-psks v w (p ∷ ps) (took _ _ _ _ here more) =
-    (fit-psks (reader v) v.remote v.psks (tokens_now v) p.carried here.reads.fit, passes-psks (after_message v p.carried p.payload) w ps more)
+passes-psks v w (p ∷ ps) (wrote _ _ _ _ here more) = search (given-psks, (passes-psks (after_own v p.carried p.payload) w ps more))
+passes-psks v w (p ∷ ps) (took _ _ _ _ here more) = search (fit-psks, (passes-psks (after_message v p.carried p.payload) w ps more))
 
 -- ---- forward along a message
 
@@ -84,17 +63,11 @@ module _ (has_psks : Bool) where
       → dh_results ts xs ++ others ≡ dh_results ts ys ++ rest → (xs ≡ ys) × (others ≡ rest)
   front-on r psks [] [] [] others rest a f g h = (refl, h)
   front-on r psks (t ∷ ts) (x ∷ xs) (y ∷ ys) others rest a f g h =
-      let here = token-on r psks t ts x y xs ys others rest a.0 f.0 g.0 h in
-      let later = front-on (after_token has_psks r t x) (psks_after psks t) ts xs ys others rest
-      (subst (λ (z : List ℕ). Alike has_psks (after_token has_psks r t x) (after_token has_psks r t z) ts xs ys) (sym here.0) a.1) f.1 g.1 here.1 in
-      (cons-same here.0 later.0, later.1)
+      search (rules, token-on, (front-on (after_token has_psks r t x) (psks_after psks t) ts xs ys others rest))
   front-on r psks _ _ _ others rest a f g h = absurd a
 
 pub message-same : (m q : HandshakeMessage) → m.message ≡ q.message → m.carried ≡ q.carried → m.payload ≡ q.payload → m ≡ q
-message-same m q e f g =
-    ap (λ (z : List ℕ). record { message = z; carried = m.carried; payload = m.payload }) e
-    ∙ ap (λ (z : List (List ℕ)). record { message = q.message; carried = z; payload = m.payload }) f
-    ∙ ap (λ (z : List ℕ). record { message = q.message; carried = q.carried; payload = z }) g
+message-same m q e f g = search rules
 
 all-on : (p : Plan) (n : ℕ) (r : History) (psks : List (List ℕ)) (ps qs : List HandshakeMessage) → AllAlike p n r r ps qs → AreLines p n r ps
     → AreLines p n r qs
@@ -106,11 +79,9 @@ all-on p n r psks (m ∷ ms) (q ∷ qs) a b c f g h =
     let payload : m.payload ≡ q.payload =
     ciphertext-same (after_tokens (has_psk p) r ts m.carried) m.payload q.payload
     (a.0.1 ∙ ap (λ (zs : List (List ℕ)). ciphertext (after_tokens (has_psk p) r ts zs) q.payload) (sym here.0)) in
-    let message : m.message ≡ q.message =
-    b.0.1 ∙ ap (λ (zs : List (List ℕ)). message_bytes (has_psk p) r ts zs m.payload) here.0 ∙ ap (message_bytes (has_psk p) r ts q.carried) payload ∙ sym c.0.1 in
+    let message : m.message ≡ q.message = search in
     let one : m ≡ q = message-same m q message here.0 payload in
-    let after : after_payload (has_psk p) r ts m.carried m.payload ≡ after_payload (has_psk p) r ts q.carried q.payload =
-    ap (λ (z : HandshakeMessage). after_payload (has_psk p) r ts z.carried z.payload) one in
+    let after : after_payload (has_psk p) r ts m.carried m.payload ≡ after_payload (has_psk p) r ts q.carried q.payload = search in
     let later = all-on p (n + 1) (after_payload (has_psk p) r ts m.carried m.payload) (drop (count_by is_psk ts) psks) ms qs
     (subst (λ (s : History). AllAlike p (n + 1) (after_payload (has_psk p) r ts m.carried m.payload) s ms qs) (sym after) a.1) b.1
     (subst (λ (s : History). AreLines p (n + 1) s qs) (sym after) c.1) f.1 g.1 here.1 in

@@ -1,30 +1,13 @@
 -- What comes of events, in code, from what comes of one end's part of them.
-use Rattle.std.proofs.Common.{◌≡◌, ℕ, List, ◌∷◌, ◌++◌, length, map, refl, ap, sym, subst, ◌∙◌, append_assoc, append-nil, Option, Some, None, Result, Ok, Err, slice_get, Vec, Global, []}
+use Rattle.std.proofs.Common.{rules, ◌≡◌, ℕ, List, ◌∷◌, ◌++◌, length, map, refl, ap, sym, subst, ◌∙◌, append_assoc, append-nil, Option, Some, None, Result, Ok, Err, slice_get, Vec, Global, []}
 use Rattle.std.specs.Result.{result_ok}
-use Rattle.std.proofs.lemmas.List.{map-append}
-use Rattle.noise_names.specs.declared.token.Role.{Role}
-use Rattle.noise_names.specs.declared.token.Role.TheVariants.{Initiator, Responder}
-use Rattle.noise_names.specs.Tokens.{other}
-use Rattle.noise_keys.specs.declared.keys.Own.{Own}
-use Rattle.noise_session.specs.declared.faults.SendFault.{SendFault}
-use Rattle.noise_session.specs.Frames.{frame}
-use Rattle.noise_session.specs.Ends.{EndValue}
+use Rattle.noise_duel.proofs.Common.{map-append, Role, Initiator, Responder, other, Own, SendFault, frame, EndValue, note_of, notes_of, written_note, Event, Write, Say, Deliver, Note, Wrote, Missing, held_note, noted_by, DuelValue, DuelMatches, HasFrames, HasTaken, RoleWrote, HasHappened, HasComeTo, SideWrites, SideReceives, Happens, Run, writes_handshake, writes_transport, writes, says_nothing, says, delivers, misses, injects, Side, Sides, side, with_side, same_Some, get-last}
 use Rattle.noise_duel.specs.declared.entry.Entry.{Entry}
 use Rattle.noise_duel.specs.declared.report.Report.{Report}
-use Rattle.noise_duel.specs.Entries.{note_of, notes_of, written_note}
-use Rattle.noise_events.specs.Events.{Event, Write, Say, Deliver, Raw}
-use Rattle.noise_duel.specs.Notes.{Note, Wrote, Missing, held_note, noted_by}
-use Rattle.noise_duel.specs.DuelValue.{DuelValue, DuelMatches, HasFrames}
+use Rattle.noise_events.specs.Events.{Raw}
 use Rattle.noise_duel.specs.OneEnd.{HasReceived}
-use Rattle.noise_duel.specs.OneEvent.{HasTaken, RoleWrote, HasHappened, HasComeTo}
 use Rattle.noise_duel.specs.Reports.{Reports}
-use Rattle.noise_duel.specs.Runs.{SideWrites, SideReceives, Happens, Run}
-use Rattle.noise_duel.specs.Runs.SideWrites.{writes_handshake, writes_transport}
-use Rattle.noise_duel.specs.Runs.Happens.{writes, says_nothing, says, delivers, misses, injects}
 use Rattle.noise_duel.specs.Runs.Run.{ends, begins}
-use Rattle.noise_duel.specs.Sides.{Side, Sides, side, with_side}
-use Rattle.std.proofs.lemmas.Option.{same_Some}
-use Rattle.noise_names.specs.Lists.{get-last}
 
 -- one entry more
 pub reported-more : (before after : List (Role × Entry)) (entry : Role × Entry) → after ≡ before ++ entry ∷ []
@@ -110,16 +93,7 @@ module _ {A B : Type 0} (public_a : A → Own → Option (List ℕ)) (agreement_
       → (w : RoleWrote public_a agreement_a public_b agreement_b d role payload number between before middle) → number ≡ Some n
       → HasHappened public_a agreement_a public_b agreement_b (with_side d role w.next) (Deliver (other role) n) duel middle after
       → HasHappened public_a agreement_a public_b agreement_b d (Say role payload) duel before after
-  said d role payload number n between duel before middle after w some h =
-      let reported = at w.reported (sym w.number_is ∙ some) w.writes w.entries in record {
-        next = h.next;
-        notes = (role, Wrote n) ∷ h.notes;
-        happens = say-of d h.next role payload n w.next h.notes reported.0 h.happens;
-        matches = h.matches;
-        frames = h.frames;
-        entries = h.entries ∙ ap (λ (ns : List (Role × Note)). ns ++ h.notes) reported.1
-            ∙ append_assoc (notes_of before.entries.items) ((role, Wrote n) ∷ []) h.notes;
-      }
+  said d role payload number n between duel before middle after w some h = search (rules, say-of, append_assoc)
     where
       at : (reported : Result ℕ SendFault) → result_ok reported ≡ Some n → SideWrites (side d role) payload (written_note reported) w.next
           → notes_of middle.entries.items ≡ notes_of before.entries.items ++ (role, written_note reported) ∷ []

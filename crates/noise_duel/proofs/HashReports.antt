@@ -1,25 +1,10 @@
 -- Equal hashes: all that can be seen of the conversation is the same, or two hashed texts collide.
-use Rattle.std.proofs.Common.{◌≡◌, ℕ, ◌+◌, List, ◌∷◌, length, refl, ap, sym, ◌∙◌, arith, inl, inr, ◌⊎◌, []}
-use Rattle.std.specs.Prelude.{Bool, true, false, is_some, unwrap_or}
-use Rattle.noise_names.specs.declared.token.Role.{Role}
-use Rattle.noise_names.specs.declared.token.Role.TheVariants.{Initiator, Responder}
-use Rattle.noise_names.specs.declared.token.Token.{Token}
-use Rattle.noise_names.specs.declared.token.Token.TheVariants.{E, S}
-use Rattle.noise_names.specs.Plan.{Plan, has_psk, pre_of}
-use Rattle.noise_names.specs.Names.{name_bytes}
-use Rattle.noise_state.specs.History.{History, MixHash, and_then, cipher_key, hash}
-use Rattle.noise_handshake.specs.declared.remote.Remote.{Remote}
-use Rattle.noise_handshake.specs.Message.{after_token, after_tokens, after_payload, with_ephemeral}
-use Rattle.noise_handshake.specs.Length.{keyed_after}
-use Rattle.noise_handshake.specs.Party.{Party, tokens_at, with_premessage, start}
-use Rattle.noise_handshake.specs.Setup.{public_keys}
-use Rattle.noise_duel.specs.Collision.{hashed, Collision}
-use Rattle.noise_duel.specs.Messages.{HandshakeMessage, Exchanged, Start, begun_as, keys_before, clear_keys_from, pre_keys}
-use Rattle.noise_duel.specs.Agreement.{VisiblyEqual, HashReports}
+use Rattle.std.proofs.Common.{rules, ◌≡◌, ℕ, ◌+◌, List, ◌∷◌, length, refl, ap, sym, ◌∙◌, arith, inl, inr, ◌⊎◌, []}
+use Rattle.std.specs.Prelude.{Bool, true, false}
+use Rattle.noise_duel.proofs.Common.{is_some, unwrap_or, Role, Initiator, Responder, Token, E, S, Plan, has_psk, pre_of, name_bytes, History, MixHash, and_then, cipher_key, hash, Remote, after_token, after_tokens, after_payload, with_ephemeral, keyed_after, Party, tokens_at, with_premessage, start, public_keys, hashed, Collision, HandshakeMessage, Exchanged, Start, begun_as, keys_before, clear_keys_from, pre_keys, VisiblyEqual, HashReports, heads}
 use Rattle.noise_duel.proofs.Histories.{histories-alike}
 use Rattle.noise_duel.proofs.HashedTexts.{pre-many, pre-back, token-keyed}
 use Rattle.noise_duel.proofs.HashedMessages.{after_all, AllAlike, Reports, passes-lines, all-many, all-back, messages-same, keys-same}
-use Rattle.noise_names.specs.Lists.{heads}
 
 -- ---- the name stays
 
@@ -37,8 +22,7 @@ front-name psks r _ _ = refl
 
 all-name : (p : Plan) (n : ℕ) (r : History) (ps : List HandshakeMessage) → (after_all p n r ps).name ≡ r.name
 all-name p n r [] = refl
-all-name p n r (m ∷ ms) =
-    all-name p (n + 1) (after_payload (has_psk p) r (tokens_at p.messages n) m.carried m.payload) ms ∙ front-name (has_psk p) r (tokens_at p.messages n) m.carried
+all-name p n r (m ∷ ms) = search (rules, front-name, (all-name p (n + 1) (after_payload (has_psk p) r (tokens_at p.messages n) m.carried m.payload) ms))
 
 pre-name : (psks : Bool) (k : Remote) (ts : List Token) (r : History) → (with_premessage psks k ts r).name ≡ r.name
 pre-name psks k [] r = refl
@@ -47,9 +31,7 @@ pre-name psks k (S ∷ ts) r = pre-name psks k ts (and_then r (MixHash (unwrap_o
 pre-name psks k (_ ∷ ts) r = pre-name psks k ts r
 
 start-name : (name : List ℕ) (p : Plan) (prologue : List ℕ) (i j : Remote) → (start name p prologue i j).name ≡ name
-start-name name p prologue i j =
-    let first : History = and_then (record { name = name; entries = [] }) (MixHash prologue) in
-    pre-name (has_psk p) j (pre_of Responder p) (with_premessage (has_psk p) i (pre_of Initiator p) first) ∙ pre-name (has_psk p) i (pre_of Initiator p) first
+start-name name p prologue i j = search pre-name
 
 -- ---- the key after the pre-messages
 
@@ -67,20 +49,10 @@ pre-keyed psks k l (_ ∷ ts) r s e = pre-keyed psks k l ts r s e
 -- the two parties' start from the same hashed texts reports the prologue and the keys before
 module _ (name : List ℕ) (p : Plan) (a b : List ℕ) (i j k l : Remote) where
   pub starts-many : length (hashed (start name p a i j)) ≡ length (hashed (start name p b k l))
-  starts-many =
-      let r : History = and_then (record { name = name; entries = [] }) (MixHash a) in
-      let s : History = and_then (record { name = name; entries = [] }) (MixHash b) in
-      pre-many (has_psk p) (with_premessage (has_psk p) i (pre_of Initiator p) r) (with_premessage (has_psk p) k (pre_of Initiator p) s) j l
-      (pre_of Responder p)
-      (pre-many (has_psk p) r s i k (pre_of Initiator p) refl)
+  starts-many = search pre-many
 
   pub starts-keyed : is_some (cipher_key (start name p a i j)) ≡ is_some (cipher_key (start name p b k l))
-  starts-keyed =
-      let r : History = and_then (record { name = name; entries = [] }) (MixHash a) in
-      let s : History = and_then (record { name = name; entries = [] }) (MixHash b) in
-      pre-keyed (has_psk p) j l (pre_of Responder p) (with_premessage (has_psk p) i (pre_of Initiator p) r)
-      (with_premessage (has_psk p) k (pre_of Initiator p) s)
-      (pre-keyed (has_psk p) i k (pre_of Initiator p) r s refl)
+  starts-keyed = search pre-keyed
 
   pub starts-back : hashed (start name p a i j) ≡ hashed (start name p b k l)
       → (a ≡ b) × (pre_keys i (pre_of Initiator p) ≡ pre_keys k (pre_of Initiator p)) × (pre_keys j (pre_of Responder p) ≡ pre_keys l (pre_of Responder p))
@@ -119,9 +91,7 @@ module _ (p : Plan) (a b : Start) (ps qs : List HandshakeMessage) (v w : Party)
   many = all-many p 0 r0 s0 ps qs same-count reports-left.lines reports-right.lines starts-alike-many
 
   named : (after_all p 0 r0 ps).name ≡ (after_all p 0 s0 qs).name
-  named =
-      all-name p 0 r0 ps ∙ start-name name p a.prologue (public_keys a.own) a.remote
-      ∙ sym (all-name p 0 s0 qs ∙ start-name name p b.prologue b.remote (public_keys b.own))
+  named = search (all-name, start-name)
 
   -- all travelled as the same bytes
   pub record SameBytes : Type 0 where

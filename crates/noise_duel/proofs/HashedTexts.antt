@@ -1,17 +1,8 @@
 -- From what two histories hashed, back along their messages.
-use Rattle.std.proofs.Common.{◌≡◌, ℕ, List, ◌∷◌, ◌++◌, length, refl, ap, sym, ◌∙◌, arith, []}
-use Rattle.std.specs.Prelude.{Bool, true, false, is_some, Option, Some, None, if◌then◌else◌, unwrap_or}
+use Rattle.std.proofs.Common.{rules, ◌≡◌, ℕ, List, ◌∷◌, ◌++◌, length, refl, ap, sym, ◌∙◌, arith, []}
+use Rattle.std.specs.Prelude.{Bool, true, false, Option, Some, None, if◌then◌else◌}
+use Rattle.noise_duel.proofs.Common.{is_some, unwrap_or, Token, E, S, Psk, History, MixHash, and_then, cipher_key, chaining_key, nonce, hash, ciphertext_under, ciphertext, Remote, with_ephemeral, token_bytes, after_token, before_payload, after_tokens, after_payload, keyed_after, keyed_after_tokens, with_premessage, hashed, OneEach, clear_keys, pre_keys, heads, tails, cons-same}
 use Rattle.noise_kdf.specs.Hkdf.{second_output}
-use Rattle.noise_names.specs.declared.token.Token.{Token}
-use Rattle.noise_names.specs.declared.token.Token.TheVariants.{E, S, Psk}
-use Rattle.noise_state.specs.History.{History, MixHash, and_then, cipher_key, chaining_key, nonce, hash, ciphertext_under, ciphertext}
-use Rattle.noise_handshake.specs.declared.remote.Remote.{Remote}
-use Rattle.noise_handshake.specs.Message.{with_ephemeral, token_bytes, after_token, before_payload, after_tokens, after_payload}
-use Rattle.noise_handshake.specs.Length.{keyed_after, keyed_after_tokens}
-use Rattle.noise_handshake.specs.Party.{with_premessage}
-use Rattle.noise_duel.specs.Collision.{hashed}
-use Rattle.noise_duel.specs.Messages.{OneEach, clear_keys, pre_keys}
-use Rattle.noise_names.specs.Lists.{heads, tails, cons-same}
 
 -- without a key a text travels as it is
 plain_piece : (r : History) (x : List ℕ) → is_some (cipher_key r) ≡ false → ciphertext r x ≡ x
@@ -37,8 +28,7 @@ token-keyed psks r _ x = refl
 pub front-keyed : (psks : Bool) (r : History) (ts : List Token) (xs : List (List ℕ)) → OneEach ts xs
     → is_some (cipher_key (after_tokens psks r ts xs)) ≡ keyed_after_tokens psks (is_some (cipher_key r)) ts
 front-keyed psks r (t ∷ ts) [] h = absurd h
-front-keyed psks r (t ∷ ts) (x ∷ xs) h =
-    front-keyed psks (after_token psks r t x) ts xs h ∙ ap (λ (b : Bool). keyed_after_tokens psks b ts) (token-keyed psks r t x)
+front-keyed psks r (t ∷ ts) (x ∷ xs) h = search (token-keyed, (front-keyed psks (after_token psks r t x) ts xs h))
 front-keyed psks r [] _ h = refl
 
 module _ (psks : Bool) where
@@ -72,9 +62,7 @@ module _ (psks : Bool) where
   pub pre-many : (r s : History) (k l : Remote) (ts : List Token) → length (hashed r) ≡ length (hashed s)
       → length (hashed (with_premessage psks k ts r)) ≡ length (hashed (with_premessage psks l ts s))
   pre-many r s k l [] n = n
-  pre-many r s k l (E ∷ ts) n =
-      pre-many (with_ephemeral psks r (unwrap_or k.e [])) (with_ephemeral psks s (unwrap_or l.e [])) k l ts
-      (token-many r s E (unwrap_or k.e []) (unwrap_or l.e []) n)
+  pre-many r s k l (E ∷ ts) n = search (rules, (pre-many (with_ephemeral psks r (unwrap_or k.e [])) (with_ephemeral psks s (unwrap_or l.e [])) k l ts))
   pre-many r s k l (S ∷ ts) n = pre-many (and_then r (MixHash (unwrap_or k.s []))) (and_then s (MixHash (unwrap_or l.s []))) k l ts (omega (arith, n))
   pre-many r s k l (_ ∷ ts) n = pre-many r s k l ts n
 
@@ -82,9 +70,7 @@ module _ (psks : Bool) where
 
   token-back : (r s : History) (t : Token) (x y : List ℕ) → hashed (after_token psks r t x) ≡ hashed (after_token psks s t y)
       → (hashed r ≡ hashed s) × (token_bytes r t x ≡ token_bytes s t y)
-  token-back r s E x y e =
-      let f : (x ∷ hashed r) ≡ (y ∷ hashed s) = sym (ephemeral-hashed psks r x) ∙ e ∙ ephemeral-hashed psks s y in
-      (tails x y (hashed r) (hashed s) f, heads x y (hashed r) (hashed s) f)
+  token-back r s E x y e = search rules
   token-back r s S x y e = (tails (ciphertext r x) (ciphertext s y) (hashed r) (hashed s) e, heads (ciphertext r x) (ciphertext s y) (hashed r) (hashed s) e)
   token-back r s Psk x y e = (tails (second_output (chaining_key r) x) (second_output (chaining_key s) y) (hashed r) (hashed s) e, refl)
   token-back r s _ x y e = (e, refl)
@@ -95,10 +81,7 @@ module _ (psks : Bool) where
   front-back r s [] [] [] f g e = (e, tt)
   front-back r s [] (x ∷ xs) ys f g e = absurd f
   front-back r s (t ∷ ts) [] ys f g e = absurd f
-  front-back r s (t ∷ ts) (x ∷ xs) (y ∷ ys) f g e =
-      let later = front-back (after_token psks r t x) (after_token psks s t y) ts xs ys f g e in
-      let here = token-back r s t x y later.0 in
-      (here.0, (here.1, later.1))
+  front-back r s (t ∷ ts) (x ∷ xs) (y ∷ ys) f g e = search (rules, (front-back (after_token psks r t x) (after_token psks s t y) ts xs ys f g e))
   front-back r s _ _ _ f g e = absurd g
 
   -- what it hashed reports a message's bytes, token by token
@@ -131,9 +114,7 @@ module _ (psks : Bool) where
 
   pub front-same : (r s : History) (ts : List Token) (xs ys : List (List ℕ)) → Alike r s ts xs ys → before_payload psks r ts xs ≡ before_payload psks s ts ys
   front-same r s [] [] [] h = refl
-  front-same r s (t ∷ ts) (x ∷ xs) (y ∷ ys) h =
-      ap (λ (b : List ℕ). b ++ before_payload psks (after_token psks r t x) ts xs) h.0
-      ∙ ap (λ (b : List ℕ). token_bytes s t y ++ b) (front-same (after_token psks r t x) (after_token psks s t y) ts xs ys h.1)
+  front-same r s (t ∷ ts) (x ∷ xs) (y ∷ ys) h = search ((front-same (after_token psks r t x) (after_token psks s t y) ts xs ys h.1))
   front-same r s _ _ _ h = absurd h
 
   static-same : (keyed : Bool) (r s : History) (x y : List ℕ) (older others : List (List ℕ)) → is_some (cipher_key r) ≡ keyed → is_some (cipher_key s) ≡ keyed

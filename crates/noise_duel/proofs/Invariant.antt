@@ -1,39 +1,11 @@
 -- Every event leaves each end what its messages made of it.
-use Rattle.std.proofs.Common.{◌≡◌, ℕ, ◌+◌, ◌<◌, List, ◌∷◌, ◌++◌, length, refl, ap, sym, subst, ◌∙◌, arith, inl, inr, ◌⊎◌, length-append, []}
-use Rattle.std.proofs.lemmas.Bool.Decides.{nat_tests}
-use Rattle.std.specs.Prelude.{Bool, true, false, ◌==◌, Err, IsTrue, if◌then◌else◌}
-use Rattle.noise_names.specs.declared.token.Role.{Role}
-use Rattle.noise_names.specs.declared.token.Role.TheVariants.{Initiator, Responder}
-use Rattle.noise_names.specs.Tokens.{other}
-use Rattle.noise_state.specs.History.{History}
-use Rattle.noise_handshake.specs.Party.{Party, Accepts}
-use Rattle.noise_handshake.specs.Writing.{Writes}
-use Rattle.noise_handshake.specs.Matching.{after_own, after_message}
-use Rattle.noise_session.specs.declared.faults.SendFault.{SendFault}
+use Rattle.std.proofs.Common.{rules, ◌≡◌, ℕ, ◌+◌, ◌<◌, List, ◌∷◌, ◌++◌, length, refl, ap, sym, subst, ◌∙◌, arith, inl, inr, ◌⊎◌, length-append, []}
+use Rattle.std.specs.Prelude.{Bool, true, false, ◌==◌, Err, if◌then◌else◌}
+use Rattle.noise_duel.proofs.Common.{nat_tests, IsTrue, Role, Initiator, Responder, other, History, Party, Accepts, Writes, after_own, after_message, SendFault, transport_message, StepValue, is_one_way, is_open, Handshaking, HasEnded, EndState, progress_of, ended_session, end_of, Judges, accepted, dropped, exhausted, Sends, after_fault, refuses, lacks_dh_result, HandshakeMessage, Exchanged, begun_as, none, wrote, took, TransportMessage, Side, Sides, new_side, with_state, Event, Note, SideWrites, SideReads, SideReceives, Happens, Run, GivesNoPayload, writes_nothing, writes_handshake, writes_transport, accepts_handshake, accepts_transport, refuses_message, is_idle, waits, reads_frame, writes, says_nothing, says, delivers, misses, injects, sides_at_start, AreTransportMessages, ComesOfMessages, EndsComeOfMessages}
 use Rattle.noise_session.specs.Faults.{ends}
-use Rattle.noise_session.specs.Transport.{transport_message}
-use Rattle.noise_session.specs.Steps.{StepValue}
-use Rattle.noise_names.specs.Plan.{is_one_way}
-use Rattle.noise_session.specs.Progress.{is_open}
-use Rattle.noise_session.specs.Progress.Progress.{Handshaking, Open, HasEnded}
-use Rattle.noise_session.specs.Ends.{EndState, progress_of, ended_session, end_of}
-use Rattle.noise_session.specs.Taking.{Judges}
-use Rattle.noise_session.specs.Taking.Judges.{accepted, refused, opened, dropped, exhausted}
-use Rattle.noise_session.specs.Sending.{Sends, after_fault}
-use Rattle.noise_session.specs.Sending.Sends.{refuses, lacks_dh_result}
-use Rattle.noise_duel.specs.Messages.{HandshakeMessage, Exchanged, begun_as}
-use Rattle.noise_duel.specs.Messages.Exchanged.{none, wrote, took}
-use Rattle.noise_duel.specs.Sides.{TransportMessage, Side, Sides, new_side, with_state}
-use Rattle.noise_events.specs.Events.{Event}
-use Rattle.noise_duel.specs.Notes.{Note}
-use Rattle.noise_duel.specs.Runs.{SideWrites, SideReads, SideReceives, Happens, Run, GivesNoPayload}
-use Rattle.noise_duel.specs.Runs.SideWrites.{writes_nothing, writes_handshake, writes_transport}
-use Rattle.noise_duel.specs.Runs.SideReads.{accepts_handshake, accepts_transport, refuses_message}
-use Rattle.noise_duel.specs.Runs.SideReceives.{is_idle, waits, reads_frame}
-use Rattle.noise_duel.specs.Runs.Happens.{writes, says_nothing, says, delivers, misses, injects}
+use Rattle.noise_session.specs.Progress.Progress.{Open}
+use Rattle.noise_session.specs.Taking.Judges.{refused, opened}
 use Rattle.noise_duel.specs.Runs.Run.{ends as run_ends, begins}
-use Rattle.noise_duel.specs.Conversation.{sides_at_start}
-use Rattle.noise_duel.specs.Invariant.{AreTransportMessages, ComesOfMessages, EndsComeOfMessages}
 
 -- ---- one message more
 
@@ -56,9 +28,7 @@ passes-took v w (q ∷ qs) p (took _ _ _ _ here more) h =
 transport_messages-more : (r : History) (writer : Role) (interval n : ℕ) (ps : List TransportMessage) (m : TransportMessage) → AreTransportMessages r writer interval n ps
     → m.message ≡ transport_message r writer interval (n + length ps) m.payload
     → AreTransportMessages r writer interval n (ps ++ m ∷ [])
-transport_messages-more r writer interval n [] m h e =
-    let here : m.message ≡ transport_message r writer interval n m.payload =
-    subst (λ (k : ℕ). m.message ≡ transport_message r writer interval k m.payload) (omega arith) e in (here, tt)
+transport_messages-more r writer interval n [] m h e = search rules
 transport_messages-more r writer interval n (p ∷ ps) m h e =
     let later : m.message ≡ transport_message r writer interval (n + 1 + length ps) m.payload =
     subst (λ (k : ℕ). m.message ≡ transport_message r writer interval k m.payload) (omega arith) e in
@@ -155,8 +125,7 @@ module _ (first : Party) (interval : ℕ) where
       }
   writes-matches s t payload note h (writes_transport _ message _ e due is) =
       let m : TransportMessage = record { message = message; payload = payload } in
-      let passed : h.last.passed ≡ length h.last.pattern.messages =
-      sym (ap (λ (v : Party). v.passed) h.party) ∙ all-passed s.state due ∙ ap (λ (v : Party). length v.pattern.messages) h.party in
+      let passed : h.last.passed ≡ length h.last.pattern.messages = search rules in
       record {
         last = h.last;
         passes = h.passes;
@@ -179,8 +148,7 @@ module _ (first : Party) (interval : ℕ) where
       record {
         last = after_message h.last xs payload;
         passes = passes-took first h.last s.passed p h.passes (subst (λ (v : Party). Accepts v message xs payload) same a);
-        party = ap (λ (v : Party). record (after_message v xs payload) { ended = false }) same
-            ∙ ap (λ (v : Party). record (after_message h.last xs payload) { ended = v.ended }) h.party;
+        party = search;
         interval_is = h.interval_is;
         sending = h.sending;
         receiving = h.receiving;
@@ -190,8 +158,7 @@ module _ (first : Party) (interval : ℕ) where
       }
   reads-matches s t message step h (accepts_transport _ _ payload due low is) =
       let m : TransportMessage = record { message = message; payload = payload } in
-      let passed : h.last.passed ≡ length h.last.pattern.messages =
-      sym (ap (λ (v : Party). v.passed) h.party) ∙ all-passed s.state due ∙ ap (λ (v : Party). length v.pattern.messages) h.party in
+      let passed : h.last.passed ≡ length h.last.pattern.messages = search rules in
       record {
         last = h.last;
         passes = h.passes;
@@ -219,7 +186,7 @@ module _ (first : Party) (interval : ℕ) where
   receives-matches s t bytes notes h (is_idle _ _ step e) = h
   receives-matches s t bytes notes h (waits _ _ e partial) = seen s (record (s.state) { partial = s.state.partial ++ bytes }) h refl refl refl refl
   receives-matches s t bytes notes h (reads_frame _ next _ _ message rest step more e is short reads on) =
-      receives-matches next t rest more (reads-matches s next message step h reads) on
+      search ((receives-matches next t rest more (reads-matches s next message step h reads) on))
 
 -- ---- both ends
 
@@ -232,14 +199,10 @@ module _ (first second : Party) (i j : ℕ) where
   event-matches d e event notes h (writes _ Responder payload note next written) = (h.0, writes-matches second j d.responder next payload note h.1 written)
   event-matches d e event notes h (says_nothing _ Initiator payload why next written) = (writes-matches first i d.initiator next payload _ h.0 written, h.1)
   event-matches d e event notes h (says_nothing _ Responder payload why next written) = (h.0, writes-matches second j d.responder next payload _ h.1 written)
-  event-matches d e event notes h (says _ Initiator payload bytes n more next heard written frame receives) =
-      (writes-matches first i d.initiator next payload _ h.0 written, receives-matches second j d.responder heard bytes more h.1 receives)
-  event-matches d e event notes h (says _ Responder payload bytes n more next heard written frame receives) =
-      (receives-matches first i d.initiator heard bytes more h.0 receives, writes-matches second j d.responder next payload _ h.1 written)
-  event-matches d e event notes h (delivers _ Initiator n bytes more heard frame receives) =
-      (receives-matches first i d.initiator heard bytes more h.0 receives, h.1)
-  event-matches d e event notes h (delivers _ Responder n bytes more heard frame receives) =
-      (h.0, receives-matches second j d.responder heard bytes more h.1 receives)
+  event-matches d e event notes h (says _ Initiator payload bytes n more next heard written frame receives) = search (writes-matches, receives-matches)
+  event-matches d e event notes h (says _ Responder payload bytes n more next heard written frame receives) = search (receives-matches, writes-matches)
+  event-matches d e event notes h (delivers _ Initiator n bytes more heard frame receives) = search receives-matches
+  event-matches d e event notes h (delivers _ Responder n bytes more heard frame receives) = search receives-matches
   event-matches d e event notes h (misses _ role n missing) = h
   event-matches d e event notes h (injects _ Initiator bytes more heard receives) = (receives-matches first i d.initiator heard bytes more h.0 receives, h.1)
   event-matches d e event notes h (injects _ Responder bytes more heard receives) = (h.0, receives-matches second j d.responder heard bytes more h.1 receives)
@@ -247,7 +210,7 @@ module _ (first second : Party) (i j : ℕ) where
   pub run-matches : (d e : Sides) (events : List Event) (notes : List (Role × Note)) → BothMatch d → Run d events notes e → BothMatch e
   run-matches d e events notes h (run_ends _) = h
   run-matches d e events notes h (begins _ next _ event later now more does run) =
-      run-matches next e later more (event-matches d next event now h does) run
+      search ((run-matches next e later more (event-matches d next event now h does) run))
 
 fresh-matches : (v : Party) (interval : ℕ) → v.ended ≡ false → ComesOfMessages v interval (new_side (end_of v interval))
 fresh-matches v interval going = record {

@@ -1,26 +1,11 @@
 -- Keys that agree and equal psks: one conversation and one history, or two hashed texts collide.
 use Rattle.std.proofs.Common.{◌≡◌, ℕ, List, ◌∷◌, length, ap, sym, subst, ◌∙◌, inl, inr, []}
-use Rattle.std.specs.Prelude.{true, Option, Some, is_some, unwrap_or}
-use Rattle.noise_names.specs.declared.token.Role.{Role}
-use Rattle.noise_names.specs.declared.token.Role.TheVariants.{Initiator, Responder}
-use Rattle.noise_names.specs.declared.token.Token.{Token}
-use Rattle.noise_names.specs.declared.token.Token.TheVariants.{E, S}
-use Rattle.noise_names.specs.Tokens.{other}
-use Rattle.noise_names.specs.Plan.{Plan, pre_of}
-use Rattle.noise_names.specs.Names.{name_bytes}
-use Rattle.noise_state.specs.History.{History}
-use Rattle.noise_keys.specs.declared.keys.Own.TheVariants.{Ephemeral, Static}
-use Rattle.noise_handshake.specs.declared.remote.Remote.{Remote}
-use Rattle.noise_keys.specs.declared.keys.Own.{Own}
-use Rattle.noise_handshake.specs.Setup.{public_keys, has_before, has_token, token_of}
-use Rattle.noise_duel.specs.Below.{LawsBelow}
-use Rattle.noise_duel.specs.Messages.{Start, begun_as, pre_keys}
-use Rattle.noise_duel.specs.Agreement.{IsSetUp, KeysReport, Knows}
+use Rattle.std.specs.Prelude.{true, Option, Some}
+use Rattle.noise_duel.proofs.Common.{is_some, unwrap_or, Role, Initiator, Responder, Token, E, S, other, Plan, pre_of, name_bytes, History, Ephemeral, Static, Remote, Own, public_keys, has_before, has_token, token_of, LawsBelow, Start, begun_as, pre_keys, IsSetUp, KeysReport, Knows, heads, tails}
 use Rattle.noise_duel.proofs.HashedMessages.{after_all, AreLines, AllAlike, passes-lines}
 use Rattle.noise_duel.proofs.HashReports.{SameBytes, bytes-or, starts-back}
 use Rattle.noise_duel.proofs.Forward.{UsePsks, passes-psks, starts-same}
 use Rattle.noise_duel.proofs.Agreeing.{all-agree, passes-uses}
-use Rattle.noise_names.specs.Lists.{heads, tails}
 
 at-e : (k l : Remote) (ts : List Token) → has_token E ts ≡ true → pre_keys k ts ≡ pre_keys l ts → unwrap_or k.e [] ≡ unwrap_or l.e []
 at-e k l [] h e = cc

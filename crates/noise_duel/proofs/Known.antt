@@ -1,21 +1,9 @@
 -- What each party comes to know of the other's keys, where the conversation is one.
-use Rattle.std.proofs.Common.{◌≡◌, ℕ, ◌+◌, List, ◌∷◌, refl, ap, sym, subst, ◌∙◌, []}
-use Rattle.std.specs.Prelude.{Bool, true, false, not}
-use Rattle.noise_names.specs.declared.token.Role.{Role}
-use Rattle.noise_names.specs.declared.token.Role.TheVariants.{Initiator, Responder}
-use Rattle.noise_names.specs.declared.token.Token.{Token}
-use Rattle.noise_names.specs.Tokens.{same_role, turn_from}
-use Rattle.noise_names.specs.Plan.{Plan}
-use Rattle.noise_handshake.specs.declared.remote.Remote.{Remote}
-use Rattle.noise_handshake.specs.Party.{Party, tokens_at, tokens_now}
-use Rattle.noise_handshake.specs.Matching.{after_own, after_message}
-use Rattle.noise_duel.specs.Below.{LawsBelow}
-use Rattle.noise_duel.specs.Messages.{HandshakeMessage, Exchanged, Start, begun_as}
-use Rattle.noise_duel.specs.Messages.Exchanged.{none, wrote, took}
-use Rattle.noise_duel.specs.Agreement.{Knows, KnowEachOther}
+use Rattle.std.proofs.Common.{rules, ◌≡◌, ℕ, ◌+◌, List, ◌∷◌, refl, sym, subst, []}
+use Rattle.std.specs.Prelude.{Bool, true, false}
+use Rattle.noise_duel.proofs.Common.{not, Role, Initiator, Responder, Token, turn_from, Plan, Remote, Party, tokens_at, after_own, after_message, LawsBelow, HandshakeMessage, Exchanged, Start, begun_as, none, wrote, took, Knows, KnowEachOther}
 use Rattle.noise_duel.proofs.Agreeing.{UsesAt, Uses, UsesAll, known_next, known_after_all, writes_now, is-own, learns, turns-apart, passes-uses}
 use Rattle.noise_duel.proofs.KeysReport.{knows-first}
-use Rattle.noise_names.specs.Roles.{same_role-self, same_role-other}
 
 abbrev known_all : Plan → Role → ℕ → Remote → List HandshakeMessage → Remote
 known_all p role n known [] = known
@@ -23,14 +11,8 @@ known_all p role n known (m ∷ ms) = known_all p role (n + 1) (known_after_all 
 
 remote-is : (v w : Party) (ps : List HandshakeMessage) → Exchanged v ps w → w.remote ≡ known_all v.pattern v.role v.passed v.remote ps
 remote-is v w [] (none _) = refl
-remote-is v w (p ∷ ps) (wrote _ _ _ _ here more) =
-    let mine : writes_now v.role v.passed ≡ true = ap (λ (r : Role). same_role r v.role) here.speaks.turn ∙ same_role-self v.role in
-    remote-is (after_own v p.carried p.payload) w ps more
-    ∙ ap (λ (b : Bool). known_all v.pattern v.role (v.passed + 1) (known_after_all b v.remote (tokens_now v) p.carried) ps) (sym mine)
-remote-is v w (p ∷ ps) (took _ _ _ _ here more) =
-    let mine : writes_now v.role v.passed ≡ false = ap (λ (r : Role). same_role r v.role) here.listens.turn ∙ same_role-other v.role in
-    remote-is (after_message v p.carried p.payload) w ps more
-    ∙ ap (λ (b : Bool). known_all v.pattern v.role (v.passed + 1) (known_after_all b v.remote (tokens_now v) p.carried) ps) (sym mine)
+remote-is v w (p ∷ ps) (wrote _ _ _ _ here more) = search (rules, (remote-is (after_own v p.carried p.payload) w ps more))
+remote-is v w (p ∷ ps) (took _ _ _ _ here more) = search (rules, (remote-is (after_message v p.carried p.payload) w ps more))
 
 module _ (a b : Start) where
   token-known : (mine : Bool) (ka kb : Remote) (t : Token) (x : List ℕ) → Knows ka b.own → Knows kb a.own
@@ -38,11 +20,6 @@ module _ (a b : Start) where
       → Knows (known_next mine ka t x) b.own × Knows (known_next (not mine) kb t x) a.own
   token-known true ka kb t x f g u w = (f, learns kb a.own t x x g refl (is-own Initiator a.own a.agree ka t x u))
   token-known false ka kb t x f g u w = (learns ka b.own t x x f refl (is-own Responder b.own b.agree kb t x w), g)
-
-  here-known : (mine : Bool) (ka kb : Remote) → Knows ka b.own → Knows kb a.own
-      → Knows (known_after_all mine ka [] []) b.own × Knows (known_after_all (not mine) kb [] []) a.own
-  here-known true ka kb f g = (f, g)
-  here-known false ka kb f g = (f, g)
 
   front-known : (mine : Bool) (ka kb : Remote) (ts : List Token) (xs : List (List ℕ)) → Knows ka b.own → Knows kb a.own
       → Uses mine Initiator a.own a.agree ka ts xs → Uses (not mine) Responder b.own b.agree kb ts xs

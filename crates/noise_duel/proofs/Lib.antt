@@ -1,3 +1,4 @@
+pub mod Common
 pub mod Chain
 pub mod Histories
 pub mod HashedTexts

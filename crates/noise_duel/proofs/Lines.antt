@@ -1,34 +1,11 @@
 -- What comes of one line between two ends, where the message that is written is accepted.
-use Rattle.std.proofs.Common.{◌≡◌, ◌≢◌, ℕ, ◌≤◌, List, ◌∷◌, ◌++◌, length, refl, ap, sym, subst, ◌∙◌, arith, append-nil, Some, None, slice_get, []}
-use Rattle.std.specs.Prelude.{false, Err, IsTrue, Option}
-use Rattle.noise_names.specs.declared.token.Role.{Role}
-use Rattle.noise_names.specs.Tokens.{other}
-use Rattle.noise_handshake.specs.Party.{Accepts}
-use Rattle.noise_handshake.specs.Writing.{Writes, LacksDhResult}
-use Rattle.noise_duel.specs.Below.{LawsBelow}
-use Rattle.noise_session.specs.declared.faults.SendFault.{SendFault}
-use Rattle.noise_session.specs.Frames.{frame, IsPartial}
-use Rattle.noise_session.specs.Transport.{transport_message, last_nonce}
-use Rattle.noise_session.specs.Steps.{StepValue}
+use Rattle.std.proofs.Common.{rules, ◌≡◌, ◌≢◌, ℕ, ◌≤◌, List, ◌∷◌, ◌++◌, length, refl, ap, sym, subst, ◌∙◌, arith, append-nil, Some, None, slice_get, []}
+use Rattle.std.specs.Prelude.{false, Err, Option}
+use Rattle.noise_duel.proofs.Common.{IsTrue, Role, other, Accepts, Writes, LacksDhResult, LawsBelow, SendFault, frame, IsPartial, transport_message, last_nonce, StepValue, is_open, idle_step, refusal, EndState, progress_of, Judges, accepted, dropped, exhausted, Sends, refuses, lacks_dh_result, frame-same, Side, Sides, side, with_side, with_state, wrote_handshake, accepted_handshake, wrote_transport, accepted_transport, Say, Note, Wrote, WriteFault, Judged, left_note, held_note, noted_by, SideWrites, SideReads, SideReceives, Happens, GivesNoPayload, writes_nothing, writes_handshake, writes_transport, accepts_handshake, accepts_transport, refuses_message, is_idle, waits, reads_frame, says_nothing, says, get-last}
 use Rattle.noise_session.specs.Steps.StepValue.{Payload}
-use Rattle.noise_session.specs.Progress.{is_open, idle_step, refusal}
-use Rattle.noise_session.specs.Ends.{EndState, progress_of}
-use Rattle.noise_session.specs.Taking.{Judges}
-use Rattle.noise_session.specs.Taking.Judges.{accepted, refused, dropped, exhausted}
-use Rattle.noise_session.specs.Sending.{Sends}
-use Rattle.noise_session.specs.Sending.Sends.{refuses, lacks_dh_result}
-use Rattle.noise_session.specs.Framing.{frame-whole, frame-same}
-use Rattle.noise_duel.specs.Sides.{Side, Sides, side, with_side, with_state, wrote_handshake, accepted_handshake, wrote_transport, accepted_transport}
-use Rattle.noise_events.specs.Events.{Say}
-use Rattle.noise_duel.specs.Notes.{Note, Wrote, WriteFault, Judged, left_note, held_note, noted_by}
-use Rattle.noise_duel.specs.Runs.{SideWrites, SideReads, SideReceives, Happens, GivesNoPayload}
-use Rattle.noise_duel.specs.Runs.SideWrites.{writes_nothing, writes_handshake, writes_transport}
-use Rattle.noise_duel.specs.Runs.SideReads.{accepts_handshake, accepts_transport, refuses_message}
-use Rattle.noise_duel.specs.Runs.SideReceives.{is_idle, waits, reads_frame}
-use Rattle.noise_duel.specs.Runs.Happens.{says_nothing, says}
+use Rattle.noise_session.specs.Taking.Judges.{refused}
 use Rattle.noise_duel.proofs.Invariant.{all-passed}
 use Rattle.noise_duel.proofs.Prefixes.{transport_message-same}
-use Rattle.noise_names.specs.Lists.{get-last}
 
 -- ---- writing
 
@@ -46,20 +23,14 @@ writes-no-fault s next payload why e lacks (writes_nothing _ _ _ after sends) = 
 pub writes-message : LawsBelow → (s next : Side) (payload message : List ℕ) (xs : List (List ℕ)) (k : ℕ) → is_open (progress_of s.state) ≡ false
     → Writes s.state.party payload xs message
     → SideWrites s payload (Wrote k) next → (next ≡ wrote_handshake s (record { message = message; carried = xs; payload = payload })) × (k ≡ length s.frames)
-writes-message laws s next payload message xs k shut w (writes_handshake _ m _ ys e here) =
-    let same = laws.written_once s.state.party payload m message ys xs here w in (
-      ap (λ (zs : List (List ℕ)). wrote_handshake s (record { message = m; carried = zs; payload = payload })) same.0
-          ∙ ap (λ (z : List ℕ). wrote_handshake s (record { message = z; carried = xs; payload = payload })) same.1,
-      refl,
-    )
+writes-message laws s next payload message xs k shut w (writes_handshake _ m _ ys e here) = search rules
 writes-message laws s next payload message xs k shut w (writes_transport _ m _ e due is) = cc
 
 pub writes-transport_message : (s next : Side) (payload : List ℕ) (k : ℕ) → IsTrue (is_open (progress_of s.state))
     → SideWrites s payload (Wrote k) next
     → (next ≡ wrote_transport s (record { message = transport_message s.state.party.history s.state.party.role s.state.interval s.state.sent payload; payload = payload }))
     × (k ≡ length s.frames)
-writes-transport_message s next payload k open-now (writes_handshake _ m _ ys e here) =
-    let bad : ⊥ = omega (arith, here.speaks.more, all-passed s.state open-now) in absurd bad
+writes-transport_message s next payload k open-now (writes_handshake _ m _ ys e here) = search rules
 writes-transport_message s next payload k open-now (writes_transport _ m _ e due is) =
     (ap (λ (z : List ℕ). wrote_transport s (record { message = z; payload = payload })) is, refl)
 
@@ -69,12 +40,7 @@ pub reads-message : LawsBelow → (t : Side) (message payload : List ℕ) (xs : 
     → Accepts t.state.party message xs payload
     → (step : StepValue) (next : Side) → SideReads t message step next
     → (step ≡ Payload payload) × (next ≡ accepted_handshake t (record { message = message; carried = xs; payload = payload }))
-reads-message laws t message payload xs shut a step next (accepts_handshake _ _ p ys b) =
-    let same = laws.accepted_once t.state.party message ys xs p payload b a in (
-      ap Payload same.1,
-      ap (λ (zs : List (List ℕ)). accepted_handshake t (record { message = message; carried = zs; payload = p })) same.0
-          ∙ ap (λ (z : List ℕ). accepted_handshake t (record { message = message; carried = xs; payload = z })) same.1,
-    )
+reads-message laws t message payload xs shut a step next (accepts_handshake _ _ p ys b) = search rules
 reads-message laws t message payload xs shut a step next (accepts_transport _ _ p due low is) = cc
 reads-message laws t message payload xs shut a step next (refuses_message _ _ _ after bad j) =
     absurd (subst GivesNoPayload (laws.judged_once t.state after _ message step (Payload payload) j (accepted t.state message payload xs a)).0 bad)
@@ -91,13 +57,11 @@ pub reads-transport_message : (t : Side) (message payload : List ℕ) → IsTrue
     → message ≡ transport_message t.state.party.history (other t.state.party.role) t.state.interval t.state.received payload
     → (step : StepValue) (next : Side) → SideReads t message step next
     → (step ≡ Payload payload) × (next ≡ accepted_transport t (record { message = message; payload = payload }))
-reads-transport_message t message payload due low is step next (accepts_handshake _ _ p ys b) =
-    let bad : ⊥ = omega (arith, b.listens.more, all-passed t.state due) in absurd bad
+reads-transport_message t message payload due low is step next (accepts_handshake _ _ p ys b) = search rules
 reads-transport_message t message payload due low is step next (accepts_transport _ _ p d l i) =
     let same : p ≡ payload = transport_message-same t.state.party.history (other t.state.party.role) t.state.interval t.state.received p payload (sym i ∙ is) in
     (ap Payload same, ap (λ (z : List ℕ). accepted_transport t (record { message = message; payload = z })) same)
-reads-transport_message t message payload due low is step next (refuses_message _ _ _ after bad j) =
-    absurd (transport_messages-no-fault t.state after message payload step bad due low is j)
+reads-transport_message t message payload due low is step next (refuses_message _ _ _ after bad j) = search transport_messages-no-fault
 
 -- nothing more comes
 receives-end : (s : Side) → idle_step (progress_of s.state) ≡ None → IsPartial s.state.partial → SideReceives s [] [] s
@@ -109,14 +73,8 @@ receives-end s due partial =
 receives-nothing : (t last : Side) (bytes : List ℕ) (notes : List Note) → bytes ≡ [] → t.state.partial ≡ [] → SideReceives t bytes notes last
     → (notes ≡ []) × (last ≡ t)
 receives-nothing t last bytes notes none empty (is_idle _ _ step e) = (ap (λ (b : List ℕ). left_note step (length b)) none, refl)
-receives-nothing t last bytes notes none empty (waits _ _ e partial) = (
-  refl,
-  ap (λ (b : List ℕ). with_state t (record (t.state) { partial = t.state.partial ++ b })) none
-      ∙ ap (λ (h : List ℕ). with_state t (record (t.state) { partial = h })) (append-nil t.state.partial),
-)
-receives-nothing t last bytes notes none empty (reads_frame _ next _ _ message rest step more e is small reads on) =
-    let partial : IsPartial [] = omega arith in
-    absurd (frame-whole message rest small (subst (λ (b : List ℕ). IsPartial b) (sym none ∙ ap (λ (h : List ℕ). h ++ bytes) (sym empty) ∙ is) partial))
+receives-nothing t last bytes notes none empty (waits _ _ e partial) = search rules
+receives-nothing t last bytes notes none empty (reads_frame _ next _ _ message rest step more e is small reads on) = search rules
 
 -- one frame comes to an end that holds none, and whose message can be read in one way
 pub receives-one : (t after last : Side) (message payload : List ℕ) (notes : List Note) → idle_step (progress_of t.state) ≡ None → t.state.partial ≡ []
@@ -124,9 +82,7 @@ pub receives-one : (t after last : Side) (message payload : List ℕ) (notes : L
     → ((step : StepValue) (next : Side) → SideReads t message step next → (step ≡ Payload payload) × (next ≡ after))
     → SideReceives t (frame message) notes last → (notes ≡ Judged (Payload payload) ∷ []) × (last ≡ after)
 receives-one t after last message payload notes idle empty bare short one (is_idle _ _ step e) = cc
-receives-one t after last message payload notes idle empty bare short one (waits _ _ e partial) =
-    absurd (frame-whole message [] short
-    (subst (λ (b : List ℕ). IsPartial b) (ap (λ (h : List ℕ). h ++ frame message) empty ∙ sym (append-nil (frame message))) partial))
+receives-one t after last message payload notes idle empty bare short one (waits _ _ e partial) = search rules
 receives-one t after last message payload notes idle empty bare short one (reads_frame _ next _ _ m rest step more e is small reads on) =
     let same = frame-same message m [] rest short small (append-nil (frame message) ∙ ap (λ (h : List ℕ). h ++ frame message) (sym empty) ∙ is) in
     let found = one step next (subst (λ (z : List ℕ). SideReads t z step next) (sym same.0) reads) in
@@ -154,9 +110,7 @@ pub say-happens : (d e : Sides) (role : Role) (payload message : List ℕ) (note
 say-happens d e role payload message notes after heard lacks put frames hear bare (says_nothing _ _ _ why next written) = absurd (lacks why next written)
 say-happens d e role payload message notes after heard lacks put frames hear bare (says _ _ _ bytes n ns next last written got receives) =
     let one = put n next written in
-    let is : bytes ≡ frame message =
-    last-is (side d role).frames (frame message) bytes n one.1
-    (ap (λ (fs : List (List ℕ)). slice_get fs n) (sym frames ∙ ap (λ (s : Side). s.frames) (sym one.0)) ∙ got) in
+    let is : bytes ≡ frame message = search (rules, last-is) in
     let two = hear ns last (subst (λ (b : List ℕ). SideReceives (side d (other role)) b ns last) is receives) in
     let quiet : held_note (length last.state.partial) ≡ [] =
     ap (λ (s : Side). held_note (length s.state.partial)) two.1 ∙ ap (λ (h : List ℕ). held_note (length h)) bare in (

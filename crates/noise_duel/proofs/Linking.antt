@@ -1,34 +1,14 @@
 -- From one call of an end to a run.
-use Rattle.std.proofs.Common.{◌≡◌, ℕ, ◌+◌, ◌<◌, ◌≤◌, List, ◌∷◌, ◌++◌, length, take, drop, true, false, ◌&&◌, if◌then◌else◌, Bool, Option, Some, None, Ok, refl, ap, sym, subst, ◌∙◌, arith, append_assoc, append-nil, length-append, Vec, Global, take-take, []}
-use Rattle.std.proofs.lemmas.List.{map-append, take-append-le}
+use Rattle.std.proofs.Common.{rules, ◌≡◌, ℕ, ◌+◌, ◌<◌, ◌≤◌, List, ◌∷◌, ◌++◌, length, take, drop, true, false, ◌&&◌, if◌then◌else◌, Bool, Option, Some, None, Ok, refl, ap, sym, subst, ◌∙◌, arith, append_assoc, append-nil, length-append, Vec, Global, take-take, []}
 use Rattle.std.proofs.Math.Seq.{take-append_seam, drop-append_seam, drop-append-add, drop-length}
-use Rattle.noise_names.specs.declared.token.Role.TheVariants.{Initiator}
-use Rattle.noise_names.specs.Tokens.{same_role}
+use Rattle.noise_duel.proofs.Common.{map-append, take-append-le, Initiator, same_role, frame, IsPartial, StepValue, Progress, idle_step, Handshaking, HasEnded, EndState, progress_of, Judges, Takes, accepted, dropped, exhausted, Sends, sends_handshake, sends_transport, bytes_of, step_of, Note, Wrote, Judged, Side, with_state, wrote_handshake, wrote_transport, accepted_handshake, accepted_transport, SideWrites, SideReads, SideReceives, writes_handshake, writes_transport, accepts_handshake, accepts_transport, refuses_message, is_idle, waits, reads_frame, step_note, left_of, frame-whole, same_Some}
 use Rattle.noise_handshake.specs.HandshakeValue.{is_turn}
-use Rattle.noise_session.specs.Frames.{frame, IsPartial}
-use Rattle.noise_session.specs.Steps.{StepValue}
 use Rattle.noise_session.specs.Steps.StepValue.{Ended, YourTurn, Silent}
-use Rattle.noise_session.specs.Progress.{Progress, idle_step}
-use Rattle.noise_session.specs.Progress.Progress.{Handshaking, Open, HasEnded}
-use Rattle.noise_session.specs.Ends.{EndState, progress_of}
-use Rattle.noise_session.specs.Taking.{Judges, Takes}
-use Rattle.noise_session.specs.Taking.Judges.{accepted, refused, opened, dropped, exhausted}
+use Rattle.noise_session.specs.Progress.Progress.{Open}
+use Rattle.noise_session.specs.Taking.Judges.{refused, opened}
 use Rattle.noise_session.specs.Taking.Takes.{idles, waits as waits_for_more, judges}
-use Rattle.noise_session.specs.Sending.{Sends}
-use Rattle.noise_session.specs.Sending.Sends.{sends_handshake, sends_transport}
 use Rattle.noise_duel.specs.declared.entry.Idle.{Idle}
 use Rattle.noise_duel.specs.declared.entry.Idle.TheVariants as idle
-use Rattle.noise_names.specs.Lists.{bytes_of}
-use Rattle.noise_duel.specs.Entries.{step_of}
-use Rattle.noise_duel.specs.Notes.{Note, Wrote, Judged}
-use Rattle.noise_duel.specs.Sides.{Side, with_state, wrote_handshake, wrote_transport, accepted_handshake, accepted_transport}
-use Rattle.noise_duel.specs.Runs.{SideWrites, SideReads, SideReceives}
-use Rattle.noise_duel.specs.Runs.SideWrites.{writes_handshake, writes_transport}
-use Rattle.noise_duel.specs.Runs.SideReads.{accepts_handshake, accepts_transport, refuses_message}
-use Rattle.noise_duel.specs.Runs.SideReceives.{is_idle, waits, reads_frame}
-use Rattle.noise_duel.specs.Receiving.{step_note, left_of}
-use Rattle.noise_session.specs.Framing.{frame-whole}
-use Rattle.std.proofs.lemmas.Option.{same_Some}
 
 -- the front of a buffer whose front was written
 pub front-of : (out xs : List ℕ) (n len : ℕ) → n ≤ len → n ≤ length out → take n (take len (out ++ xs)) ≡ take n out
@@ -37,8 +17,7 @@ front-of out xs n len f g = take-take n len (out ++ xs) f ∙ take-append-le n o
 -- a frame more
 pub frames-unchanged : (old new : List (Vec ℕ Global)) (f : Vec ℕ Global) (bytes : List ℕ) (frames after : List (List ℕ)) → new ≡ old ++ f ∷ [] → f.items ≡ bytes
     → bytes_of old ≡ frames → after ≡ frames ++ bytes ∷ [] → bytes_of new ≡ after
-frames-unchanged old new f bytes frames after e is same more =
-    ap bytes_of e ∙ map-append (λ (v : Vec ℕ Global). v.items) old (f ∷ []) ∙ ap (λ (b : List ℕ). bytes_of old ++ b ∷ []) is ∙ ap (λ (fs : List (List ℕ)). fs ++ bytes ∷ []) same ∙ sym more
+frames-unchanged old new f bytes frames after e is same more = search (rules, map-append)
 
 -- a write that succeeds
 pub record HasSent (s : Side) (payload bytes : List ℕ) (next : EndState) : Type 0 where
@@ -183,8 +162,7 @@ takes-taken s piece n step next (idles _ _ _ e) = record {
   after = s;
   state = refl;
   frames = refl;
-  goes_on = λ rest notes last h.
-      subst (λ (ms : List Note). SideReceives s (piece ++ rest) (ms ++ notes) last) (sym (is-idle (progress_of s.state) step e).quiet) h;
+  goes_on = search rules;
 }
 takes-taken s piece n step next (waits_for_more _ _ e partial) = record {
   after = with_state s (record (s.state) { partial = s.state.partial ++ piece });

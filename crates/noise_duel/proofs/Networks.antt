@@ -1,34 +1,12 @@
 -- The laws of conversations, at the ends of a run.
-use Rattle.std.proofs.Common.{◌≡◌, ℕ, List, ◌∷◌, length, refl, ap, sym, subst, ◌∙◌, arith, inl, inr, ◌⊎◌, []}
-use Rattle.noise_names.specs.declared.token.Role.{Role}
-use Rattle.noise_names.specs.declared.token.Role.TheVariants.{Initiator, Responder}
-use Rattle.noise_names.specs.Tokens.{other}
-use Rattle.noise_names.specs.Plan.{Plan}
-use Rattle.noise_state.specs.History.{History, hash}
-use Rattle.noise_handshake.specs.Party.{Party}
-use Rattle.noise_handshake.specs.Matching.{after_own, after_message}
-use Rattle.noise_duel.specs.Collision.{Collision}
-use Rattle.noise_duel.specs.Messages.{HandshakeMessage, Exchanged, Start, begun_as}
-use Rattle.noise_duel.specs.Messages.Exchanged.{none, wrote, took}
-use Rattle.noise_duel.specs.Sides.{Sides, TransportMessage}
-use Rattle.noise_events.specs.Events.{Event}
-use Rattle.noise_duel.specs.Notes.{Note}
-use Rattle.noise_duel.specs.Runs.{Run}
-use Rattle.noise_duel.specs.Conversation.{sides_at_start}
-use Rattle.noise_duel.specs.Invariant.{ComesOfMessages, AreTransportMessages}
-use Rattle.noise_duel.specs.Agreement.{VisiblyEqual}
-use Rattle.noise_duel.specs.Networks.{HaveOneHash, HistoriesCollide, SharePsks, HaveOneHistory, PayloadsAgree, HashesReport, PsksMakeOne, PayloadsCome, VisiblyEqualGivesOne}
-use Rattle.noise_session.specs.Ends.{EndState, session_hash}
-use Rattle.std.specs.Prelude.{Bool, true, false, Some, None, ◌==◌, if◌then◌else◌}
-use Rattle.std.proofs.lemmas.Bool.Decides.{nat_tests}
-use Rattle.noise_duel.specs.Below.{LawsBelow}
+use Rattle.std.proofs.Common.{rules, ◌≡◌, ℕ, List, ◌∷◌, length, refl, ap, sym, subst, ◌∙◌, inl, inr, ◌⊎◌, []}
+use Rattle.noise_duel.proofs.Common.{Role, Initiator, Responder, other, Plan, History, hash, Party, after_own, after_message, Collision, HandshakeMessage, Exchanged, Start, begun_as, none, wrote, took, Sides, TransportMessage, Event, Note, Run, sides_at_start, ComesOfMessages, AreTransportMessages, VisiblyEqual, HaveOneHash, HistoriesCollide, SharePsks, HaveOneHistory, PayloadsAgree, HashesReport, PsksMakeOne, PayloadsCome, VisiblyEqualGivesOne, EndState, LawsBelow}
 use Rattle.noise_duel.proofs.Invariant.{ends-stand}
 use Rattle.noise_duel.proofs.HashReports.{hash-reports}
 use Rattle.noise_duel.proofs.Forward.{psks-report}
 use Rattle.noise_duel.proofs.KeysReport.{keys-report}
 use Rattle.noise_duel.proofs.Converse.{visibly-equal-is-one}
 use Rattle.noise_duel.proofs.Prefixes.{prefix-or-forged}
-use Rattle.std.proofs.lemmas.Option.{same_Some}
 
 pub passes-pattern : (v w : Party) (ps : List HandshakeMessage) → Exchanged v ps w → w.pattern ≡ v.pattern
 passes-pattern v w [] (none _) = refl
@@ -45,13 +23,6 @@ record Opened (v : EndState) (h : List ℕ) : Type 0 where
   all : v.party.passed ≡ length v.party.pattern.messages
   is : hash v.party.history ≡ h
 
-opened-is : (v : EndState) (h : List ℕ) → session_hash v ≡ Some h → Opened v h
-opened-is v h e = go (v.party.passed == length v.party.pattern.messages) refl e
-  where
-    go : (b : Bool) → (v.party.passed == length v.party.pattern.messages) ≡ b → (if b then Some (hash v.party.history) else None) ≡ Some h → Opened v h
-    go true f g = record { all = grind (arith, nat_tests); is = same_Some (hash v.party.history) h g }
-    go false f g = cc
-
 module _ (laws : LawsBelow) (p : Plan) (a b : Start) (i j : ℕ) (events : List Event) (notes : List (Role × Note)) (d : Sides)
     (run : Run (sides_at_start p a b i j) events notes d) (meet : HaveOneHash d) where
   left : ComesOfMessages (begun_as p Initiator a) i d.initiator
@@ -67,18 +38,10 @@ module _ (laws : LawsBelow) (p : Plan) (a b : Start) (i j : ℕ) (events : List 
   right-history = ap (λ (v : Party). v.history) right.party
 
   same-count : left.last.passed ≡ right.last.passed
-  same-count =
-      sym (ap (λ (v : Party). v.passed) left.party) ∙ (opened-is d.initiator.state meet.hash meet.initiator).all
-      ∙ ap (λ (v : Party). length v.pattern.messages) left.party
-      ∙ ap (λ (q : Plan). length q.messages)
-      (passes-pattern (begun_as p Initiator a) left.last d.initiator.passed left.passes
-      ∙ sym (passes-pattern (begun_as p Responder b) right.last d.responder.passed right.passes))
-      ∙ sym ((opened-is d.responder.state meet.hash meet.responder).all ∙ ap (λ (v : Party). length v.pattern.messages) right.party)
-      ∙ ap (λ (v : Party). v.passed) right.party
+  same-count = search (rules, passes-pattern)
 
   same-hash : hash left.last.history ≡ hash right.last.history
-  same-hash = sym (ap hash left-history) ∙ (opened-is d.initiator.state meet.hash meet.initiator).is
-      ∙ sym (opened-is d.responder.state meet.hash meet.responder).is ∙ ap hash right-history
+  same-hash = search rules
 
   collision : (k : ℕ) → Collision left.last.history right.last.history k → HistoriesCollide d
   collision k c = (
@@ -106,8 +69,7 @@ module _ (laws : LawsBelow) (p : Plan) (a b : Start) (i j : ℕ) (events : List 
   -- an end's transport messages, by its own history and role
   transport_messages : (last : Party) (r : History) (writer role : Role) (k : ℕ) (ps : List TransportMessage) → last.history ≡ r → role ≡ writer
       → AreTransportMessages last.history role k 0 ps → AreTransportMessages r writer k 0 ps
-  transport_messages last r writer role k ps e f h =
-      subst (λ (w : Role). AreTransportMessages r w k 0 ps) f (subst (λ (s : History). AreTransportMessages s role k 0 ps) e h)
+  transport_messages last r writer role k ps e f h = search rules
 
   pub payloads-agree : i ≡ j → HaveOneHistory d → PayloadsAgree i d
   payloads-agree same one =
@@ -138,10 +100,4 @@ payloads-come laws p a b interval events notes d run meet share =
     [ inl one ↦ inl (payloads-agree laws p a b interval interval events notes d run meet refl one) | inr c ↦ inr c ]
 
 pub visibly-equal-gives-one : LawsBelow → VisiblyEqualGivesOne
-visibly-equal-gives-one laws p a b i j events notes d run prologue before messages used =
-    let stand = ends-stand p a b i j events notes d run in
-    let l = stand.0 in
-    let r = stand.1 in
-    let one = visibly-equal-is-one laws p a b d.initiator.passed d.responder.passed l.last r.last l.passes r.passes prologue before messages used.psks
-    used.dh_results in
-    record { passed = one.0; history = ap (λ (v : Party). v.history) l.party ∙ one.1 ∙ sym (ap (λ (v : Party). v.history) r.party) }
+visibly-equal-gives-one laws p a b i j events notes d run prologue before messages used = search (rules, ends-stand, visibly-equal-is-one)

@@ -1,47 +1,17 @@
 -- In every run an end's frames are those of the messages that it wrote.
-use Rattle.std.proofs.Common.{◌≡◌, ℕ, ◌+◌, ◌<◌, List, ◌∷◌, ◌++◌, length, map, refl, ap, sym, ◌∙◌, arith, append-nil, append_assoc, length-append, []}
-use Rattle.std.proofs.lemmas.List.{map-append}
+use Rattle.std.proofs.Common.{rules, ◌≡◌, ℕ, ◌+◌, ◌<◌, List, ◌∷◌, ◌++◌, length, map, refl, ap, sym, ◌∙◌, arith, append-nil, append_assoc, length-append, []}
 use Rattle.std.specs.Prelude.{Bool, true, false, Err, if◌then◌else◌}
-use Rattle.noise_names.specs.declared.token.Role.{Role}
-use Rattle.noise_names.specs.declared.token.Role.TheVariants.{Initiator, Responder}
-use Rattle.noise_names.specs.Tokens.{other, same_role, turn_from}
-use Rattle.noise_session.specs.declared.faults.SendFault.{SendFault}
+use Rattle.noise_duel.proofs.Common.{map-append, Role, Initiator, Responder, other, same_role, turn_from, SendFault, frame, StepValue, EndState, ended_session, Judges, accepted, dropped, exhausted, Sends, after_fault, refuses, lacks_dh_result, HandshakeMessage, TransportMessage, Side, Sides, with_state, wrote_handshake, accepted_handshake, wrote_transport, Event, Note, SideWrites, SideReads, SideReceives, Happens, Run, GivesNoPayload, writes_nothing, writes_handshake, writes_transport, accepts_handshake, accepts_transport, refuses_message, is_idle, waits, reads_frame, writes, says_nothing, says, delivers, misses, injects, sides_at_start, own_messages, FramesAreOwn, EndsFrame, same_role-self, same_role-other}
 use Rattle.noise_session.specs.Faults.{ends}
-use Rattle.noise_session.specs.Frames.{frame}
-use Rattle.noise_session.specs.Steps.{StepValue}
-use Rattle.noise_session.specs.Ends.{EndState, ended_session}
-use Rattle.noise_session.specs.Taking.{Judges}
-use Rattle.noise_session.specs.Taking.Judges.{accepted, refused, opened, dropped, exhausted}
-use Rattle.noise_session.specs.Sending.{Sends, after_fault}
-use Rattle.noise_session.specs.Sending.Sends.{refuses, lacks_dh_result}
-use Rattle.noise_duel.specs.Messages.{HandshakeMessage}
-use Rattle.noise_duel.specs.Sides.{TransportMessage, Side, Sides, with_state, wrote_handshake, accepted_handshake, wrote_transport}
-use Rattle.noise_events.specs.Events.{Event}
-use Rattle.noise_duel.specs.Notes.{Note}
-use Rattle.noise_duel.specs.Runs.{SideWrites, SideReads, SideReceives, Happens, Run, GivesNoPayload}
-use Rattle.noise_duel.specs.Runs.SideWrites.{writes_nothing, writes_handshake, writes_transport}
-use Rattle.noise_duel.specs.Runs.SideReads.{accepts_handshake, accepts_transport, refuses_message}
-use Rattle.noise_duel.specs.Runs.SideReceives.{is_idle, waits, reads_frame}
-use Rattle.noise_duel.specs.Runs.Happens.{writes, says_nothing, says, delivers, misses, injects}
+use Rattle.noise_session.specs.Taking.Judges.{refused, opened}
 use Rattle.noise_duel.specs.Runs.Run.{ends as run_ends, begins}
-use Rattle.noise_duel.specs.Conversation.{sides_at_start}
-use Rattle.noise_duel.specs.OwnFrames.{own_messages, FramesAreOwn, EndsFrame}
 use Rattle.noise_duel.proofs.Invariant.{all-passed}
-use Rattle.noise_names.specs.Roles.{same_role-self, same_role-other}
 
 -- one message more
 own-more : (role : Role) (n : ℕ) (ps : List HandshakeMessage) (p : HandshakeMessage)
     → own_messages role n (ps ++ p ∷ []) ≡ own_messages role n ps ++ (if same_role (turn_from Initiator (n + length ps)) role then p.message ∷ [] else [])
-own-more role n [] p =
-    let same : n ≡ n + length {A = HandshakeMessage} [] = omega arith in
-    append-nil (if same_role (turn_from Initiator n) role then p.message ∷ [] else [])
-    ∙ ap (λ (k : ℕ). if same_role (turn_from Initiator k) role then p.message ∷ [] else []) same
-own-more role n (q ∷ qs) p =
-    let same : (n + 1) + length qs ≡ n + length (q ∷ qs) = omega arith in
-    let one : List (List ℕ) = if same_role (turn_from Initiator n) role then q.message ∷ [] else [] in
-    ap (λ (ms : List (List ℕ)). one ++ ms) (own-more role (n + 1) qs p)
-    ∙ ap (λ (k : ℕ). one ++ (own_messages role (n + 1) qs ++ (if same_role (turn_from Initiator k) role then p.message ∷ [] else []))) same
-    ∙ sym (append_assoc one (own_messages role (n + 1) qs) (if same_role (turn_from Initiator (n + length (q ∷ qs))) role then p.message ∷ [] else []))
+own-more role n [] p = search rules
+own-more role n (q ∷ qs) p = search (rules, (own-more role (n + 1) qs p))
 
 -- what is kept of an end
 record Unchanged (s : Side) : Type 0 where
@@ -61,9 +31,7 @@ module _ (s : Side) (k : Unchanged s) where
 
   due-more : (p : HandshakeMessage) (r : Role) → turn_from Initiator s.state.party.passed ≡ r
       → own_messages role 0 (s.passed ++ p ∷ []) ≡ mine ++ (if same_role r role then p.message ∷ [] else [])
-  due-more p r turn =
-      let at : 0 + length s.passed ≡ s.state.party.passed = omega (arith, k.count) in
-      own-more role 0 s.passed p ∙ ap (λ (q : Role). mine ++ (if same_role q role then p.message ∷ [] else [])) (ap (turn_from Initiator) at ∙ turn)
+  due-more p r turn = search (rules, own-more)
 
   counted : (p : HandshakeMessage) → length (s.passed ++ p ∷ []) ≡ s.state.party.passed + 1
   counted p = omega (arith, length-append s.passed (p ∷ []), k.count)
@@ -72,16 +40,11 @@ module _ (s : Side) (k : Unchanged s) where
       → Unchanged (wrote_handshake s p)
   wrote-unchanged p turn more =
       let none : s.sent ≡ [] = k.unsent more in
-      let before : s.frames ≡ map frame mine =
-      k.own ∙ ap (λ (ms : List TransportMessage). map frame (mine ++ map (λ (m : TransportMessage). m.message) ms)) none ∙ ap (map frame) (append-nil mine) in
+      let before : s.frames ≡ map frame mine = search rules in
       let more_own : own_messages role 0 (s.passed ++ p ∷ []) ≡ mine ++ p.message ∷ [] =
       due-more p role turn ∙ ap (λ (b : Bool). mine ++ (if b then p.message ∷ [] else [])) (same_role-self role) in
       record {
-        own =
-            ap (λ (fs : List (List ℕ)). fs ++ frame p.message ∷ []) before ∙ sym (map-append frame mine (p.message ∷ [])) ∙ ap (map frame) (sym more_own)
-            ∙ sym (ap (map frame) (append-nil (own_messages role 0 (s.passed ++ p ∷ []))))
-            ∙ sym (ap (λ (ms : List TransportMessage). map frame (own_messages role 0 (s.passed ++ p ∷ []) ++ map (λ (m : TransportMessage). m.message) ms))
-            none);
+        own = search (rules, map-append);
         count = counted p;
         unsent = λ h. none;
       }
@@ -99,10 +62,7 @@ module _ (s : Side) (k : Unchanged s) where
 
   sent-unchanged : (m : TransportMessage) → s.state.party.passed ≡ length s.state.party.pattern.messages → Unchanged (wrote_transport s m)
   sent-unchanged m all = record {
-    own =
-        ap (λ (fs : List (List ℕ)). fs ++ frame m.message ∷ []) k.own ∙ sym (map-append frame (mine ++ transport_messages) (m.message ∷ []))
-        ∙ ap (map frame) (append_assoc mine transport_messages (m.message ∷ [])
-        ∙ ap (λ (ms : List (List ℕ)). mine ++ ms) (sym (map-append (λ (z : TransportMessage). z.message) s.sent (m ∷ []))));
+    own = search (rules, map-append, append_assoc);
     count = k.count;
     unsent = λ h. absurd (omega (arith, h, all));
   }
@@ -120,13 +80,11 @@ module _ (s : Side) (k : Unchanged s) where
       go : (why : SendFault) (next : EndState) → Sends s.state payload (Err why) next → Unchanged (with_state s next)
       go why next (refuses _ _ _ e) = refusal-unchanged why
       go why next (lacks_dh_result _ _ token e lacks) = record { own = k.own; count = k.count; unsent = k.unsent }
-  writes-unchanged payload t note (writes_handshake _ message _ xs e w) =
-      wrote-unchanged (record { message = message; carried = xs; payload = payload }) w.speaks.turn w.speaks.more
+  writes-unchanged payload t note (writes_handshake _ message _ xs e w) = search wrote-unchanged
   writes-unchanged payload t note (writes_transport _ message _ e due is) = sent-unchanged (record { message = message; payload = payload }) (all-passed s.state due)
 
   reads-unchanged : (message : List ℕ) (t : Side) (step : StepValue) → SideReads s message step t → Unchanged t
-  reads-unchanged message t step (accepts_handshake _ _ payload xs a) =
-      took-unchanged (record { message = message; carried = xs; payload = payload }) a.listens.turn a.listens.more xs
+  reads-unchanged message t step (accepts_handshake _ _ payload xs a) = search took-unchanged
   reads-unchanged message t step (accepts_transport _ _ payload due low is) = record { own = k.own; count = k.count; unsent = k.unsent }
   reads-unchanged message t step (refuses_message _ _ _ next bad judges) = go step next bad judges
     where
@@ -141,7 +99,7 @@ receives-unchanged : (s t : Side) (bytes : List ℕ) (notes : List Note) → Unc
 receives-unchanged s t bytes notes k (is_idle _ _ step e) = k
 receives-unchanged s t bytes notes k (waits _ _ e partial) = record { own = k.own; count = k.count; unsent = k.unsent }
 receives-unchanged s t bytes notes k (reads_frame _ next _ _ message rest step more e is short reads on) =
-    receives-unchanged next t rest more (reads-unchanged s k message next step reads) on
+    search ((receives-unchanged next t rest more (reads-unchanged s k message next step reads) on))
 
 abbrev BothUnchanged : Sides → Type 0
 BothUnchanged d = Unchanged d.initiator × Unchanged d.responder
@@ -151,10 +109,8 @@ event-unchanged d e event notes h (writes _ Initiator payload note next written)
 event-unchanged d e event notes h (writes _ Responder payload note next written) = (h.0, writes-unchanged d.responder h.1 payload next note written)
 event-unchanged d e event notes h (says_nothing _ Initiator payload why next written) = (writes-unchanged d.initiator h.0 payload next _ written, h.1)
 event-unchanged d e event notes h (says_nothing _ Responder payload why next written) = (h.0, writes-unchanged d.responder h.1 payload next _ written)
-event-unchanged d e event notes h (says _ Initiator payload bytes n more next heard written frame receives) =
-    (writes-unchanged d.initiator h.0 payload next _ written, receives-unchanged d.responder heard bytes more h.1 receives)
-event-unchanged d e event notes h (says _ Responder payload bytes n more next heard written frame receives) =
-    (receives-unchanged d.initiator heard bytes more h.0 receives, writes-unchanged d.responder h.1 payload next _ written)
+event-unchanged d e event notes h (says _ Initiator payload bytes n more next heard written frame receives) = search (writes-unchanged, receives-unchanged)
+event-unchanged d e event notes h (says _ Responder payload bytes n more next heard written frame receives) = search (receives-unchanged, writes-unchanged)
 event-unchanged d e event notes h (delivers _ Initiator n bytes more heard frame receives) = (receives-unchanged d.initiator heard bytes more h.0 receives, h.1)
 event-unchanged d e event notes h (delivers _ Responder n bytes more heard frame receives) = (h.0, receives-unchanged d.responder heard bytes more h.1 receives)
 event-unchanged d e event notes h (misses _ whose n missing) = h

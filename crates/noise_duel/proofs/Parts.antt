@@ -1,32 +1,13 @@
 -- Two parties with their parts of one key material: what their messages carry, and that their DH results meet.
-use Rattle.std.proofs.Common.{◌≡◌, ℕ, List, ◌∷◌, length, refl, ap, sym, ◌∙◌, []}
+use Rattle.std.proofs.Common.{rules, ◌≡◌, ℕ, List, ◌∷◌, length, refl, ap, sym, ◌∙◌, []}
 use Rattle.std.specs.Prelude.{Bool, true, false, Option, Some, None, if◌then◌else◌}
-use Rattle.noise_names.specs.declared.token.Role.{Role}
-use Rattle.noise_names.specs.declared.token.Role.TheVariants.{Initiator, Responder}
-use Rattle.noise_names.specs.declared.token.Token.{Token}
-use Rattle.noise_names.specs.declared.token.Token.TheVariants.{E, S, Ee, Es, Se, Ss, Psk}
-use Rattle.noise_names.specs.Tokens.{other, same_token}
-use Rattle.noise_names.specs.Plan.{Plan, places_of}
-use Rattle.noise_names.specs.Validity.{is_among, occurs, IsValid}
-use Rattle.noise_keys.specs.declared.keys.Own.{Own}
-use Rattle.noise_keys.specs.declared.keys.Own.TheVariants.{Ephemeral, Static}
-use Rattle.noise_handshake.specs.Party.{dh_result_of, own_at, remote_at, other_psks}
-use Rattle.noise_handshake.specs.Writing.{Writer, Given}
-use Rattle.noise_handshake.specs.Setup.{public_keys, has_token, token_of}
-use Rattle.noise_handshake.specs.Counterparts.{is_dh, keys_if, DhResultsAgree, IsEquipped}
+use Rattle.noise_duel.proofs.Common.{Role, Initiator, Responder, Token, E, S, Ee, Es, Se, Ss, Psk, other, same_token, Plan, places_of, is_among, occurs, IsValid, Own, dh_result_of, own_at, remote_at, other_psks, Writer, Given, public_keys, has_token, token_of, is_dh, keys_if, DhResultsAgree, IsEquipped, LawsBelow, KeyMaterial, carried_by, public_keys_in, or_right}
 use Rattle.noise_handshake.specs.RemoteKeys.{remote-own}
-use Rattle.noise_duel.specs.Below.{LawsBelow}
-use Rattle.noise_duel.specs.Conversation.{KeyMaterial, carried_by, public_keys_in}
-use Rattle.std.proofs.lemmas.Bool.{or_right}
-use Rattle.noise_names.specs.Lists.{cons-same}
 
 -- two choices are one, where what is chosen at true is
 pub if-same : (b : Bool) (o q : Option (List ℕ)) → (b ≡ true → o ≡ q) → (if b then o else None) ≡ (if b then q else None)
 if-same true o q f = f refl
 if-same false o q f = refl
-
-some-same : (o : Option (List ℕ)) (x y : List ℕ) → o ≡ Some x → o ≡ Some y → x ≡ y
-some-same o x y f g = cc
 
 -- a role has the keys and DH results of the key material
 pub record HasMaterial (w : KeyMaterial) (p : Plan) (role : Role) (own : Own → Option (List ℕ)) (agree : Own → List ℕ → Option (List ℕ)) : Type 0 where
@@ -76,28 +57,14 @@ module _ (laws : LawsBelow) (w : KeyMaterial) (has_psks : Bool) (role : Role) (o
     λ u k d. h.1 u (or_right (same_token t u) (has_token u ts) k) d,
   )
 
-  dh-carried : (t : Token) (x : List ℕ) → dh_result_of agree (own_at role t) (remote_at role (keys_if e s theirs) t) ≡ Some x
-      → dh_result_of agree (own_at role t) (remote_at role (public_keys theirs) t) ≡ Some (w.dh_result t) → x ≡ w.dh_result t
-  dh-carried t x g h = some-same (dh_result_of agree (own_at role t) (remote_at role (public_keys theirs) t)) x (w.dh_result t)
-      (laws.dh_result agree (own_at role t) role e s theirs t x g) h
-
   pub given-carried : (psks : List (List ℕ)) (ts : List Token) (xs : List (List ℕ)) → IsCarried ts → Given gives (keys_if e s theirs) psks ts xs
       → xs ≡ carried_by w role psks ts
   given-carried psks [] [] h g = refl
-  given-carried psks (E ∷ ts) (x ∷ xs) h g =
-      cons-same
-      (some-same (own Ephemeral) x (w.public role Ephemeral) g.0.0 (h.0 Ephemeral refl)) (given-carried psks ts xs (on E ts h) g.1)
-  given-carried psks (S ∷ ts) (x ∷ xs) h g =
-      cons-same (some-same (own Static) x (w.public role Static) g.0.0 (h.0 Static refl))
-      (given-carried psks ts xs (on S ts h) g.1)
-  given-carried psks (Psk ∷ ts) (x ∷ xs) h g =
-      cons-same g.0 (given-carried (other_psks psks) ts xs (on Psk ts h) g.1)
-  given-carried psks (Ee ∷ ts) (x ∷ xs) h g =
-      cons-same (dh-carried Ee x g.0 (h.1 Ee refl refl)) (given-carried psks ts xs (on Ee ts h) g.1)
-  given-carried psks (Es ∷ ts) (x ∷ xs) h g =
-      cons-same (dh-carried Es x g.0 (h.1 Es refl refl)) (given-carried psks ts xs (on Es ts h) g.1)
-  given-carried psks (Se ∷ ts) (x ∷ xs) h g =
-      cons-same (dh-carried Se x g.0 (h.1 Se refl refl)) (given-carried psks ts xs (on Se ts h) g.1)
-  given-carried psks (Ss ∷ ts) (x ∷ xs) h g =
-      cons-same (dh-carried Ss x g.0 (h.1 Ss refl refl)) (given-carried psks ts xs (on Ss ts h) g.1)
+  given-carried psks (E ∷ ts) (x ∷ xs) h g = search (rules, (given-carried psks ts xs (on E ts h) g.1))
+  given-carried psks (S ∷ ts) (x ∷ xs) h g = search (rules, (given-carried psks ts xs (on S ts h) g.1))
+  given-carried psks (Psk ∷ ts) (x ∷ xs) h g = search ((given-carried (other_psks psks) ts xs (on Psk ts h) g.1))
+  given-carried psks (Ee ∷ ts) (x ∷ xs) h g = search (rules, (given-carried psks ts xs (on Ee ts h) g.1))
+  given-carried psks (Es ∷ ts) (x ∷ xs) h g = search (rules, (given-carried psks ts xs (on Es ts h) g.1))
+  given-carried psks (Se ∷ ts) (x ∷ xs) h g = search (rules, (given-carried psks ts xs (on Se ts h) g.1))
+  given-carried psks (Ss ∷ ts) (x ∷ xs) h g = search (rules, (given-carried psks ts xs (on Ss ts h) g.1))
   given-carried psks _ _ h g = absurd g

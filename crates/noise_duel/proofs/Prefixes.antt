@@ -1,14 +1,9 @@
 -- Accepted payloads are the first of the written ones, or the first that isn't was forged.
 use Rattle.std.proofs.Common.{◌≡◌, ◌≢◌, ℕ, suc, ◌+◌, List, ◌∷◌, ◌++◌, take, refl, ap, sym, subst, ◌∙◌, arith, inl, inr, ◌⊎◌, slice_get, Some, []}
-use Rattle.noise_names.specs.declared.token.Role.{Role}
-use Rattle.noise_state.specs.History.{History, rekeyed_times}
+use Rattle.noise_duel.proofs.Common.{Role, History, rekeyed_times, transport_message, renewals, split_key, TransportMessage, AreTransportMessages, cons-same, same-or}
 use Rattle.noise_aead.specs.Sealing.{nonce_of}
 use Rattle.noise_aead.specs.Sealed.{sealed-same}
-use Rattle.noise_session.specs.Transport.{transport_message, renewals, split_key}
-use Rattle.noise_duel.specs.Sides.{TransportMessage}
-use Rattle.noise_duel.specs.Invariant.{AreTransportMessages}
 use Rattle.noise_duel.specs.Forgery.{contents, PrefixOrForgedMessage}
-use Rattle.noise_names.specs.Lists.{cons-same, same-or}
 
 pub transport_message-same : (r : History) (writer : Role) (interval n : ℕ) (x y : List ℕ) → transport_message r writer interval n x ≡ transport_message r writer interval n y → x ≡ y
 transport_message-same r writer interval n x y e = sealed-same (rekeyed_times (renewals interval n) (split_key r writer)) (nonce_of n) [] x y e

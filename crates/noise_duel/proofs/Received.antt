@@ -1,26 +1,11 @@
 -- Bytes that come to an end piece by piece, and what is reported of them.
-use Rattle.std.proofs.Common.{◌≡◌, ℕ, zero, suc, Bool, false, ◌==◌, IfSome, ◌+◌, ◌<◌, ◌≤◌, List, ◌∷◌, ◌++◌, length, drop, Option, Some, None, refl, ap, sym, subst, ◌∙◌, arith, append_assoc, append-nil, length-append, []}
-use Rattle.noise_names.specs.declared.token.Role.{Role}
-use Rattle.noise_keys.specs.declared.keys.Own.{Own}
-use Rattle.noise_session.specs.Frames.{IsPartial}
-use Rattle.noise_session.specs.Steps.{StepValue}
+use Rattle.std.proofs.Common.{rules, ◌≡◌, ℕ, zero, suc, Bool, false, ◌==◌, IfSome, ◌+◌, ◌<◌, ◌≤◌, List, ◌∷◌, ◌++◌, length, drop, Option, Some, None, refl, ap, sym, subst, ◌∙◌, arith, append_assoc, append-nil, length-append, []}
+use Rattle.noise_duel.proofs.Common.{Role, Own, IsPartial, StepValue, EndState, EndValue, EndMatches, progress_of, Takes, notes_of, step_of, Note, Left, left_note, held_note, noted_by, Side, SideReceives, is_idle, step_note, left_of, note_of_left, AreLeft, HasReceivedSome, HasStopped}
 use Rattle.noise_session.specs.Steps.StepValue.{Ended, YourTurn, Silent}
-use Rattle.noise_session.specs.Ends.{EndState, EndValue, EndMatches, progress_of}
-use Rattle.noise_session.specs.Taking.{Takes}
 use Rattle.noise_duel.specs.declared.entry.Entry.{Entry}
 use Rattle.noise_duel.specs.declared.entry.Idle.{Idle}
-use Rattle.noise_duel.specs.Entries.{note_of, notes_of, step_of}
-use Rattle.noise_duel.specs.Notes.{Note, Left, left_note, held_note, noted_by}
-use Rattle.noise_duel.specs.Sides.{Side}
-use Rattle.noise_duel.specs.Runs.{SideReceives}
-use Rattle.noise_duel.specs.Runs.SideReceives.{is_idle}
 use Rattle.noise_duel.specs.OneEnd.{HasReceived}
-use Rattle.noise_duel.specs.Receiving.{step_note, left_of, note_of_left, AreLeft, HasReceivedSome, HasStopped}
 use Rattle.noise_duel.proofs.Linking.{receives-nothing, takes-taken, takes-none, is-idle}
-
-pub notes_of-append : (es fs : List (Role × Entry)) → notes_of (es ++ fs) ≡ notes_of es ++ notes_of fs
-notes_of-append [] fs = refl
-notes_of-append (e ∷ es) fs = ap (λ (ns : List (Role × Note)). (e.0, note_of e.1) ∷ ns) (notes_of-append es fs)
 
 noted_by-append : (role : Role) (ms ns : List Note) → noted_by role (ms ++ ns) ≡ noted_by role ms ++ noted_by role ns
 noted_by-append role [] ns = refl
@@ -29,9 +14,7 @@ noted_by-append role (m ∷ ms) ns = ap (λ (xs : List (Role × Note)). (role, m
 -- one thing reported after another
 pub reported-more : (role : Role) (before between after : List (Role × Entry)) (notes more : List Note) → notes_of between ≡ notes_of before ++ noted_by role notes
     → notes_of after ≡ notes_of between ++ noted_by role more → notes_of after ≡ notes_of before ++ noted_by role (notes ++ more)
-reported-more role before between after notes more e f =
-    f ∙ ap (λ (ns : List (Role × Note)). ns ++ noted_by role more) e ∙ append_assoc (notes_of before) (noted_by role notes) (noted_by role more)
-    ∙ ap (λ (ns : List (Role × Note)). notes_of before ++ ns) (sym (noted_by-append role notes more))
+reported-more role before between after notes more e f = search (rules, append_assoc, noted_by-append)
 
 left-some : (step : StepValue) (n : ℕ) → 0 < n → left_note step n ≡ Left step n ∷ []
 left-some step zero some = absurd (omega arith)
@@ -57,17 +40,6 @@ pub left_of-most : (step : StepValue) (left : Option (Idle × ℕ)) (n most : �
 left_of-most step left n most e h = subst (λ (o : Option (Idle × ℕ)). IfSome o (λ l. l.1 ≤ most)) (sym e) (most-left step n most h)
 
 module _ {K : Type 0} (public_of : K → Own → Option (List ℕ)) (agreement : K → Own → List ℕ → Option (List ℕ)) where
-  pub received-none : (s : Side) (role : Role) (bytes : List ℕ) (end : EndValue K) (entries : List (Role × Entry)) → EndMatches public_of agreement end s.state
-      → HasReceivedSome public_of agreement s role bytes bytes end entries entries
-  received-none s role bytes end entries matches = record {
-    next = s;
-    notes = [];
-    goes_on = λ beyond more last r. r;
-    matches = matches;
-    frames = refl;
-    reported = sym (append-nil (notes_of entries));
-  }
-
   -- a take more
   pub received-more : (s : Side) (role : Role) (bytes rest left : List ℕ) (end then : EndValue K) (before between after : List (Role × Entry))
       (n : ℕ) (step : StepValue) (h : HasReceivedSome public_of agreement s role bytes rest end before between) → left ≡ drop n rest
@@ -80,10 +52,7 @@ module _ {K : Type 0} (public_of : K → Own → Option (List ℕ)) (agreement :
       record {
         next = t.after;
         notes = h.notes ++ step_note step;
-        goes_on = λ beyond more last r.
-            subst (λ (ns : List Note). SideReceives s (bytes ++ beyond) ns last) (sym (append_assoc h.notes (step_note step) more))
-            (h.goes_on beyond (step_note step ++ more) last
-            (t.goes_on beyond more last (subst (λ (xs : List ℕ). SideReceives t.after (xs ++ beyond) more last) is r)));
+        goes_on = search (rules, append_assoc);
         matches = subst (λ (v : EndState). EndMatches public_of agreement then v) (sym t.state) w.2;
         frames = t.frames ∙ h.frames;
         reported = reported-more role before between after h.notes (step_note step) h.reported reported;
@@ -101,16 +70,8 @@ module _ {K : Type 0} (public_of : K → Own → Option (List ℕ)) (agreement :
       let i = is-idle (progress_of h.next.state) step t.0 in
       record {
         rest = rest;
-        some = record {
-          next = h.next;
-          notes = h.notes;
-          goes_on = h.goes_on;
-          matches = subst (λ (v : EndState). EndMatches public_of agreement then v) t.1 w.2;
-          frames = h.frames;
-          reported = h.reported;
-        };
-        rest_is = subst (λ (l : Option (Idle × ℕ)). AreLeft h.next rest l) (sym (found ∙ i.left (length rest)))
-            (t.0 ∙ ap (λ (x : StepValue). Some x) (sym i.is), some, refl);
+        some = search rules;
+        rest_is = search rules;
       }
 
   -- bytes of a piece more, with all after it
@@ -176,15 +137,12 @@ module _ {K : Type 0} (public_of : K → Own → Option (List ℕ)) (agreement :
       let next = h.some.next in
       let notes = h.some.notes in
       let rest = left-received next h.rest left h.rest_is (subst (λ (partial : List ℕ). IsPartial partial) h.some.matches.partial partial) in
-      let all : SideReceives s (bytes ++ []) (notes ++ note_of_left left) next =
-      h.some.goes_on [] (note_of_left left) next (subst (λ (xs : List ℕ). SideReceives next xs (note_of_left left) next) (sym (append-nil h.rest)) rest) in
+      let all : SideReceives s (bytes ++ []) (notes ++ note_of_left left) next = search rules in
       record {
         next = next;
         notes = notes ++ note_of_left left;
         receives = subst (λ (xs : List ℕ). SideReceives s xs (notes ++ note_of_left left) next) (append-nil bytes) all;
         matches = h.some.matches;
         frames = h.some.frames;
-        reported = reported-more role before reported after (notes ++ note_of_left left) (held_note (length next.state.partial))
-            (reported-more role before between reported notes (note_of_left left) h.some.reported e)
-            (f ∙ ap (λ (k : ℕ). notes_of reported ++ noted_by role (held_note k)) (is ∙ ap length h.some.matches.partial));
+        reported = search (rules, reported-more);
       }

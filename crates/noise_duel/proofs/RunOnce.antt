@@ -1,30 +1,13 @@
 -- A run is determined: of two ends and a list of events one list of notes and one pair of ends comes.
-use Rattle.std.proofs.Common.{◌≡◌, ℕ, ◌<◌, List, ◌∷◌, ◌++◌, length, refl, ap, sym, subst, ◌∙◌, arith, Some, slice_get, []}
-use Rattle.std.specs.Prelude.{Err, Result, IsTrue}
-use Rattle.noise_names.specs.declared.token.Role.{Role}
-use Rattle.noise_names.specs.Tokens.{other}
-use Rattle.noise_session.specs.declared.faults.SendFault.{SendFault}
-use Rattle.noise_session.specs.Frames.{IsPartial}
-use Rattle.noise_session.specs.Steps.{StepValue}
+use Rattle.std.proofs.Common.{rules, ◌≡◌, ℕ, ◌<◌, List, ◌∷◌, ◌++◌, length, refl, ap, sym, subst, ◌∙◌, arith}
+use Rattle.std.specs.Prelude.{Err, Result}
+use Rattle.noise_duel.proofs.Common.{IsTrue, Role, other, SendFault, IsPartial, StepValue, is_open, progress_of, accepted, LawsBelow, Side, Sides, wrote_transport, accepted_transport, Event, Note, Judged, SideWrites, SideReads, SideReceives, Happens, Run, GivesNoPayload, RunOnce, writes_nothing, writes_handshake, writes_transport, accepts_handshake, accepts_transport, refuses_message, is_idle, waits, reads_frame, writes, says_nothing, says, delivers, misses, injects, frame-whole, frame-same}
 use Rattle.noise_session.specs.Steps.StepValue.{Payload}
-use Rattle.noise_session.specs.Progress.{is_open}
-use Rattle.noise_session.specs.Ends.{progress_of}
-use Rattle.noise_session.specs.Taking.Judges.{accepted, opened}
-use Rattle.noise_duel.specs.Below.{LawsBelow}
-use Rattle.noise_duel.specs.Sides.{Side, Sides, side, with_side, with_state, wrote_handshake, accepted_handshake, wrote_transport, accepted_transport}
-use Rattle.noise_events.specs.Events.{Event}
-use Rattle.noise_duel.specs.Notes.{Note, Wrote, WriteFault, Judged, left_note, held_note, noted_by}
-use Rattle.noise_duel.specs.Runs.{SideWrites, SideReads, SideReceives, Happens, Run, GivesNoPayload, RunOnce}
-use Rattle.noise_duel.specs.Runs.SideWrites.{writes_nothing, writes_handshake, writes_transport}
-use Rattle.noise_duel.specs.Runs.SideReads.{accepts_handshake, accepts_transport, refuses_message}
-use Rattle.noise_duel.specs.Runs.SideReceives.{is_idle, waits, reads_frame}
-use Rattle.noise_duel.specs.Runs.Happens.{writes, says_nothing, says, delivers, misses, injects}
+use Rattle.noise_session.specs.Taking.Judges.{opened}
 use Rattle.noise_duel.specs.Runs.Run.{ends, begins}
-use Rattle.noise_session.specs.Framing.{frame-whole, frame-same}
 use Rattle.noise_duel.proofs.Invariant.{all-passed}
 use Rattle.noise_duel.proofs.Prefixes.{transport_message-same}
 use Rattle.noise_duel.proofs.Lines.{writes-no-fault}
-use Rattle.std.proofs.lemmas.Option.{same_Some}
 
 abbrev refused_with : SendFault → Result (List ℕ) SendFault
 refused_with why = Err why
@@ -39,18 +22,11 @@ module _ (laws : LawsBelow) where
 
   -- a message is read in one way
   reads-once : (s x y : Side) (m : List ℕ) (a b : StepValue) → SideReads s m a x → SideReads s m b y → (a ≡ b) × (x ≡ y)
-  reads-once s x y m a b (accepts_handshake _ _ p xs h) (accepts_handshake _ _ q ys k) =
-      let one = laws.accepted_once s.state.party m xs ys p q h k in (
-        ap Payload one.1,
-        ap (λ (zs : List (List ℕ)). accepted_handshake s (record { message = m; carried = zs; payload = p })) one.0
-            ∙ ap (λ (r : List ℕ). accepted_handshake s (record { message = m; carried = ys; payload = r })) one.1,
-      )
-  reads-once s x y m a b (accepts_handshake _ _ p xs h) (accepts_transport _ _ q due low is) =
-      let more = h.listens.more in let all = all-passed s.state due in absurd (omega arith)
+  reads-once s x y m a b (accepts_handshake _ _ p xs h) (accepts_handshake _ _ q ys k) = search rules
+  reads-once s x y m a b (accepts_handshake _ _ p xs h) (accepts_transport _ _ q due low is) = search rules
   reads-once s x y m a b (accepts_handshake _ _ p xs h) (refuses_message _ _ _ next bad j) =
       absurd (subst GivesNoPayload (sym (laws.judged_once s.state _ next m (Payload p) b (accepted s.state m p xs h) j).0) bad)
-  reads-once s x y m a b (accepts_transport _ _ p due low is) (accepts_handshake _ _ q ys k) =
-      let more = k.listens.more in let all = all-passed s.state due in absurd (omega arith)
+  reads-once s x y m a b (accepts_transport _ _ p due low is) (accepts_handshake _ _ q ys k) = search rules
   reads-once s x y m a b (accepts_transport _ _ p due low is) (accepts_transport _ _ q d l be) =
       let same : p ≡ q = transport_message-same s.state.party.history (other s.state.party.role) s.state.interval s.state.received p q (sym is ∙ be) in
       (ap Payload same, ap (λ (z : List ℕ). accepted_transport s (record { message = m; payload = z })) same)
@@ -60,26 +36,18 @@ module _ (laws : LawsBelow) where
       absurd (subst GivesNoPayload (laws.judged_once s.state next _ m a (Payload q) j (accepted s.state m q ys k)).0 bad)
   reads-once s x y m a b (refuses_message _ _ _ next bad j) (accepts_transport _ _ q d l be) =
       absurd (subst GivesNoPayload (laws.judged_once s.state next _ m a (Payload q) j (opened s.state m q d l be)).0 bad)
-  reads-once s x y m a b (refuses_message _ _ _ next bad j) (refuses_message _ _ _ after worse k) =
-      let one = laws.judged_once s.state next after m a b j k in (one.0, ap (with_state s) one.1)
+  reads-once s x y m a b (refuses_message _ _ _ next bad j) (refuses_message _ _ _ after worse k) = search rules
 
   -- a payload is written in one way
   writes-once : (s x y : Side) (payload : List ℕ) (a b : Note) → SideWrites s payload a x → SideWrites s payload b y → (a ≡ b) × (x ≡ y)
-  writes-once s x y payload a b (writes_nothing _ _ why next h) (writes_nothing _ _ other_why after k) =
-      let one = laws.sent_once s.state next after payload (Err why) (Err other_why) h k in
-      (ap WriteFault (err-same why other_why one.0), ap (with_state s) one.1)
+  writes-once s x y payload a b (writes_nothing _ _ why next h) (writes_nothing _ _ other_why after k) = search rules
   writes-once s x y payload a b (writes_nothing _ _ why next h) (writes_handshake _ m _ ys e w) =
       absurd (writes-no-fault s x payload why e (λ k l. laws.not_lacking s.state.party payload m ys k w l) (writes_nothing s payload why next h))
   writes-once s x y payload a b (writes_nothing _ _ why next h) (writes_transport _ m _ e due is) =
       absurd (writes-no-fault s x payload why e (λ k l. not-due s due l.speaks.more) (writes_nothing s payload why next h))
   writes-once s x y payload a b (writes_handshake _ m _ xs e w) (writes_nothing _ _ why next h) =
       absurd (writes-no-fault s y payload why e (λ k l. laws.not_lacking s.state.party payload m xs k w l) (writes_nothing s payload why next h))
-  writes-once s x y payload a b (writes_handshake _ m _ xs e w) (writes_handshake _ n _ ys f z) =
-      let one = laws.written_once s.state.party payload m n xs ys w z in (
-        refl,
-        ap (λ (zs : List (List ℕ)). wrote_handshake s (record { message = m; carried = zs; payload = payload })) one.0
-            ∙ ap (λ (r : List ℕ). wrote_handshake s (record { message = r; carried = ys; payload = payload })) one.1,
-      )
+  writes-once s x y payload a b (writes_handshake _ m _ xs e w) (writes_handshake _ n _ ys f z) = search rules
   writes-once s x y payload a b (writes_handshake _ m _ xs e w) (writes_transport _ n _ f due is) = absurd (not-due s due w.speaks.more)
   writes-once s x y payload a b (writes_transport _ m _ e due is) (writes_nothing _ _ why next h) =
       absurd (writes-no-fault s y payload why e (λ k l. not-due s due l.speaks.more) (writes_nothing s payload why next h))
@@ -89,8 +57,7 @@ module _ (laws : LawsBelow) where
 
   -- bytes are received in one way
   receives-once : (s x y : Side) (bytes : List ℕ) (ms ns : List Note) → SideReceives s bytes ms x → SideReceives s bytes ns y → (ms ≡ ns) × (x ≡ y)
-  receives-once s x y bytes ms ns (is_idle _ _ step e) (is_idle _ _ other_step f) =
-      (ap (λ (z : StepValue). left_note z (length bytes)) (same_Some step other_step (sym e ∙ f)), refl)
+  receives-once s x y bytes ms ns (is_idle _ _ step e) (is_idle _ _ other_step f) = search
   receives-once s x y bytes ms ns (is_idle _ _ step e) (waits _ _ f partial) = cc
   receives-once s x y bytes ms ns (is_idle _ _ step e) (reads_frame _ _ _ _ m rest _ more f is short reads on) = cc
   receives-once s x y bytes ms ns (waits _ _ e partial) (is_idle _ _ step f) = cc
@@ -104,50 +71,22 @@ module _ (laws : LawsBelow) where
       (reads_frame _ after _ _ n left reported rest_notes f be small judges later) =
       let same = frame-same m n rest left short small (sym is ∙ be) in
       let one = reads-once s next after m step reported reads (subst (λ (z : List ℕ). SideReads s z reported after) (sym same.0) judges) in
-      let on_from : SideReceives next rest rest_notes y =
-      subst (λ (z : List ℕ). SideReceives next z rest_notes y) (sym same.1) (subst (λ (z : Side). SideReceives z left rest_notes y) (sym one.1) later) in
+      let on_from : SideReceives next rest rest_notes y = search rules in
       let two = receives-once next x y rest more rest_notes on on_from in
       (ap (λ (z : StepValue). Judged z ∷ more) one.0 ∙ ap (λ (zs : List Note). Judged reported ∷ zs) two.0, two.1)
 
-  -- what is noted of bytes, with what is held after them
-  abbrev all_noted : Role → List Note → Side → List (Role × Note)
-  all_noted role notes s = noted_by role (notes ++ held_note (length s.state.partial))
-
-  all-noted-same : (role : Role) (ms ns : List Note) (s t : Side) → ms ≡ ns → s ≡ t → all_noted role ms s ≡ all_noted role ns t
-  all-noted-same role ms ns s t e f = cc
-
   -- one event
   happens-once : (d x y : Sides) (event : Event) (ms ns : List (Role × Note)) → Happens d event ms x → Happens d event ns y → (ms ≡ ns) × (x ≡ y)
-  happens-once d x y event ms ns (writes _ role payload note next h) (writes _ _ _ other_note after k) =
-      let one = writes-once (side d role) next after payload note other_note h k in
-      (ap (λ (z : Note). (role, z) ∷ []) one.0, ap (with_side d role) one.1)
-  happens-once d x y event ms ns (says_nothing _ role payload why next h) (says_nothing _ _ _ other_why after k) =
-      let one = writes-once (side d role) next after payload (WriteFault why) (WriteFault other_why) h k in
-      (ap (λ (z : Note). (role, z) ∷ []) one.0, ap (with_side d role) one.1)
-  happens-once d x y event ms ns (says_nothing _ role payload why next h) (says _ _ _ bytes n notes after heard k at receives) =
-      cc ((writes-once (side d role) next after payload (WriteFault why) (Wrote n) h k).0)
-  happens-once d x y event ms ns (says _ role payload bytes n notes next heard h at receives) (says_nothing _ _ _ why after k) =
-      cc ((writes-once (side d role) after next payload (WriteFault why) (Wrote n) k h).0)
+  happens-once d x y event ms ns (writes _ role payload note next h) (writes _ _ _ other_note after k) = search (rules, writes-once)
+  happens-once d x y event ms ns (says_nothing _ role payload why next h) (says_nothing _ _ _ other_why after k) = search (rules, writes-once)
+  happens-once d x y event ms ns (says_nothing _ role payload why next h) (says _ _ _ bytes n notes after heard k at receives) = search (rules, writes-once)
+  happens-once d x y event ms ns (says _ role payload bytes n notes next heard h at receives) (says_nothing _ _ _ why after k) = search (rules, writes-once)
   happens-once d x y event ms ns (says _ role payload bytes n notes next heard h at receives) (says _ _ _ others k more after hears w from gets) =
-      let one = writes-once (side d role) next after payload (Wrote n) (Wrote k) h w in
-      let number : n ≡ k = cc (one.0) in
-      let there : slice_get next.frames n ≡ Some others = ap (slice_get next.frames) number ∙ ap (λ (z : Side). slice_get z.frames k) one.1 ∙ from in
-      let same : bytes ≡ others = same_Some bytes others (sym at ∙ there) in
-      let two = receives-once (side d (other role)) heard hears bytes notes more receives
-      (subst (λ (z : List ℕ). SideReceives (side d (other role)) z more hears) (sym same) gets) in (
-        ap (λ (z : ℕ). (role, Wrote z) ∷ all_noted (other role) notes heard) number
-            ∙ ap (λ (zs : List (Role × Note)). (role, Wrote k) ∷ zs) (all-noted-same (other role) notes more heard hears two.0 two.1),
-        ap (λ (z : Side). with_side (with_side d role z) (other role) heard) one.1 ∙ ap (with_side (with_side d role after) (other role)) two.1,
-      )
+      search (rules, writes-once, receives-once)
   happens-once d x y event ms ns (delivers _ role n bytes notes heard at receives) (delivers _ _ _ others more hears from gets) =
-      let same : bytes ≡ others = same_Some bytes others (sym at ∙ from) in
-      let two = receives-once (side d role) heard hears bytes notes more receives
-      (subst (λ (z : List ℕ). SideReceives (side d role) z more hears) (sym same) gets) in
-      (all-noted-same role notes more heard hears two.0 two.1, ap (with_side d role) two.1)
+      search (rules, receives-once)
   happens-once d x y event ms ns (misses _ role n none) (misses _ _ _ missing) = (refl, refl)
-  happens-once d x y event ms ns (injects _ role bytes notes heard receives) (injects _ _ _ more hears gets) =
-      let two = receives-once (side d role) heard hears bytes notes more receives gets in
-      (all-noted-same role notes more heard hears two.0 two.1, ap (with_side d role) two.1)
+  happens-once d x y event ms ns (injects _ role bytes notes heard receives) (injects _ _ _ more hears gets) = search (rules, receives-once)
   happens-once d x y event ms ns (delivers _ role n bytes notes heard at receives) (misses _ _ _ none) = cc
   happens-once d x y event ms ns (misses _ role n none) (delivers _ _ _ bytes notes heard at receives) = cc
 

@@ -1,23 +1,8 @@
 -- Two parties that are set up alike have their parts of one key material.
-use Rattle.std.proofs.Common.{◌≡◌, ℕ, List, length, refl, ap, sym, ◌∙◌, []}
-use Rattle.std.specs.Prelude.{true, Option, Some, None, is_some, unwrap_or}
-use Rattle.noise_names.specs.declared.token.Role.{Role}
-use Rattle.noise_names.specs.declared.token.Role.TheVariants.{Initiator, Responder}
-use Rattle.noise_names.specs.declared.token.Token.{Token}
-use Rattle.noise_names.specs.declared.token.Token.TheVariants.{E, S}
-use Rattle.noise_names.specs.Plan.{Plan, places_of}
-use Rattle.noise_names.specs.Validity.{is_among, occurs, IsValid}
-use Rattle.noise_keys.specs.declared.keys.Own.{Own}
-use Rattle.noise_keys.specs.declared.keys.Own.TheVariants.{Ephemeral, Static}
-use Rattle.noise_handshake.specs.declared.remote.Remote.{Remote}
-use Rattle.noise_handshake.specs.Party.{dh_result_of, own_at, remote_at}
-use Rattle.noise_handshake.specs.Setup.{has_before, public_keys, token_of}
-use Rattle.noise_handshake.specs.Counterparts.{is_dh, DhResultsAgree}
-use Rattle.noise_duel.specs.Below.{LawsBelow}
+use Rattle.std.proofs.Common.{rules, ◌≡◌, ℕ, List, length, refl, ap, sym, ◌∙◌, []}
+use Rattle.std.specs.Prelude.{true, Option, Some, None}
+use Rattle.noise_duel.proofs.Common.{is_some, unwrap_or, Role, Initiator, Responder, Token, E, S, Plan, places_of, is_among, occurs, IsValid, Own, Ephemeral, Static, Remote, dh_result_of, own_at, remote_at, has_before, public_keys, token_of, is_dh, DhResultsAgree, LawsBelow, Start, IsSetUp, KeyMaterial, IsPart, public_keys_in}
 use Rattle.noise_handshake.specs.RemoteKeys.{remote-own}
-use Rattle.noise_duel.specs.Messages.{Start}
-use Rattle.noise_duel.specs.Agreement.{IsSetUp}
-use Rattle.noise_duel.specs.Conversation.{KeyMaterial, IsPart, public_keys_in}
 use Rattle.noise_duel.specs.SetUpAlike.{AreSetUpAlike, HasLongKeys, HasDhResults, AlikeAreParts, material_of, absent_key, public_key_or_zeros}
 use Rattle.noise_duel.proofs.Parts.{if-same}
 
@@ -37,10 +22,7 @@ set-own laws p role s h x k = laws.set_own p role s.own s.remote (length s.psks)
 dh-results-same : (agree their_agree : Own → List ℕ → Option (List ℕ)) (x y : Own) (mine theirs : Option (List ℕ))
     → ((k l r s : List ℕ) → mine ≡ Some k → theirs ≡ Some l → agree x l ≡ Some r → their_agree y k ≡ Some s → r ≡ s)
     → is_some (dh_result_of agree x theirs) ≡ true → is_some (dh_result_of their_agree y mine) ≡ true → dh_result_of agree x theirs ≡ dh_result_of their_agree y mine
-dh-results-same agree their_agree x y (Some k) (Some l) f g h =
-    let r = there-is (agree x l) [] g in
-    let s = there-is (their_agree y k) [] h in
-    r ∙ ap Some (f k l (unwrap_or (agree x l) []) (unwrap_or (their_agree y k) []) refl refl r s) ∙ sym s
+dh-results-same agree their_agree x y (Some k) (Some l) f g h = search rules
 dh-results-same agree their_agree x y _ _ f g h = cc
 
 abbrev true-key : (s : Start) → Own → List ℕ
@@ -73,19 +55,11 @@ module _ (laws : LawsBelow) (p : Plan) (prologue : List ℕ) (a b : Start) (vali
 
   dh-results-a : (t : Token) → is_dh t ≡ true → occurs t (places_of p) ≡ true
       → dh_result_of a.agree (own_at Initiator t) (remote_at Initiator (public_keys_in material Responder) t) ≡ Some (unwrap_or (dh-result-at t) [])
-  dh-results-a t d h =
-      ap (dh_result_of a.agree (own_at Initiator t))
-      (remote-own Initiator (λ x. Some (true-key b x)) t ∙ sym (own-b (own_at Responder t) (laws.dh_key_is_among p Responder t valid d h))
-      ∙ sym (remote-own Initiator b.own t))
-      ∙ there-is (dh-result-at t) [] (dh_results t d h).0
+  dh-results-a t d h = search (rules, there-is)
 
   dh-results-b : (t : Token) → is_dh t ≡ true → occurs t (places_of p) ≡ true
       → dh_result_of b.agree (own_at Responder t) (remote_at Responder (public_keys_in material Initiator) t) ≡ Some (unwrap_or (dh-result-at t) [])
-  dh-results-b t d h =
-      ap (dh_result_of b.agree (own_at Responder t))
-      (remote-own Responder (λ x. Some (true-key a x)) t ∙ sym (own-a (own_at Initiator t) (laws.dh_key_is_among p Initiator t valid d h))
-      ∙ sym (remote-own Responder a.own t))
-      ∙ sym (meets t d h) ∙ there-is (dh-result-at t) [] (dh_results t d h).0
+  dh-results-b t d h = search (rules, meets, there-is)
 
   part-a : IsPart material p Initiator prologue a
   part-a = record {
@@ -116,8 +90,4 @@ module _ (laws : LawsBelow) (p : Plan) (prologue : List ℕ) (a b : Start) (vali
   long-in f g Responder k = long-or (b.own k) (g k)
 
 pub alike-are-parts : LawsBelow → AlikeAreParts
-alike-are-parts laws p prologue a b valid alike f g dh_results = record {
-  long = long-in laws p prologue a b valid alike dh_results f g;
-  initiator = part-a laws p prologue a b valid alike dh_results;
-  responder = part-b laws p prologue a b valid alike dh_results;
-}
+alike-are-parts laws p prologue a b valid alike f g dh_results = search (long-in, part-a, part-b)

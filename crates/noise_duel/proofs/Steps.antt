@@ -1,38 +1,14 @@
 -- A message from one end to the other one, which listens: in the handshake, and in transport.
-use Rattle.std.proofs.Common.{◌≡◌, ◌≢◌, ℕ, ◌+◌, ◌<◌, ◌≤◌, List, ◌∷◌, length, refl, ap, sym, subst, ◌∙◌, arith, None, []}
-use Rattle.std.proofs.lemmas.Bool.Decides.{nat_tests}
-use Rattle.std.specs.Prelude.{Bool, true, false, ◌&&◌, ◌==◌, nat_lt, IsTrue, is_some}
-use Rattle.noise_names.specs.declared.token.Role.{Role}
-use Rattle.noise_names.specs.declared.token.Role.TheVariants.{Initiator, Responder}
-use Rattle.noise_names.specs.Tokens.{other, same_role, turn_from}
-use Rattle.noise_names.specs.Plan.{is_one_way}
-use Rattle.noise_names.specs.Overhead.{has_key, overhead_of}
-use Rattle.noise_names.specs.Validity.{IsValid}
-use Rattle.noise_state.specs.History.{History, cipher_key, rekeyed_times}
-use Rattle.noise_handshake.specs.Passed.{passed_places}
-use Rattle.noise_handshake.specs.Party.{Party, Accepts, Listens, Speaks}
-use Rattle.noise_handshake.specs.Writing.{Writes}
-use Rattle.noise_handshake.specs.Matching.{after_own, after_message}
-use Rattle.noise_handshake.specs.Counterparts.{Counterparts, IsEquipped}
+use Rattle.std.proofs.Common.{rules, ◌≡◌, ◌≢◌, ℕ, ◌+◌, ◌<◌, ◌≤◌, List, ◌∷◌, length, refl, ap, sym, subst, ◌∙◌, arith, None, []}
+use Rattle.std.specs.Prelude.{true, false, ◌&&◌, ◌==◌}
+use Rattle.noise_duel.proofs.Common.{nat_tests, nat_lt, IsTrue, is_some, Role, Initiator, Responder, other, same_role, turn_from, is_one_way, has_key, overhead_of, IsValid, cipher_key, rekeyed_times, passed_places, Party, Accepts, Listens, Speaks, Writes, after_own, after_message, Counterparts, IsEquipped, SendFault, frame, transport_message, last_nonce, renewals, split_key, Progress, is_open, idle_step, refusal, Handshaking, LawsBelow, EndState, progress_of, Side, wrote_handshake, accepted_handshake, wrote_transport, accepted_transport, Note, Wrote, WriteFault, Judged, SideWrites, SideReceives, writes_handshake, writes_transport, accepts_handshake, accepts_transport, same_role-self}
 use Rattle.noise_aead.specs.Sealing.{nonce_of}
 use Rattle.noise_aead.specs.Sealed.{length-sealed}
-use Rattle.noise_session.specs.declared.faults.SendFault.{SendFault}
-use Rattle.noise_session.specs.Frames.{frame}
-use Rattle.noise_session.specs.Transport.{transport_message, last_nonce, renewals, split_key}
 use Rattle.noise_session.specs.Steps.StepValue.{Payload}
-use Rattle.noise_session.specs.Progress.{Progress, is_open, idle_step, refusal}
-use Rattle.noise_session.specs.Progress.Progress.{Handshaking, Open}
-use Rattle.noise_duel.specs.Below.{LawsBelow}
-use Rattle.noise_session.specs.Ends.{EndState, progress_of}
-use Rattle.noise_duel.specs.Sides.{Side, wrote_handshake, accepted_handshake, wrote_transport, accepted_transport}
-use Rattle.noise_duel.specs.Notes.{Note, Wrote, WriteFault, Judged}
-use Rattle.noise_duel.specs.Runs.{SideWrites, SideReceives}
-use Rattle.noise_duel.specs.Runs.SideWrites.{writes_handshake, writes_transport}
-use Rattle.noise_duel.specs.Runs.SideReads.{accepts_handshake, accepts_transport}
+use Rattle.noise_session.specs.Progress.Progress.{Open}
 use Rattle.noise_duel.proofs.Invariant.{all-passed}
 use Rattle.noise_duel.proofs.Lines.{writes-no-fault, writes-message, writes-transport_message, reads-message, reads-transport_message, receives-one, receives-can}
 use Rattle.std.proofs.lemmas.Bool.{eq-eqb}
-use Rattle.noise_names.specs.Roles.{same_role-self, same_role-other}
 
 -- ---- no refusal, and not idle
 
@@ -66,8 +42,7 @@ speaks-unrefused s n h room =
 
 -- one whose turn it isn't listens
 listens-now : (t : EndState) → Listens t.party → idle_step (progress_of t) ≡ None
-listens-now t h =
-    ap idle_step (handshaking t h.going h.more) ∙ rw (ap (λ (r : Role). same_role r t.party.role) h.turn ∙ same_role-other t.party.role) refl
+listens-now t h = search rules
 
 -- ---- a handshake message
 
@@ -133,15 +108,6 @@ below-too a n b h k = omega (arith, h, k)
 pub not-both : Responder ≡ Initiator → ⊥
 not-both e = let bad : true ≡ false = ap (λ (r : Role). same_role r Responder) e in cc
 
--- an open end that may write isn't refused, and one that may read listens
-open-unrefused : (role : Role) (one_way : Bool) (sent received n : ℕ) → (one_way && same_role role Responder) ≡ false → n + 16 ≤ 65535 → sent < last_nonce
-    → refusal (Open role one_way sent received) n ≡ None
-open-unrefused role one_way sent received n free room low = rw (free, in-room (n + 16) room, below sent last_nonce low) refl
-
-open-listens : (role : Role) (one_way : Bool) (sent received : ℕ) → (one_way && same_role role Initiator) ≡ false
-    → idle_step (Open role one_way sent received) ≡ None
-open-listens role one_way sent received free = rw free refl
-
 pub step-transport : (s t : Side) (payload : List ℕ) → s.state.party.passed ≡ length s.state.party.pattern.messages
     → t.state.party.passed ≡ length t.state.party.pattern.messages
     → (is_one_way s.state.party.pattern && same_role s.state.party.role Responder) ≡ false
@@ -157,16 +123,9 @@ step-transport s t payload all all_t ones onet going going_t short low count his
     let et : is_open (progress_of t.state) ≡ true = ap is_open q in
     let key : List ℕ = rekeyed_times (renewals s.state.interval s.state.sent) (split_key s.state.party.history s.state.party.role) in
     let m : List ℕ = transport_message s.state.party.history s.state.party.role s.state.interval s.state.sent payload in
-    let free : refusal (progress_of s.state) (length payload) ≡ None =
-    ap (λ (x : Progress). refusal x (length payload)) p
-    ∙ open-unrefused s.state.party.role (is_one_way s.state.party.pattern) s.state.sent s.state.received (length payload) ones (omega (arith, short)) low in
-    let idle : idle_step (progress_of t.state) ≡ None =
-    ap idle_step q ∙ open-listens t.state.party.role (is_one_way t.state.party.pattern) t.state.sent t.state.received onet in
-    let is : m ≡ transport_message t.state.party.history (other t.state.party.role) t.state.interval t.state.received payload =
-    ap (λ (r : History). transport_message r s.state.party.role s.state.interval s.state.sent payload) (sym history)
-    ∙ ap (λ (r : Role). transport_message t.state.party.history r s.state.interval s.state.sent payload) (sym role)
-    ∙ ap (λ (k : ℕ). transport_message t.state.party.history (other t.state.party.role) k s.state.sent payload) (sym interval)
-    ∙ ap (λ (k : ℕ). transport_message t.state.party.history (other t.state.party.role) t.state.interval k payload) (sym count) in
+    let free : refusal (progress_of s.state) (length payload) ≡ None = search rules in
+    let idle : idle_step (progress_of t.state) ≡ None = search in
+    let is : m ≡ transport_message t.state.party.history (other t.state.party.role) t.state.interval t.state.received payload = search in
     let size : length m ≡ length payload + 16 = length-sealed key (nonce_of s.state.sent) [] payload in
     let below_last : t.state.received ≢ last_nonce = apart t.state.received last_nonce (subst (λ (k : ℕ). k < last_nonce) (sym count) low) in
     record {

@@ -1,38 +1,13 @@
 -- Lines in turn between two parties with their parts of one key material come through.
-use Rattle.std.proofs.Common.{◌≡◌, ℕ, zero, suc, ◌+◌, ◌-◌, ◌<◌, ◌≤◌, List, ◌∷◌, ◌++◌, length, take, drop, map, count_by, refl, ap, sym, subst, ◌∙◌, arith, append-nil, append_assoc, Some, None, []}
-use Rattle.std.specs.Prelude.{Bool, true, false, nat_lt, IsTrue, Option, if◌then◌else◌, MatchBool, unwrap_or}
-use Rattle.noise_names.specs.declared.token.Role.{Role}
-use Rattle.noise_names.specs.declared.token.Role.TheVariants.{Initiator, Responder}
-use Rattle.noise_names.specs.declared.token.Token.{Token}
-use Rattle.noise_names.specs.declared.token.Token.TheVariants.{E, S, Ee, Es, Se, Ss, Psk}
-use Rattle.noise_names.specs.Tokens.{other, same_role, turn_from, is_psk}
-use Rattle.noise_names.specs.Plan.{Plan, places_of, has_psk, is_one_way}
-use Rattle.noise_names.specs.Overhead.{overhead_of}
-use Rattle.noise_names.specs.Validity.{is_among, IsValid}
+use Rattle.std.proofs.Common.{rules, ◌≡◌, ℕ, zero, suc, ◌+◌, ◌-◌, ◌<◌, ◌≤◌, List, ◌∷◌, ◌++◌, length, take, drop, map, count_by, refl, ap, sym, subst, ◌∙◌, arith, append-nil, append_assoc, Some, None, []}
+use Rattle.std.specs.Prelude.{Bool, true, false, Option, if◌then◌else◌}
+use Rattle.noise_duel.proofs.Common.{nat_lt, IsTrue, MatchBool, unwrap_or, Role, Initiator, Responder, Token, E, S, Ee, Es, Se, Ss, Psk, other, same_role, turn_from, is_psk, Plan, places_of, has_psk, is_one_way, overhead_of, is_among, IsValid, name_bytes, History, MixHash, and_then, Own, Ephemeral, Static, Remote, with_ephemeral, Party, tokens_now, with_premessage, has_before, has_token, token_of, party_at_start, public_keys, Counterparts, shown_before, LawsBelow, last_nonce, HandshakeMessage, Start, begun_as, messages_of, TransportMessage, Side, Sides, side, with_side, wrote_handshake, accepted_handshake, wrote_transport, accepted_transport, Say, Note, Wrote, Judged, Happens, Run, KeyMaterial, conversation, after_conversation, public_keys_in, start_in, IsPart, InTurn, notes_of_lines, say_events, sides_at_start, in_turn, transport_messages_of, frames_by, payloads_in, LinesComeThrough, LinesRun, ltb-true, ltb-false}
 use Rattle.noise_names.specs.Limits.{IsPattern}
-use Rattle.noise_names.specs.Names.{name_bytes}
-use Rattle.noise_state.specs.History.{History, MixHash, and_then}
-use Rattle.noise_keys.specs.declared.keys.Own.{Own}
-use Rattle.noise_keys.specs.declared.keys.Own.TheVariants.{Ephemeral, Static}
-use Rattle.noise_handshake.specs.declared.remote.Remote.{Remote}
-use Rattle.noise_handshake.specs.Message.{with_ephemeral}
-use Rattle.noise_handshake.specs.Party.{Party, tokens_now, with_premessage}
-use Rattle.noise_handshake.specs.Setup.{has_before, has_token, token_of, party_at_start, public_keys}
-use Rattle.noise_handshake.specs.Counterparts.{Counterparts, shown_before}
-use Rattle.noise_duel.specs.Below.{LawsBelow}
-use Rattle.noise_session.specs.Transport.{last_nonce}
 use Rattle.noise_session.specs.Steps.StepValue.{Payload}
-use Rattle.noise_duel.specs.Messages.{HandshakeMessage, Start, begun_as, messages_of}
-use Rattle.noise_duel.specs.Sides.{TransportMessage, Side, Sides, side, with_side, wrote_handshake, accepted_handshake, wrote_transport, accepted_transport}
-use Rattle.noise_events.specs.Events.{Say}
-use Rattle.noise_duel.specs.Notes.{Note, Wrote, Judged}
-use Rattle.noise_duel.specs.Runs.{Happens, Run}
 use Rattle.noise_duel.specs.Runs.Run.{ends, begins}
-use Rattle.noise_duel.specs.Conversation.{KeyMaterial, conversation, after_conversation, public_keys_in, start_in, IsPart, InTurn, notes_of_lines, say_events, sides_at_start, in_turn, transport_messages_of, frames_by, payloads_in, LinesComeThrough, LinesRun}
-use Rattle.noise_duel.proofs.Parts.{HasMaterial, dh-results-agree, if-same}
+use Rattle.noise_duel.proofs.Parts.{HasMaterial, dh-results-agree}
 use Rattle.noise_duel.proofs.Lines.{say-can}
 use Rattle.noise_duel.proofs.EquallyFar.{EquallyFar, due_of, after_due, handshake_message, HandshakeLine, handshake-at, handshake-line, with_payload, TransportLine, transport-at, transport-line}
-use Rattle.std.proofs.lemmas.Bool.{ltb-true, ltb-false}
 
 -- ---- all lines
 
@@ -53,16 +28,8 @@ noted-on : (role : Role) (payload : List ℕ) (d next : Sides) (now later : List
     (length d.responder.frames) lines
     else (Responder, Wrote (length d.responder.frames)) ∷ (Initiator, Judged (Payload payload)) ∷ notes_of_lines (length d.initiator.frames)
     (length d.responder.frames + 1) lines)
-noted-on Initiator payload d next now later lines e f g h =
-    ap (λ (ns : List (Role × Note)). ns ++ later) e
-    ∙ ap (λ (ns : List (Role × Note)). (Initiator, Wrote (length d.initiator.frames)) ∷ (Responder, Judged (Payload payload)) ∷ ns)
-    (h ∙ ap (λ (i : ℕ). notes_of_lines i (length next.responder.frames) lines) f
-    ∙ ap (λ (fs : List (List ℕ)). notes_of_lines (length d.initiator.frames + 1) (length fs) lines) g)
-noted-on Responder payload d next now later lines e f g h =
-    ap (λ (ns : List (Role × Note)). ns ++ later) e
-    ∙ ap (λ (ns : List (Role × Note)). (Responder, Wrote (length d.responder.frames)) ∷ (Initiator, Judged (Payload payload)) ∷ ns)
-    (h ∙ ap (λ (i : ℕ). notes_of_lines (length next.initiator.frames) i lines) f
-    ∙ ap (λ (fs : List (List ℕ)). notes_of_lines (length fs) (length d.responder.frames + 1) lines) g)
+noted-on Initiator payload d next now later lines e f g h = search
+noted-on Responder payload d next now later lines e f g h = search
 
 module _ (laws : LawsBelow) (w : KeyMaterial) where
   -- the messages and the history from a party's state on
@@ -266,9 +233,6 @@ module _ (laws : LawsBelow) (w : KeyMaterial) (long : (role : Role) (k : Own) �
 
 -- ---- the start
 
-abbrev keyed_by : Option (List ℕ) → Option (List ℕ) → Remote
-keyed_by x y = record { e = x; s = y }
-
 none-left : (n : ℕ) → n ≤ 0 → 0 ≡ n
 none-left n h = omega (arith, h)
 
@@ -298,22 +262,10 @@ module _ (laws : LawsBelow) (w : KeyMaterial) (p : Plan) (prologue : List ℕ) (
   before-own party x h = laws.before_is_among p party (token_of x) h
 
   remote_a : a.remote ≡ shown_before p Responder b.own
-  remote_a =
-      ap (λ (o : Option (List ℕ)). keyed_by o a.remote.s)
-      (i.remote_e ∙ if-same (has_before p Responder E) (Some (w.public Responder Ephemeral)) (b.own Ephemeral)
-      (λ h. sym (j.own Ephemeral (before-own Responder Ephemeral h))))
-      ∙ ap (λ (o : Option (List ℕ)). keyed_by (if has_before p Responder E then b.own Ephemeral else None) o)
-      (i.remote_s ∙ if-same (has_before p Responder S) (Some (w.public Responder Static)) (b.own Static)
-      (λ h. sym (j.own Static (before-own Responder Static h))))
+  remote_a = search rules
 
   remote_b : b.remote ≡ shown_before p Initiator a.own
-  remote_b =
-      ap (λ (o : Option (List ℕ)). keyed_by o b.remote.s)
-      (j.remote_e ∙ if-same (has_before p Initiator E) (Some (w.public Initiator Ephemeral)) (a.own Ephemeral)
-      (λ h. sym (i.own Ephemeral (before-own Initiator Ephemeral h))))
-      ∙ ap (λ (o : Option (List ℕ)). keyed_by (if has_before p Initiator E then a.own Ephemeral else None) o)
-      (j.remote_s ∙ if-same (has_before p Initiator S) (Some (w.public Initiator Static)) (a.own Static)
-      (λ h. sym (i.own Static (before-own Initiator Static h))))
+  remote_b = search rules
 
   mine_in : HasMaterial w p Initiator a.own a.agree
   mine_in = record { keys = i.own; dh_results = i.dh_results }
@@ -390,14 +342,7 @@ lines-come-through laws w p prologue a b interval lines notes d parts turns run 
         history = c.history ∙ after-same laws w p p 0 0 a.psks w.psks v.history (start_in w p prologue) (payloads_in (length p.messages - 0) lines)
             (payloads_in (length p.messages) lines) refl refl i.psks (start-is laws w p prologue a b i j) all;
         count = omega (arith, c.count, ap length all);
-        ends = record {
-          parties = c.equally_far.counterparts;
-          interval = c.equally_far.interval;
-          there = c.equally_far.came_there;
-          back = c.equally_far.came_back;
-          partial = c.equally_far.partial;
-          partial_there = c.equally_far.partial_there;
-        };
+        ends = search;
         there = c.equally_far.there;
         back = c.equally_far.back;
       },

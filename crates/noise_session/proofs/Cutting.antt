@@ -1,18 +1,7 @@
 -- Where a piece is cut makes no difference.
-use Rattle.std.proofs.Common.{◌≡◌, ℕ, ◌+◌, List, ◌++◌, length, Bool, true, false, ◌&&◌, Some, None, if◌then◌else◌, refl, sym, ◌∙◌, ap, subst, arith}
-use Rattle.std.proofs.Common.{append_assoc, length-append}
-use Rattle.noise_session.specs.Frames.{IsPartial}
-use Rattle.noise_session.specs.Steps.{StepValue}
-use Rattle.noise_session.specs.Steps.StepValue.{YourTurn, Silent, More}
-use Rattle.noise_names.specs.declared.token.Role.TheVariants.{Initiator}
-use Rattle.noise_names.specs.Tokens.{same_role}
-use Rattle.noise_handshake.specs.HandshakeValue.{is_turn}
-use Rattle.noise_session.specs.Progress.{Progress, idle_step}
-use Rattle.noise_session.specs.Progress.Progress.{Handshaking, Open, HasEnded}
-use Rattle.noise_session.specs.Ends.{EndState, progress_of}
-use Rattle.noise_session.specs.Taking.{Judges, Takes}
-use Rattle.noise_session.specs.Taking.Judges.{accepted, refused, opened, dropped, exhausted}
-use Rattle.noise_session.specs.Taking.Takes.{idles, waits, judges}
+use Rattle.std.proofs.Common.{rules, ◌≡◌, ℕ, ◌+◌, List, ◌++◌, length, Bool, true, false, ◌&&◌, Some, None, if◌then◌else◌, refl, sym, ◌∙◌, ap, subst, arith, append_assoc, length-append}
+use Rattle.noise_session.proofs.Common.{IsPartial, StepValue, YourTurn, Silent, More, Initiator, same_role, is_turn, Progress, idle_step, Handshaking, Open, HasEnded, EndState, progress_of, Judges, Takes, accepted, dropped, exhausted, idles, waits, judges}
+use Rattle.noise_session.specs.Taking.Judges.{refused, opened}
 
 -- the state with a piece after what it holds
 abbrev holding : EndState → List ℕ → EndState
@@ -67,6 +56,4 @@ after v y a b n s listens (judges _ _ _ message rest _ _ still is short count j)
 
 -- what comes of a second part, after a first that wasn't a whole frame, comes of both in one piece
 pub takes-joined : (v x y : EndState) (a b : List ℕ) (n : ℕ) (s : StepValue) → Takes v a (length a) More x → Takes x b n s y → Takes v (a ++ b) (length a + n) s y
-takes-joined v x y a b n s first second =
-    let partial = waited v x a (length a) More refl first in
-    after v y a b n s partial.0 (subst (λ (u : EndState). Takes u b n s y) partial.2 second)
+takes-joined v x y a b n s first second = search (rules, waited, after)

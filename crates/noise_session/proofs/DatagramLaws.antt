@@ -1,28 +1,17 @@
 -- Each nonce is opened once, and what is sealed is opened.
-use Rattle.std.proofs.Common.{◌≡◌, ◌≢◌, ℕ, ◌+◌, ◌≤◌, ◌<◌, ◌^◌, Bool, true, false, List, [], ◌++◌, length, Option, Some, None, Ok, Err}
-use Rattle.std.proofs.Common.{refl, sym, ◌∙◌, ap, subst, arith, eqb, eq-eqb, MatchOption}
-use Rattle.std.specs.Prelude.{◌&&◌, ◌==◌, nat_lt, nat_le, if◌then◌else◌}
-use Rattle.std.specs.Int.{w64, to_be_bytes}
-use Rattle.std.proofs.lemmas.Bool.{false≢true, or_left, or_right, ne_eqb, ltb-false, leb-false, le-ltb}
+use Rattle.std.proofs.Common.{rules, ◌≡◌, ◌≢◌, ℕ, ◌+◌, ◌≤◌, ◌<◌, ◌^◌, Bool, true, false, List, [], ◌++◌, length, Option, Some, None, Ok, Err, refl, sym, ◌∙◌, ap, subst, arith, eqb, MatchOption}
+use Rattle.std.specs.Prelude.{◌&&◌, ◌==◌, nat_lt, if◌then◌else◌}
 use Rattle.std.proofs.lemmas.Nat.{from_be_bytes-to_be_bytes_8}
-use Rattle.noise_names.specs.declared.token.Role.{Role}
-use Rattle.noise_names.specs.declared.token.Role.TheVariants.{Initiator, Responder}
-use Rattle.noise_names.specs.Tokens.{other, same_role}
-use Rattle.noise_aead.specs.Sealing.{nonce_of}
+use Rattle.noise_session.proofs.Common.{nat_le, w64, to_be_bytes, false≢true, or_right, ne_eqb, ltb-false, leb-false, le-ltb, Role, Initiator, Responder, other, same_role, nonce_of, History, SendFault, transport_key, transport_message, last_nonce, is_accepted, window_fault, DatagramState, Opens, Runs, AreOnce, AreParties, IsSealed, datagram, nonce_named, accepting, unsealed, datagram_fault}
 use Rattle.noise_aead.specs.Sealed.{length-sealed}
-use Rattle.noise_state.specs.History.{History}
-use Rattle.noise_session.specs.declared.faults.SendFault.{SendFault}
-use Rattle.noise_session.specs.declared.faults.SendFault.TheVariants as send
 use Rattle.noise_session.specs.declared.datagram_fault.DatagramFault.{DatagramFault}
-use Rattle.noise_session.specs.declared.datagram_fault.DatagramFault.TheVariants as fault
-use Rattle.noise_session.specs.Transport.{transport_key, transport_message, last_nonce}
-use Rattle.noise_session.specs.Windows.{is_accepted, window_fault}
-use Rattle.noise_session.specs.Datagrams.{DatagramState, Opens, Runs, AreOnce, AreParties, IsSealed, datagram, nonce_named, accepting, unsealed, datagram_fault}
 use Rattle.noise_session.specs.Datagrams.Opens.{opened, refused, forged}
 use Rattle.noise_session.specs.Datagrams.Runs.{ends, seals, opens, refuses}
 use Rattle.noise_session.specs.DatagramFaults.{fault-free, no-fault}
 use Rattle.noise_names.specs.Roles.{other-other}
 use Rattle.noise_session.proofs.Counterparts.{heard-there}
+use Rattle.noise_session.specs.declared.faults.SendFault.TheVariants as send
+use Rattle.noise_session.specs.declared.datagram_fault.DatagramFault.TheVariants as fault
 
 -- ---- once
 opened-as : (v : DatagramState) (bytes payload : List ℕ) (w : DatagramState) → Opens v bytes (Ok payload) w
@@ -48,12 +37,7 @@ not-again v w nonces (refuses _ x _ bytes _ why o r) n there =
 pub once : (v w : DatagramState) (nonces : List ℕ) → Runs v nonces w → AreOnce nonces
 once v w nonces (ends _) = tt
 once v w nonces (seals _ _ _ r) = once (record v { sent = v.sent + 1 }) w nonces r
-once v w nonces (opens _ x _ bytes payload rest o r) =
-    let is = opened-as v bytes payload x o in
-    let set = ap (λ (u : DatagramState). is_accepted u.accepted (nonce_named bytes)) is.1 in
-    let n = nonce_named bytes in
-    let here = or_left (eqb n n) (is_accepted v.accepted n) (eq-eqb n n refl) in
-    (not-again x w rest r n (set ∙ here), once x w rest r)
+once v w nonces (opens _ x _ bytes payload rest o r) = search (rules, opened-as, not-again, (once x w rest r))
 once v w nonces (refuses _ x _ bytes _ why o r) = once x w nonces r
 
 -- ---- sealed and opened

@@ -1,21 +1,10 @@
 -- A message is judged as an open transport judges it.
-use Rattle.std.proofs.Common.{◌≡◌, ◌≢◌, ℕ, ◌-◌, ◌==◌, ◌&&◌, nat_lt, ◌+◌, List, [], length, take, Bool, true, false, Option, Some, None, Result, Ok}
-use Rattle.std.proofs.Common.{Err, MatchOption, IfErr, if◌then◌else◌, refl, sym, ◌∙◌, ap, subst, arith}
-use Rattle.std.specs.Prelude.{⊤, slice_range}
-use Rattle.noise_names.specs.declared.token.Role.TheVariants.{Initiator}
-use Rattle.noise_names.specs.Tokens.{same_role}
-use Rattle.noise_handshake.specs.declared.faults.Cause.{Cause}
+use Rattle.std.proofs.Common.{◌≡◌, ◌≢◌, ℕ, ◌-◌, ◌==◌, ◌&&◌, nat_lt, ◌+◌, List, [], length, take, Bool, true, false, Option, Some, None, Result, Ok, Err, MatchOption, IfErr, if◌then◌else◌, refl, sym, ◌∙◌, ap, subst, arith}
+use Rattle.noise_session.proofs.Common.{⊤, slice_range, Initiator, same_role, Cause, OpenFault, Payload, Dropped, Exhausted, last_nonce, TransportValue, open_fault, unopened_fault, due_message, EndState, OpenMatches, EndedMatches, transport_in, ended_session, Judges, dropped, exhausted, eqb-true, eqb-false}
 use Rattle.noise_handshake.specs.declared.faults.Cause.TheVariants.{Short, Tag}
-use Rattle.noise_session.specs.declared.faults.OpenFault.{OpenFault}
-use Rattle.noise_session.specs.declared.faults.OpenFault.TheVariants as unopened
-use Rattle.noise_session.specs.Steps.StepValue.{Payload, Dropped, Exhausted}
-use Rattle.noise_session.specs.Transport.{last_nonce}
-use Rattle.noise_session.specs.TransportValue.{TransportValue, open_fault, unopened_fault, due_message}
-use Rattle.noise_session.specs.Ends.{EndState, OpenMatches, EndedMatches, transport_in, ended_session}
-use Rattle.noise_session.specs.Taking.{Judges}
-use Rattle.noise_session.specs.Taking.Judges.{opened, dropped, exhausted}
+use Rattle.noise_session.specs.Taking.Judges.{opened}
 use Rattle.noise_session.proofs.Parties.{is-open, whole-hash}
-use Rattle.std.proofs.lemmas.Bool.{eqb-true, eqb-false}
+use Rattle.noise_session.specs.declared.faults.OpenFault.TheVariants as unopened
 
 -- what a result reports of the fault that comes before any message is looked at
 abbrev tested : Bool → Bool → Option OpenFault
@@ -91,9 +80,4 @@ module _ (t : TransportValue) (v : EndState) (s : OpenMatches t v) (message : Li
       (sym s.transport.receiver.nonce ∙ eqb-true t.receive_nonce last_nonce (reported-exhausted silent last (length message) fault))
 
   pub ended-open : EndedMatches t.role (Some t.hash) (ended_session v)
-  ended-open =
-      record {
-        ended = refl;
-        role = s.transport.sender.role;
-        hash = ap (λ (h : List ℕ). Some h) s.transport.hash ∙ sym (whole-hash v s.all);
-      }
+  ended-open = search whole-hash

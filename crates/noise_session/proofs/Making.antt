@@ -1,14 +1,9 @@
 -- Why a payload isn't written, by the faults of a handshake and of a transport.
-use Rattle.std.proofs.Common.{◌≡◌, ℕ, ◌==◌, nat_lt, List, length, Bool, true, false, not, ◌&&◌, Option, Some, None, Result, Ok, Err, MatchOption}
-use Rattle.std.proofs.Common.{IfErr, IsOk, if◌then◌else◌, refl}
-use Rattle.std.specs.Prelude.{⊤}
+use Rattle.std.proofs.Common.{◌≡◌, ℕ, ◌==◌, nat_lt, List, length, Bool, true, false, not, ◌&&◌, Option, Some, None, Result, Ok, Err, MatchOption, IfErr, IsOk, if◌then◌else◌, refl}
+use Rattle.noise_session.proofs.Common.{⊤, HandshakeValue, is_turn, write_fault, length_now, IsAgreement, SendFault, Progress, refusal, Handshaking}
 use Rattle.noise_handshake.specs.declared.faults.WriteFault.{WriteFault}
 use Rattle.noise_handshake.specs.declared.faults.WriteFault.TheVariants as write
-use Rattle.noise_handshake.specs.HandshakeValue.{HandshakeValue, is_turn, write_fault, length_now, IsAgreement}
-use Rattle.noise_session.specs.declared.faults.SendFault.{SendFault}
 use Rattle.noise_session.specs.declared.faults.SendFault.TheVariants as fault
-use Rattle.noise_session.specs.Progress.{Progress, refusal}
-use Rattle.noise_session.specs.Progress.Progress.{Handshaking}
 
 -- why no message is written now, by what is asked, at a handshake and at an end
 abbrev asked : Bool → Bool → Bool → Bool → Option WriteFault

@@ -1,19 +1,7 @@
 -- A piece gives one step at an end.
-use Rattle.std.proofs.Common.{◌≡◌, ℕ, List, [], length, refl, sym, ◌∙◌, ap, subst, arith}
-use Rattle.noise_names.specs.declared.token.Role.{Role}
-use Rattle.noise_names.specs.Tokens.{other}
-use Rattle.noise_state.specs.History.{History}
-use Rattle.noise_handshake.specs.declared.faults.Cause.{Cause}
-use Rattle.noise_handshake.specs.Party.{Party, Accepts, Refuses}
-use Rattle.noise_handshake.specs.Matching.{after_message}
-use Rattle.noise_session.specs.Frames.{IsPartial}
-use Rattle.noise_session.specs.Transport.{transport_message}
-use Rattle.noise_session.specs.Steps.{StepValue}
-use Rattle.noise_session.specs.Steps.StepValue.{Payload, Refused}
-use Rattle.noise_session.specs.Ends.{EndState}
-use Rattle.noise_session.specs.Taking.{Judges, Takes}
-use Rattle.noise_session.specs.Taking.Judges.{accepted, refused, opened, dropped, exhausted}
-use Rattle.noise_session.specs.Taking.Takes.{idles, waits, judges}
+use Rattle.std.proofs.Common.{rules, ◌≡◌, ℕ, List, length, refl, sym, ◌∙◌, ap, subst, arith}
+use Rattle.noise_session.proofs.Common.{Role, other, History, Cause, Party, Accepts, Refuses, IsPartial, transport_message, StepValue, Payload, Refused, EndState, Judges, Takes, accepted, dropped, exhausted, idles, waits, judges}
+use Rattle.noise_session.specs.Taking.Judges.{refused, opened}
 use Rattle.noise_session.specs.Framing.{frame-whole, frame-same}
 use Rattle.noise_session.proofs.Parties.{closed-yet}
 
@@ -23,12 +11,7 @@ module _ (accepted-one : (v : Party) (message : List ℕ) (xs ys : List (List �
     (apart : (v : Party) (message : List ℕ) (xs : List (List ℕ)) (p : List ℕ) (k : ℕ) (c : Cause) → Accepts v message xs p → Refuses v message k c → ⊥)
     (transport_message-one : (r : History) (writer : Role) (interval n : ℕ) (p q : List ℕ) → transport_message r writer interval n p ≡ transport_message r writer interval n q → p ≡ q) where
   pub judged-once : (v x y : EndState) (m : List ℕ) (s t : StepValue) → Judges v m s x → Judges v m t y → (s ≡ t) × (x ≡ y)
-  judged-once v x y m s t (accepted _ _ p xs a) (accepted _ _ q ys b) =
-      let one = accepted-one v.party m xs ys p q a b in (
-        ap Payload one.1,
-        ap (λ (zs : List (List ℕ)). record v { party = after_message v.party zs p; partial = [] }) one.0
-            ∙ ap (λ (r : List ℕ). record v { party = after_message v.party ys r; partial = [] }) one.1,
-      )
+  judged-once v x y m s t (accepted _ _ p xs a) (accepted _ _ q ys b) = search rules
   judged-once v x y m s t (accepted _ _ p xs a) (refused _ _ k c b) = absurd (apart v.party m xs p k c a b)
   judged-once v x y m s t (accepted _ _ p xs a) (opened _ _ q opens low is) = absurd (closed-yet v a.listens.more opens)
   judged-once v x y m s t (accepted _ _ p xs a) (dropped _ _ opens low never) = absurd (closed-yet v a.listens.more opens)

@@ -1,35 +1,19 @@
 -- How far an end has come, by the state that it matches.
-use Rattle.std.proofs.Common.{◌≡◌, ◌≢◌, ℕ, ◌==◌, ◌<◌, ◌≤◌, nat_lt, List, length, Bool, true, false, Option, Some, None, IsTrue}
-use Rattle.std.proofs.Common.{if◌then◌else◌, refl, sym, ◌∙◌, ap, subst, arith}
-use Rattle.std.proofs.lemmas.Bool.Decides.{nat_tests}
-use Rattle.noise_names.specs.declared.token.Role.{Role}
+use Rattle.std.proofs.Common.{rules, ◌≡◌, ◌≢◌, ℕ, ◌==◌, ◌<◌, ◌≤◌, nat_lt, List, length, Bool, true, false, Option, Some, None, IsTrue, if◌then◌else◌, refl, sym, ◌∙◌, ap, subst, arith}
+use Rattle.noise_session.proofs.Common.{nat_tests, Role, hash, Phase, is_open, idle_step, refusal, StepValue, SendFault, HandshakeValue, Handshaking, Open, HasEnded, EndValue, EndState, EndMatches, IsReportedBy, PhaseMatches, HandshakeMatches, OpenMatches, hash_in, progress_in, progress_of, remote_static_in, session_hash, session_remote_static, ended_session, TransportValue, eqb-true, ne_eqb}
 use Rattle.noise_names.specs.Plan.{Plan, is_one_way}
-use Rattle.noise_state.specs.History.{hash}
 use Rattle.noise_keys.specs.declared.keys.Own.{Own}
-use Rattle.noise_session.specs.declared.phase.Phase.{Phase}
-use Rattle.noise_session.specs.declared.phase.Phase.TheVariants as phase
-use Rattle.noise_session.specs.Progress.{Progress, is_open, idle_step, refusal}
-use Rattle.noise_session.specs.Steps.{StepValue}
-use Rattle.noise_session.specs.declared.faults.SendFault.{SendFault}
-use Rattle.noise_handshake.specs.HandshakeValue.{HandshakeValue}
-use Rattle.noise_session.specs.Progress.Progress.{Handshaking, Open, HasEnded}
-use Rattle.noise_session.specs.Ends.{EndValue, EndState, EndMatches, IsReportedBy, PhaseMatches, HandshakeMatches, OpenMatches, hash_in, progress_in, progress_of}
-use Rattle.noise_session.specs.Ends.{remote_static_in, session_hash, session_remote_static, ended_session}
 use Rattle.noise_session.specs.inner.Phases.{ended_in}
-use Rattle.noise_session.specs.TransportValue.{TransportValue}
-use Rattle.std.proofs.lemmas.Bool.{eqb-true, eq-eqb, ne_eqb}
+use Rattle.std.proofs.lemmas.Bool.{eq-eqb}
+use Rattle.noise_session.specs.declared.phase.Phase.TheVariants as phase
 
 pub progress-handshaking : (v : EndState) → v.party.ended ≡ false → v.party.passed ≢ length v.party.pattern.messages
     → progress_of v ≡ Handshaking v.party.pattern v.party.role v.party.passed
-progress-handshaking v going more =
-    let test = ne_eqb v.party.passed (length v.party.pattern.messages) more in
-    rw (going, test) refl
+progress-handshaking v going more = search rules
 
 pub progress-open : (v : EndState) → v.party.ended ≡ false → v.party.passed ≡ length v.party.pattern.messages
     → progress_of v ≡ Open v.party.role (is_one_way v.party.pattern) v.sent v.received
-progress-open v going all =
-    let test = eq-eqb v.party.passed (length v.party.pattern.messages) all in
-    rw (going, test) refl
+progress-open v going all = search rules
 
 pub progress-ended_session : (v : EndState) → v.party.ended ≡ true → progress_of v ≡ HasEnded v.party.role
 progress-ended_session v ended_party = rw ended_party refl
@@ -61,19 +45,10 @@ open-passed v opens =
 pub closed-yet : (v : EndState) → v.party.passed < length v.party.pattern.messages → IsTrue (is_open (progress_of v)) → ⊥
 closed-yet v more opens = let all = open-passed v opens in omega arith
 
-open-fields : (a b : Role) (x y : Bool) (m n i j : ℕ) → a ≡ b → x ≡ y → m ≡ n → i ≡ j → Open a x m i ≡ Open b y n j
-open-fields a b x y m n i j e f g h = cc
-
 module _ {K : Type 0} (public_of : K → Own → Option (List ℕ)) (agreement : K → Own → List ℕ → Option (List ℕ)) where
   pub phase-progress : (p : Phase K) (v : EndState) → PhaseMatches public_of agreement p v → progress_in p ≡ progress_of v
-  phase-progress (phase.Handshaking h every) v s =
-      let is : Handshaking h.pattern h.role h.passed ≡ Handshaking v.party.pattern v.party.role v.party.passed =
-      rw (s.party.pattern, s.party.role, s.party.passed) refl in
-      is ∙ sym (progress-handshaking v s.going s.more)
-  phase-progress (phase.Open t) v s =
-      open-fields t.role v.party.role t.one_way (is_one_way v.party.pattern) t.send_nonce v.sent t.receive_nonce v.received s.transport.sender.role
-      s.transport.sender.one_way s.transport.sender.nonce s.transport.receiver.nonce
-      ∙ sym (progress-open v s.going s.all)
+  phase-progress (phase.Handshaking h every) v s = search progress-handshaking
+  phase-progress (phase.Open t) v s = search progress-open
   phase-progress (phase.Ended role reported) v s = ap HasEnded s.role ∙ sym (progress-ended_session v s.ended)
 
   -- its step where it takes no bytes now
@@ -92,8 +67,7 @@ module _ {K : Type 0} (public_of : K → Own → Option (List ℕ)) (agreement :
   -- why nothing is written in this phase
   pub refused-by : (p q : Phase K) (v : EndState) (n : ℕ) (why : Option SendFault) → PhaseMatches public_of agreement p v → p ≡ q
       → refusal (progress_in q) n ≡ why → refusal (progress_of v) n ≡ why
-  refused-by p q v n why s is e =
-      ap (λ (x : Progress). refusal x n) (sym (phase-progress p v s)) ∙ ap (λ (x : Phase K). refusal (progress_in x) n) is ∙ e
+  refused-by p q v n why s is e = search rules
 
   -- its hash, and the other party's static key
   phase-hash : (p : Phase K) (v : EndState) → PhaseMatches public_of agreement p v → hash_in p ≡ session_hash v
@@ -107,26 +81,19 @@ module _ {K : Type 0} (public_of : K → Own → Option (List ℕ)) (agreement :
   phase-remote (phase.Ended role reported) v s = rw s.ended refl
 
   pub end-reported : (e : EndValue K) (v : EndState) → EndMatches public_of agreement e v → IsReportedBy v e
-  end-reported e v s = record {
-    progress = phase-progress e.phase v s.phase;
-    hash = phase-hash e.phase v s.phase;
-    remote_static = phase-remote e.phase v s.phase;
-    partial = s.partial;
-  }
+  end-reported e v s = search (phase-progress, phase-hash, phase-remote)
 
   -- what is held of a frame doesn't count
   pub phase-partial : (p : Phase K) (v : EndState) (partial : List ℕ) → PhaseMatches public_of agreement p v
       → PhaseMatches public_of agreement p (record v { partial = partial })
-  phase-partial (phase.Handshaking h every) v partial s =
-      record { party = s.party; interval = s.interval; going = s.going; more = s.more; sent = s.sent; received = s.received }
+  phase-partial (phase.Handshaking h every) v partial s = search
   phase-partial (phase.Open t) v partial s = record { going = s.going; all = s.all; transport = s.transport }
   phase-partial (phase.Ended role reported) v partial s = record { ended = s.ended; role = s.role; hash = s.hash }
 
   -- what is left of it where the session ends
   pub phase-ended : (p : Phase K) (v : EndState) → PhaseMatches public_of agreement p v → PhaseMatches public_of agreement (ended_in p) (ended_session v)
   phase-ended (phase.Handshaking h every) v s = record { ended = refl; role = s.party.role; hash = sym (no-hash v s.more) }
-  phase-ended (phase.Open t) v s =
-      record { ended = refl; role = s.transport.sender.role; hash = ap (λ (h : List ℕ). Some h) s.transport.hash ∙ sym (whole-hash v s.all) }
+  phase-ended (phase.Open t) v s = search whole-hash
   phase-ended (phase.Ended role reported) v s = record { ended = refl; role = s.role; hash = s.hash }
 
 pub not-long : (n : ℕ) → nat_lt 65535 n ≡ false → n ≤ 65535

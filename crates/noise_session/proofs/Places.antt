@@ -1,19 +1,14 @@
 -- Parts of a buffer.
-use Rattle.std.proofs.Common.{◌≡◌, ℕ, ◌+◌, ◌-◌, ◌≤◌, List, ◌++◌, length, take, drop, arith, rules, refl, sym, ◌∙◌, ap}
-use Rattle.std.proofs.Common.{length-drop, length-append}
-use Rattle.std.proofs.lemmas.List.{take-append-drop, places, same_lists, drop_at, drop-drop, take_rest, length-take-le, nil_from_length, append-nil}
-use borrow.Rule.Slice.PartMut.{put_mid}
+use Rattle.std.proofs.Common.{◌≡◌, ℕ, ◌+◌, ◌-◌, ◌≤◌, List, ◌++◌, length, take, drop, arith, rules, refl, ◌∙◌, ap, length-drop, length-append}
+use Rattle.std.proofs.lemmas.List.{append-nil}
+use Rattle.noise_session.proofs.Common.{take-append-drop, places, same_lists, drop_at, drop-drop, take_rest, length-take-le, nil_from_length, put_mid, frame, reported_in, MatchesIn, Payload, slice_range}
 use Rattle.noise_session.specs.declared.step.Step.{Step}
-use Rattle.noise_session.specs.Frames.{frame}
-use Rattle.noise_session.specs.inner.Places.{reported_in, MatchesIn}
-use Rattle.noise_session.specs.Steps.StepValue.{Payload}
-use Rattle.std.specs.Prelude.{slice_range, Result, Ok, Err}
+use Rattle.std.specs.Prelude.{Result, Ok, Err}
 
 -- a part of what follows the first two bytes
 slice_on : (d m post rest : List ℕ) (len from to : ℕ) → 2 ≤ length d → from ≤ to → to ≤ length m → length m + 2 ≤ len
     → slice_range (take len (take 2 d ++ (m ++ post) ++ rest)) (from + 2) (to + 2) ≡ slice_range m from to
-slice_on d m post rest len from to two order within long =
-    same_lists _ _ (search (rules, places)) (λ k e h. grind (arith, places))
+slice_on d m post rest len from to two order within long = search (rules, same_lists, places)
 
 slice-drop : (xs : List ℕ) (from to : ℕ) → slice_range (drop 2 xs) from to ≡ slice_range xs (from + 2) (to + 2)
 slice-drop xs from to =
@@ -23,8 +18,7 @@ slice-drop xs from to =
 
 slice_after : (d m post rest : List ℕ) (len from to : ℕ) → 2 ≤ length d → from ≤ to → to ≤ length m → length m + 2 ≤ len
     → slice_range (drop 2 (take len (take 2 d ++ (m ++ post) ++ rest))) from to ≡ slice_range m from to
-slice_after d m post rest len from to two order within long =
-    slice-drop (take len (take 2 d ++ (m ++ post) ++ rest)) from to ∙ slice_on d m post rest len from to two order within long
+slice_after d m post rest len from to two order within long = search (slice-drop, slice_on)
 
 -- a step by the places of its payload there
 pub reported-after : (d m post rest : List ℕ) (len : ℕ) (o : Result (ℕ × ℕ) Step) → 2 ≤ length d → MatchesIn m o → length m + 2 ≤ len
@@ -38,10 +32,7 @@ drop-front xs k n = same_lists _ _ (search (rules, places)) (λ j e h. grind (ar
 
 -- a buffer whose end was written with what it was
 pub unwritten : (out written : List ℕ) (from : ℕ) → written ≡ take (length out - from) (drop from out) → put_mid from (length out - from) out written ≡ out
-unwritten out written from same =
-    ap (put_mid from (length out - from) out) same
-    ∙ ap (λ (xs : List ℕ). take from out ++ xs) (take-append-drop (length out - from) (drop from out))
-    ∙ take-append-drop from out
+unwritten out written from same = search (rules, take-append-drop)
 
 -- what follows the first bytes of a buffer, all of which was written
 pub after-front : (at : ℕ) (out written : List ℕ) → at ≤ length out → drop at (put_mid at (length out - at) out written) ≡ written
@@ -55,11 +46,7 @@ after-front at out written within =
 module _ (at n k : ℕ) (out written new : List ℕ) (within : at ≤ length out) (whole : k ≡ at + n) where
   pub rest-after : drop at new ≡ drop at (put_mid at (length out - at) out written)
       → drop n written ≡ drop n (take (length out - at) (drop at out)) → drop k new ≡ drop k out
-  rest-after is rest =
-      ap (λ (j : ℕ). drop j new) whole
-      ∙ (sym (drop-drop n at new)
-      ∙ (ap (drop n) (is ∙ after-front at out written within)
-      ∙ (rest ∙ (ap (drop n) (take_rest out at) ∙ (drop-drop n at out ∙ ap (λ (j : ℕ). drop j out) (sym whole))))))
+  rest-after is rest = search (rules, drop-drop, after-front, take_rest)
 
 -- as a frame
 pub framed : (n k : ℕ) (out written new : List ℕ) → 2 ≤ length out
@@ -68,16 +55,8 @@ framed n k out written new two is = is ∙ ap (λ (xs : List ℕ). frame (take n
 
 -- what is left after the first bytes of a buffer holds a message
 pub room-after : (at : ℕ) (out : List ℕ) (m from : ℕ) → at + m ≤ length out → from ≤ at → m ≤ length (take (length out - from) (drop from out))
-room-after at out m from room low =
-    let rest : take (length out - from) (drop from out) ≡ drop from out = take_rest out from in
-    omega (arith, ap length rest, length-drop from out)
+room-after at out m from room low = search (rules, length-drop)
 
 -- what is written after the first bytes leaves room for the whole
 pub room-left : (at n : ℕ) (out written : List ℕ) → at ≤ length out → n ≤ length written → n + at ≤ length (put_mid at (length out - at) out written)
-room-left at n out written some within =
-    omega (
-      arith,
-      length-append (take at out) (written ++ drop (length out - at) (drop at out)),
-      length-append written (drop (length out - at) (drop at out)),
-      length-take-le at out some,
-    )
+room-left at n out written some within = search (rules, length-append)

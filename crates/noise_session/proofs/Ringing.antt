@@ -1,29 +1,14 @@
 -- What a ring of words recalls of the accepted nonces.
-use Rattle.std.proofs.Common.{◌≡◌, ◌≢◌, ℕ, suc, ◌+◌, ◌-◌, ◌*◌, ◌/◌, ◌%◌, ◌^◌, ◌<◌, ◌≤◌, true, false, eqb, leb, List, [], ◌∷◌, length, get_or, set}
-use Rattle.std.proofs.Common.{refl, sym, ◌∙◌, ap, inl, inr, arith, eq-eqb, get_or-set_same, get_or-set_other}
-use Rattle.std.specs.Int.{bit_at, w64}
-use Rattle.std.specs.Prelude.{bit_or}
-use Rattle.std.proofs.Math.Nat.{mul-le-mul_left, mul-suc, div-add-mod}
-use Rattle.std.proofs.lemmas.Bool.{cases_lt, cases_eq, cases_Bool, or_cases, or_left, or_right, eqb-true, leb-true, le-leb, lt-leb, ne_eqb, false≢true}
+use Rattle.std.proofs.Common.{rules, ◌≡◌, ◌≢◌, ℕ, ◌+◌, ◌-◌, ◌*◌, ◌/◌, ◌%◌, ◌^◌, ◌<◌, ◌≤◌, true, false, eqb, leb, List, [], ◌∷◌, length, get_or, set, refl, sym, ◌∙◌, ap, inl, inr, arith, eq-eqb, get_or-set_other}
+use Rattle.std.proofs.Math.Nat.{mul-le-mul_left}
 use Rattle.std.proofs.lemmas.Nat.Bits.{bit_at-zero, bit_at_set_same, bit_at_set_other}
+use Rattle.noise_session.proofs.Common.{bit_at, w64, bit_or, cases_lt, cases_eq, cases_Bool, or_cases, or_left, or_right, eqb-true, leb-true, le-leb, lt-leb, ne_eqb, false≢true, Ring, width_of, bitmap_len, is_accepted, is_old, bit_of, Recalls}
 use Rattle.noise_events.specs.declared.window.Window.{Window}
 use Rattle.noise_events.specs.declared.window.Window.TheVariants.{W64, W256, W1024}
-use Rattle.noise_session.specs.declared.window.Ring.{Ring}
-use Rattle.noise_events.specs.Windows.{width_of}
-use Rattle.noise_session.specs.Windows.{bitmap_len, is_accepted, is_old, bit_of, Recalls}
 
 -- ---- places of blocks
-further : (r a b : ℕ) → a < b → r * a + r ≤ r * b
-further r a b less =
-    let next : suc a ≤ b = omega arith in
-    omega (arith, mul-suc r a, mul-le-mul_left r next)
-
 pub place-apart : (r a b : ℕ) → a < b → b < a + r → a % r ≢ b % r
-place-apart r a b less near same =
-    elim (cases_lt (a / r) (b / r)) [
-      | inl more ↦ omega (arith, further r (a / r) (b / r) more, div-add-mod a r, div-add-mod b r)
-      | inr le ↦ omega (arith, mul-le-mul_left r le, div-add-mod a r, div-add-mod b r)
-    ]
+place-apart r a b less near same = search (rules, mul-le-mul_left)
 
 -- ---- old nonces
 old-witness : (width : ℕ) (accepted : List ℕ) (n : ℕ) → is_old width accepted n ≡ true → (m : ℕ) × (is_accepted accepted m ≡ true) × (n + width ≤ m)
@@ -103,11 +88,7 @@ ready-unchanged r accepted n h not below = record {
 }
 
 beyond : (accepted : List ℕ) (g m : ℕ) → ((k : ℕ) → is_accepted accepted k ≡ true → k ≤ g) → g < m → is_accepted accepted m ≡ false
-beyond accepted g m most more =
-    elim (cases_Bool (is_accepted accepted m)) [
-      | inl there ↦ let low = most m there in absurd (omega arith)
-      | inr none ↦ none
-    ]
+beyond accepted g m most more = search rules
 
 module _ (r : Ring) (accepted : List ℕ) (n : ℕ) (words : List ℕ) where
   pub ready-moved : Recalls r accepted → r.greatest < n
@@ -143,11 +124,7 @@ module _ (r : Ring) (accepted : List ℕ) (n : ℕ) (room : length r.words ≡ 1
 
   same-block : (m : ℕ) → m / 64 ≡ n / 64 → get_or words (m / 64 % bitmap_len r.window) 0 ≡ marked
   unfolding words marked
-  same-block m same =
-      let some = words-some r.window in
-      let within : n / 64 % bitmap_len r.window < length r.words = omega arith in
-      ap (λ (b : ℕ). get_or words (b % bitmap_len r.window) 0) same
-      ∙ get_or-set_same r.words (n / 64 % bitmap_len r.window) marked 0 within
+  same-block m same = search rules
 
   other-block : (m : ℕ) → m / 64 ≢ n / 64 → m / 64 ≤ r.greatest / 64 → r.greatest / 64 < m / 64 + bitmap_len r.window
       → get_or words (m / 64 % bitmap_len r.window) 0 ≡ get_or r.words (m / 64 % bitmap_len r.window) 0

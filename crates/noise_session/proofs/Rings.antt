@@ -1,18 +1,12 @@
 -- Rings that some accepted nonces have, and that a nonce more leaves one.
-use Rattle.std.proofs.Common.{◌≡◌, ◌≢◌, ◌⊎◌, ℕ, zero, suc, ◌+◌, ◌-◌, ◌*◌, ◌/◌, ◌%◌, ◌^◌, ◌<◌, ◌≤◌, min, Bool, true, eqb, ltb}
-use Rattle.std.proofs.Common.{List, [], ◌∷◌, length, get_or, set, drop, refl, sym, ◌∙◌, ap, inl, inr, arith, eq-eqb, get_or-set_same, get_or-set_other}
-use Rattle.std.specs.Prelude.{bit_or, ◌&&◌, ◌||◌}
+use Rattle.std.proofs.Common.{rules, ◌≡◌, ◌≢◌, ◌⊎◌, ℕ, zero, suc, ◌+◌, ◌-◌, ◌*◌, ◌/◌, ◌%◌, ◌^◌, ◌<◌, ◌≤◌, min, Bool, true, eqb, ltb, List, [], ◌∷◌, length, get_or, set, drop, refl, sym, ◌∙◌, ap, inl, inr, arith, get_or-set_same}
+use Rattle.std.specs.Prelude.{◌&&◌}
 use Rattle.std.specs.List.{list_all}
 use Rattle.std.proofs.Math.Nat.{div-eq_of_lt, div_self, mod-eq_of_lt, min-le_left, min-le_right, le-min}
 use Rattle.std.proofs.Math.Pow.{pow-lt}
-use Rattle.std.proofs.lemmas.Bool.{cases_lt, cases_eq, or_cases, or_left, eqb-true, ltb-true, lt-ltb, and_parts, and_from}
-use Rattle.std.proofs.lemmas.List.{drop-drop, drop-set-lt}
-use Rattle.std.proofs.lemmas.Nat.{or_shr, pow_pos, shr-shr}
-use Rattle.noise_session.specs.declared.window.Ring.{Ring}
-use Rattle.noise_events.specs.Windows.{width_of}
-use Rattle.noise_session.specs.Transport.{last_nonce}
-use Rattle.noise_session.specs.Windows.{bitmap_len, top_word, begun_words, ends_at_greatest, is_ring}
-use Rattle.noise_session.proofs.Ringing.{place-apart, width-some, words-some, touched}
+use Rattle.std.proofs.lemmas.Nat.{or_shr, pow_pos}
+use Rattle.noise_session.proofs.Common.{bit_or, ◌||◌, cases_lt, or_cases, eqb-true, ltb-true, and_parts, drop-drop, drop-set-lt, Ring, width_of, last_nonce, bitmap_len, top_word, begun_words, ends_at_greatest, is_ring}
+use Rattle.noise_session.proofs.Ringing.{width-some, words-some}
 
 -- ---- what the test says
 abbrev are_zeros : List ℕ → Bool
@@ -38,13 +32,6 @@ ring-says r e =
     let a = and_parts (ltb r.greatest last_nonce && ends_at_greatest r) (are_zeros (drop (begun_words r) r.words)) e in
     let b = and_parts (ltb r.greatest last_nonce) (ends_at_greatest r) a.0 in
     record { below = ltb-true r.greatest last_nonce b.0; top = top-says (top_word r) r.greatest b.1; beyond = a.1 }
-
-ring-reported : (r : Ring) → r.greatest < last_nonce → top_word r / 2 ^ (r.greatest % 64) ≡ 1 → are_zeros (drop (begun_words r) r.words) ≡ true → is_ring r ≡ true
-ring-reported r low top beyond =
-    and_from (ltb r.greatest last_nonce && ends_at_greatest r) (are_zeros (drop (begun_words r) r.words))
-    (and_from (ltb r.greatest last_nonce) (ends_at_greatest r) (lt-ltb r.greatest last_nonce low)
-    (or_left (eqb (top_word r / 2 ^ (r.greatest % 64)) 1) (eqb r.greatest 0 && eqb (top_word r) 0) (eq-eqb (top_word r / 2 ^ (r.greatest % 64)) 1 top)))
-    beyond
 
 -- ---- words that aren't begun
 zeros-drop : (n : ℕ) (words : List ℕ) → are_zeros words ≡ true → are_zeros (drop n words) ≡ true
@@ -80,11 +67,7 @@ lifted word k g small h =
 
 -- a word has no bit above its highest one
 above : (word j k : ℕ) → j < k → word / 2 ^ j ≡ 1 → word / 2 ^ k ≡ 0
-above word j k less one =
-    ap (λ (m : ℕ). word / 2 ^ m) (omega arith)
-    ∙ sym (shr-shr word j (k - j))
-    ∙ ap (λ (q : ℕ). q / 2 ^ (k - j)) one
-    ∙ div-eq_of_lt (pow-lt {i = 0} {j = k - j} (omega arith))
+above word j k less one = search (rules, pow-lt)
 
 nothing : (k : ℕ) → 0 / 2 ^ k ≡ 0
 nothing k = div-eq_of_lt (pow_pos k)
@@ -121,8 +104,7 @@ module _ (r : Ring) (n : ℕ) (words : List ℕ) (h : IsRing r) (more : r.greate
         | inr back ↦
             let same : n / 64 ≡ r.greatest / 64 = omega arith in
             let less : r.greatest % 64 < n % 64 = omega arith in
-            let is : get_or words (n / 64 % bitmap_len r.window) 0 ≡ top_word r =
-            unchanged (n / 64) back (omega arith) ∙ ap (λ (b : ℕ). get_or r.words (b % bitmap_len r.window) 0) same in
+            let is : get_or words (n / 64 % bitmap_len r.window) 0 ≡ top_word r = search rules in
             ap (λ (w : ℕ). w / 2 ^ (n % 64)) is ∙ elim h.top [
               | inl one ↦ above (top_word r) (r.greatest % 64) (n % 64) less one
               | inr none ↦ ap (λ (w : ℕ). w / 2 ^ (n % 64)) none.1 ∙ nothing (n % 64)
@@ -170,23 +152,10 @@ module _ (r : Ring) (n : ℕ) (room : length r.words ≡ 17) (h : IsOpen r n) wh
 
   other-top : n / 64 ≢ r.greatest / 64 → get_or words (r.greatest / 64 % bitmap_len r.window) 0 / 2 ^ (r.greatest % 64) ≡ 1
   unfolding words marked
-  other-top other =
-      let low = h.within in
-      let reach = touched r.window n r.greatest h.near in
-      let apart : r.greatest / 64 % bitmap_len r.window ≢ n / 64 % bitmap_len r.window =
-      λ e. place-apart (bitmap_len r.window) (n / 64) (r.greatest / 64) (omega arith) reach (sym e) in
-      ap (λ (w : ℕ). w / 2 ^ (r.greatest % 64))
-      (get_or-set_other r.words (n / 64 % bitmap_len r.window) (r.greatest / 64 % bitmap_len r.window) marked 0 apart)
-      ∙ elim h.top [
-        | inl one ↦ one
-        | inr none ↦ absurd (other (ap (λ (m : ℕ). m / 64) none.1))
-      ]
+  other-top other = search rules
 
   begun : n / 64 % bitmap_len r.window < begun_words r
-  begun =
-      let some = words-some r.window in
-      let low = h.within in
-      le-min (omega arith) (omega arith)
+  begun = search rules
 
   pub ring-marked : is_ring (record {
     window = r.window;
@@ -194,10 +163,4 @@ module _ (r : Ring) (n : ℕ) (room : length r.words ≡ 17) (h : IsOpen r n) wh
     words = set r.words (n / 64 % bitmap_len r.window) (bit_or (get_or r.words (n / 64 % bitmap_len r.window) 0) (1 * 2 ^ (n % 64) % 2 ^ 64));
   }) ≡ true
   unfolding words marked
-  ring-marked =
-      ring-reported (record { window = r.window; greatest = r.greatest; words = words }) h.below
-      (elim (cases_eq (n / 64) (r.greatest / 64)) [
-        | inl same ↦ same-top same
-        | inr other ↦ other-top other
-      ])
-      (ap are_zeros (drop-set-lt (begun_words r) r.words (n / 64 % bitmap_len r.window) marked begun) ∙ h.beyond)
+  ring-marked = search (rules, same-top, drop-set-lt)

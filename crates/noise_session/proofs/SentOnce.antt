@@ -1,16 +1,9 @@
 -- A payload comes to one thing at an end.
-use Rattle.std.proofs.Common.{◌≡◌, ℕ, List, length, Option, Some, Result, Ok, Err, refl, ap}
-use Rattle.noise_handshake.specs.Party.{Party}
+use Rattle.std.proofs.Common.{rules, ◌≡◌, ℕ, List, Option, Some, Result, refl}
+use Rattle.noise_session.proofs.Common.{Party, SendFault, EndState, Sends, lacks_dh_result, sends_handshake, sends_transport}
 use Rattle.noise_handshake.specs.Writing.{Writes, LacksDhResult}
-use Rattle.noise_handshake.specs.Matching.{after_own}
-use Rattle.noise_session.specs.declared.faults.SendFault.{SendFault}
-use Rattle.noise_session.specs.declared.faults.SendFault.TheVariants as fault
-use Rattle.noise_session.specs.Frames.{frame}
-use Rattle.noise_session.specs.Progress.{refusal}
-use Rattle.noise_session.specs.Ends.{EndState, progress_of}
-use Rattle.noise_session.specs.Sending.{Sends, after_fault}
 use Rattle.noise_session.proofs.Parties.{closed-yet}
-use Rattle.noise_session.specs.Sending.Sends.{refuses, lacks_dh_result, sends_handshake, sends_transport}
+use Rattle.noise_session.specs.Sending.Sends.{refuses}
 
 module _ (written-one : (v : Party) (payload m n : List ℕ) (xs ys : List (List ℕ)) → Writes v payload xs m → Writes v payload ys n → (xs ≡ ys) × (m ≡ n))
     (lacks-one : (v : Party) (k j : ℕ) → LacksDhResult v k → LacksDhResult v j → k ≡ j)
@@ -19,21 +12,17 @@ module _ (written-one : (v : Party) (payload m n : List ℕ) (xs ys : List (List
   refused-one o a b e f = cc
 
   pub sends-once : (v x y : EndState) (payload : List ℕ) (r s : Result (List ℕ) SendFault) → Sends v payload r x → Sends v payload s y → (r ≡ s) × (x ≡ y)
-  sends-once v x y payload r s (refuses _ _ a e) (refuses _ _ b f) =
-      let one = refused-one (refusal (progress_of v) (length payload)) a b e f in (ap (λ (w : SendFault). Err w) one, ap (after_fault v) one)
+  sends-once v x y payload r s (refuses _ _ a e) (refuses _ _ b f) = search
   sends-once v x y payload r s (refuses _ _ a e) (lacks_dh_result _ _ k f lacks) = cc
   sends-once v x y payload r s (refuses _ _ a e) (sends_handshake _ _ m xs f writes) = cc
   sends-once v x y payload r s (refuses _ _ a e) (sends_transport _ _ f opens) = cc
   sends-once v x y payload r s (lacks_dh_result _ _ k e lacks) (refuses _ _ b f) = cc
-  sends-once v x y payload r s (lacks_dh_result _ _ k e lacks) (lacks_dh_result _ _ j f other) =
-      (ap (λ (i : ℕ). Err (fault.Agreement i)) (lacks-one v.party k j lacks other), refl)
+  sends-once v x y payload r s (lacks_dh_result _ _ k e lacks) (lacks_dh_result _ _ j f other) = search
   sends-once v x y payload r s (lacks_dh_result _ _ k e lacks) (sends_handshake _ _ m xs f writes) = absurd (apart v.party payload m xs k writes lacks)
   sends-once v x y payload r s (lacks_dh_result _ _ k e lacks) (sends_transport _ _ f opens) = absurd (closed-yet v lacks.speaks.more opens)
   sends-once v x y payload r s (sends_handshake _ _ m xs e writes) (refuses _ _ b f) = cc
   sends-once v x y payload r s (sends_handshake _ _ m xs e writes) (lacks_dh_result _ _ k f lacks) = absurd (apart v.party payload m xs k writes lacks)
-  sends-once v x y payload r s (sends_handshake _ _ m xs e writes) (sends_handshake _ _ n ys f other) =
-      let one = written-one v.party payload m n xs ys writes other in
-      (ap (λ (bytes : List ℕ). Ok (frame bytes)) one.1, ap (λ (zs : List (List ℕ)). record v { party = after_own v.party zs payload }) one.0)
+  sends-once v x y payload r s (sends_handshake _ _ m xs e writes) (sends_handshake _ _ n ys f other) = search rules
   sends-once v x y payload r s (sends_handshake _ _ m xs e writes) (sends_transport _ _ f opens) = absurd (closed-yet v writes.speaks.more opens)
   sends-once v x y payload r s (sends_transport _ _ e opens) (refuses _ _ b f) = cc
   sends-once v x y payload r s (sends_transport _ _ e opens) (lacks_dh_result _ _ k f lacks) = absurd (closed-yet v lacks.speaks.more opens)

@@ -1,29 +1,17 @@
 -- What the calls of a transport are, by those of its two halves; and the bytes after a message.
-use Rattle.std.proofs.Common.{◌≡◌, ◌≤◌, ℕ, ◌+◌, ◌∙◌, ◌++◌, Bool, List, length, take, drop, Result, Ok, Err, refl, sym, ap, subst}
-use Rattle.std.specs.Prelude.{IfOk, OnOk, OnErr, MatchResult}
-use Rattle.std.proofs.lemmas.List.{take_at, drop_at, drop-drop}
-use Rattle.noise_names.specs.declared.token.Role.{Role}
-use Rattle.noise_session.specs.declared.faults.SendFault.{SendFault}
-use Rattle.noise_session.specs.declared.faults.OpenFault.{OpenFault}
-use Rattle.noise_session.specs.Halves.{HalfValue}
-use Rattle.noise_session.specs.HalfCalls.{SenderSeals, ReceiverOpens, TransportSeals, TransportOpens, IsCounted, one_sent, one_received}
-use Rattle.noise_session.specs.TransportValue.{TransportValue, TransportState, TransportMatches, SenderMatches, ReceiverMatches, sending_half, receiving_half}
+use Rattle.std.proofs.Common.{rules, ◌≡◌, ◌≤◌, ℕ, ◌+◌, ◌∙◌, ◌++◌, Bool, List, length, take, drop, Result, Ok, Err, sym, ap, subst}
+use Rattle.noise_session.proofs.Common.{IfOk, OnOk, OnErr, MatchResult, take_at, drop_at, drop-drop, Role, SendFault, OpenFault, HalfValue, SenderSeals, ReceiverOpens, TransportSeals, TransportOpens, IsCounted, one_sent, one_received, TransportValue, TransportState, TransportMatches, SenderMatches, ReceiverMatches, sending_half, receiving_half}
 
 -- a half of the same party
 pub same_party : (h : HalfValue) (role : Role) (one_way : Bool) (interval : ℕ) → h.role ≡ role → h.one_way ≡ one_way → h.interval ≡ interval
     → h ≡ record h { role = role; one_way = one_way; interval = interval }
-same_party h role one_way interval a b c =
-    ap (λ (r : Role). record h { role = r }) a
-    ∙ ap (λ (w : Bool). record h { role = role; one_way = w }) b
-    ∙ ap (λ (n : ℕ). record h { role = role; one_way = one_way; interval = n }) c
+same_party h role one_way interval a b c = search rules
 
 -- a call of a half changes its key and its nonce alone
 key-and-nonce : {T E : Type 0} (r : Result T E) (h next : HalfValue) → OnOk r (IsCounted h next) → OnErr r (next ≡ h)
     → next ≡ record h { key = next.key; nonce = next.nonce }
-key-and-nonce (Ok x) h next counted unchanged =
-    counted ∙ ap (λ (n : ℕ). record h { key = next.key; nonce = n }) (sym (ap (λ (z : HalfValue). z.nonce) counted))
-key-and-nonce (Err e) h next counted unchanged =
-    unchanged ∙ ap (λ (z : HalfValue). record h { key = z.key; nonce = z.nonce }) (sym unchanged)
+key-and-nonce (Ok x) h next counted unchanged = search
+key-and-nonce (Err e) h next counted unchanged = search rules
 
 -- ---- the transport after a call of its sending half
 abbrev after_sealing : TransportValue → HalfValue → TransportValue
@@ -36,18 +24,7 @@ sealed-unchanged (Err f) t h A e = ap (after_sealing t) e.0
 
 sealed-matches : (r : Result ℕ SendFault) (t : TransportValue) (h : HalfValue) (v : TransportState) (P : ℕ → Type 0) → TransportMatches t v
     → IfOk r (λ n. P n × SenderMatches h (one_sent v)) → OnOk r (TransportMatches (after_sealing t h) (one_sent v))
-sealed-matches (Ok n) t h v P s k = record {
-  hash = s.hash;
-  remote_static = s.remote_static;
-  sender = k.1;
-  receiver = record {
-    role = k.1.role;
-    one_way = k.1.one_way;
-    interval = k.1.interval;
-    key = s.receiver.key;
-    nonce = s.receiver.nonce;
-  };
-}
+sealed-matches (Ok n) t h v P s k = search
 sealed-matches (Err f) t h v P s k = tt
 
 pub transport_seals : (t u : TransportValue) (h : HalfValue) (n : ℕ) (payload out after : List ℕ) (r : Result ℕ SendFault) → t ≡ u
@@ -73,32 +50,12 @@ opened-unchanged (Err f) t h e = ap (after_opening t) e
 
 opened-matches : {T : Type 0} (r : Result T OpenFault) (t : TransportValue) (h : HalfValue) (v : TransportState) (P : T → Type 0) (Q : OpenFault → Type 0)
     → TransportMatches t v → MatchResult r (λ x. P x × ReceiverMatches h (one_received v)) Q → OnOk r (TransportMatches (after_opening t h) (one_received v))
-opened-matches (Ok x) t h v P Q s k = record {
-  hash = s.hash;
-  remote_static = s.remote_static;
-  sender = record { role = s.sender.role; one_way = s.sender.one_way; interval = s.sender.interval; key = s.sender.key; nonce = s.sender.nonce };
-  receiver = record {
-    role = s.receiver.role;
-    one_way = s.receiver.one_way;
-    interval = s.receiver.interval;
-    key = k.1.key;
-    nonce = k.1.nonce;
-  };
-}
+opened-matches (Ok x) t h v P Q s k = search
 opened-matches (Err f) t h v P Q s k = tt
 
 pub transport_opens : {T : Type 0} (t u : TransportValue) (h next : HalfValue) (message : List ℕ) (r : Result T OpenFault) (payload_in : T → List ℕ) → t ≡ u
     → h ≡ receiving_half t → ReceiverOpens h next message r payload_in → TransportOpens u (after_opening t next) message r payload_in
-transport_opens t u h next message r payload_in viewed is o =
-    let of : ReceiverOpens (receiving_half t) next message r payload_in =
-    subst (λ (z : HalfValue). ReceiverOpens z next message r payload_in) is o in
-    let same : next ≡ receiving_half (after_opening t next) = key-and-nonce r (receiving_half t) next of.counted of.unchanged in
-    subst (λ (z : TransportValue). TransportOpens z (after_opening t next) message r payload_in) viewed (record {
-      half = subst (λ (z : HalfValue). ReceiverOpens (receiving_half t) z message r payload_in) same of;
-      others = refl;
-      unchanged = opened-unchanged r t next of.unchanged;
-      matches = λ v s. opened-matches r t next v _ _ s (of.opens v s.receiver);
-    })
+transport_opens t u h next message r payload_in viewed is o = search rules
 
 -- the payload, where it was copied to the front
 pub copied-there : (payload copied out : List ℕ) → copied ≡ payload → take (length payload) (copied ++ drop (length payload) out) ≡ payload

@@ -1,11 +1,8 @@
 -- Bytes that come from a reader or go to a writer, one call after another.
-use Rattle.std.proofs.Common.{◌≡◌, ℕ, ◌+◌, ◌-◌, ◌≤◌, List, [], ◌++◌, length, take, drop, Option, Some, None, refl, sym, ◌∙◌, ap, arith, append_assoc}
-use Rattle.std.proofs.Common.{append-nil, length-take-le}
-use Rattle.std.proofs.lemmas.List.{take_rest, drop_at}
+use Rattle.std.proofs.Common.{rules, ◌≡◌, ℕ, ◌+◌, ◌-◌, ◌≤◌, List, [], ◌++◌, length, take, drop, Option, Some, None, refl, sym, ◌∙◌, ap, append_assoc, append-nil}
 use Rattle.std.proofs.lemmas.Slice.{take-put_mid_below}
 use Rattle.std.proofs.Math.Seq.{take-add, take-append-le}
-use Rattle.std.specs.Io.KnownBytes.{Appends, Consumes}
-use borrow.Rule.Slice.PartMut.{put_mid, post_of}
+use Rattle.noise_session.proofs.Common.{take_rest, drop_at, Appends, Consumes, put_mid}
 
 pub consumed : (a b c : Option (List ℕ)) (x y : List ℕ) → Consumes a b x → Consumes b c y → Consumes a c (x ++ y)
 consumed None b c x y p q = tt
@@ -30,13 +27,7 @@ appended_none (Some xs) = sym (append-nil xs)
 -- the first bytes of a buffer, after one more read into a part of it
 pub filled_part : (at room n : ℕ) (old read : List ℕ) → at ≤ length old → n ≤ length read
     → take at old ++ take n read ≡ take (at + n) (put_mid at room old read)
-filled_part at room n old read within fits =
-    let post = post_of at room old in
-    let new = put_mid at room old read in
-    let front : take at new ≡ take at old = take-put_mid_below _ _ _ _ _ (omega arith) within in
-    let after : drop at new ≡ read ++ post = drop_at (take at old) (read ++ post) at (length-take-le at old within) in
-    let part : take n (drop at new) ≡ take n read = ap (take n) after ∙ take-append-le n read post fits in
-    sym (take-add at n new ∙ (ap (λ (l : List ℕ). l ++ take n (drop at new)) front ∙ ap (λ (l : List ℕ). take at old ++ l) part))
+filled_part at room n old read within fits = search (rules, take-put_mid_below, drop_at, take-append-le, take-add)
 
 -- into the whole rest of it
 pub filled_more : (at n : ℕ) (old read : List ℕ) → at ≤ length old → n ≤ length read
@@ -45,5 +36,4 @@ filled_more at n old read within fits = filled_part at (length old - at) n old r
 
 -- the first bytes of a text, after one more write of its rest
 pub taken_more : (at n : ℕ) (bytes : List ℕ) → take at bytes ++ take n (take (length bytes - at) (drop at bytes)) ≡ take (at + n) bytes
-taken_more at n bytes =
-    ap (λ (l : List ℕ). take at bytes ++ take n l) (take_rest bytes at) ∙ sym (take-add at n bytes)
+taken_more at n bytes = search (take_rest, take-add)

@@ -1,8 +1,7 @@
 use Rattle.std.proofs.Common.{◌≡◌, ℕ, List, ap, refl, sym, subst, ◌∙◌, Option, None, slice_get, Vec, Global}
 use Rattle.std.specs.Option.{option_map}
-use Rattle.std.proofs.lemmas.Option.{slice_get-map, slice_get_past}
+use Rattle.noise_duel.proofs.Common.{slice_get-map, slice_get_past, HasFound}
 use Rattle.noise_duel.specs.declared.datagram_report.DatagramEntry.TheVariants as entry
-use Rattle.noise_duel.specs.OneDatagram.{HasFound}
 use Rattle.noise_duel.proofs.datagram_party.open_numbered.Goals as goal
 
 pub returns-in-None : goal.returns-in-None

@@ -1,7 +1,5 @@
 use Rattle.std.proofs.Common.{◌≡◌, ◌≤◌, ◌∷◌, ◌++◌, ℕ, List, arith, length, take, sym, ap, subst, ◌∙◌, []}
-use Rattle.noise_session.specs.Datagrams.{DatagramsValue, DatagramsMatch}
-use Rattle.noise_duel.specs.DatagramRuns.PartySeals.{seals_nothing}
-use Rattle.noise_duel.specs.DatagramSides.{sealed_datagrams, sealing}
+use Rattle.noise_duel.proofs.Common.{DatagramsValue, DatagramsMatch, seals_nothing, sealed_datagrams, sealing}
 use Rattle.noise_duel.proofs.DatagramHappening.{fault-in-state, no-fault, number-is, one-more-in, seals-as, that-fault}
 use Rattle.noise_duel.proofs.Linking.{front-of, frames-unchanged}
 use Rattle.noise_duel.proofs.datagram_party.seal.Goals as goal

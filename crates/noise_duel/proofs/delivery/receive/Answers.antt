@@ -1,4 +1,4 @@
-use Rattle.std.proofs.lemmas.Result.{on_ok_weaker}
+use Rattle.noise_duel.proofs.Common.{on_ok_weaker}
 use Rattle.noise_duel.proofs.Received.{received-all}
 use Rattle.noise_duel.proofs.delivery.receive.Goals as goal
 

@@ -1,5 +1,5 @@
 use Rattle.std.proofs.Common.{length, arith}
-use Rattle.noise_session.specs.Steps.{step_value}
+use Rattle.noise_duel.proofs.Common.{step_value}
 use Rattle.noise_duel.proofs.Received.{is-some, left_of-most, received-more, stopped-idle}
 use Rattle.noise_duel.proofs.delivery.receive_piece.Goals as goal
 

@@ -1,7 +1,5 @@
 use Rattle.std.proofs.Common.{◌≤◌, length}
-use Rattle.noise_session.specs.Ends.{EndMatches}
-use Rattle.noise_duel.specs.Sides.{Side}
-use Rattle.noise_duel.specs.Receiving.{HasReceivedSome}
+use Rattle.noise_duel.proofs.Common.{EndMatches, Side, HasReceivedSome}
 use Rattle.noise_duel.proofs.delivery.receive_piece.Given as goal
 
 abbrev pub invariant-loop-rest : goal.invariant-loop-rest

@@ -1,7 +1,6 @@
 use Rattle.std.proofs.Common.{◌≡◌, ℕ, List, ap, sym, subst, ◌∙◌, Option, None, slice_get, Vec, Global}
 use Rattle.std.specs.Option.{option_map}
-use Rattle.std.proofs.lemmas.Option.{slice_get-map, slice_get_past}
-use Rattle.noise_duel.specs.OneEvent.{HasTaken}
+use Rattle.noise_duel.proofs.Common.{slice_get-map, slice_get_past, HasTaken}
 use Rattle.noise_duel.proofs.Happening.{reported-more}
 use Rattle.noise_duel.proofs.duel.take_frame.Goals as goal
 

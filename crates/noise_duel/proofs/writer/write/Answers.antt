@@ -1,11 +1,6 @@
 use Rattle.std.proofs.Common.{◌≡◌, ◌≤◌, ℕ, take, length, sym, subst, ap, ◌∙◌, arith, Vec, Global}
-use Rattle.noise_session.specs.Ends.{EndState, EndMatches}
-use Rattle.noise_duel.specs.Notes.{Wrote}
-use Rattle.noise_duel.specs.Sides.{with_state}
-use Rattle.noise_duel.specs.Runs.{SideWrites}
-use Rattle.noise_duel.specs.Runs.SideWrites.{writes_nothing}
+use Rattle.noise_duel.proofs.Common.{EndState, EndMatches, Wrote, with_state, SideWrites, writes_nothing, length-map}
 use Rattle.noise_duel.proofs.Linking.{sends-writes, front-of, frames-unchanged}
-use Rattle.std.proofs.lemmas.List.{length-map}
 use Rattle.noise_duel.proofs.writer.write.Goals as goal
 
 pub returns-in_ok-push-in-Ok : goal.returns-in_ok-push-in-Ok

@@ -1,5 +1,5 @@
 use Rattle.std.proofs.Common.{rules, subst}
-use Rattle.std.specs.Io.KnownBytes.{Consumes}
+use Rattle.noise_session.proofs.Common.{Consumes}
 use Rattle.noise_session.proofs.Streaming.{consumed, filled_more}
 use Rattle.noise_session.proofs.counted.fill_from.Goals as goal
 

@@ -1,5 +1,5 @@
 use Rattle.std.proofs.Common.{◌≡◌, ◌-◌, ◌≤◌, length, take}
-use Rattle.std.specs.Io.KnownBytes.{Consumes}
+use Rattle.noise_session.proofs.Common.{Consumes}
 use Rattle.noise_session.specs.Counting.{inner_of, failures_of}
 use Rattle.noise_session.proofs.counted.fill_from.Given as goal
 

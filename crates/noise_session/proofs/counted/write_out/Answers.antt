@@ -1,6 +1,5 @@
 use Rattle.std.proofs.Common.{rules, subst, arith}
-use Rattle.std.specs.Io.KnownBytes.{Appends}
-use Rattle.std.proofs.lemmas.Bool.Decides.{nat_tests}
+use Rattle.noise_session.proofs.Common.{Appends, nat_tests}
 use Rattle.noise_session.proofs.Streaming.{appended, taken_more}
 use Rattle.noise_session.proofs.counted.write_out.Goals as goal
 

@@ -1,5 +1,5 @@
 use Rattle.std.proofs.Common.{◌≡◌, ◌-◌, ◌≤◌, length, take}
-use Rattle.std.specs.Io.KnownBytes.{Appends}
+use Rattle.noise_session.proofs.Common.{Appends}
 use Rattle.noise_session.specs.Counting.{inner_of, failures_of}
 use Rattle.noise_session.proofs.counted.write_out.Given as goal
 

@@ -1,6 +1,5 @@
-use Rattle.std.proofs.Common.{◌∙◌, drop}
+use Rattle.std.proofs.Common.{◌∙◌, drop, refl}
 use Rattle.noise_session.proofs.DatagramStates.{sealed-front}
-use Rattle.std.proofs.Common.{refl}
 use Rattle.noise_session.proofs.datagram_sender.put_nonce.Goals as goal
 
 pub returns-clause-datagram : goal.returns-clause-datagram

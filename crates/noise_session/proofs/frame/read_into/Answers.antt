@@ -1,6 +1,7 @@
 use Rattle.std.proofs.Common.{◌≡◌, ◌≤◌, ◌+◌, ◌-◌, ℕ, List, ◌++◌, length, take, ◌∙◌, ap, arith, length-append}
-use Rattle.std.proofs.lemmas.List.{length-take-le, take-take, take-append-le}
+use Rattle.std.proofs.lemmas.List.{take-append-le}
 use Rattle.std.proofs.lemmas.Grind.{common_steps}
+use Rattle.noise_session.proofs.Common.{length-take-le, take-take}
 use Rattle.noise_session.proofs.Growing.{front-read}
 use Rattle.noise_session.proofs.frame.read_into.Goals as goal
 

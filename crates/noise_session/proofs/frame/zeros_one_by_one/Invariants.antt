@@ -1,5 +1,5 @@
 use Rattle.std.proofs.Common.{◌≡◌, vec_len}
-use Rattle.std.specs.Prelude.{vec_capacity}
+use Rattle.noise_session.proofs.Common.{vec_capacity}
 use Rattle.noise_session.proofs.frame.zeros_one_by_one.Given as goal
 
 abbrev pub invariant-loop-at : goal.invariant-loop-at

@@ -1,6 +1,5 @@
 use Rattle.std.proofs.Common.{[]}
-use Rattle.noise_aead.specs.Sealing.{nonce_of}
-use Rattle.noise_session.specs.Transport.{transport_key}
+use Rattle.noise_session.proofs.Common.{nonce_of, transport_key}
 use Rattle.noise_session.proofs.laws.transport_message_same.Goals as goal
 
 pub returns : goal.returns

@@ -1,5 +1,5 @@
 use Rattle.std.proofs.Common.{◌≢◌, ℕ, ◌+◌, ◌%◌, Some, sym, ◌∙◌, ap}
-use Rattle.noise_state.specs.History.{rekeyed_times}
+use Rattle.noise_session.proofs.Common.{rekeyed_times}
 use Rattle.noise_session.specs.Renewing.{renewals-unchanged, renewals-never}
 use Rattle.noise_session.proofs.renewal.renew.Goals.{else-interval-ne0-via-then-interval-ne0+else-nonce-interval-eq0, else-interval-ne0-via-else-interval-ne0}
 use Rattle.noise_session.proofs.renewal.renew.Goals as goal

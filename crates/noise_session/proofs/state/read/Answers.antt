@@ -1,8 +1,5 @@
 use Rattle.std.proofs.Common.{◌≡◌, ◌-◌, List, ℕ, take, drop, sym, subst, arith}
-use Rattle.noise_session.specs.inner.Partial.{partial_of}
-use Rattle.noise_session.specs.Steps.{StepValue}
-use Rattle.noise_session.specs.Taking.{Judges}
-use Rattle.noise_session.specs.inner.Places.{reported_in}
+use Rattle.noise_session.proofs.Common.{partial_of, StepValue, Judges, reported_in}
 use Rattle.noise_session.proofs.Places.{reported-after, drop-front}
 use Rattle.noise_session.proofs.state.read.Goals as goal
 

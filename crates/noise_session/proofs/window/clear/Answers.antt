@@ -1,5 +1,5 @@
 use Rattle.std.proofs.Common.{◌<◌, ℕ, length, sym, ◌∙◌, subst, arith, length-set}
-use Rattle.noise_session.specs.Windows.{bitmap_len}
+use Rattle.noise_session.proofs.Common.{bitmap_len}
 use Rattle.noise_session.proofs.Clearing.{cleared, untouched, beyond}
 use Rattle.noise_session.proofs.window.clear.Goals as goal
 

@@ -1,5 +1,5 @@
 use Rattle.std.proofs.Common.{◌≡◌, ℕ, ◌+◌, ◌<◌, ◌≤◌, ◌%◌, length, drop, min, slice_index}
-use Rattle.noise_session.specs.Windows.{bitmap_len}
+use Rattle.noise_session.proofs.Common.{bitmap_len}
 use Rattle.noise_session.proofs.window.clear.Given as goal
 
 abbrev pub invariant-loop-back : goal.invariant-loop-back

@@ -1,8 +1,5 @@
 use Rattle.std.proofs.Common.{ℕ, List, refl, ap, sym, subst, ◌∙◌, slice_get, Vec, Global}
-use Rattle.std.proofs.lemmas.Result.{IfOk-weaker}
-use Rattle.noise_names.specs.declared.token.Role.TheVariants.{Initiator, Responder}
-use Rattle.noise_duel.specs.DatagramReports.{DatagramDuelValue, DatagramDuelMatches}
-use Rattle.noise_names.specs.Lists.{bytes_of}
+use Rattle.noise_duel.proofs.Common.{IfOk-weaker, Initiator, Responder, DatagramDuelValue, DatagramDuelMatches, bytes_of}
 use Rattle.noise_duel.proofs.DatagramHappening.{found-here}
 use Rattle.noise_duel.proofs.datagram_duel.DatagramDuel.open.Goals as goal
 

@@ -1,8 +1,5 @@
 use Rattle.std.proofs.Common.{◌+◌, ◌≤◌, ◌∷◌, ◌∙◌, arith, length, drop, ap, sym}
-use Rattle.std.proofs.lemmas.List.{drop_all, drop_more}
-use Rattle.noise_events.specs.DatagramEvents.{datagram_event_of, datagram_events_of}
-use Rattle.noise_duel.specs.DatagramReports.{datagram_notes_of}
-use Rattle.noise_duel.specs.DatagramSides.{datagram_sides}
+use Rattle.noise_duel.proofs.Common.{drop_all, drop_more, datagram_event_of, datagram_events_of, datagram_notes_of, datagram_sides}
 use Rattle.noise_duel.proofs.DatagramHappening.{all-come, one-more}
 use Rattle.noise_duel.proofs.datagram_duel.DatagramDuel.run.Goals as goal
 

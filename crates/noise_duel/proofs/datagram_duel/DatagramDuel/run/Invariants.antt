@@ -1,9 +1,5 @@
 use Rattle.std.proofs.Common.{drop}
-use Rattle.noise_session.specs.Datagrams.{DatagramState}
-use Rattle.noise_events.specs.DatagramEvents.{datagram_events_of}
-use Rattle.noise_duel.specs.DatagramReports.{DatagramDuelMatches}
-use Rattle.noise_duel.specs.DatagramSides.{datagram_sides}
-use Rattle.noise_duel.specs.OneDatagram.{DatagramsHaveComeTo}
+use Rattle.noise_duel.proofs.Common.{DatagramState, datagram_events_of, DatagramDuelMatches, datagram_sides, DatagramsHaveComeTo}
 use Rattle.noise_duel.proofs.datagram_duel.DatagramDuel.run.Given as goal
 
 abbrev pub invariant-loop-event : goal.invariant-loop-event

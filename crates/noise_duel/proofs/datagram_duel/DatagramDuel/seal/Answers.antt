@@ -1,7 +1,5 @@
 use Rattle.std.proofs.Common.{refl, sym, subst}
-use Rattle.std.proofs.lemmas.Result.{IfOk-weaker}
-use Rattle.noise_names.specs.declared.token.Role.TheVariants.{Initiator, Responder}
-use Rattle.noise_duel.specs.DatagramReports.{DatagramDuelValue, DatagramDuelMatches}
+use Rattle.noise_duel.proofs.Common.{IfOk-weaker, Initiator, Responder, DatagramDuelValue, DatagramDuelMatches}
 use Rattle.noise_duel.proofs.DatagramHappening.{seals-here}
 use Rattle.noise_duel.proofs.datagram_duel.DatagramDuel.seal.Goals as goal
 

@@ -1,6 +1,5 @@
 use Rattle.std.proofs.Common.{List, ℕ, ap, sym, ◌∙◌, subst}
-use Rattle.noise_events.specs.Events.{event_of, Event, Write}
-use Rattle.noise_duel.specs.OneEvent.{HasHappened}
+use Rattle.noise_duel.proofs.Common.{event_of, Event, Write, HasHappened}
 use Rattle.noise_duel.proofs.Happening.{written}
 use Rattle.noise_duel.proofs.duel.Duel.apply.Goals as goal
 

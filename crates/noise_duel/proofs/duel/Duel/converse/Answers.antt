@@ -1,12 +1,6 @@
 use Rattle.std.proofs.Common.{◌+◌, ◌≤◌, ◌∷◌, ◌∙◌, arith, length, drop, ap, sym}
-use Rattle.std.proofs.lemmas.List.{drop_all, drop_more}
-use Rattle.noise_names.specs.declared.token.Role.TheVariants.{Initiator, Responder}
-use Rattle.noise_session.specs.Ends.{end_of}
+use Rattle.noise_duel.proofs.Common.{drop_all, drop_more, Initiator, Responder, end_of, say_events, Say, both_sides, begun_as}
 use Rattle.noise_duel.specs.Acts.{roles_and_payloads}
-use Rattle.noise_duel.specs.Conversation.{say_events}
-use Rattle.noise_events.specs.Events.{Say}
-use Rattle.noise_duel.specs.DuelValue.{both_sides}
-use Rattle.noise_duel.specs.Messages.{begun_as}
 use Rattle.noise_duel.proofs.Happening.{all-come, one-more}
 use Rattle.noise_duel.proofs.Reporting.{all-through}
 use Rattle.noise_duel.proofs.duel.Duel.converse.Goals as goal

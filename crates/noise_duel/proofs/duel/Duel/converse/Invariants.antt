@@ -1,9 +1,6 @@
 use Rattle.std.proofs.Common.{drop}
-use Rattle.noise_session.specs.Ends.{EndState}
+use Rattle.noise_duel.proofs.Common.{EndState, say_events, DuelMatches, both_sides, HasComeTo}
 use Rattle.noise_duel.specs.Acts.{roles_and_payloads}
-use Rattle.noise_duel.specs.Conversation.{say_events}
-use Rattle.noise_duel.specs.DuelValue.{DuelMatches, both_sides}
-use Rattle.noise_duel.specs.OneEvent.{HasComeTo}
 use Rattle.noise_duel.proofs.duel.Duel.converse.Given as goal
 
 abbrev pub invariant-loop-role : goal.invariant-loop-role

@@ -1,7 +1,5 @@
 use Rattle.std.proofs.Common.{ℕ, List, refl, ap, sym, subst, ◌∙◌, slice_get, Vec, Global}
-use Rattle.std.proofs.lemmas.Result.{IfOk-weaker}
-use Rattle.noise_names.specs.Lists.{bytes_of}
-use Rattle.noise_duel.specs.DuelValue.{DuelValue, DuelMatches}
+use Rattle.noise_duel.proofs.Common.{IfOk-weaker, bytes_of, DuelValue, DuelMatches}
 use Rattle.noise_duel.proofs.Happening.{took-initiator, took-responder}
 use Rattle.noise_duel.proofs.duel.Duel.deliver.Goals as goal
 

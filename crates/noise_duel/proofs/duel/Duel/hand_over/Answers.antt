@@ -1,6 +1,5 @@
 use Rattle.std.proofs.Common.{refl, sym, subst}
-use Rattle.std.proofs.lemmas.Result.{IfOk-weaker}
-use Rattle.noise_duel.specs.DuelValue.{DuelValue, DuelMatches}
+use Rattle.noise_duel.proofs.Common.{IfOk-weaker, DuelValue, DuelMatches}
 use Rattle.noise_duel.proofs.Happening.{injected-initiator, injected-responder}
 use Rattle.noise_duel.proofs.duel.Duel.hand_over.Goals as goal
 

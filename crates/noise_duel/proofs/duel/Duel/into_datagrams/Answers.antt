@@ -1,5 +1,5 @@
 use Rattle.std.proofs.Common.{sym, subst}
-use Rattle.noise_duel.specs.DuelValue.{DuelValue, DuelMatches, both_sides}
+use Rattle.noise_duel.proofs.Common.{DuelValue, DuelMatches, both_sides}
 use Rattle.noise_duel.proofs.duel.Duel.into_datagrams.Goals as goal
 
 pub returns-clause-begun : goal.returns-clause-begun

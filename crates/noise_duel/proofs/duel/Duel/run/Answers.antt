@@ -1,11 +1,5 @@
 use Rattle.std.proofs.Common.{◌+◌, ◌≤◌, ◌∷◌, ◌∙◌, arith, length, drop, ap, sym}
-use Rattle.std.proofs.lemmas.List.{drop_all, drop_more}
-use Rattle.noise_session.specs.Ends.{end_of}
-use Rattle.noise_names.specs.declared.token.Role.TheVariants.{Initiator, Responder}
-use Rattle.noise_events.specs.Events.{event_of, events_of}
-use Rattle.noise_duel.specs.Entries.{notes_of}
-use Rattle.noise_duel.specs.DuelValue.{both_sides}
-use Rattle.noise_duel.specs.Messages.{begun_as}
+use Rattle.noise_duel.proofs.Common.{drop_all, drop_more, end_of, Initiator, Responder, event_of, events_of, notes_of, both_sides, begun_as}
 use Rattle.noise_duel.proofs.Happening.{all-come, one-more}
 use Rattle.noise_duel.proofs.Reporting.{ends-agree}
 use Rattle.noise_duel.proofs.duel.Duel.run.Goals as goal

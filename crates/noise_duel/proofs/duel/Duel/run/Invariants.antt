@@ -1,8 +1,5 @@
 use Rattle.std.proofs.Common.{drop}
-use Rattle.noise_session.specs.Ends.{EndState}
-use Rattle.noise_events.specs.Events.{events_of}
-use Rattle.noise_duel.specs.DuelValue.{DuelMatches, both_sides}
-use Rattle.noise_duel.specs.OneEvent.{HasComeTo}
+use Rattle.noise_duel.proofs.Common.{EndState, events_of, DuelMatches, both_sides, HasComeTo}
 use Rattle.noise_duel.proofs.duel.Duel.run.Given as goal
 
 abbrev pub invariant-loop-event : goal.invariant-loop-event

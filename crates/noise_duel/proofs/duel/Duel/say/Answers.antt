@@ -1,9 +1,5 @@
 use Rattle.std.proofs.Common.{subst}
-use Rattle.std.proofs.lemmas.Result.{IfOk-weaker}
-use Rattle.noise_names.specs.declared.token.Role.{Role}
-use Rattle.noise_events.specs.Events.{Deliver}
-use Rattle.noise_duel.specs.OneEvent.{HasHappened}
-use Rattle.noise_duel.specs.Sides.{with_side}
+use Rattle.noise_duel.proofs.Common.{IfOk-weaker, Role, Deliver, HasHappened, with_side}
 use Rattle.noise_duel.proofs.Happening.{said, said-nothing}
 use Rattle.noise_duel.proofs.duel.Duel.say.Goals as goal
 

@@ -1,4 +1,4 @@
-use Rattle.std.proofs.lemmas.Result.{err_from_is_err_and}
+use Rattle.noise_session.proofs.Common.{err_from_is_err_and}
 use Rattle.noise_session.proofs.DatagramStates.{payload-there}
 use Rattle.noise_session.proofs.datagram_receiver.DatagramReceiver.open.Goals as goal
 

@@ -1,18 +1,8 @@
 use Rattle.std.proofs.Common.{◌≡◌, ◌≢◌, ◌+◌, ◌-◌, ◌≤◌, ◌<◌, ℕ, List, length, take, drop, Option, Some, None, rules, refl, sym, ◌∙◌, ap, subst, arith}
-use Rattle.std.proofs.lemmas.List.{take_rest}
 use Rattle.std.proofs.lemmas.Slice.{take-put_mid_below}
-use borrow.Rule.Slice.PartMut.{put_mid}
-use Rattle.noise_names.specs.Tokens.{other}
-use Rattle.noise_events.specs.Windows.{width_of}
-use Rattle.noise_session.specs.declared.window.Ring.{Ring}
-use Rattle.noise_session.specs.Transport.{split_key, transport_message, last_nonce}
-use Rattle.noise_session.specs.TransportValue.{renewed_key}
-use Rattle.noise_session.specs.Halves.{HalfValue}
+use Rattle.noise_session.proofs.Common.{take_rest, put_mid, other, width_of, Ring, split_key, transport_message, last_nonce, renewed_key, HalfValue, nonce_named, datagram_fault, accepting, DatagramReceiverValue, DatagramReceiverMatches, datagram_receiver_value}
 use Rattle.noise_session.specs.contracts.datagram_receiver.DatagramReceiver.{the_view}
-use Rattle.noise_session.specs.Datagrams.{nonce_named, datagram_fault, accepting}
-use Rattle.noise_session.specs.Datagrams.{DatagramReceiverValue, DatagramReceiverMatches}
 use Rattle.noise_session.specs.Datagrams.Opens.{opened, refused, forged}
-use Rattle.noise_session.specs.inner.Halves.{datagram_receiver_value}
 use Rattle.noise_session.proofs.Places.{after-front, rest-after, unwritten}
 use Rattle.noise_session.proofs.DatagramStates.{has-nonce, below-last, piece-transport_message, young-here, half-opened, half-listens}
 use Rattle.noise_session.proofs.datagram_receiver.DatagramReceiver.open_within.Goals as goal

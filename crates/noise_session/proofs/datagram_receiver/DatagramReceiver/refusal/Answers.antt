@@ -1,9 +1,6 @@
 use Rattle.std.proofs.Common.{◌≡◌, eq-eqb, subst, ap, sym, ◌∙◌}
-use Rattle.std.proofs.lemmas.Bool.{lt-ltb, le-ltb, ne_eqb}
+use Rattle.noise_session.proofs.Common.{lt-ltb, le-ltb, ne_eqb, DatagramState, window_fault, DatagramReceiverValue, DatagramReceiverMatches}
 use Rattle.noise_session.specs.contracts.datagram_receiver.DatagramReceiver.{the_view}
-use Rattle.noise_session.specs.Datagrams.{DatagramState}
-use Rattle.noise_session.specs.Windows.{window_fault}
-use Rattle.noise_session.specs.Datagrams.{DatagramReceiverValue, DatagramReceiverMatches}
 use Rattle.noise_session.proofs.DatagramStates.{first-fault, later-fault, deaf-view}
 use Rattle.noise_session.proofs.datagram_receiver.DatagramReceiver.refusal.Goals as goal
 

@@ -1,9 +1,5 @@
 use Rattle.std.proofs.Common.{◌≡◌, ◌≤◌, ◌+◌, ◌-◌, ◌++◌, ℕ, length, take, drop, None, refl, sym, ◌∙◌, ap, subst, arith}
-use Rattle.std.proofs.lemmas.List.{take_rest}
-use Rattle.std.specs.Int.{w64, to_be_bytes}
-use borrow.Rule.Slice.PartMut.{put_mid}
-use Rattle.noise_session.specs.Halves.{sender_fault}
-use Rattle.noise_session.specs.Datagrams.{DatagramSenderValue, unsealed}
+use Rattle.noise_session.proofs.Common.{take_rest, w64, to_be_bytes, put_mid, sender_fault, DatagramSenderValue, unsealed}
 use Rattle.noise_session.proofs.DatagramSealing.{datagram-sealed, not-sealed, unsealed-same}
 use Rattle.noise_session.proofs.datagram_sender.DatagramSender.seal_in_place.Goals as goal
 

@@ -1,4 +1,4 @@
-use Rattle.noise_session.specs.TransportValue.{transport_of}
+use Rattle.noise_session.proofs.Common.{transport_of}
 use Rattle.noise_session.proofs.datagrams.Datagrams.with_window.Goals as goal
 
 pub returns : goal.returns

@@ -1,7 +1,6 @@
 use Rattle.std.proofs.Common.{◌≡◌, sym, ◌∙◌, ap, subst}
-use Rattle.noise_session.specs.declared.phase.Phase.{Phase}
+use Rattle.noise_session.proofs.Common.{Phase, EndValue, OpenMatches, PhaseMatches, transport_in}
 use Rattle.noise_session.specs.declared.phase.Phase.TheVariants as phases
-use Rattle.noise_session.specs.Ends.{EndValue, OpenMatches, PhaseMatches, transport_in}
 use Rattle.noise_session.proofs.end.End.into_datagrams.Goals as goal
 
 pub returns : goal.returns

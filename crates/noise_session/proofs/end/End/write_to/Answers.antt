@@ -1,10 +1,6 @@
 use Rattle.std.proofs.Common.{◌≡◌, ◌≤◌, ◌<◌, ℕ, List, [], ◌++◌, length, take, Ok, Err, Result, refl, sym, ◌∙◌, ap, subst, arith}
-use Rattle.std.proofs.lemmas.List.{length-take-le, take-take, take-append-le}
-use Rattle.std.proofs.lemmas.Result.{err_from_is_err_and}
-use Rattle.std.specs.Io.KnownBytes.{Appends}
-use Rattle.noise_session.specs.declared.faults.SendFault.{SendFault}
-use Rattle.noise_session.specs.Ends.{EndMatches, ended_session}
-use Rattle.noise_session.specs.Sending.{after_fault}
+use Rattle.std.proofs.lemmas.List.{take-append-le}
+use Rattle.noise_session.proofs.Common.{length-take-le, take-take, err_from_is_err_and, Appends, SendFault, EndMatches, ended_session, after_fault}
 use Rattle.noise_session.specs.Outputs.{Puts}
 use Rattle.noise_session.specs.Outputs.Puts.{whole, broken, refused}
 use Rattle.noise_session.proofs.Streaming.{appended_none}

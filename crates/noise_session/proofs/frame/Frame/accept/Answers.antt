@@ -1,7 +1,5 @@
 use Rattle.std.proofs.Common.{◌≡◌, ℕ, ◌+◌, ◌-◌, ◌≤◌, List, ◌++◌, length, take, ◌∙◌, subst, arith}
-use Rattle.std.proofs.lemmas.List.{length-take-le}
-use Rattle.byteorder.specs.Endian.{big_bytes}
-use Rattle.noise_session.specs.Frames.{frame_length}
+use Rattle.noise_session.proofs.Common.{length-take-le, big_bytes, frame_length}
 use Rattle.noise_session.proofs.Growing.{grown-most, grown-within, grown-known, grown-spelled}
 use Rattle.noise_session.proofs.frame.Frame.accept.Goals as goal
 

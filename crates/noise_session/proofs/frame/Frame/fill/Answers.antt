@@ -1,7 +1,5 @@
 use Rattle.std.proofs.Common.{◌≡◌, ◌-◌, ◌<◌, ℕ, length, take, drop, sym, ap, subst, arith, length-drop}
-use Rattle.std.proofs.lemmas.List.{length-take-le, take_rest}
-use Rattle.noise_session.specs.Frames.{IsPartial}
-use Rattle.noise_session.specs.inner.Partial.{partial_of}
+use Rattle.noise_session.proofs.Common.{length-take-le, take_rest, IsPartial, partial_of}
 use Rattle.noise_session.proofs.Growing.{two-parts, all-came}
 use Rattle.noise_session.proofs.frame.Frame.fill.Goals as goal
 

@@ -1,5 +1,5 @@
 use Rattle.std.proofs.Common.{ℕ, List, ◌++◌, ap, ◌∙◌, append_assoc}
-use Rattle.noise_session.specs.inner.Partial.{partial_of}
+use Rattle.noise_session.proofs.Common.{partial_of}
 use Rattle.noise_session.proofs.Streaming.{consumed}
 use Rattle.noise_session.proofs.frame.Frame.fill_from.Goals as goal
 

@@ -1,6 +1,5 @@
 use Rattle.std.proofs.Common.{◌≡◌, ℕ, ◌+◌, ◌-◌, ◌≤◌, List, length, take, ◌∙◌, subst, arith}
-use Rattle.byteorder.specs.Endian.{big_bytes}
-use Rattle.noise_session.specs.Frames.{frame_length}
+use Rattle.noise_session.proofs.Common.{big_bytes, frame_length}
 use Rattle.noise_session.proofs.Growing.{grown-most, grown-within, grown-known, grown-spelled}
 use Rattle.noise_session.proofs.frame.Frame.read_up.Goals as goal
 

@@ -1,14 +1,10 @@
 use Rattle.std.proofs.Common.{◌+◌, [], None, Some, refl, sym, subst}
-use Rattle.std.specs.Prelude.{slice_range}
-use Rattle.noise_handshake.specs.Matching.{after_message}
-use Rattle.noise_session.specs.declared.faults.OpenFault.TheVariants as unopened
-use Rattle.noise_session.specs.declared.phase.Phase.{Phase}
-use Rattle.noise_session.specs.declared.phase.Phase.TheVariants as phase
-use Rattle.noise_session.specs.TransportValue.{TransportValue}
-use Rattle.noise_session.specs.Ends.{EndState, PhaseMatches, OpenMatches, EndedMatches, transport_in, ended_session}
-use Rattle.noise_session.specs.Taking.Judges.{accepted, refused}
+use Rattle.noise_session.proofs.Common.{slice_range, after_message, Phase, TransportValue, EndState, PhaseMatches, OpenMatches, EndedMatches, transport_in, ended_session, accepted}
+use Rattle.noise_session.specs.Taking.Judges.{refused}
 use Rattle.noise_session.proofs.Parties.{no-hash, as-handshake, as-open, phase-partial}
 use Rattle.noise_session.proofs.Judging.{opened-as, dropped-as, exhausted-as, ended-open}
+use Rattle.noise_session.specs.declared.faults.OpenFault.TheVariants as unopened
+use Rattle.noise_session.specs.declared.phase.Phase.TheVariants as phase
 use Rattle.noise_session.proofs.phase.DuePhase.read.Goals as goal
 
 pub returns-in-Ok-clause-judges : goal.returns-in-Ok-clause-judges

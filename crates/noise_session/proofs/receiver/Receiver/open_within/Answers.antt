@@ -1,12 +1,7 @@
 use Rattle.std.proofs.Common.{◌≡◌, ℕ, List, [], length, Err, IsOk, rules, sym, subst}
-use Rattle.std.proofs.lemmas.Bool.{false≢true}
+use Rattle.noise_session.proofs.Common.{false≢true, ciphertext_under, OpenFault, HalfValue, receiver_fault, OpensUnless, ReceiverOpens, half_value}
 use Rattle.noise_state.specs.declared.cipher.CipherFault.{CipherFault}
 use Rattle.noise_state.specs.Cipher.{DecryptRefused, keyed_in, nonce_in}
-use Rattle.noise_state.specs.History.{ciphertext_under}
-use Rattle.noise_session.specs.declared.faults.OpenFault.{OpenFault}
-use Rattle.noise_session.specs.Halves.{HalfValue, receiver_fault}
-use Rattle.noise_session.specs.HalfCalls.{OpensUnless, ReceiverOpens}
-use Rattle.noise_session.specs.inner.Halves.{half_value}
 use Rattle.noise_session.proofs.receiver.Receiver.open_within.Goals as goal
 
 -- a message that is that of no payload under the half's key changes nothing

@@ -1,5 +1,5 @@
 use Rattle.std.proofs.Common.{ap, ◌∙◌, arith, rules}
-use Rattle.noise_session.specs.Frames.{frame}
+use Rattle.noise_session.proofs.Common.{frame}
 use Rattle.noise_session.proofs.Places.{framed, rest-after}
 use Rattle.noise_session.proofs.sender.Sender.seal_frame.Goals as goal
 

@@ -1,13 +1,6 @@
 use Rattle.std.proofs.Common.{◌≡◌, ◌≢◌, ℕ, ◌+◌, ◌++◌, List, [], length, drop, None, Some, sym, ◌∙◌, ap, subst, arith, append-nil, length-append}
-use Rattle.std.proofs.lemmas.List.{nil_from_length}
-use Rattle.std.specs.Io.KnownBytes.{Consumes}
-use Rattle.noise_session.specs.Frames.{frame, IsPartial}
-use Rattle.noise_session.specs.Ends.{EndState, progress_of}
-use Rattle.noise_session.specs.Taking.Takes.{idles, judges}
+use Rattle.noise_session.proofs.Common.{nil_from_length, Consumes, frame, IsPartial, EndState, progress_of, idles, judges, partial_of, reported_in, StepValue, step_value}
 use Rattle.noise_session.specs.Inputs.Receives.{takes, pauses, is_cut, fails}
-use Rattle.noise_session.specs.inner.Partial.{partial_of}
-use Rattle.noise_session.specs.inner.Places.{reported_in}
-use Rattle.noise_session.specs.Steps.{StepValue, step_value}
 use Rattle.noise_session.proofs.Streaming.{consumed_none}
 use Rattle.noise_session.proofs.Cutting.{idles-not, judged-not}
 use Rattle.noise_session.proofs.Parties.{phase-idle, phase-partial}

@@ -1,11 +1,7 @@
 use Rattle.std.proofs.Common.{◌≡◌, ◌≤◌, ◌+◌, ◌-◌, ℕ, List, length, take, drop, None, Some, Ok, Err, sym, ◌∙◌, ap, subst, arith}
 use Rattle.std.specs.Option.{ForSome}
-use Rattle.std.specs.Prelude.{is_none, if◌then◌else◌}
-use borrow.Rule.Slice.PartMut.{put_mid}
-use Rattle.noise_session.specs.Progress.{Progress, refusal, message_length, frame_len_of}
-use Rattle.noise_session.specs.Ends.{progress_in}
-use Rattle.noise_session.specs.Frames.{frame}
-use Rattle.noise_session.specs.Sending.{Sends}
+use Rattle.std.specs.Prelude.{if◌then◌else◌}
+use Rattle.noise_session.proofs.Common.{is_none, put_mid, Progress, refusal, message_length, frame_len_of, progress_in, frame, Sends}
 use Rattle.noise_session.proofs.Making.{refused-too}
 use Rattle.noise_session.proofs.Places.{unwritten, framed, rest-after, room-after, room-left}
 use Rattle.noise_session.proofs.state.State.send.Goals as goal

@@ -1,10 +1,5 @@
 use Rattle.std.proofs.Common.{◌≡◌, ℕ, ◌+◌, ◌++◌, List, length, take, drop, None, sym, ◌∙◌, ap, subst, arith, rules, append_assoc, length-drop}
-use Rattle.std.proofs.lemmas.List.{take-append-drop}
-use Rattle.noise_session.specs.Frames.{frame, IsPartial}
-use Rattle.noise_session.specs.Ends.{EndState}
-use Rattle.noise_session.specs.Taking.Takes.{idles, waits, judges}
-use Rattle.noise_session.specs.inner.Partial.{partial_of}
-use Rattle.noise_session.specs.Steps.{step_value}
+use Rattle.noise_session.proofs.Common.{take-append-drop, frame, IsPartial, EndState, idles, waits, judges, partial_of, step_value}
 use Rattle.noise_session.proofs.Parties.{phase-idle, phase-partial}
 use Rattle.noise_session.proofs.state.State.take.Goals as goal
 

@@ -1,16 +1,11 @@
 use Rattle.std.proofs.Common.{ℕ, ◌+◌, List, [], length, take, None, Some, Ok, IsTrue, refl, sym, subst}
-use Rattle.noise_handshake.specs.Matching.{after_own}
-use Rattle.noise_session.specs.declared.faults.SendFault.TheVariants as fault
-use Rattle.noise_session.specs.declared.phase.Phase.{Phase}
-use Rattle.noise_session.specs.TransportValue.{TransportValue, seal_fault}
-use Rattle.noise_session.specs.Ends.{EndState, EndMatches, PhaseMatches, HandshakeMatches, OpenMatches, EndedMatches, transport_in, ended_session}
+use Rattle.noise_session.proofs.Common.{after_own, Phase, TransportValue, seal_fault, EndState, EndMatches, PhaseMatches, HandshakeMatches, OpenMatches, EndedMatches, transport_in, ended_session, frame, Sends, lacks_dh_result, sends_handshake, sends_transport}
 use Rattle.noise_session.specs.inner.Phases.{is_due}
-use Rattle.noise_session.specs.Frames.{frame}
-use Rattle.noise_session.specs.Sending.{Sends}
-use Rattle.noise_session.specs.Sending.Sends.{refuses, lacks_dh_result, sends_handshake, sends_transport}
+use Rattle.noise_session.specs.Sending.Sends.{refuses}
 use Rattle.noise_session.proofs.Parties.{no-hash, is-open, as-handshake, as-open, refused-by}
 use Rattle.noise_session.proofs.Judging.{ended-open}
 use Rattle.noise_session.proofs.Making.{ok-due, not-turn, too-long, lack-due, seal-due, seal-refused}
+use Rattle.noise_session.specs.declared.faults.SendFault.TheVariants as fault
 use Rattle.noise_session.proofs.state.State.write.Goals as goal
 
 pub returns-in-Ok-clause-sends : goal.returns-in-Ok-clause-sends
