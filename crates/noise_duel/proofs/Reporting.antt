@@ -53,10 +53,6 @@ known-static : (w : KeyMaterial) (p : Plan) (party : Role) (n : ℕ) (v u : Part
     → (if v.ended then None else v.remote.s) ≡ static_shown w p party n
 known-static w p party n v u c pattern role passed own = search (rules, passed-among)
 
--- ---- transport keys
-
-module _ {K L : Type 0} (public_k : K → Own → Option (List ℕ)) (agreement_k : K → Own → List ℕ → Option (List ℕ))
-    (public_l : L → Own → Option (List ℕ)) (agreement_l : L → Own → List ℕ → Option (List ℕ)) where
 -- ---- the whole conversation
 
 module _ {A B : Type 0} (public_a : A → Own → Option (List ℕ)) (agreement_a : A → Own → List ℕ → Option (List ℕ))
