@@ -1,4 +1,3 @@
-
 use thiserror::Error;
 
 /// Why bytes are no protocol name (Noise, 8). The first fault in this order is reported, and its text is one word.

@@ -1,4 +1,3 @@
-
 ghost use Rattle.std.specs.Prelude.{◌≡◌, ◌≤◌, ◌+◌, ◌*◌, ◌++◌, ◌==◌, length, map, not, bytes_eq, take_while, IsTrue, IfOk, IfErr, Ok};
 ghost use Rattle.std.specs.List.{join_with_byte};
 ghost use Rattle.arrayvec.specs.ArrayVec.{array_vec_len};

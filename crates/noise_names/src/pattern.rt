@@ -1,4 +1,3 @@
-
 ghost use Rattle.std.specs.Prelude.{◌≡◌, ◌≤◌, length, IsTrue, IsFalse, ◌↔◌};
 
 use crate::{ProtocolName, PskPlaces, Role, Token};

@@ -1,4 +1,3 @@
-
 ghost use Rattle.std.specs.Prelude.{◌≡◌, ◌≤◌, ℕ, [], length, find, nat_lt, slice_index_or, IsFalse, IfOk, IfErr, Some};
 ghost use Rattle.noise_names.specs.Limits.{with_psk_tokens, with_psks_from};
 

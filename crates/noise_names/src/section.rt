@@ -1,4 +1,3 @@
-
 ghost use Rattle.std.specs.Prelude.{◌≡◌, ◌≤◌, [], ◌∷◌, ◌++◌, ℕ, List, take, take_while, length, IfSome, IfNone, IsTrue, map, Ok, Err};
 ghost use Rattle.std.specs.List.{list_all};
 ghost use Rattle.noise_names.specs.Names.{modifier, is_base_byte, base_front, is_base};

@@ -1,4 +1,3 @@
-
 ghost use Rattle.std.specs.Prelude.{◌≡◌, ◌<◌, Some, None, slice_get, map, [], IfSome, IsFalse, MatchOption};
 ghost use Rattle.noise_names.specs.Plan.{has_psk};
 ghost use Rattle.noise_names.specs.Fundamental.{fundamentals, fundamental_of, plain};

@@ -1,4 +1,3 @@
-
 ghost use Rattle.std.specs.Prelude.{◌≡◌};
 ghost use Rattle.noise_names.specs.Tokens.{other};
 
