@@ -1,34 +1,17 @@
 -- What version 2 adds: how its lines begin, and that they have no line feed (10).
-use Rattle.std.proofs.Common.{arith, ◌≡◌, ◌∙◌, ◌<◌, ◌^◌, ◌==◌, ◌≤◌, inl, inr, lit<, ap, refl, sym, true, false, true≢false, ℕ, Vec, Option, Some, None, List, ◌∷◌, ◌++◌, codes, []}
+use Rattle.std.proofs.Common.{rules, arith, ◌≡◌, ◌<◌, ◌^◌, ◌==◌, ◌≤◌, inl, inr, lit<, ap, refl, true, false, ℕ, Vec, Option, Some, None, List, ◌∷◌, ◌++◌, codes, []}
 use Rattle.std.specs.Global.{Global}
 use Rattle.std.specs.Prelude.{decimal}
 use Rattle.std.specs.Bool.{nat_eq}
-use Rattle.std.specs.List.{All, starts_with}
-use Rattle.std.proofs.lemmas.Bool.{and_parts, eq-eqb, eqb-true, false_from_ne_true}
-use Rattle.std.proofs.lemmas.Bool.Decides.{nat_tests}
-use Rattle.std.proofs.lemmas.List.Elements.{All-head, All-tail}
-use Rattle.noise_names.specs.declared.token.Role.{Role}
-use Rattle.noise_events.specs.declared.window.Window.{Window}
+use Rattle.noise_vectors.proofs.Common.{All, starts_with, nat_tests, All-head, All-tail, Role, Window, width_of, DatagramEvent, Event, hex_of, IsAllowedVersion, IsDatagramEvent, IsExpected, AfterDatagrams, AfterEvents, datagram_event_words, datagram_kind_word, event_words, expect_words, datagrams_text, is_second, line_then, lines_of, role_word, version_text, window_words, lacks, AllowedEvents, SayOnly, VersionOne, FileDatagrams, Version, One, Two}
 use Rattle.noise_events.specs.declared.window.Window.TheVariants.{W64}
-use Rattle.noise_events.specs.Windows.{width_of}
-use Rattle.noise_events.specs.declared.datagram_event.DatagramEvent.{DatagramEvent}
 use Rattle.noise_events.specs.declared.datagram_event.DatagramEvent.TheVariants.{Open, Raw, Seal}
-use Rattle.noise_events.specs.declared.event.Event.{Event}
-use Rattle.noise_events.specs.declared.event.Event.TheVariants as event
-use Rattle.noise_vectors.specs.HexWord.{hex_of}
-use Rattle.noise_vectors.specs.VectorFile.{IsAllowedVersion, IsDatagramEvent, IsExpected}
-use Rattle.noise_vectors.specs.VectorText.{AfterDatagrams, AfterEvents, datagram_event_words, datagram_kind_word, event_words, expect_words, datagrams_text, is_second, line_then, lines_of, role_word, version_text, window_words}
-use Rattle.noise_vectors.specs.Words.{lacks}
 use Rattle.noise_vectors.specs.declared.vector.Additions.{Additions}
-use Rattle.noise_vectors.specs.declared.vector.AllowedEvents.{AllowedEvents}
-use Rattle.noise_vectors.specs.declared.vector.AllowedEvents.TheVariants.{SayOnly, VersionOne}
-use Rattle.noise_vectors.specs.declared.vector.FileDatagrams.{FileDatagrams}
-use Rattle.noise_vectors.specs.declared.vector.Version.{Version}
-use Rattle.noise_vectors.specs.declared.vector.Version.TheVariants.{One, Two}
 use Rattle.noise_vectors.specs.declared.words.DatagramKind.{DatagramKind}
-use Rattle.noise_vectors.specs.declared.words.DatagramKind.TheVariants as kinds
 use Rattle.noise_vectors.proofs.LackLemmas.{lacks-append, lacks-hex_of, role_word-plain}
 use Rattle.noise_vectors.proofs.WordLemmas.{lacks-decimal}
+use Rattle.noise_events.specs.declared.event.Event.TheVariants as event
+use Rattle.noise_vectors.specs.declared.words.DatagramKind.TheVariants as kinds
 
 -- ---- what comes next
 
@@ -85,23 +68,16 @@ operand-line : (role : Role) (operand : List ℕ) → lacks 10 operand ≡ true 
 operand-line role operand h = lacks-append 10 (role_word role) (32 ∷ operand) (role_word-plain role).0 h
 
 pub datagram_event_words-line : (e : DatagramEvent) → IsDatagramEvent e → lacks 10 (datagram_event_words e) ≡ true
-datagram_event_words-line (Seal role payload) h =
-    lacks-append 10 (codes "seal ") (role_word role ++ 32 ∷ hex_of payload.items) refl
-    (operand-line role (hex_of payload.items) (lacks-hex_of 10 payload.items (lit< tt) h.1))
-datagram_event_words-line (Open role number) h =
-    let small : number < 2 ^ 64 = omega (arith, h) in
-    lacks-append 10 (codes "open ") (role_word role ++ 32 ∷ decimal number) refl (operand-line role (decimal number) (lacks-decimal 10 number (lit< tt) small))
-datagram_event_words-line (Raw role bytes) h =
-    lacks-append 10 (codes "foreign ") (role_word role ++ 32 ∷ hex_of bytes.items) refl
-    (operand-line role (hex_of bytes.items) (lacks-hex_of 10 bytes.items (lit< tt) h.1))
+datagram_event_words-line (Seal role payload) h = search (operand-line, lacks-hex_of, lit<)
+datagram_event_words-line (Open role number) h = search (rules, lacks-decimal)
+datagram_event_words-line (Raw role bytes) h = search (operand-line, lacks-hex_of, lit<)
 
 pub width-small : (window : Window) → width_of window < 2 ^ 64
 width-small W64 = omega arith
 width-small _ = omega arith
 
 pub window_words-line : (window : Window) → lacks 10 (window_words window) ≡ true
-window_words-line window = lacks-append 10 (codes "datagrams ") (decimal (width_of window)) refl
-    (lacks-decimal 10 (width_of window) (lit< tt) (width-small window))
+window_words-line window = search (lacks-append, lacks-decimal, lit<, width-small)
 
 abbrev pub IsPrinted : ℕ → Type 0
 IsPrinted b = (32 ≤ b) × (b ≤ 126)
@@ -119,14 +95,9 @@ expected-line words h = lacks-append 10 (codes "expect ") words refl (printed-li
 
 -- ---- how what follows the events begins
 
-not-same : (m n : ℕ) → ¬ (m ≡ n) → nat_eq m n ≡ false
-not-same m n h = false_from_ne_true (nat_eq m n) (λ e. h (eqb-true m n e))
-
 other-byte : (x y : ℕ) (text front rest : List ℕ) → nat_eq x y ≡ false → starts_with nat_eq text (x ∷ front) ≡ true → starts_with nat_eq text (y ∷ rest) ≡ false
 other-byte x y [] front rest differ h = absurd (cc h)
-other-byte x y (b ∷ bs) front rest differ h =
-    let first : nat_eq x b ≡ true = (and_parts (nat_eq x b) _ h).0 in
-    rw (not-same y b (λ e. true≢false (sym (eq-eqb x y ((eqb-true x b first) ∙ sym e)) ∙ differ))) refl
+other-byte x y (b ∷ bs) front rest differ h = search rules
 
 pub after_events-no_answer : (rest : List ℕ) → AfterEvents rest → starts_with nat_eq rest (codes "answer ") ≡ false
 after_events-no_answer rest (inl none) = rw none refl
@@ -139,16 +110,11 @@ after_events-no_answer rest (inr (inr begun)) = other-byte 101 97 rest (codes "x
 pub expect-begun : (rest : List ℕ) → starts_with nat_eq rest (codes "expect ") ≡ true → starts_with nat_eq rest (codes "datagrams ") ≡ false
 expect-begun rest h = other-byte 101 100 rest (codes "xpect ") (codes "atagrams ") refl h
 
-after-begun : (rest : List ℕ) → AfterDatagrams rest → starts_with nat_eq rest (codes "datagrams ") ≡ false
-after-begun rest (inl none) = rw none refl
-after-begun rest (inr begun) = expect-begun rest begun
-
 -- where their first line comes next, there are datagrams
 pub over-stands : (over : Option FileDatagrams) (left rest : List ℕ) → starts_with nat_eq left (codes "datagrams ") ≡ true → AfterDatagrams rest
     → left ≡ datagrams_text over rest → (d : FileDatagrams) × (over ≡ Some d)
 over-stands (Some d) left rest begun after e = (d, refl)
-over-stands None left rest begun after e =
-    absurd (true≢false (sym begun ∙ ap (λ (t : List ℕ). starts_with nat_eq t (codes "datagrams ")) e ∙ after-begun rest after))
+over-stands None left rest begun after e = search rules
 
 pub second-has : (version : Version) → is_second version ≡ true → (a : Additions) × (version ≡ Two a)
 second-has One e = absurd (cc e)

@@ -1,35 +1,20 @@
 -- Right files that begin with the lines that are read, and what other right files have after those.
-use Rattle.std.proofs.Common.{arith, ◌≡◌, ◌∙◌, ◌<◌, ap, refl, true, false, Bool, ℕ, List, ◌++◌, codes, length, Vec, []}
+use Rattle.std.proofs.Common.{rules, arith, ◌≡◌, ◌∙◌, ◌<◌, ap, refl, true, false, Bool, ℕ, List, ◌++◌, codes, length, Vec, []}
 use Rattle.std.specs.Prelude.{decimal}
-use Rattle.std.specs.List.{All}
 use Rattle.std.specs.Global.{Global}
-use Rattle.noise_events.specs.declared.event.Event.{Event}
-use Rattle.noise_keys.specs.Table.{TableEntry}
-use Rattle.noise_keys.specs.Table as Tables
-use Rattle.noise_names.specs.declared.token.Role.{Role}
-use Rattle.noise_names.specs.declared.token.Role.TheVariants.{Initiator, Responder}
-use Rattle.noise_vectors.specs.HexWord.{hex_of}
-use Rattle.noise_vectors.specs.ReaderFaults.{answer_lines, event_lines, psk_lines}
-use Rattle.noise_vectors.specs.SameFile.{expected_of}
-use Rattle.noise_vectors.specs.VectorFile.{AreKeys, IsAllowed, IsAllowedFile, IsEntry, IsEvent, IsVectorFile, IsVersion}
-use Rattle.noise_vectors.specs.VectorText.{AfterEvents, answer_words, event_words, header_words, is_second, line_then, lines_of, party_text, psk_words, file_text, version_text}
-use Rattle.noise_vectors.specs.Words.{IsKey, lacks}
-use Rattle.noise_vectors.specs.WrongLine.{is_answer_line, is_psk_line, up_to_events, up_to_initiator, up_to_responder}
-use Rattle.noise_vectors.specs.declared.file_keys.FileKeys.{FileKeys}
-use Rattle.noise_vectors.specs.declared.file_keys.FileKeys.TheVariants.{Xor, Table}
-use Rattle.noise_vectors.specs.declared.vector.AllowedEvents.{AllowedEvents}
-use Rattle.noise_vectors.specs.declared.vector.VectorFile.{VectorFile}
-use Rattle.noise_vectors.specs.declared.vector.Version.{Version}
+use Rattle.noise_vectors.proofs.Common.{All, Event, TableEntry, Role, Initiator, Responder, hex_of, answer_lines, event_lines, psk_lines, expected_of, AreKeys, IsAllowed, IsAllowedFile, IsEntry, IsEvent, IsVectorFile, IsVersion, AfterEvents, answer_words, event_words, header_words, is_second, line_then, lines_of, party_text, psk_words, file_text, version_text, IsKey, lacks, is_answer_line, is_psk_line, up_to_events, up_to_initiator, up_to_responder, FileKeys, Xor, AllowedEvents, VectorFile, Version}
+use Rattle.noise_vectors.specs.declared.file_keys.FileKeys.TheVariants.{Table}
 use Rattle.noise_vectors.proofs.AdditionLemmas.{after_events-no_answer, event-stands, version-after}
 use Rattle.noise_vectors.proofs.EventLemmas.{IsRight, all-right, right-plain}
 use Rattle.noise_vectors.proofs.FrontLemmas.{up_to_version}
-use Rattle.noise_vectors.proofs.PartLemmas.{goes-on, header-lacks, header-one, lines-over}
+use Rattle.noise_vectors.proofs.PartLemmas.{goes-on, lines-over}
 use Rattle.noise_vectors.proofs.PartyLemmas.{after_of, answer-stands, begins, lacks-answer_words, no-answer, words_of}
 use Rattle.noise_vectors.proofs.ReadingLemmas.{interval-plain, prologue-plain, psk-plain, psk-stands}
 use Rattle.noise_vectors.proofs.ReportedFiles.{after-block}
 use Rattle.noise_vectors.proofs.UniqueWords.{parted-one}
-use Rattle.noise_vectors.proofs.VectorLemmas.{after_header, after_initiator, after_interval, after_prologue, after_psks, after_responder, events-no_answer, initiator-ends, initiator-no_psk, psks-end, responder-ends, responder-no_answer}
+use Rattle.noise_vectors.proofs.VectorLemmas.{after_initiator, after_interval, after_prologue, after_psks, after_responder, events-no_answer, initiator-no_psk, psks-end, responder-ends, responder-no_answer}
 use Rattle.noise_vectors.proofs.UniqueTexts.{first-apart, party-one, party-parts}
+use Rattle.noise_keys.specs.Table as Tables
 
 -- ---- what another right file has
 
@@ -86,25 +71,19 @@ party-more role a table u reported rest h k hu plain bad e =
 -- the initiator's lines, with whatever follows them
 pub after-psks : (file other : VectorFile) (rest : List ℕ) → IsVectorFile file → IsVectorFile other → file_text other ≡ up_to_responder file rest
     → after_psks other ≡ party_text Initiator file.initiator rest
-after-psks file other rest h k e =
-    at-initiator file other (party_text Initiator file.initiator rest) h k (initiator-no_psk file.initiator rest) e
+after-psks file other rest h k e = search (at-initiator, initiator-no_psk)
 
 pub at-responder : (file other : VectorFile) (rest : List ℕ) → IsVectorFile file → IsVectorFile other → is_answer_line file.initiator rest ≡ false
     → file_text other ≡ up_to_responder file rest → after_initiator other ≡ rest
-at-responder file other rest h k over e =
-    party-goes Initiator other.initiator file.initiator (after_initiator other) rest k.initiator h.initiator (initiator-ends other) over
-    (after-psks file other rest h k e)
+at-responder file other rest h k over e = search (rules, party-goes, after-psks)
 
 pub after-initiator : (file other : VectorFile) (rest : List ℕ) → IsVectorFile file → IsVectorFile other → file_text other ≡ up_to_events file rest
     → after_initiator other ≡ party_text Responder file.responder rest
-after-initiator file other rest h k e =
-    at-responder file other (party_text Responder file.responder rest) h k (no-answer file.initiator (party_text Responder file.responder rest) (responder-no_answer file.responder rest)) e
+after-initiator file other rest h k e = search (at-responder, no-answer, responder-no_answer)
 
 pub at-events : (file other : VectorFile) (rest : List ℕ) → IsVectorFile file → IsVectorFile other → is_answer_line file.responder rest ≡ false
     → file_text other ≡ up_to_events file rest → after_responder other ≡ rest
-at-events file other rest h k over e =
-    party-goes Responder other.responder file.responder (after_responder other) rest k.responder h.responder (responder-ends other) over
-    (after-initiator file other rest h k e)
+at-events file other rest h k over e = search (rules, party-goes, responder-ends, after-initiator)
 
 -- the events' lines begin otherwise than an answer
 events-other : (keys : FileKeys) (events : List Event) (rest : List ℕ) → is_answer_line keys rest ≡ false
@@ -139,10 +118,7 @@ event-more allowed file other reported rest h k allow also none plain bad e =
 -- the header of both is one
 pub same-header : (file other : VectorFile) (rest : List ℕ) → file_text other ≡ line_then (header_words (is_second file.version)) rest
     → is_second other.version ≡ is_second file.version
-same-header file other rest e =
-    header-one (is_second other.version) (is_second file.version)
-    (parted-one 10 (header_words (is_second other.version)) (header_words (is_second file.version)) (after_header other) rest
-    (header-lacks (is_second other.version)) (header-lacks (is_second file.version)) e).0
+same-header file other rest e = search rules
 
 -- ---- right files that begin with the lines that are read
 
@@ -169,17 +145,7 @@ with_events file events = record file { events = events }
 pub changed-right : (file : VectorFile) (initiator responder : FileKeys) (events : Vec Event Global) (version : Version) → IsVectorFile file
     → AreKeys initiator → AreKeys responder → All IsEvent events.items → IsVersion version
     → IsVectorFile (record file { initiator = initiator; responder = responder; events = events; version = version })
-changed-right file initiator responder events version h i r e v = record {
-  protocol = h.protocol;
-  own = h.own;
-  prologue = h.prologue;
-  interval = h.interval;
-  psks = h.psks;
-  initiator = i;
-  responder = r;
-  events = e;
-  version = v;
-}
+changed-right file initiator responder events version h i r e v = search
 
 pub initiator-right : (file : VectorFile) (keys : FileKeys) → IsVectorFile file → AreKeys keys → IsVectorFile (with_initiator file keys)
 initiator-right file keys h k = changed-right file keys file.responder file.events file.version h k h.responder h.events h.version

@@ -1,36 +1,17 @@
 -- The text of a pattern as lines none of which is `end`, and such lines as they are read.
-use Rattle.std.proofs.Common.{arith, inl, inr, ◌≡◌, ◌∙◌, ◌+◌, ◌-◌, ◌==◌, not, Bool, true, ap, refl, subst, sym, ℕ, List, ◌∷◌, ◌++◌, codes, length, take, []}
-use Rattle.std.specs.List.{All, list_all}
-use Rattle.std.proofs.Math.Seq.{take-append_seam}
-use Rattle.std.proofs.lemmas.Bool.{and_parts}
-use Rattle.std.proofs.lemmas.List.{append_assoc, length-append}
-use Rattle.std.proofs.lemmas.List.Elements.{All-append, All-cons, All-head, All-nil, All-push, All-tail}
-use Rattle.noise_names.specs.declared.token.Role.{Role}
-use Rattle.noise_names.specs.declared.token.Role.TheVariants.{Initiator, Responder}
+use Rattle.std.proofs.Common.{rules, arith, inl, inr, ◌≡◌, ◌∙◌, ◌+◌, ◌-◌, ◌==◌, not, Bool, true, ap, refl, subst, sym, ℕ, List, ◌∷◌, ◌++◌, codes, length, take, []}
+use Rattle.noise_vectors.proofs.Common.{All, take-append_seam, and_parts, append_assoc, length-append, All-append, All-cons, All-head, All-nil, All-push, All-tail, Role, Initiator, Responder, IsPattern, IsSection, Section, is_section_byte, section_bytes, Plan, message_lines, pre_line, pre_lines, token_line, word_of, words, section_bytes-all, IsInner, itself, IsRead, IsCutBlock, line_then, lines_of, lacks, Block, IsFirstLine, VectorFault, Line, Lines}
 use Rattle.noise_names.specs.declared.token.Token.{Token}
 use Rattle.noise_names.specs.declared.token.Token.TheVariants.{E}
-use Rattle.noise_names.specs.Limits.{IsPattern}
-use Rattle.noise_names.specs.Names.{IsSection, Section, is_section_byte, section_bytes}
-use Rattle.noise_names.specs.Plan.{Plan}
-use Rattle.noise_names.specs.Text.{message_lines, pre_line, pre_lines, token_line, word_of, words, text_of as pattern_text}
+use Rattle.noise_names.specs.Text.{text_of as pattern_text}
 use Rattle.noise_names.specs.Tokens.{other}
-use Rattle.noise_names.specs.Facts.{section_bytes-all}
-use Rattle.noise_vectors.specs.Block.{IsInner, itself}
-use Rattle.noise_vectors.specs.Lines.{IsRead}
 use Rattle.noise_vectors.specs.OwnPattern.{HasName}
-use Rattle.noise_vectors.specs.ReaderFaults.{IsCutBlock}
-use Rattle.noise_vectors.specs.VectorText.{line_then, lines_of}
-use Rattle.noise_vectors.specs.Words.{lacks}
-use Rattle.noise_vectors.specs.WrongLine.{Block, IsFirstLine}
-use Rattle.noise_vectors.specs.declared.faults.LineKind.TheVariants as kinds
-use Rattle.noise_vectors.specs.declared.faults.VectorFault.{VectorFault}
-use Rattle.noise_vectors.specs.declared.faults.VectorFault.TheVariants.{Line}
-use Rattle.noise_vectors.specs.declared.lines.Lines.{Lines}
 use Rattle.noise_vectors.proofs.LackLemmas.{all_weaker, lacks-append}
 use Rattle.noise_vectors.proofs.LineLemmas.{lines_of-more}
 use Rattle.noise_vectors.proofs.ReportedLemmas.{first-line}
 use Rattle.noise_vectors.proofs.ReadingLemmas.{no_line_feed}
 use Rattle.noise_vectors.proofs.UniqueWords.{parted-one}
+use Rattle.noise_vectors.specs.declared.faults.LineKind.TheVariants as kinds
 
 -- ---- lists of lines
 
@@ -40,8 +21,7 @@ lines_of-append (x ∷ xs) ys rest = ap (λ (t : List ℕ). line_then x t) (line
 
 lines_of-after : (xs : List (List ℕ)) (rest after : List ℕ) → lines_of itself xs rest ++ after ≡ lines_of itself xs (rest ++ after)
 lines_of-after [] rest after = refl
-lines_of-after (x ∷ xs) rest after =
-    append_assoc x (10 ∷ lines_of itself xs rest) after ∙ ap (λ (t : List ℕ). line_then x t) (lines_of-after xs rest after)
+lines_of-after (x ∷ xs) rest after = search (append_assoc, (lines_of-after xs rest after))
 
 -- the text is that of lines which aren't the block's last one
 pub record Lined (text : List ℕ) : Type 0 where
@@ -72,8 +52,7 @@ lacks-word_of _ = refl
 lacks-words : (ts : List Token) → lacks 10 (words ts) ≡ true
 lacks-words [] = refl
 lacks-words (t ∷ []) = lacks-word_of t
-lacks-words (t ∷ u ∷ ts) =
-    lacks-append 10 (word_of t ++ codes ", ") (words (u ∷ ts)) (lacks-append 10 (word_of t) (codes ", ") (lacks-word_of t) refl) (lacks-words (u ∷ ts))
+lacks-words (t ∷ u ∷ ts) = search (lacks-append, lacks-word_of, (lacks-words (u ∷ ts)))
 
 lined-token_line : (party : Role) (ts : List Token) → Lined (token_line party ts)
 lined-token_line Initiator ts =
@@ -101,23 +80,13 @@ lined-message_lines party [] = lined-none
 lined-message_lines party (m ∷ ms) =
     lined-append (token_line party m) (message_lines (other party) ms) (lined-token_line party m) (lined-message_lines (other party) ms)
 
--- nor the `e` that `end` begins with
-not_end : (section : List ℕ) → list_all is_section_byte section ≡ true → ¬ (section ++ codes ":" ≡ codes "end")
-not_end [] h e = cc (e)
-not_end (b ∷ bs) h e =
-    let parts = and_parts (is_section_byte b) (list_all is_section_byte bs) h in
-    let first : b ≡ 101 = cc (e) in
-    let bad : is_section_byte 101 ≡ true = rw first at parts.0 in
-    cc (bad)
-
 pub heading-plain : (s : Section) → IsSection s → lacks 10 (section_bytes s.base s.places ++ codes ":") ≡ true
 heading-plain s h =
     let plain = all_weaker is_section_byte (λ b. not (b == 10)) (section_bytes s.base s.places) no_line_feed (section_bytes-all s h) in
     lacks-append 10 (section_bytes s.base s.places) (codes ":") plain refl
 
 lined-heading : (s : Section) → IsSection s → Lined ((section_bytes s.base s.places ++ codes ":") ++ 10 ∷ [])
-lined-heading s h =
-    lined-one (section_bytes s.base s.places ++ codes ":") (heading-plain s h, not_end (section_bytes s.base s.places) (section_bytes-all s h))
+lined-heading s h = search (rules, lined-one, heading-plain)
 
 -- the text of a pattern is that of such lines
 pub lined-pattern : (p : Plan) → IsPattern p → Lined (pattern_text p)
@@ -132,9 +101,7 @@ lined-pattern p h =
 -- and with `end` after it
 pub block-lines : (p : Plan) (h : IsPattern p) (rest start : List ℕ) → start ≡ pattern_text p ++ line_then (codes "end") rest
     → start ≡ lines_of itself (lined-pattern p h).before (line_then (codes "end") rest)
-block-lines p h rest start e =
-    let l = lined-pattern p h in
-    e ∙ ap (λ (t : List ℕ). t ++ line_then (codes "end") rest) l.lines_are ∙ lines_of-after l.before [] (line_then (codes "end") rest)
+block-lines p h rest start e = search (rules, lines_of-after)
 
 -- ---- the lines before `end`, as they are read
 

@@ -1,15 +1,8 @@
 -- Numbers with commas between them, as they are read one after the other.
-use Rattle.std.proofs.Common.{arith, ◌≡◌, ◌∙◌, ◌+◌, ◌-◌, ◌<◌, ◌≤◌, ap, sym, refl, subst, lit<, ℕ, List, ◌∷◌, ◌++◌, map, codes, length, Bool, true, false, Option, Some, None, []}
-use Rattle.std.specs.Prelude.{decimal, nat_le, nat_lt, slice_index_or, if◌then◌else◌, IfSome}
-use Rattle.std.specs.List.{All, join_with_byte}
-use Rattle.std.proofs.lemmas.Bool.{and_parts, le-leb, lt-ltb, ltb-true}
-use Rattle.std.proofs.lemmas.Fmt.{decimal_injective, decimal_nonempty}
-use Rattle.std.proofs.lemmas.List.{append_assoc, length-append}
-use Rattle.std.proofs.lemmas.List.Elements.{All-head, All-tail}
+use Rattle.std.proofs.Common.{rules, arith, ◌≡◌, ◌∙◌, ◌+◌, ◌-◌, ◌<◌, ap, sym, refl, subst, lit<, ℕ, List, ◌∷◌, ◌++◌, map, codes, length, Bool, true, false, Option, Some, None, []}
+use Rattle.std.specs.Prelude.{decimal, if◌then◌else◌}
+use Rattle.noise_vectors.proofs.Common.{nat_le, nat_lt, slice_index_or, IfSome, All, join_with_byte, and_parts, ltb-true, decimal_injective, decimal_nonempty, append_assoc, length-append, All-head, All-tail, AreCuts, AreLengths, lengths_word, lacks}
 use Rattle.noise_events.specs.Cuts.{are_cuts}
-use Rattle.noise_vectors.specs.Cuts.{AreCuts, AreLengths}
-use Rattle.noise_vectors.specs.VectorText.{lengths_word}
-use Rattle.noise_vectors.specs.Words.{lacks}
 use Rattle.noise_vectors.proofs.WordLemmas.{lacks-decimal, not_lacks}
 
 -- the numbers, each with a comma (44) after it
@@ -28,9 +21,7 @@ join-first text (m ∷ ns) n = refl
 
 join-before : (ns : List ℕ) (n : ℕ) → join_with_byte 44 (map decimal (ns ++ n ∷ [])) ≡ before ns ++ decimal n
 join-before [] n = refl
-join-before (m ∷ ns) n =
-    join-first (decimal m) ns n ∙ ap (λ (t : List ℕ). decimal m ++ 44 ∷ t) (join-before ns n)
-    ∙ sym (append_assoc (decimal m) (44 ∷ before ns) (decimal n))
+join-before (m ∷ ns) n = search (rules, join-first, append_assoc, (join-before ns n))
 
 lengths_word-push : (ns : List ℕ) (n : ℕ) → lengths_word (ns ++ n ∷ []) ≡ join_with_byte 44 (map decimal (ns ++ n ∷ []))
 lengths_word-push [] n = refl
@@ -43,9 +34,7 @@ lengths_word-last ns n = lengths_word-push ns n ∙ join-before ns n
 -- one number more is read
 pub before-more : (word rest first more : List ℕ) (ns : List ℕ) (n : ℕ) → word ≡ before ns ++ rest → rest ≡ first ++ 44 ∷ more → first ≡ decimal n
     → word ≡ before (ns ++ n ∷ []) ++ more
-before-more word rest first more ns n whole split number =
-    whole ∙ ap (λ (t : List ℕ). before ns ++ t) (split ∙ ap (λ (t : List ℕ). t ++ 44 ∷ more) number ∙ sym (append_assoc (decimal n) (44 ∷ []) more))
-    ∙ sym (append_assoc (before ns) (decimal n ++ 44 ∷ []) more) ∙ ap (λ (t : List ℕ). t ++ more) (sym (before-push ns n))
+before-more word rest first more ns n whole split number = search (rules, append_assoc, before-push)
 
 -- ---- what is still to be read
 
@@ -73,10 +62,7 @@ Left-start n ns word h e = record {
 
 -- there is room for the next
 pub Left-room : (all done rest : List ℕ) → Left all done rest → AreLengths all → length done < 8
-Left-room all done rest l h =
-    let len : length all ≡ length done + length (l.next ∷ l.others) = ap length l.all_are ∙ length-append done (l.next ∷ l.others) in
-    let most : length all ≤ 8 = h.0 in
-    omega arith
+Left-room all done rest l h = search (rules, length-append)
 
 -- what a split at the first comma gives
 abbrev pub Splits : List ℕ → List ℕ → List ℕ → Type 0
@@ -115,8 +101,7 @@ first-of all done rest first more next (k ∷ ks) all_are rest_is small others_s
 
 pub Left-first : (all done rest first more : List ℕ) → Left all done rest → rest ≡ first ++ 44 ∷ more → Splits rest first more
     → First all done first more
-Left-first all done rest first more l parts every =
-    first-of all done rest first more l.next l.others l.all_are l.rest_is l.small l.others_small parts every
+Left-first all done rest first more l parts every = search first-of
 
 same-number : (m n : ℕ) (word : List ℕ) → m < 65536 → n < 65536 → word ≡ decimal m → word ≡ decimal n → m ≡ n
 same-number m n word hm hn em en = decimal_injective m n (omega arith) (omega arith) (sym em ∙ en)
@@ -145,16 +130,14 @@ pub record Last (all done rest : List ℕ) : Type 0 where
 last-of : (all done rest : List ℕ) (next : ℕ) (others : List ℕ) → all ≡ done ++ next ∷ others → rest ≡ lengths_word (next ∷ others)
     → next < 65536 → ((b h : List ℕ) → lacks 44 b ≡ true → rest ≡ b ++ 44 ∷ h → Unit {0} → ⊥) → Last all done rest
 last-of all done rest next [] all_are rest_is small none = record { last = next; all_are = all_are; rest_is = rest_is; small = small }
-last-of all done rest next (k ∷ ks) all_are rest_is small none =
-    absurd (none (decimal next) (lengths_word (k ∷ ks)) (lacks-comma next small) rest_is tt)
+last-of all done rest next (k ∷ ks) all_are rest_is small none = search (rules, lacks-comma)
 
 pub Left-last : (all done rest : List ℕ) → Left all done rest → ((b h : List ℕ) → lacks 44 b ≡ true → rest ≡ b ++ 44 ∷ h → Unit {0} → ⊥)
     → Last all done rest
 Left-last all done rest l none = last-of all done rest l.next l.others l.all_are l.rest_is l.small none
 
 pub Last-done : (all done rest : List ℕ) (n : ℕ) → Last all done rest → n < 65536 → rest ≡ decimal n → done ++ n ∷ [] ≡ all
-Last-done all done rest n l h e =
-    ap (λ (m : ℕ). done ++ m ∷ []) (same-number n l.last rest h l.small e l.rest_is) ∙ sym l.all_are
+Last-done all done rest n l h e = search (rules, same-number)
 
 -- ---- whole words
 
@@ -189,9 +172,6 @@ no-cuts word (n ∷ ns) hyphen none h e = none n ns h e tt
 
 -- ---- cuts of lengths
 
-pub are_cuts-true : (ns : List ℕ) → AreCuts ns → are_cuts ns ≡ true
-are_cuts-true ns h = rw (le-leb (length ns) 8 h.0.0, lt-ltb 0 (slice_index_or ns (length ns - 1) 1) h.1) refl
-
 -- what cuts are made of these lengths, whose word it is
 pub cuts-word : (made : Option (List ℕ)) (word ns : List ℕ) → made ≡ (if are_cuts ns then Some ns else None) → word ≡ lengths_word ns
     → IfSome made (λ cuts. word ≡ lengths_word cuts)
@@ -203,8 +183,7 @@ cuts-word made word ns e is = at (are_cuts ns) refl where
 -- of right cuts they are made
 pub cuts-made : (made : Option (List ℕ)) (ns cuts : List ℕ) → made ≡ (if are_cuts ns then Some ns else None) → ns ≡ cuts → AreCuts cuts
     → made ≡ Some cuts
-cuts-made made ns cuts e same h =
-    rw (e, same, (are_cuts-true cuts h)) refl
+cuts-made made ns cuts e same h = search rules
 
 -- what is made of such numbers is right
 pub cuts-right : (made : Option (List ℕ)) (ns : List ℕ) → made ≡ (if are_cuts ns then Some ns else None) → AreLengths ns → IfSome made AreCuts

@@ -1,20 +1,12 @@
 -- The words of an event.
-use Rattle.std.proofs.Common.{arith, ◌≡◌, ◌<◌, ◌^◌, lit<, refl, true, ℕ, List, ◌∷◌, ◌++◌, codes, []}
+use Rattle.std.proofs.Common.{rules, arith, ◌≡◌, ◌<◌, ◌^◌, lit<, refl, true, ℕ, List, ◌∷◌, ◌++◌, codes, []}
 use Rattle.std.specs.Prelude.{decimal}
-use Rattle.std.specs.List.{All}
-use Rattle.std.proofs.lemmas.List.Elements.{All-cons, All-head, All-nil, All-tail}
-use Rattle.noise_names.specs.declared.token.Role.{Role}
-use Rattle.noise_events.specs.declared.event.Event.{Event}
-use Rattle.noise_events.specs.declared.event.Event.TheVariants.{Write, Say, Deliver, Raw}
-use Rattle.noise_vectors.specs.HexWord.{hex_of}
-use Rattle.noise_vectors.specs.VectorFile.{IsAllowed, IsEvent, IsShort}
-use Rattle.noise_vectors.specs.VectorText.{event_words, kind_word, lengths_word, role_word}
-use Rattle.noise_vectors.specs.Words.{lacks}
-use Rattle.noise_vectors.specs.declared.vector.AllowedEvents.{AllowedEvents}
+use Rattle.noise_vectors.proofs.Common.{All, All-nil, Role, Event, Write, Say, Deliver, hex_of, IsAllowed, IsEvent, IsShort, event_words, kind_word, lengths_word, role_word, lacks, AllowedEvents}
+use Rattle.noise_events.specs.declared.event.Event.TheVariants.{Raw}
 use Rattle.noise_vectors.specs.declared.words.EventKind.{EventKind}
-use Rattle.noise_vectors.specs.declared.words.EventKind.TheVariants as kinds
-use Rattle.noise_vectors.proofs.LackLemmas.{lacks-append, lacks-hex_of, lacks-lengths_word, role_word-plain}
+use Rattle.noise_vectors.proofs.LackLemmas.{lacks-append, lacks-hex_of, lacks-lengths_word}
 use Rattle.noise_vectors.proofs.WordLemmas.{lacks-decimal}
+use Rattle.noise_vectors.specs.declared.words.EventKind.TheVariants as kinds
 
 -- ---- its parts
 
@@ -45,20 +37,13 @@ event_words-parts _ = refl
 
 pub line-of : (front : List ℕ) (role : Role) (operands : List ℕ) → lacks 10 front ≡ true → lacks 10 operands ≡ true
     → lacks 10 (front ++ (role_word role ++ 32 ∷ operands)) ≡ true
-line-of front role operands f o =
-    lacks-append 10 front (role_word role ++ 32 ∷ operands) f (lacks-append 10 (role_word role) (32 ∷ operands) (role_word-plain role).0 o)
+line-of front role operands f o = search (rules, lacks-append)
 
 -- they have no line feed (10)
 pub event_words-line : (event : Event) → IsEvent event → lacks 10 (event_words event) ≡ true
-event_words-line (Say role payload cuts) h =
-    line-of (codes "say ") role (hex_of payload.items ++ 32 ∷ lengths_word cuts) refl
-    (lacks-append 10 (hex_of payload.items) (32 ∷ lengths_word cuts) (lacks-hex_of 10 payload.items (lit< tt) h.0.1)
-    (lacks-lengths_word 10 cuts (lit< tt) h.1.0.1))
+event_words-line (Say role payload cuts) h = search (rules, lacks-append, lacks-hex_of, lacks-lengths_word)
 event_words-line (Write role payload) h = line-of (codes "write ") role (hex_of payload.items) refl (lacks-hex_of 10 payload.items (lit< tt) h.1)
-event_words-line (Deliver role number cuts) h =
-    let small : number < 2 ^ 64 = omega (arith, h.0) in
-    line-of (codes "deliver ") role (decimal number ++ 32 ∷ lengths_word cuts) refl
-    (lacks-append 10 (decimal number) (32 ∷ lengths_word cuts) (lacks-decimal 10 number (lit< tt) small) (lacks-lengths_word 10 cuts (lit< tt) h.1.0.1))
+event_words-line (Deliver role number cuts) h = search (rules, lacks-append, lacks-decimal, lacks-lengths_word)
 event_words-line (Raw role bytes) h = line-of (codes "raw ") role (hex_of bytes.items) refl (lacks-hex_of 10 bytes.items (lit< tt) h.1)
 
 -- ---- its words
@@ -80,6 +65,4 @@ right-plain allowed event h = event_words-line event h.0
 
 pub all-right : (allowed : AllowedEvents) (events : List Event) → All IsEvent events → All (IsAllowed allowed) events → All (IsRight allowed) events
 all-right allowed [] h g = All-nil (IsRight allowed)
-all-right allowed (e ∷ es) h g =
-    All-cons (IsRight allowed) e es (All-head IsEvent e es h, All-head (IsAllowed allowed) e es g)
-    (all-right allowed es (All-tail IsEvent e es h) (All-tail (IsAllowed allowed) e es g))
+all-right allowed (e ∷ es) h g = search

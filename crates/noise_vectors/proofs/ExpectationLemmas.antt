@@ -1,19 +1,15 @@
 -- Lists of lines, compared line by line.
-use Rattle.std.proofs.Common.{arith, ◌≡◌, ◌≢◌, ◌∙◌, ◌+◌, ◌<◌, ◌≤◌, ◌⊎◌, inl, inr, ap, refl, sym, ℕ, suc, Vec, Some, None, List, ◌∷◌, length, get_or, []}
+use Rattle.std.proofs.Common.{rules, arith, ◌≡◌, ◌≢◌, ◌∙◌, ◌+◌, ◌<◌, ◌≤◌, ◌⊎◌, inl, inr, refl, sym, ℕ, suc, Vec, Some, None, List, ◌∷◌, length, get_or, []}
 use Rattle.std.specs.Global.{Global}
 use Rattle.std.specs.Prelude.{slice_get}
 use Rattle.std.proofs.lemmas.Option.{slice_get-map, slice_get_cases, slice_get_past, slice_get_read}
-use Rattle.std.specs.Option.{option_map}
-use Rattle.std.proofs.lemmas.List.{length-map}
 use Rattle.std.proofs.Math.Nat.{eq-or-lt_of_le}
-use Rattle.noise_names.specs.Lists.{bytes_of}
+use Rattle.noise_vectors.proofs.Common.{length-map, bytes_of}
 use Rattle.noise_vectors.specs.Expectations.{IsFirstUnmet}
 
 -- the bytes of a line that is there
 pub line-at : (lines : List (Vec ℕ Global)) (i : ℕ) (l : Vec ℕ Global) → i < length lines → l ≡ get_or lines i l → slice_get (bytes_of lines) i ≡ Some l.items
-line-at lines i l less is =
-    slice_get-map (λ (v : Vec ℕ Global). v.items) lines i
-    ∙ ap (option_map (λ (v : Vec ℕ Global). v.items)) (slice_get_read lines (length lines) i l refl less is)
+line-at lines i l less is = search (rules, slice_get-map, slice_get_read)
 
 -- one line more is the same
 pub same-more : {A : Type 0} (xs ys : List A) (k : ℕ) → ((i : ℕ) → i < k → slice_get xs i ≡ slice_get ys i) → slice_get xs k ≡ slice_get ys k

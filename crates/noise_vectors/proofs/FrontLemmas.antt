@@ -1,26 +1,10 @@
 -- Texts that begin with given lines, whatever follows them.
-use Rattle.std.proofs.Common.{arith, ◌≡◌, ◌∙◌, ◌+◌, inl, inr, ap, refl, subst, sym, ℕ, List, ◌∷◌, ◌++◌, Option, Some, None, codes, []}
+use Rattle.std.proofs.Common.{rules, arith, ◌≡◌, ◌∙◌, ◌+◌, inl, inr, ap, refl, subst, sym, ℕ, List, ◌∷◌, ◌++◌, Option, Some, None, codes, []}
 use Rattle.std.specs.Prelude.{decimal}
-use Rattle.std.proofs.lemmas.List.{append_assoc, append-nil}
-use Rattle.noise_names.specs.declared.token.Role.{Role}
-use Rattle.noise_names.specs.declared.token.Role.TheVariants.{Initiator, Responder}
+use Rattle.noise_vectors.proofs.Common.{append_assoc, append-nil, Role, Initiator, Responder, Plan, hex_of, IsAllowedFile, IsVectorFile, block_text, datagrams_text, event_words, header_words, is_second, key_words, line_then, lines_of, party_text, psk_words, role_word, file_text, line_feeds, IsEnded, IsCutFile, IsReportedLine, up_to_end, up_to_events, up_to_initiator, up_to_interval, up_to_prologue, up_to_protocol, up_to_responder, IsWrongFirst, LineKind, VectorFault, FileKeys, Xor, AllowedEvents, FileDatagrams, VectorFile}
 use Rattle.noise_names.specs.FaultLines.{feeds-append}
-use Rattle.noise_names.specs.Names.{name_bytes}
-use Rattle.noise_names.specs.Plan.{Plan}
 use Rattle.noise_names.specs.Text.{text_of as pattern_text}
-use Rattle.noise_vectors.specs.HexWord.{hex_of}
-use Rattle.noise_vectors.specs.VectorFile.{IsAllowedFile, IsVectorFile}
-use Rattle.noise_vectors.specs.VectorText.{answer_words, block_text, datagram_event_words, datagrams_text, event_words, header_words, is_second, key_words, line_then, lines_of, party_text, psk_words, role_word, file_text, window_words}
-use Rattle.noise_names.specs.WrongText.{line_feeds, IsEnded}
-use Rattle.noise_vectors.specs.WrongLine.{IsCutFile, IsReportedLine, up_to_end, up_to_events, up_to_initiator, up_to_interval, up_to_prologue, up_to_protocol, up_to_responder}
-use Rattle.noise_vectors.specs.ReaderFaults.{IsWrongFirst}
-use Rattle.noise_vectors.specs.declared.faults.LineKind.{LineKind}
-use Rattle.noise_vectors.specs.declared.faults.VectorFault.{VectorFault}
-use Rattle.noise_vectors.specs.declared.file_keys.FileKeys.{FileKeys}
-use Rattle.noise_vectors.specs.declared.file_keys.FileKeys.TheVariants.{Xor, Table}
-use Rattle.noise_vectors.specs.declared.vector.AllowedEvents.{AllowedEvents}
-use Rattle.noise_vectors.specs.declared.vector.FileDatagrams.{FileDatagrams}
-use Rattle.noise_vectors.specs.declared.vector.VectorFile.{VectorFile}
+use Rattle.noise_vectors.specs.declared.file_keys.FileKeys.TheVariants.{Table}
 use Rattle.noise_vectors.proofs.PartLemmas.{lines_of-after}
 
 -- what follows is added at the end
@@ -28,8 +12,7 @@ abbrev pub IsFront : (List ℕ → List ℕ) → Type 0
 IsFront front = (rest : List ℕ) → front rest ≡ front [] ++ rest
 
 pub front-both : (f g : List ℕ → List ℕ) → IsFront f → IsFront g → IsFront (λ rest. f (g rest))
-front-both f g hf hg rest =
-    ap f (hg rest) ∙ hf (g [] ++ rest) ∙ sym (append_assoc (f []) (g []) rest) ∙ ap (λ (t : List ℕ). t ++ rest) (sym (hf (g [])))
+front-both f g hf hg rest = search (rules, append_assoc)
 
 pub front-line : (words : List ℕ) → IsFront (line_then words)
 front-line words rest = sym (append_assoc words (10 ∷ []) rest)
@@ -39,23 +22,17 @@ front-lines words xs rest = sym (lines_of-after words xs [] rest)
 
 pub front-block : (block : Option Plan) → IsFront (block_text block)
 front-block None rest = refl
-front-block (Some p) rest =
-    ap (λ (t : List ℕ). pattern_text p ++ t) (front-line (codes "end") rest) ∙ sym (append_assoc (pattern_text p) (line_then (codes "end") []) rest)
+front-block (Some p) rest = search (rules, append_assoc)
 
 pub front-party : (role : Role) (keys : FileKeys) → IsFront (party_text role keys)
 front-party role (Xor keys) = front-line (role_word role ++ (codes " xor " ++ key_words keys.e keys.s))
-front-party role (Table keys) =
-    let words = role_word role ++ (codes " table " ++ key_words keys.e keys.s) in
-    front-both (line_then words) (lines_of answer_words keys.entries) (front-line words) (front-lines answer_words keys.entries)
+front-party role (Table keys) = search (rules, front-both, front-line, front-lines)
 
 pub front-protocol : (file : VectorFile) → IsFront (up_to_protocol file)
 front-protocol file = front-line (header_words (is_second file.version))
 
 pub front-prologue : (file : VectorFile) → IsFront (up_to_prologue file)
-front-prologue file =
-    let words = codes "protocol " ++ name_bytes file.protocol in
-    front-both (up_to_protocol file) (λ rest. line_then words (block_text file.block rest)) (front-protocol file)
-    (front-both (line_then words) (block_text file.block) (front-line words) (front-block file.block))
+front-prologue file = search (rules, front-both, front-line, front-block)
 
 pub front-interval : (file : VectorFile) → IsFront (up_to_interval file)
 front-interval file =
@@ -89,9 +66,7 @@ front-version file =
 
 pub front-datagrams : (over : Option FileDatagrams) → IsFront (datagrams_text over)
 front-datagrams None rest = refl
-front-datagrams (Some over) rest =
-    front-both (line_then (window_words over.window)) (lines_of datagram_event_words over.events.items) (front-line (window_words over.window))
-    (front-lines datagram_event_words over.events.items) rest
+front-datagrams (Some over) rest = search (rules, front-both, front-line, front-lines)
 
 -- ---- the line that is reported
 
@@ -141,26 +116,16 @@ ended-block (Some p) rest h =
 
 pub ended-party : (role : Role) (keys : FileKeys) (rest : List ℕ) → IsEnded rest → IsEnded (party_text role keys rest)
 ended-party role (Xor keys) rest h = ended-line (role_word role ++ (codes " xor " ++ key_words keys.e keys.s)) rest h
-ended-party role (Table keys) rest h =
-    ended-line (role_word role ++ (codes " table " ++ key_words keys.e keys.s)) (lines_of answer_words keys.entries rest)
-    (ended-lines answer_words keys.entries rest h)
+ended-party role (Table keys) rest h = search (ended-line, ended-lines)
 
 pub ended-prologue : (file : VectorFile) (rest : List ℕ) → IsEnded rest → IsEnded (up_to_prologue file rest)
-ended-prologue file rest h =
-    let here = codes "protocol " ++ name_bytes file.protocol in
-    ended-line (header_words (is_second file.version)) (line_then here (block_text file.block rest))
-    (ended-line here (block_text file.block rest) (ended-block file.block rest h))
+ended-prologue file rest h = search (ended-line, ended-block)
 
 pub ended-interval : (file : VectorFile) (rest : List ℕ) → IsEnded rest → IsEnded (up_to_interval file rest)
-ended-interval file rest h =
-    let here = codes "prologue " ++ hex_of file.prologue.items in
-    ended-prologue file (line_then here rest) (ended-line here rest h)
+ended-interval file rest h = search (ended-prologue, ended-line)
 
 pub ended-initiator : (file : VectorFile) (rest : List ℕ) → IsEnded rest → IsEnded (up_to_initiator file rest)
-ended-initiator file rest h =
-    let here = codes "interval " ++ decimal file.interval in
-    let psks = lines_of psk_words file.psks.items rest in
-    ended-interval file (line_then here psks) (ended-line here psks (ended-lines psk_words file.psks.items rest h))
+ended-initiator file rest h = search (ended-interval, ended-line, ended-lines)
 
 pub ended-responder : (file : VectorFile) (rest : List ℕ) → IsEnded rest → IsEnded (up_to_responder file rest)
 ended-responder file rest h = ended-initiator file (party_text Initiator file.initiator rest) (ended-party Initiator file.initiator rest h)

@@ -1,21 +1,8 @@
 -- The heading of a name, with which the text of a pattern begins.
-use Rattle.std.proofs.Common.{arith, ◌≡◌, ◌∙◌, ◌==◌, ◌↔◌, ◌&&◌, ap, refl, sym, not, true, false, true≢false, Bool, ℕ, List, ◌∷◌, ◌++◌, codes, drop, []}
+use Rattle.std.proofs.Common.{rules, arith, ◌≡◌, ◌∙◌, ◌==◌, ◌↔◌, ◌&&◌, ap, sym, not, true, false, Bool, ℕ, List, ◌∷◌, ◌++◌, codes, drop, []}
 use Rattle.std.specs.Bool.{nat_eq}
-use Rattle.std.specs.Prelude.{bytes_eq}
-use Rattle.std.specs.List.{starts_with}
-use Rattle.std.proofs.lemmas.Bool.Decides.{Decides-eqb, nat_tests}
-use Rattle.std.proofs.lemmas.List.{append_assoc, append_cancel_right}
-use Rattle.std.proofs.lemmas.Slice.Eq.{bytes_eq-Decides, starts_is}
-use Rattle.noise_names.specs.declared.token.Role.TheVariants.{Initiator}
-use Rattle.noise_names.specs.Facts.{section_bytes-all}
-use Rattle.noise_names.specs.Limits.{IsPattern}
-use Rattle.noise_names.specs.Names.{IsSection, Section, is_section_byte, prefix, section_bytes, suffix}
-use Rattle.noise_names.specs.Plan.{Plan}
-use Rattle.noise_names.specs.Text.{message_lines, pre_lines, text_of as pattern_text}
-use Rattle.noise_names.specs.WrongText.{heading_of}
-use Rattle.noise_vectors.specs.VectorText.{line_then}
-use Rattle.noise_vectors.specs.Words.{lacks}
-use Rattle.noise_vectors.specs.WrongLine.{HasHeading}
+use Rattle.noise_vectors.proofs.Common.{bytes_eq, starts_with, Decides-eqb, nat_tests, append_assoc, append_cancel_right, starts_is, Initiator, section_bytes-all, IsPattern, IsSection, Section, is_section_byte, prefix, section_bytes, suffix, Plan, message_lines, pre_lines, heading_of, line_then, lacks, HasHeading}
+use Rattle.noise_names.specs.Text.{text_of as pattern_text}
 use Rattle.noise_vectors.proofs.BlockLemmas.{heading-plain}
 use Rattle.noise_vectors.proofs.LackLemmas.{all_weaker}
 use Rattle.noise_vectors.proofs.PartyLemmas.{after-front}
@@ -68,7 +55,4 @@ heading-test name text after test split value =
 
 -- a test that two names are one says so where they are
 pub other-name : (a b : Section) (test : Bool) → test ≡ bytes_eq a.base b.base && bytes_eq a.places b.places → test ≡ false → ¬ (a ≡ b)
-other-name a b test is differ e =
-    let base = (bytes_eq-Decides a.base b.base).1 (ap (λ (s : Section). s.base) e) in
-    let yes : test ≡ true = is ∙ rw (base, ((bytes_eq-Decides a.places b.places).1 (ap (λ (s : Section). s.places) e))) refl in
-    true≢false (sym yes ∙ differ)
+other-name a b test is differ e = search rules

@@ -1,16 +1,9 @@
 -- The lines that are expected, as a file holds them.
-use Rattle.std.proofs.Common.{arith, ◌≡◌, ◌+◌, ◌<◌, ◌≤◌, ◌^◌, ap, refl, true, ℕ, List, ◌∷◌, ◌++◌, length, Vec, []}
+use Rattle.std.proofs.Common.{rules, arith, ◌≡◌, ◌+◌, ◌<◌, ◌≤◌, ◌^◌, ap, refl, true, ℕ, List, ◌∷◌, ◌++◌, length, Vec, []}
 use Rattle.std.specs.Global.{Global}
-use Rattle.std.specs.List.{All}
-use Rattle.std.proofs.lemmas.List.{length-append}
-use Rattle.std.proofs.lemmas.List.Elements.{All-cons, All-head, All-nil, All-tail}
-use Rattle.noise_names.specs.Lists.{bytes_of}
-use Rattle.noise_vectors.specs.ReaderFaults.{expect_kind}
-use Rattle.noise_vectors.specs.VectorFile.{IsExpected}
-use Rattle.noise_vectors.specs.VectorText.{expect_line, expect_words, line_then, lines_of}
-use Rattle.noise_vectors.specs.Words.{lacks}
-use Rattle.noise_vectors.specs.declared.faults.LineKind.TheVariants as kinds
+use Rattle.noise_vectors.proofs.Common.{All, length-append, All-cons, All-head, All-nil, All-tail, bytes_of, expect_kind, IsExpected, expect_line, expect_words, line_then, lines_of, lacks}
 use Rattle.noise_vectors.proofs.AdditionLemmas.{expected-line}
+use Rattle.noise_vectors.specs.declared.faults.LineKind.TheVariants as kinds
 
 abbrev pub Good : List ℕ → Type 0
 Good words = IsExpected words × (length words < 2 ^ 63)
@@ -42,15 +35,9 @@ expect-more (v ∷ vs) words = refl
 
 lines-size : {A : Type 0} (words : A → List ℕ) (xs : List A) (rest : List ℕ) → length xs + length rest ≤ length (lines_of words xs rest)
 lines-size words [] rest = omega arith
-lines-size words (x ∷ xs) rest =
-    let more = lines-size words xs rest in
-    let all = length-append (words x) (10 ∷ lines_of words xs rest) in
-    omega (arith, more, all)
+lines-size words (x ∷ xs) rest = search (rules, length-append, (lines-size words xs rest))
 
 -- Lines that were read, and one more, are no more than the bytes of their text.
 pub lines-long : {A : Type 0} (words : A → List ℕ) (xs : List A) (from left after : List ℕ) → from ≡ lines_of words xs left → length after < length left
     → length xs + 1 ≤ length from
-lines-long words xs from left after e more =
-    let all = lines-size words xs left in
-    let same = ap length e in
-    omega (arith, all, same, more)
+lines-long words xs from left after e more = search (rules, lines-size)

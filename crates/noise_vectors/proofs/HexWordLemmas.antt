@@ -1,17 +1,10 @@
 -- Lower-case digits read as bytes, and bytes read back from their digits.
-use Rattle.std.proofs.Common.{◌≡◌, ℕ, zero, suc, ◌+◌, ◌*◌, ◌/◌, ◌%◌, ◌<◌, ◌≤◌, ◌==◌, Bool, true, false, ◌&&◌, ◌||◌, not, ◌⊎◌, inl, inr, List, ◌∷◌, length, slice_index, Option, Some, None, Result, Ok, Err, refl, sym, ap, subst, ◌∙◌, arith, codes, []}
-use Rattle.std.specs.Prelude.{nat_lt, IsOk, MatchResult}
+use Rattle.std.proofs.Common.{rules, ◌≡◌, ℕ, zero, suc, ◌+◌, ◌*◌, ◌/◌, ◌%◌, ◌<◌, ◌≤◌, ◌==◌, Bool, true, false, ◌&&◌, ◌||◌, not, ◌⊎◌, inl, inr, List, ◌∷◌, length, slice_index, Option, Some, None, Result, Ok, Err, refl, sym, ap, subst, ◌∙◌, arith, codes, []}
 use Rattle.std.proofs.Math.ListN.{get_or-eq_default}
-use Rattle.std.proofs.lemmas.Bool.{and_parts, cases_lt, eqb-true, ltb-false, ltb-true}
-use Rattle.std.proofs.lemmas.Bool.Decides.{nat_tests}
-use Rattle.std.proofs.lemmas.List.Elements.{All-cons, All-head, All-nil, All-tail}
-use Rattle.std.specs.List.{All, AllPass}
-use Rattle.hex.specs.Hex.{decode_pairs, decode_of, encode_lower, encode_with, hex_digit_value, lower_digits, pair_value, value_at, digit_or_error, decode_sized}
+use Rattle.noise_vectors.proofs.Common.{nat_lt, IsOk, MatchResult, and_parts, cases_lt, eqb-true, ltb-false, ltb-true, nat_tests, All-cons, All-head, All-nil, All-tail, All, AllPass, decode_of, encode_lower, hex_digit_value, lower_digits, pair_value, value_at, digit_or_error, decode_sized, decode_of-even, decode_sized-ok, decode_sized-twice, length-encode_with, hex_of, is_lower_digit, IsDigits, IsHexWord, AreBytes}
+use Rattle.hex.specs.Hex.{decode_pairs, encode_with}
 use Rattle.hex.specs.declared.error.FromHexError.{FromHexError}
 use Rattle.hex.proofs.Pairs.{cons_byte, decode_pairs-ok_pair}
-use Rattle.hex.proofs.HexLemmas.{decode_of-even, decode_sized-ok, decode_sized-twice, length-encode_with}
-use Rattle.noise_vectors.specs.HexWord.{hex_of, is_lower_digit, IsDigits, IsHexWord}
-use Rattle.noise_vectors.specs.VectorFile.{AreBytes}
 
 -- ---- the digits, by tests that compute
 
@@ -216,16 +209,11 @@ bytes_of-word word (b ∷ rest) e h =
 -- a word has at least two digits for each byte
 pub length-hex_word : (word bytes : List ℕ) → word ≡ hex_of bytes → 2 * length bytes ≤ length word
 length-hex_word word [] e = omega arith
-length-hex_word word (b ∷ rest) e =
-    let long = length-encode_with lower_digits (b ∷ rest) in
-    let len : length word ≡ length (hex_of (b ∷ rest)) = ap length e in
-    omega (arith, long)
+length-hex_word word (b ∷ rest) e = search (rules, length-encode_with)
 
 -- the word of few bytes is short
 pub short-hex_word : (word bytes : List ℕ) (most : ℕ) → AreBytes most bytes → word ≡ hex_of bytes → ¬ (most < length word / 2)
-short-hex_word word [] most h e long =
-    let len : length word ≡ 1 = ap length e in
-    omega arith
+short-hex_word word [] most h e long = search rules
 short-hex_word word (b ∷ bs) most h e long =
     let twice = length-hex_of (b ∷ bs) (omega arith) in
     let few : length (b ∷ bs) ≤ most = h.0 in

@@ -1,19 +1,11 @@
 -- Keys as their 64 digits.
-use Rattle.std.proofs.Common.{arith, ◌≡◌, ◌<◌, ℕ, zero, suc, List, ◌∷◌, length, get_or, Result, Ok, Err, []}
-use Rattle.std.specs.Prelude.{MatchResult}
-use Rattle.std.specs.List.{All}
-use Rattle.std.proofs.lemmas.List.Elements.{All-head, All-tail}
-use Rattle.hex.specs.Hex.{decode_sized, encode_lower, lower_digits}
+use Rattle.std.proofs.Common.{rules, arith, ◌≡◌, ◌<◌, ℕ, zero, suc, List, ◌∷◌, length, get_or, Result, Ok, Err, []}
+use Rattle.noise_vectors.proofs.Common.{MatchResult, All, All-head, All-tail, decode_sized, encode_lower, decode_sized-encode_lower, length-encode_with, IsDigits, IsKey}
 use Rattle.hex.specs.declared.error.FromHexError.{FromHexError}
-use Rattle.hex.proofs.HexLemmas.{decode_sized-encode_lower, length-encode_with}
-use Rattle.noise_vectors.specs.HexWord.{IsDigits}
-use Rattle.noise_vectors.specs.Words.{IsKey}
 use Rattle.noise_vectors.proofs.HexWordLemmas.{AllPass-encode_lower}
 
 pub length-key : (key : List ℕ) → length key ≡ 32 → length (encode_lower key) ≡ 64
-length-key key len =
-    let twice = length-encode_with lower_digits key in
-    omega (arith, twice)
+length-key key len = search (rules, length-encode_with)
 
 -- they are digits
 pub IsDigits-key : (key word : List ℕ) → IsKey key → word ≡ encode_lower key → IsDigits word

@@ -1,18 +1,9 @@
 -- Bytes that a word lacks.
-use Rattle.std.proofs.Common.{arith, ◌≡◌, ◌<◌, ◌==◌, not, Bool, true, false, refl, ℕ, List, ◌∷◌, ◌++◌, Option, Some, None, codes, []}
-use Rattle.std.specs.Prelude.{decimal, IfSome}
-use Rattle.std.specs.List.{All, AllPass, list_all}
-use Rattle.std.proofs.lemmas.Bool.{and_parts}
-use Rattle.std.proofs.lemmas.Bool.Decides.{nat_tests}
-use Rattle.std.proofs.lemmas.List.Elements.{All-head, All-tail}
-use Rattle.hex.specs.Hex.{encode_lower}
-use Rattle.noise_names.specs.declared.token.Role.{Role}
-use Rattle.noise_names.specs.declared.token.Role.TheVariants.{Initiator, Responder}
+use Rattle.std.proofs.Common.{rules, arith, ◌≡◌, ◌<◌, ◌==◌, not, Bool, true, false, refl, ℕ, List, ◌∷◌, ◌++◌, Option, Some, None, codes, []}
+use Rattle.std.specs.Prelude.{decimal}
+use Rattle.noise_vectors.proofs.Common.{IfSome, All, AllPass, list_all, and_parts, nat_tests, All-head, All-tail, encode_lower, Role, Initiator, Responder, hex_of, is_lower_digit, key_word, lengths_word, own_word, role_word, IsKey, lacks}
 use Rattle.noise_keys.specs.declared.keys.Own.{Own}
 use Rattle.noise_keys.specs.declared.keys.Own.TheVariants.{Ephemeral, Static}
-use Rattle.noise_vectors.specs.HexWord.{hex_of, is_lower_digit}
-use Rattle.noise_vectors.specs.VectorText.{key_word, lengths_word, own_word, role_word}
-use Rattle.noise_vectors.specs.Words.{IsKey, lacks}
 use Rattle.noise_vectors.proofs.HexWordLemmas.{AllPass-encode_lower}
 use Rattle.noise_vectors.proofs.WordLemmas.{lacks-decimal}
 
@@ -46,9 +37,7 @@ pub lacks-encode_lower : (byte : ℕ) (bytes : List ℕ) → byte < 48 → All (
 lacks-encode_lower byte bytes low h = lacks-lower byte (encode_lower bytes) low (AllPass-encode_lower bytes h)
 
 lacks-hyphen : (byte : ℕ) → byte < 45 → lacks byte (codes "-") ≡ true
-lacks-hyphen byte low =
-    let other : (45 == byte) ≡ false = grind (arith, nat_tests) in
-    rw other refl
+lacks-hyphen byte low = search rules
 
 -- a hex word has no byte that is less than a hyphen
 pub lacks-hex_of : (byte : ℕ) (bytes : List ℕ) → byte < 45 → All (λ b. b < 256) bytes → lacks byte (hex_of bytes) ≡ true

@@ -1,3 +1,4 @@
+pub mod Common
 pub mod AdditionLemmas
 pub mod BegunFiles
 pub mod BlockLemmas

@@ -1,10 +1,7 @@
 -- Lines that are read one after the other.
-use Rattle.std.proofs.Common.{arith, ◌≡◌, ◌∙◌, ◌+◌, ◌-◌, ap, refl, sym, Bool, ℕ, List, ◌∷◌, ◌++◌, length, take, []}
+use Rattle.std.proofs.Common.{rules, arith, ◌≡◌, ◌∙◌, ◌+◌, ◌-◌, ap, refl, sym, Bool, ℕ, List, ◌∷◌, ◌++◌, length, take, []}
 use Rattle.std.specs.Bool.{nat_eq}
-use Rattle.std.specs.List.{starts_with}
-use Rattle.std.proofs.lemmas.List.{append_assoc, length-append}
-use Rattle.std.proofs.Math.Seq.{take-append_seam}
-use Rattle.noise_vectors.specs.VectorText.{line_then, lines_of}
+use Rattle.noise_vectors.proofs.Common.{starts_with, append_assoc, length-append, take-append_seam, line_then, lines_of}
 
 pub lines_of-push : {A : Type 0} (words : A → List ℕ) (xs : List A) (x : A) (rest : List ℕ)
     → lines_of words xs (line_then (words x) rest) ≡ lines_of words (xs ++ x ∷ []) rest
@@ -14,8 +11,7 @@ lines_of-push words (y ∷ ys) x rest = ap (λ (t : List ℕ). line_then (words 
 -- one line more is read
 pub lines_of-more : {A : Type 0} (words : A → List ℕ) (start rest text after : List ℕ) (xs : List A) (x : A)
     → start ≡ lines_of words xs rest → rest ≡ line_then text after → text ≡ words x → start ≡ lines_of words (xs ++ x ∷ []) after
-lines_of-more words start rest text after xs x before next is =
-    before ∙ ap (λ (t : List ℕ). lines_of words xs t) (next ∙ ap (λ (t : List ℕ). line_then t after) is) ∙ lines_of-push words xs x after
+lines_of-more words start rest text after xs x before next is = search (rules, lines_of-push)
 
 -- what is left is the text's end
 abbrev pub Ends : List ℕ → List ℕ → Type 0

@@ -1,39 +1,22 @@
 -- What a reader of lines of one kind reports.
-use Rattle.std.proofs.Common.{arith, ◌≡◌, ◌∙◌, ◌+◌, ◌-◌, ◌<◌, ◌≤◌, ◌^◌, min, inl, inr, ap, refl, subst, sym, true, false, Bool, ℕ, List, ◌∷◌, ◌++◌, codes, get_or, length, map, zero, []}
-use Rattle.std.specs.List.{All}
+use Rattle.std.proofs.Common.{rules, arith, ◌≡◌, ◌∙◌, ◌+◌, ◌-◌, ◌<◌, ◌≤◌, ◌^◌, min, inl, inr, ap, refl, subst, sym, true, false, Bool, ℕ, List, ◌∷◌, ◌++◌, codes, get_or, length, map, zero, []}
 use Rattle.std.proofs.Math.Nat.{min-eq_left}
-use Rattle.std.proofs.lemmas.List.{append_assoc, length-append}
-use Rattle.std.proofs.lemmas.List.Elements.{All-head, All-push, All-tail}
+use Rattle.noise_vectors.proofs.Common.{All, append_assoc, length-append, All-head, All-push, All-tail, Section, itself, IsRead, last_number, IsWrongBlock, Listed, ReportsAfter, ReportsLine, header_words, line_then, lines_of, lacks, line_feeds, Block, IsWrongIn, LineKind, VectorFault, Line, Lines}
 use Rattle.noise_names.specs.FaultLines.{fault-line, feeds-append}
-use Rattle.noise_names.specs.Names.{Section}
-use Rattle.noise_vectors.specs.Block.{itself}
-use Rattle.noise_vectors.specs.Lines.{IsRead, last_number}
-use Rattle.noise_vectors.specs.ReaderFaults.{IsWrongBlock, Listed, ReportsAfter, ReportsLine}
-use Rattle.noise_vectors.specs.VectorText.{header_words, line_then, lines_of}
-use Rattle.noise_vectors.specs.Words.{lacks}
-use Rattle.noise_names.specs.WrongText.{line_feeds}
-use Rattle.noise_vectors.specs.WrongLine.{Block, IsWrongIn}
-use Rattle.noise_vectors.specs.declared.faults.LineKind.{LineKind}
-use Rattle.noise_vectors.specs.declared.faults.LineKind.TheVariants as kinds
-use Rattle.noise_vectors.specs.declared.faults.VectorFault.{VectorFault}
-use Rattle.noise_vectors.specs.declared.faults.VectorFault.TheVariants.{Line}
-use Rattle.noise_vectors.specs.declared.lines.Lines.{Lines}
 use Rattle.noise_vectors.proofs.LineLemmas.{lines_of-push}
 use Rattle.noise_vectors.proofs.UniqueWords.{numbers-apart, parted-one}
 use Rattle.noise_vectors.proofs.ReportedLemmas.{ending-reported, feeds-few, wrong-line}
+use Rattle.noise_vectors.specs.declared.faults.LineKind.TheVariants as kinds
 
 -- a text after lines is one after the last of them
 pub lines_of-after : {A : Type 0} (words : A → List ℕ) (xs : List A) (rest more : List ℕ) → lines_of words xs rest ++ more ≡ lines_of words xs (rest ++ more)
 lines_of-after words [] rest more = refl
-lines_of-after words (x ∷ xs) rest more =
-    append_assoc (words x) (10 ∷ lines_of words xs rest) more ∙ ap (λ (t : List ℕ). line_then (words x) t) (lines_of-after words xs rest more)
+lines_of-after words (x ∷ xs) rest more = search (append_assoc, (lines_of-after words xs rest more))
 
 -- the last line, which has no line feed, is one of them
 pub lines_of-cut : {A : Type 0} (words : A → List ℕ) (from rest reported : List ℕ) (xs : List A) (x : A)
     → from ≡ lines_of words xs rest → rest ≡ reported → reported ≡ words x → from ++ codes "\n" ≡ lines_of words (xs ++ x ∷ []) []
-lines_of-cut words from rest reported xs x before last is =
-    ap (λ (t : List ℕ). t ++ codes "\n") (before ∙ ap (λ (t : List ℕ). lines_of words xs t) (last ∙ is))
-    ∙ lines_of-after words xs (words x) (codes "\n") ∙ lines_of-push words xs x []
+lines_of-cut words from rest reported xs x before last is = search (rules, lines_of-after, lines_of-push)
 
 -- no header is that of both versions
 pub header-one : (a b : Bool) → header_words a ≡ header_words b → a ≡ b

@@ -1,19 +1,10 @@
 -- The lines that give a party its keys, as they are read.
-use Rattle.std.proofs.Common.{arith, ◌≡◌, ◌∙◌, ◌≤◌, ◌<◌, ap, sym, refl, lit<, Bool, true, false, true≢false, ℕ, List, ◌∷◌, ◌++◌, Option, codes, length, get_or}
-use Rattle.std.specs.Prelude.{nat_eq, IfSome}
-use Rattle.std.specs.List.{All, starts_with}
-use Rattle.std.proofs.lemmas.List.{append_cancel_left}
-use Rattle.hex.specs.Hex.{encode_lower}
-use Rattle.noise_names.specs.declared.token.Role.{Role}
-use Rattle.noise_keys.specs.Table.{TableEntry}
-use Rattle.noise_keys.specs.Table as Tables
-use Rattle.noise_vectors.specs.VectorFile.{AreKeys, IsEntry}
-use Rattle.noise_vectors.specs.VectorText.{answer_words, key_word, key_words, line_then, lines_of, own_word, party_text, role_word}
-use Rattle.noise_vectors.specs.Words.{IsKey, lacks}
-use Rattle.noise_vectors.specs.WrongLine.{is_answer_line}
-use Rattle.noise_vectors.specs.declared.file_keys.FileKeys.{FileKeys}
-use Rattle.noise_vectors.specs.declared.file_keys.FileKeys.TheVariants.{Xor, Table}
+use Rattle.std.proofs.Common.{rules, ◌≡◌, ◌∙◌, ◌≤◌, ap, sym, refl, Bool, true, false, true≢false, ℕ, List, ◌∷◌, ◌++◌, Option, codes, length}
+use Rattle.std.specs.Prelude.{nat_eq}
+use Rattle.noise_vectors.proofs.Common.{IfSome, All, starts_with, append_cancel_left, encode_lower, Role, TableEntry, AreKeys, IsEntry, answer_words, key_words, line_then, lines_of, own_word, party_text, role_word, IsKey, lacks, is_answer_line, FileKeys, Xor}
+use Rattle.noise_vectors.specs.declared.file_keys.FileKeys.TheVariants.{Table}
 use Rattle.noise_vectors.proofs.LackLemmas.{lacks-append, lacks-encode_lower, lacks-key_word, own_word-plain, role_word-plain}
+use Rattle.noise_keys.specs.Table as Tables
 
 -- what follows a front
 pub after-front : {text : List ℕ} (front after rest : List ℕ) → text ≡ front ++ after → text ≡ front ++ rest → after ≡ rest
@@ -21,21 +12,16 @@ after-front front after rest split is = append_cancel_left front after rest (sym
 
 -- two keys have no line feed (10)
 lacks-key_words : (e s : Option (List ℕ)) → IfSome e IsKey → IfSome s IsKey → lacks 10 (key_words e s) ≡ true
-lacks-key_words e s he hs =
-    lacks-append 10 (key_word e) (32 ∷ key_word s) (lacks-key_word 10 e (lit< tt) he) (lacks-key_word 10 s (lit< tt) hs)
+lacks-key_words e s he hs = search (rules, lacks-append, lacks-key_word)
 
 -- ---- an answer's line
 
 lacks-answer_keys : (entry : TableEntry) → IsEntry entry → lacks 10 (encode_lower entry.remote ++ 32 ∷ encode_lower entry.answer) ≡ true
-lacks-answer_keys entry h =
-    lacks-append 10 (encode_lower entry.remote) (32 ∷ encode_lower entry.answer)
-    (lacks-encode_lower 10 entry.remote (lit< tt) h.0.1) (lacks-encode_lower 10 entry.answer (lit< tt) h.1.1)
+lacks-answer_keys entry h = search (rules, lacks-append, lacks-encode_lower)
 
 -- which has no line feed
 pub lacks-answer_words : (entry : TableEntry) → IsEntry entry → lacks 10 (answer_words entry) ≡ true
-lacks-answer_words entry h =
-    lacks-append 10 (own_word entry.own) (32 ∷ (encode_lower entry.remote ++ 32 ∷ encode_lower entry.answer))
-    (own_word-plain entry.own).0 (lacks-answer_keys entry h)
+lacks-answer_words entry h = search (rules, lacks-answer_keys)
 
 -- what a split at the first space (32) gives
 abbrev pub Splits : List ℕ → List ℕ → List ℕ → Type 0
@@ -92,8 +78,7 @@ ReadsLine text read after is_ended = (w b : List ℕ) → lacks 10 w ≡ true �
 -- the next line is the party's
 pub party-read : (role : Role) (keys : FileKeys) {text : List ℕ} (rest : List ℕ) {read after : List ℕ} {is_ended : Bool} → AreKeys keys → text ≡ party_text role keys rest
     → ReadsLine text read after is_ended → (read ≡ role_word role ++ 32 ∷ words_of keys) × (after ≡ after_of keys rest) × (is_ended ≡ true)
-party-read role keys rest h e every =
-    every (role_word role ++ 32 ∷ words_of keys) (after_of keys rest) (lacks-party role keys h) (e ∙ party_text-line role keys rest)
+party-read role keys rest h e every = search (rules, lacks-party, party_text-line)
 
 -- the party's keys are those of a table
 pub record IsTable (keys : FileKeys) (words : List ℕ) : Type 0 where
@@ -108,9 +93,7 @@ pub record IsTable (keys : FileKeys) (words : List ℕ) : Type 0 where
 -- words that are not those of xor are a table's
 pub not-xor : (keys : FileKeys) {words front : List ℕ} → AreKeys keys → words ≡ words_of keys → front ≡ codes "xor "
     → ((e s : Option (List ℕ)) → IfSome e IsKey → IfSome s IsKey → words ≡ front ++ key_words e s → false ≡ true) → IsTable keys words
-not-xor (Xor keys) h is xor none =
-    let bad = none keys.e keys.s h.0 h.1 (is ∙ ap (λ (t : List ℕ). t ++ key_words keys.e keys.s) (sym xor)) in
-    absurd (cc (bad))
+not-xor (Xor keys) h is xor none = search rules
 not-xor (Table keys) h is xor none = record {
   table = keys;
   words_are = is;
@@ -121,16 +104,8 @@ not-xor (Table keys) h is xor none = record {
   entries_are = h.3;
 }
 
-other-heads : (x y : ℕ) (xs ys : List ℕ) → x < y → ¬ (x ∷ xs ≡ y ∷ ys)
-other-heads x y xs ys less e =
-    let same : x ≡ y = ap (λ (t : List ℕ). get_or t 0 0) e in
-    omega arith
-
 -- after words of xor no answers stand
 pub xor-after : (keys : FileKeys) {words front : List ℕ} (e s : Option (List ℕ)) (rest : List ℕ) → words ≡ words_of keys → front ≡ codes "xor "
     → words ≡ front ++ key_words e s → after_of keys rest ≡ rest
 xor-after (Xor keys) e s rest is xor text = refl
-xor-after (Table keys) e s rest is xor text =
-    let same : codes "table " ++ key_words keys.e keys.s ≡ codes "xor " ++ key_words e s =
-    sym is ∙ text ∙ ap (λ (t : List ℕ). t ++ key_words e s) xor in
-    absurd (other-heads 116 120 (codes "able " ++ key_words keys.e keys.s) (codes "or " ++ key_words e s) (lit< tt) same)
+xor-after (Table keys) e s rest is xor text = search rules

@@ -1,22 +1,10 @@
 -- What the reader of a party's lines reports, and that of the datagrams.
-use Rattle.std.proofs.Common.{◌≡◌, ◌∙◌, inl, inr, ap, true, ℕ, List, ◌∷◌, ◌++◌, codes, Option, []}
-use Rattle.std.specs.Prelude.{IfSome, nat_eq}
-use Rattle.std.specs.List.{starts_with}
-use Rattle.std.proofs.lemmas.List.{append_assoc}
-use Rattle.noise_events.specs.declared.window.Window.{Window}
-use Rattle.noise_names.specs.declared.token.Role.{Role}
-use Rattle.noise_vectors.specs.ReaderFaults.{ReportsAfter, ReportsDatagrams, ReportsParty, answer_lines, datagram_lines}
-use Rattle.noise_vectors.specs.VectorFile.{AreKeys}
-use Rattle.noise_vectors.specs.VectorText.{key_words, line_then, party_text, role_word, window_words}
-use Rattle.noise_vectors.specs.Words.{IsKey, lacks}
-use Rattle.noise_vectors.specs.declared.faults.VectorFault.{VectorFault}
-use Rattle.noise_vectors.specs.declared.file_keys.FileKeys.{FileKeys}
-use Rattle.noise_vectors.specs.declared.file_keys.FileKeys.TheVariants.{Xor, Table}
-use Rattle.noise_vectors.specs.declared.vector.AllowedEvents.{AllowedEvents}
-use Rattle.noise_vectors.specs.declared.vector.AllowedEvents.TheVariants.{SayOnly}
+use Rattle.std.proofs.Common.{rules, ◌≡◌, ◌∙◌, inl, inr, ap, true, ℕ, List, ◌∷◌, ◌++◌, codes, Option, []}
+use Rattle.std.specs.Prelude.{nat_eq}
+use Rattle.noise_vectors.proofs.Common.{IfSome, starts_with, append_assoc, Window, Role, ReportsAfter, ReportsDatagrams, ReportsParty, answer_lines, datagram_lines, AreKeys, key_words, line_then, party_text, role_word, window_words, IsKey, lacks, VectorFault, FileKeys, Xor, AllowedEvents, SayOnly, true_from_ne_false}
+use Rattle.noise_vectors.specs.declared.file_keys.FileKeys.TheVariants.{Table}
 use Rattle.noise_vectors.proofs.PartyLemmas.{after_of, lacks-party, party_text-line, words_of}
 use Rattle.noise_vectors.proofs.UniqueWords.{parted-one}
-use Rattle.std.proofs.lemmas.Bool.{true_from_ne_false}
 
 -- the line of a party is that of its keys
 pub party-words : (role : Role) (keys : FileKeys) (words after rest : List ℕ) → lacks 10 words ≡ true → AreKeys keys
@@ -29,19 +17,16 @@ party-words role keys words after rest plain h e =
 pub table-cut : (role : Role) (e s : Option (List ℕ)) (from reported words : List ℕ) → from ≡ reported → reported ≡ role_word role ++ 32 ∷ words
     → words ≡ codes "table " ++ key_words e s
     → from ++ codes "\n" ≡ party_text role (Table (record { e = e; s = s; entries = [] })) []
-table-cut role e s from reported words last text is =
-    ap (λ (t : List ℕ). t ++ codes "\n") (last ∙ text ∙ ap (λ (t : List ℕ). role_word role ++ 32 ∷ t) is)
+table-cut role e s from reported words last text is = search rules
 
 pub xor-cut : (role : Role) (e s : Option (List ℕ)) (from reported words : List ℕ) → from ≡ reported → reported ≡ role_word role ++ 32 ∷ words
     → words ≡ codes "xor " ++ key_words e s
     → from ++ codes "\n" ≡ party_text role (Xor (record { e = e; s = s })) []
-xor-cut role e s from reported words last text is =
-    ap (λ (t : List ℕ). t ++ codes "\n") (last ∙ text ∙ ap (λ (t : List ℕ). role_word role ++ 32 ∷ t) is)
+xor-cut role e s from reported words last text is = search rules
 
 pub table-line : (role : Role) (e s : Option (List ℕ)) (from reported words after : List ℕ) → from ≡ line_then reported after → reported ≡ role_word role ++ 32 ∷ words
     → words ≡ codes "table " ++ key_words e s → from ≡ line_then (role_word role ++ (codes " table " ++ key_words e s)) after
-table-line role e s from reported words after first text is =
-    first ∙ ap (λ (t : List ℕ). line_then t after) (text ∙ ap (λ (t : List ℕ). role_word role ++ 32 ∷ t) is)
+table-line role e s from reported words after first text is = search
 
 -- what is reported of a table's answers is reported of the party
 pub table-reported : (role : Role) (e s : Option (List ℕ)) (from after : List ℕ) (total : ℕ) (fault : VectorFault)
@@ -88,11 +73,4 @@ window-reported allowed window from reported after total fault first text other 
             ∙ ap (line_then (window_words window)) cut.text_is;
       },
     ))
-window-reported allowed window from reported after total fault first text other (inr (inr w)) =
-    inr (inr (inr (record {
-      window = window;
-      is_allowed = other;
-      after = after;
-      text_is = first ∙ ap (λ (t : List ℕ). line_then t after) text;
-      it = w;
-    })))
+window-reported allowed window from reported after total fault first text other (inr (inr w)) = search rules

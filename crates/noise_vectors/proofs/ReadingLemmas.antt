@@ -2,14 +2,7 @@
 use Rattle.std.proofs.Common.{arith, ◌≡◌, ◌<◌, ◌^◌, ◌==◌, not, Bool, true, false, true≢false, refl, subst, lit<, ℕ, List, ◌++◌, codes}
 use Rattle.std.specs.Prelude.{decimal}
 use Rattle.std.specs.Bool.{nat_eq}
-use Rattle.std.specs.List.{starts_with}
-use Rattle.std.proofs.lemmas.Bool.{eqb-true}
-use Rattle.noise_names.specs.Names.{IsSection, Section, is_section_byte, name_bytes, section_bytes, suffix}
-use Rattle.noise_names.specs.Facts.{section_bytes-all}
-use Rattle.noise_vectors.specs.HexWord.{hex_of}
-use Rattle.noise_vectors.specs.VectorFile.{IsShort}
-use Rattle.noise_vectors.specs.VectorText.{line_then, psk_words}
-use Rattle.noise_vectors.specs.Words.{IsKey, lacks}
+use Rattle.noise_vectors.proofs.Common.{starts_with, eqb-true, IsSection, Section, is_section_byte, name_bytes, section_bytes, suffix, section_bytes-all, hex_of, IsShort, line_then, psk_words, IsKey, lacks}
 use Rattle.noise_vectors.proofs.LackLemmas.{all_weaker, lacks-append, lacks-encode_lower, lacks-hex_of}
 use Rattle.noise_vectors.proofs.WordLemmas.{lacks-decimal}
 

@@ -1,33 +1,11 @@
 -- Files that begin with the lines before the one that is reported, and that none goes on with it, as far as the interval.
+use Rattle.noise_vectors.proofs.Common.{IsSome, false≢true, append_assoc, append_cancel_left, All-nil, IsSection, Section, name_bytes, Plan, hex_of, IsHeaderLine, IsIntervalLine, IsPrologueLine, IsProtocolLine, ReportsBlock, ReportsLine, expected_of, line_feeds, IsCutFile, IsOpenBlock, IsReported, up_to_interval, up_to_prologue, up_to_protocol, ArePsks, IsAllowedFile, IsOwn, IsShort, IsVectorFile, block_text, header_words, is_second, line_then, file_text, version_text, IsKey, VectorFault, Line, Memory, FileKeys, Xor, AllowedEvents, VersionOne, VectorFile, Version, One, Two}
 use denote.RawPtr.{null_ptr}
-use Rattle.std.proofs.Common.{arith, ◌≡◌, ◌⊎◌, ◌∙◌, ◌+◌, ◌<◌, ◌≤◌, ◌^◌, inl, inr, ap, sym, refl, subst, lit<, false, true, Bool, ℕ, List, ◌∷◌, ◌++◌, codes, length, Option, Some, None, Vec, vec_len, []}
-use Rattle.std.specs.Prelude.{decimal, IsSome}
-use Rattle.std.proofs.lemmas.Bool.{false≢true}
+use Rattle.std.proofs.Common.{rules, arith, ◌≡◌, ◌⊎◌, ◌∙◌, ◌+◌, ◌<◌, ◌≤◌, ◌^◌, inl, inr, ap, sym, refl, subst, lit<, false, true, Bool, ℕ, List, ◌∷◌, ◌++◌, codes, length, Option, Some, None, Vec, vec_len, []}
+use Rattle.std.specs.Prelude.{decimal}
 use Rattle.std.specs.Global.{Global}
-use Rattle.std.proofs.lemmas.List.{append_assoc, append_cancel_left}
-use Rattle.std.proofs.lemmas.List.Elements.{All-nil}
 use Rattle.noise_names.specs.Fundamental.{fundamental_of, fundamentals}
-use Rattle.noise_names.specs.Names.{IsSection, Section, name_bytes}
-use Rattle.noise_names.specs.Plan.{Plan}
 use Rattle.noise_names.specs.Text.{text_of as pattern_text}
-use Rattle.noise_vectors.specs.HexWord.{hex_of}
-use Rattle.noise_vectors.specs.ReaderFaults.{IsHeaderLine, IsIntervalLine, IsPrologueLine, IsProtocolLine, ReportsBlock, ReportsLine}
-use Rattle.noise_vectors.specs.SameFile.{expected_of}
-use Rattle.noise_names.specs.WrongText.{line_feeds}
-use Rattle.noise_vectors.specs.WrongLine.{IsCutFile, IsOpenBlock, IsReported, up_to_interval, up_to_prologue, up_to_protocol}
-use Rattle.noise_vectors.specs.VectorFile.{ArePsks, IsAllowed, IsAllowedFile, IsAllowedVersion, IsEvent, IsExpected, IsOwn, IsShort, IsVectorFile, IsVersion}
-use Rattle.noise_vectors.specs.VectorText.{block_text, header_words, is_second, line_then, file_text, version_text}
-use Rattle.noise_vectors.specs.Words.{IsKey}
-use Rattle.noise_vectors.specs.declared.faults.LineKind.TheVariants as kinds
-use Rattle.noise_vectors.specs.declared.faults.VectorFault.{VectorFault}
-use Rattle.noise_vectors.specs.declared.faults.VectorFault.TheVariants.{Line, Memory}
-use Rattle.noise_vectors.specs.declared.file_keys.FileKeys.{FileKeys}
-use Rattle.noise_vectors.specs.declared.file_keys.FileKeys.TheVariants.{Xor}
-use Rattle.noise_vectors.specs.declared.vector.AllowedEvents.{AllowedEvents}
-use Rattle.noise_vectors.specs.declared.vector.AllowedEvents.TheVariants.{SayOnly, Any, VersionOne}
-use Rattle.noise_vectors.specs.declared.vector.VectorFile.{VectorFile}
-use Rattle.noise_vectors.specs.declared.vector.Version.{Version}
-use Rattle.noise_vectors.specs.declared.vector.Version.TheVariants.{One, Two}
 use Rattle.noise_vectors.proofs.AdditionLemmas.{no-second}
 use Rattle.noise_vectors.proofs.BlockLemmas.{no-block}
 use Rattle.noise_vectors.proofs.FrontLemmas.{cut-before, cut-within, ended-interval, ended-line, ended-prologue, front-block, front-both, front-interval, front-line, front-prologue, front-protocol, reported-line}
@@ -37,6 +15,7 @@ use Rattle.noise_vectors.proofs.ReportedLemmas.{feeds-line}
 use Rattle.noise_vectors.proofs.UniqueTexts.{blocks-after}
 use Rattle.noise_vectors.proofs.UniqueWords.{name-one, parted-one}
 use Rattle.noise_vectors.proofs.VectorLemmas.{after_block, after_header, after_interval, after_prologue, after_protocol}
+use Rattle.noise_vectors.specs.declared.faults.LineKind.TheVariants as kinds
 
 -- ---- a file that goes on in the shortest way
 
@@ -84,37 +63,15 @@ pub version_of-quiet : (alloc : Global) (second : Bool) → expected_of (version
 version_of-quiet alloc true = refl
 version_of-quiet alloc false = refl
 
-version_of-right : (alloc : Global) (second : Bool) → IsVersion (version_of alloc second)
-version_of-right alloc true = (tt, All-nil (λ (words : Vec ℕ Global). IsExpected words.items))
-version_of-right alloc false = tt
-
-version_of-allowed : (alloc : Global) (allowed : AllowedEvents) (second : Bool) → (allowed ≡ VersionOne → second ≡ false)
-    → IsAllowedVersion allowed (version_of alloc second)
-version_of-allowed alloc SayOnly false h = tt
-version_of-allowed alloc Any second h = tt
-version_of-allowed alloc VersionOne true h = absurd (cc (h refl))
-version_of-allowed alloc _ _ h = refl
-
 pub sample-right : (alloc : Global) (second : Bool) (name : Section) (block : Option Plan) (prologue : Vec ℕ Global) (short : vec_len prologue ≤ 65535)
     (interval : ℕ) (psks : List (List ℕ)) → IsSection name → IsOwn name block → IsShort prologue.items → interval < 2 ^ 64 → ArePsks psks
     → IsVectorFile (sample alloc second name block prologue short interval psks)
-sample-right alloc second name block prologue short interval psks h own few small are = record {
-  protocol = h;
-  own = own;
-  prologue = few;
-  interval = small;
-  psks = are;
-  initiator = (tt, tt);
-  responder = (tt, tt);
-  events = All-nil IsEvent;
-  version = version_of-right alloc second;
-}
+sample-right alloc second name block prologue short interval psks h own few small are = search rules
 
 pub sample-allowed : (alloc : Global) (allowed : AllowedEvents) (second : Bool) (name : Section) (block : Option Plan) (prologue : Vec ℕ Global)
     (short : vec_len prologue ≤ 65535) (interval : ℕ) (psks : List (List ℕ)) → (allowed ≡ VersionOne → second ≡ false)
     → IsAllowedFile allowed (sample alloc second name block prologue short interval psks)
-sample-allowed alloc allowed second name block prologue short interval psks one =
-    (All-nil (IsAllowed allowed), version_of-allowed alloc allowed second one)
+sample-allowed alloc allowed second name block prologue short interval psks one = search rules
 
 none-short : IsShort []
 none-short = (omega arith, All-nil (λ (b : ℕ). b < 256))
@@ -128,8 +85,7 @@ plain alloc second name block = sample alloc second name block (empty alloc) emp
 
 plain-right : (alloc : Global) (second : Bool) (name : Section) (block : Option Plan) → IsSection name → IsOwn name block
     → IsVectorFile (plain alloc second name block)
-plain-right alloc second name block h own =
-    sample-right alloc second name block (empty alloc) empty-short 0 [] h own none-short (lit< tt) none-psks
+plain-right alloc second name block h own = search (sample-right, none-short, lit<, none-psks)
 
 plain-allowed : (alloc : Global) (allowed : AllowedEvents) (second : Bool) (name : Section) (block : Option Plan)
     → (allowed ≡ VersionOne → second ≡ false) → IsAllowedFile allowed (plain alloc second name block)
@@ -180,10 +136,8 @@ header-reported alloc allowed text left total fault e all (inr (inr (it, bad))) 
 
 -- the header of a file is the one that was read
 after-header : (second : Bool) (other : VectorFile) (rest : List ℕ) → file_text other ≡ line_then (header_words second) rest → after_header other ≡ rest
-after-header true other rest e = (parted-one 10 (header_words (is_second other.version)) (header_words true) (after_header other) rest
-    (header-lacks (is_second other.version)) refl e).1
-after-header false other rest e = (parted-one 10 (header_words (is_second other.version)) (header_words false) (after_header other) rest
-    (header-lacks (is_second other.version)) refl e).1
+after-header true other rest e = search rules
+after-header false other rest e = search rules
 
 -- the text ends within the line of a name
 protocol-cut : (alloc : Global) (allowed : AllowedEvents) (text left : List ℕ) (second : Bool) (number : ℕ) (name : Section) (known : Option Plan)
@@ -256,8 +210,7 @@ after-block second name block other rest h k own e =
 prologue-text : (alloc : Global) (second : Bool) (file : VectorFile) (text left : List ℕ) → is_second file.version ≡ second
     → text ≡ line_then (header_words second) (line_then (codes "protocol " ++ name_bytes file.protocol) (block_text file.block left))
     → text ≡ up_to_prologue file left
-prologue-text alloc second file text left same e =
-    e ∙ ap (λ (s : Bool). line_then (header_words s) (line_then (codes "protocol " ++ name_bytes file.protocol) (block_text file.block left))) (sym same)
+prologue-text alloc second file text left same e = search
 
 pub prologue-reported : (alloc : Global) (allowed : AllowedEvents) (text left : List ℕ) (second : Bool) (name : Section) (block : Option Plan) (total : ℕ)
     (fault : VectorFault) → text ≡ line_then (header_words second) (line_then (codes "protocol " ++ name_bytes name) (block_text block left))

@@ -1,30 +1,9 @@
 -- The lines of the psks, the parties and the events: right files that begin with those before the one that is reported, and that none goes on with it.
-use Rattle.std.proofs.Common.{arith, ◌≡◌, ◌∙◌, ◌+◌, ◌<◌, ◌≤◌, ◌^◌, inl, inr, ap, sym, refl, false, true≢false, Bool, ℕ, List, ◌∷◌, ◌++◌, codes, Option, Vec, vec_len, []}
+use Rattle.std.proofs.Common.{rules, arith, ◌≡◌, ◌∙◌, ◌+◌, ◌<◌, ◌≤◌, ◌^◌, inl, inr, ap, sym, refl, false, true≢false, Bool, ℕ, List, ◌∷◌, ◌++◌, codes, Option, Vec, vec_len, []}
 use Rattle.std.specs.Prelude.{decimal}
-use Rattle.std.specs.List.{All}
 use Rattle.std.specs.Global.{Global}
-use Rattle.std.proofs.lemmas.List.{append_cancel_left, append-nil}
-use Rattle.std.proofs.lemmas.List.Elements.{All-cons, All-head, All-nil, All-tail}
-use Rattle.noise_events.specs.declared.event.Event.{Event}
-use Rattle.noise_events.specs.declared.event.Event.TheVariants.{Say}
-use Rattle.noise_names.specs.declared.token.Role.{Role}
-use Rattle.noise_names.specs.declared.token.Role.TheVariants.{Initiator, Responder}
-use Rattle.noise_names.specs.Names.{IsSection, Section, name_bytes}
-use Rattle.noise_names.specs.Plan.{Plan}
-use Rattle.noise_vectors.specs.HexWord.{hex_of}
-use Rattle.noise_vectors.specs.ReaderFaults.{ReportsAfter, ReportsParty, event_lines, psk_lines}
-use Rattle.noise_names.specs.WrongText.{line_feeds}
-use Rattle.noise_vectors.specs.WrongLine.{IsFirstLine, IsReported, is_answer_line, is_psk_line, up_to_end, up_to_events, up_to_initiator, up_to_interval, up_to_responder}
-use Rattle.noise_vectors.specs.VectorFile.{ArePsks, IsAllowed, IsEvent, IsOwn, IsShort}
-use Rattle.noise_vectors.specs.VectorText.{AfterEvents, block_text, event_words, header_words, is_second, line_then, lines_of, party_text, psk_words, file_text, version_text}
-use Rattle.noise_vectors.specs.declared.faults.LineKind.TheVariants as kinds
-use Rattle.noise_vectors.specs.declared.faults.VectorFault.{VectorFault}
-use Rattle.noise_vectors.specs.declared.faults.VectorFault.TheVariants.{Line, Memory}
-use Rattle.noise_vectors.specs.declared.file_keys.FileKeys.{FileKeys}
-use Rattle.noise_vectors.specs.declared.file_keys.FileKeys.TheVariants.{Xor, Table}
-use Rattle.noise_vectors.specs.declared.vector.AllowedEvents.{AllowedEvents}
-use Rattle.noise_vectors.specs.declared.vector.AllowedEvents.TheVariants.{VersionOne}
-use Rattle.noise_vectors.specs.declared.vector.VectorFile.{VectorFile}
+use Rattle.noise_vectors.proofs.Common.{All, append_cancel_left, append-nil, All-nil, Event, Say, Role, Initiator, Responder, IsSection, Section, name_bytes, Plan, hex_of, ReportsAfter, ReportsParty, event_lines, psk_lines, line_feeds, IsFirstLine, IsReported, is_answer_line, is_psk_line, up_to_end, up_to_events, up_to_initiator, up_to_interval, up_to_responder, ArePsks, IsAllowed, IsEvent, IsOwn, IsShort, AfterEvents, block_text, event_words, header_words, is_second, line_then, lines_of, party_text, psk_words, file_text, version_text, VectorFault, Line, Memory, FileKeys, Xor, AllowedEvents, VersionOne, VectorFile, true_from_ne_false}
+use Rattle.noise_vectors.specs.declared.file_keys.FileKeys.TheVariants.{Table}
 use Rattle.noise_vectors.proofs.BegunFiles.{BegunAt, after-initiator, after-psks, at-initiator, at-responder, event-more, events-right, initiator-right, party-more, psk-more, responder-right, with_events, with_initiator, with_responder}
 use Rattle.noise_vectors.proofs.EventLemmas.{IsRight}
 use Rattle.noise_vectors.proofs.FrontLemmas.{IsFront, cut-before, cut-within, ended-initiator, ended-responder, front-both, front-end, front-events, front-initiator, front-interval, front-line, front-lines, front-party, front-responder, front-version, reported-line, up_to_version}
@@ -32,7 +11,7 @@ use Rattle.noise_vectors.proofs.BlockLemmas.{no-line}
 use Rattle.noise_vectors.proofs.ReportedFiles.{sample, sample-allowed, sample-right, reported-of, vec_of, version_of-bare, version_of-quiet, version_of-second, next-number}
 use Rattle.noise_vectors.proofs.ReportedLemmas.{other-begun, same-begun}
 use Rattle.noise_vectors.proofs.VectorLemmas.{after_initiator, after_psks, after_responder, initiator-ends, responder-ends}
-use Rattle.std.proofs.lemmas.Bool.{true_from_ne_false}
+use Rattle.noise_vectors.specs.declared.faults.LineKind.TheVariants as kinds
 
 -- ---- the psks
 
@@ -41,9 +20,7 @@ sample-text : (second : Bool) (file : VectorFile) (text from : List ℕ) → is_
     → text ≡ line_then (header_words second) (line_then (codes "protocol " ++ name_bytes file.protocol)
     (block_text file.block (line_then (codes "prologue " ++ hex_of file.prologue.items) (line_then (codes "interval " ++ decimal file.interval) from))))
     → text ≡ up_to_interval file (line_then (codes "interval " ++ decimal file.interval) from)
-sample-text second file text from same e =
-    e ∙ ap (λ (s : Bool). line_then (header_words s) (line_then (codes "protocol " ++ name_bytes file.protocol)
-    (block_text file.block (line_then (codes "prologue " ++ hex_of file.prologue.items) (line_then (codes "interval " ++ decimal file.interval) from))))) (sym same)
+sample-text second file text from same e = search
 
 pub psk-reported : (alloc : Global) (allowed : AllowedEvents) (text from : List ℕ) (second : Bool) (name : Section) (block : Option Plan)
     (prologue : Vec ℕ Global) (short : vec_len prologue ≤ 65535) (interval total : ℕ) (fault : VectorFault)
@@ -51,8 +28,7 @@ pub psk-reported : (alloc : Global) (allowed : AllowedEvents) (text from : List 
     (block_text block (line_then (codes "prologue " ++ hex_of prologue.items) (line_then (codes "interval " ++ decimal interval) from))))
     → (allowed ≡ VersionOne → second ≡ false) → IsSection name → IsOwn name block → IsShort prologue.items → interval < 2 ^ 64
     → total ≡ line_feeds text → ReportsAfter psk_lines from total fault → IsReported allowed text fault
-psk-reported alloc allowed text from second name block prologue short interval total fault e one h own few small all (inl is) =
-    reported-of allowed text fault Memory is tt
+psk-reported alloc allowed text from second name block prologue short interval total fault e one h own few small all (inl is) = search reported-of
 psk-reported alloc allowed text from second name block prologue short interval total fault e one h own few small all (inr (inl (is, cut))) =
     let file = sample alloc second name block prologue short interval cut.done in
     let there = codes "interval " ++ decimal interval in
@@ -228,10 +204,7 @@ not-after reported left rest first bad (inr (inr begun)) = bad (inr (inr (sym (o
 
 rights : (allowed : AllowedEvents) (events : List Event) → All (IsRight allowed) events → All IsEvent events × All (IsAllowed allowed) events
 rights allowed [] h = (All-nil IsEvent, All-nil (IsAllowed allowed))
-rights allowed (x ∷ xs) h =
-    let more = rights allowed xs (All-tail (IsRight allowed) x xs h) in
-    let first = All-head (IsRight allowed) x xs h in
-    (All-cons IsEvent x xs first.0 more.0, All-cons (IsAllowed allowed) x xs first.1 more.1)
+rights allowed (x ∷ xs) h = search rules
 
 pub events-reported : (alloc : Global) (allowed : AllowedEvents) (second : Bool) (text from : List ℕ) (total : ℕ) (fault : VectorFault)
     → (b : BegunAt allowed second text from up_to_events) → is_answer_line b.file.responder from ≡ false → total ≡ line_feeds text

@@ -1,20 +1,9 @@
 -- Which line is reported: the files that begin with the lines before it, and that none goes on with it.
 use Rattle.std.proofs.Common.{arith, subst, ◌≡◌, ◌∙◌, ◌+◌, ◌≤◌, ◌==◌, inl, inr, not, ap, refl, sym, true, false, Bool, ℕ, List, ◌∷◌, cond, length, true≢false, []}
 use Rattle.std.specs.Bool.{nat_eq}
-use Rattle.std.specs.List.{starts_with}
-use Rattle.std.proofs.lemmas.Bool.{and_parts}
 use Rattle.std.proofs.lemmas.List.Sums.{count_by-le-length, sum_by-cons}
-use Rattle.noise_vectors.specs.VectorText.{line_then}
-use Rattle.noise_vectors.specs.Lines.{IsRead, last_number}
-use Rattle.noise_vectors.specs.ReaderFaults.{IsWrongFirst}
-use Rattle.noise_names.specs.WrongText.{line_feeds}
-use Rattle.noise_vectors.specs.WrongLine.{IsFirstLine}
-use Rattle.noise_vectors.specs.Words.{lacks}
-use Rattle.noise_vectors.specs.declared.faults.LineKind.{LineKind}
+use Rattle.noise_vectors.proofs.Common.{starts_with, and_parts, line_then, IsRead, last_number, IsWrongFirst, line_feeds, IsFirstLine, lacks, LineKind, VectorFault, Line, Lines}
 use Rattle.noise_vectors.specs.declared.faults.LineKind.TheVariants as kinds
-use Rattle.noise_vectors.specs.declared.faults.VectorFault.{VectorFault}
-use Rattle.noise_vectors.specs.declared.faults.VectorFault.TheVariants.{Line}
-use Rattle.noise_vectors.specs.declared.lines.Lines.{Lines}
 
 -- ---- line feeds
 
@@ -124,8 +113,7 @@ text-begun words text front (plain, inr (rest, e)) h = rw e (line-begun words re
 
 -- a text begins as its first line does
 pub same-begun : (words text front : List ℕ) → IsFirstLine words text → lacks 10 front ≡ true → starts_with nat_eq text front ≡ starts_with nat_eq words front
-same-begun words text front first lack =
-    same-test (starts_with nat_eq text front) (starts_with nat_eq words front) (begun-line words text front first lack) (text-begun words text front first)
+same-begun words text front first lack = search (same-test, begun-line, text-begun)
 
 -- and so does that line with another text after it
 pub other-begun : (words text rest front : List ℕ) → IsFirstLine words text → lacks 10 front ≡ true

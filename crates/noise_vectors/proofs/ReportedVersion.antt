@@ -1,34 +1,11 @@
 -- The lines after the events: right files that begin with those before the one that is reported, and that none goes on with it.
-use Rattle.std.proofs.Common.{arith, ◌≡◌, ◌⊎◌, ◌∙◌, ◌+◌, ◌<◌, ◌^◌, inl, inr, ap, sym, refl, subst, lit<, false, true, true≢false, Bool, ℕ, List, ◌∷◌, ◌++◌, codes, length, Option, Some, None, Vec, []}
-use Rattle.std.specs.Prelude.{IfSome}
+use Rattle.std.proofs.Common.{rules, arith, ◌≡◌, ◌⊎◌, ◌∙◌, ◌+◌, ◌<◌, ◌^◌, inl, inr, ap, sym, refl, subst, lit<, false, true, true≢false, Bool, ℕ, List, ◌∷◌, ◌++◌, codes, length, Option, Some, None, Vec, []}
 use Rattle.std.specs.Bool.{nat_eq}
-use Rattle.std.specs.List.{All, starts_with}
 use Rattle.std.specs.Global.{Global}
-use Rattle.std.proofs.lemmas.List.{append_assoc, append-nil}
-use Rattle.std.proofs.lemmas.List.Elements.{All-cons, All-head, All-nil, All-tail}
-use Rattle.noise_events.specs.declared.datagram_event.DatagramEvent.{DatagramEvent}
-use Rattle.noise_events.specs.declared.event.Event.{Event}
-use Rattle.noise_events.specs.declared.window.Window.{Window}
-use Rattle.noise_names.specs.Lists.{bytes_of}
-use Rattle.noise_vectors.specs.ReaderFaults.{IsCutDatagrams, IsWrongDatagram, IsWrongFirst, IsWrongWindow, ReportsAfter, ReportsDatagrams, ReportsExpected, ReportsVersion, datagram_lines, expect_kind, expect_lines}
-use Rattle.noise_names.specs.WrongText.{line_feeds}
-use Rattle.noise_vectors.specs.WrongLine.{IsFirstLine, IsReported, IsReportedLine, up_to_end, up_to_events}
-use Rattle.noise_vectors.specs.VectorFile.{IsAllowedFile, IsAllowedVersion, IsDatagramEvent, IsExpected, IsVectorFile, IsVersion}
-use Rattle.noise_vectors.specs.VectorText.{AfterDatagrams, AfterEvents, datagram_event_words, datagrams_text, event_words, expect_line, expect_words, header_words, is_second, line_then, lines_of, text_body, file_text, version_text, window_words}
-use Rattle.noise_vectors.specs.Words.{lacks}
-use Rattle.noise_vectors.specs.declared.faults.LineKind.{LineKind}
-use Rattle.noise_vectors.specs.declared.faults.LineKind.TheVariants as kinds
-use Rattle.noise_vectors.specs.declared.faults.VectorFault.{VectorFault}
-use Rattle.noise_vectors.specs.declared.faults.VectorFault.TheVariants.{Line, Memory}
+use Rattle.noise_vectors.proofs.Common.{IfSome, All, starts_with, append_assoc, append-nil, All-cons, All-head, All-nil, All-tail, DatagramEvent, Event, Window, bytes_of, IsCutDatagrams, IsWrongDatagram, IsWrongFirst, IsWrongWindow, ReportsAfter, ReportsDatagrams, ReportsExpected, ReportsVersion, datagram_lines, expect_kind, expect_lines, line_feeds, IsFirstLine, IsReported, IsReportedLine, up_to_end, up_to_events, IsAllowedFile, IsAllowedVersion, IsDatagramEvent, IsExpected, IsVectorFile, IsVersion, AfterDatagrams, AfterEvents, datagram_event_words, datagrams_text, event_words, expect_line, expect_words, header_words, is_second, line_then, lines_of, text_body, file_text, version_text, window_words, lacks, LineKind, VectorFault, Line, Memory, AllowedEvents, SayOnly, Any, VersionOne, FileDatagrams, VectorFile, Version, One, Two}
 use Rattle.noise_vectors.specs.declared.vector.Additions.{Additions}
-use Rattle.noise_vectors.specs.declared.vector.AllowedEvents.{AllowedEvents}
-use Rattle.noise_vectors.specs.declared.vector.AllowedEvents.TheVariants.{SayOnly, Any, VersionOne}
-use Rattle.noise_vectors.specs.declared.vector.FileDatagrams.{FileDatagrams}
-use Rattle.noise_vectors.specs.declared.vector.VectorFile.{VectorFile}
-use Rattle.noise_vectors.specs.declared.vector.Version.{Version}
-use Rattle.noise_vectors.specs.declared.vector.Version.TheVariants.{One, Two}
-use Rattle.noise_vectors.proofs.AdditionLemmas.{datagram_event-stands, datagram_event_words-line, expect-begun, expected-after, no-datagrams, second-has, window_words-line}
-use Rattle.noise_vectors.proofs.BegunFiles.{BegunAt, after-no_answer, at-version, changed-right, same-header}
+use Rattle.noise_vectors.proofs.AdditionLemmas.{datagram_event-stands, datagram_event_words-line, expected-after, no-datagrams, second-has, window_words-line}
+use Rattle.noise_vectors.proofs.BegunFiles.{BegunAt, after-no_answer, at-version, same-header}
 use Rattle.noise_vectors.proofs.FrontLemmas.{IsFront, cut-within, front-both, front-datagrams, front-end, front-events, front-line, front-lines, front-version, reported-line, up_to_version}
 use Rattle.noise_vectors.proofs.HeldLemmas.{Good, good-plain, good-stands, partial-good, partial-lines}
 use Rattle.noise_vectors.proofs.PartLemmas.{goes-on, lines-over}
@@ -37,6 +14,7 @@ use Rattle.noise_vectors.proofs.ReportedFiles.{reported-of, vec_of, next-number}
 use Rattle.noise_vectors.proofs.ReportedLater.{answer-begun, end-text, front-alone}
 use Rattle.noise_vectors.proofs.ReportedLemmas.{other-begun}
 use Rattle.noise_vectors.proofs.UniqueWords.{parted-one}
+use Rattle.noise_vectors.specs.declared.faults.LineKind.TheVariants as kinds
 
 -- ---- lines that are expected, as a file holds them
 
@@ -47,9 +25,7 @@ vecs_of alloc (x ∷ xs) h =
 
 vecs_of-length : (alloc : Global) (xs : List (List ℕ)) (h : All Good xs) → length (vecs_of alloc xs h) ≡ length xs
 vecs_of-length alloc [] h = refl
-vecs_of-length alloc (x ∷ xs) h =
-    let more = vecs_of-length alloc xs (All-tail Good x xs h) in
-    omega (arith, more)
+vecs_of-length alloc (x ∷ xs) h = search ((vecs_of-length alloc xs (All-tail Good x xs h)))
 
 vecs_of-lines : (alloc : Global) (xs : List (List ℕ)) (h : All Good xs) (rest : List ℕ)
     → lines_of expect_words (vecs_of alloc xs h) rest ≡ lines_of expect_line xs rest
@@ -69,8 +45,7 @@ abbrev with_version : VectorFile → Version → VectorFile
 with_version file version = record file { version = version }
 
 version-right : (file : VectorFile) (version : Version) → IsVectorFile file → IsVersion version → IsVectorFile (with_version file version)
-version-right file version h k =
-    changed-right file file.initiator file.responder file.events version h h.initiator h.responder h.events k
+version-right file version h k = search
 
 two-allowed : (allowed : AllowedEvents) (a : Additions) → (allowed ≡ SayOnly → a.datagrams ≡ None) → ¬ (allowed ≡ VersionOne) → IsAllowedVersion allowed (Two a)
 two-allowed SayOnly a h g = h refl
@@ -148,8 +123,7 @@ expected-begun (v ∷ vs) = refl
 window-wrong : (allowed : AllowedEvents) (over : Option FileDatagrams) (vs : List (Vec ℕ Global)) (reported rest : List ℕ) → lacks 10 reported ≡ true
     → starts_with nat_eq (line_then reported rest) (codes "datagrams ") ≡ true → (allowed ≡ SayOnly → over ≡ None)
     → ((window : Window) → reported ≡ window_words window → allowed ≡ SayOnly) → ¬ (datagrams_text over (lines_of expect_words vs []) ≡ line_then reported rest)
-window-wrong allowed None vs reported rest plain begun without none e =
-    true≢false (sym begun ∙ ap (λ (t : List ℕ). starts_with nat_eq t (codes "datagrams ")) (sym e) ∙ expected-begun vs)
+window-wrong allowed None vs reported rest plain begun without none e = search (rules, expected-begun)
 window-wrong allowed (Some d) vs reported rest plain begun without none e =
     let parts = parted-one 10 (window_words d.window) reported (lines_of datagram_event_words d.events.items (lines_of expect_words vs [])) rest
     (window_words-line d.window) plain e in
@@ -184,8 +158,7 @@ datagram-wrong : (over : Option FileDatagrams) (vs : List (Vec ℕ Global)) (win
     → IfSome over (λ over. All IsDatagramEvent over.events.items) → All IsDatagramEvent done → lacks 10 reported ≡ true → ¬ AfterDatagrams (line_then reported rest)
     → ((x : DatagramEvent) → IsDatagramEvent x → ¬ (reported ≡ datagram_event_words x))
     → ¬ (datagrams_text over (lines_of expect_words vs []) ≡ line_then (window_words window) (lines_of datagram_event_words done (line_then reported rest)))
-datagram-wrong None vs window done reported rest h k plain bad full e =
-    true≢false (ap (λ (t : List ℕ). starts_with nat_eq t (codes "datagrams ")) (sym e) ∙ expected-begun vs)
+datagram-wrong None vs window done reported rest h k plain bad full e = search (rules, expected-begun)
 datagram-wrong (Some d) vs window done reported rest h k plain bad full e =
     let parts = parted-one 10 (window_words d.window) (window_words window) (lines_of datagram_event_words d.events.items (lines_of expect_words vs []))
     (lines_of datagram_event_words done (line_then reported rest)) (window_words-line d.window) (window_words-line window) e in
@@ -267,19 +240,13 @@ expected-over [] reported left after rest e (inr begun) some first =
     inr (other-begun reported left rest (codes "expect ") first refl ∙ subst (λ (t : List ℕ). starts_with nat_eq t (codes "expect ") ≡ true) e begun)
 expected-over (x ∷ xs) reported left after rest e h some first = inr refl
 
-not-both : (text : List ℕ) → AfterDatagrams text → ¬ (starts_with nat_eq text (codes "datagrams ") ≡ true)
-not-both text (inl none) begun = some-begun (codes "atagrams ") text 100 begun none
-not-both text (inr expect) begun = true≢false (sym begun ∙ expect-begun text expect)
-
 -- what follows the datagrams of both is one
 past-datagrams : (over other : Option FileDatagrams) (vs : List (Vec ℕ Global)) (text : List ℕ) → IfSome over (λ over. All IsDatagramEvent over.events.items)
     → IfSome other (λ over. All IsDatagramEvent over.events.items) → AfterDatagrams text
     → datagrams_text other (lines_of expect_words vs []) ≡ datagrams_text over text → lines_of expect_words vs [] ≡ text
 past-datagrams None None vs text h k over e = e
-past-datagrams None (Some d) vs text h k over e =
-    absurd (not-both text over (ap (λ (t : List ℕ). starts_with nat_eq t (codes "datagrams ")) (sym e)))
-past-datagrams (Some d) None vs text h k over e =
-    absurd (true≢false (ap (λ (t : List ℕ). starts_with nat_eq t (codes "datagrams ")) (sym e) ∙ expected-begun vs))
+past-datagrams None (Some d) vs text h k over e = search rules
+past-datagrams (Some d) None vs text h k over e = search (rules, expected-begun)
 past-datagrams (Some d) (Some o) vs text h k over e =
     let parts = parted-one 10 (window_words o.window) (window_words d.window) (lines_of datagram_event_words o.events.items (lines_of expect_words vs []))
     (lines_of datagram_event_words d.events.items text) (window_words-line o.window) (window_words-line d.window) e in
@@ -301,9 +268,7 @@ expected-wrong over other vs done reported rest h k right are plain after full e
 -- the lines of what is expected, and a text after them
 expected-text : (alloc : Global) (over : Option FileDatagrams) (done : List (List ℕ)) (are : All Good done) (few : length done < 2 ^ 63) (rest : List ℕ)
     → datagrams_text over (lines_of expect_line done rest) ≡ version_text (Two (two_of alloc over done are few)) ++ rest
-expected-text alloc over done are few rest =
-    front-both (datagrams_text over) (lines_of expect_line done) (front-datagrams over) (front-lines expect_line done) rest
-    ∙ ap (λ (t : List ℕ). datagrams_text over t ++ rest) (sym (vecs_of-lines alloc done are []))
+expected-text alloc over done are few rest = search (rules, front-both, front-datagrams, front-lines, vecs_of-lines)
 
 -- the line that is reported, in a file with these additions
 abbrev expected-line-reported : (alloc : Global) (allowed : AllowedEvents) (text from after left : List ℕ) (total : ℕ) (kind : LineKind) (fault : VectorFault)
@@ -369,9 +334,7 @@ reports-expected : (alloc : Global) (allowed : AllowedEvents) (text from : List 
     (b : BegunAt allowed true text from up_to_version) → (allowed ≡ VersionOne → true ≡ false) → total ≡ line_feeds text
     → (t : ReportsExpected allowed from total fault) → ReportsAfter expect_lines t.after total fault → IsReported allowed text fault
 reports-expected alloc allowed text from total fault b one all t (inl is) = reported-of allowed text fault Memory is tt
-reports-expected alloc allowed text from total fault b one all t (inr (inl (is, cut))) =
-    reported-of allowed text fault (Line (total + 1) kinds.Ending) is
-    (expected-cut alloc allowed text from t.after total b t.datagrams cut.done cut.are cut.few one all t.are t.is_allowed t.text_is cut.text_is)
+reports-expected alloc allowed text from total fault b one all t (inr (inl (is, cut))) = search (reported-of, expected-cut)
 reports-expected alloc allowed text from total fault b one all t (inr (inr w)) =
     expected-reported alloc allowed text from t.after w.left total fault b t.datagrams w.done w.are w.few one all t.are t.is_allowed t.text_is t.stands w.text_is
     w.stands w.it w.full
@@ -380,8 +343,7 @@ two-reported : (alloc : Global) (allowed : AllowedEvents) (text from : List ℕ)
     (b : BegunAt allowed true text from up_to_version) → AfterEvents from → (allowed ≡ VersionOne → true ≡ false) → total ≡ line_feeds text
     → ReportsDatagrams allowed from total fault ⊎ ReportsExpected allowed from total fault → IsReported allowed text fault
 two-reported alloc allowed text from total fault b over one all (inl (inl is)) = reported-of allowed text fault Memory is tt
-two-reported alloc allowed text from total fault b over one all (inl (inr (inl (is, cut)))) =
-    reported-of allowed text fault (Line (total + 1) kinds.Ending) is (datagram-cut alloc allowed text from total b one all cut)
+two-reported alloc allowed text from total fault b over one all (inl (inr (inl (is, cut)))) = search (reported-of, datagram-cut)
 two-reported alloc allowed text from total fault b over one all (inl (inr (inr (inl w)))) = window-reported allowed text from total fault b over all w
 two-reported alloc allowed text from total fault b over one all (inl (inr (inr (inr w)))) = datagram-reported alloc allowed text from total fault b one all w
 two-reported alloc allowed text from total fault b over one all (inr t) = reports-expected alloc allowed text from total fault b one all t t.it

@@ -1,7 +1,7 @@
 -- What is ensured of a call where it succeeded, and where it failed.
 use Rattle.std.proofs.Common.{◌≡◌, ap, true, false, true≢false, Result, Ok, Err, if◌then◌else◌}
 use Rattle.std.specs.Result.{IsErrAnd, OnOk, OnErr, is_err, is_ok}
-use Rattle.std.proofs.lemmas.Bool.{false≢true}
+use Rattle.noise_vectors.proofs.Common.{false≢true}
 
 -- the error of a `?` is the callee's
 pub err-is : {T E : Type 0} {e : E} (r : Result T E) → IsErrAnd r (λ y. y ≡ e) → r ≡ Err e

@@ -1,33 +1,21 @@
 -- No lines of a vector file are those of two values.
-use Rattle.std.proofs.Common.{arith, ◌≡◌, ◌∙◌, ◌<◌, ◌^◌, ap, sym, refl, lit<, true, false, ℕ, List, ◌∷◌, ◌++◌, map, codes, get_or, Option, []}
-use Rattle.std.specs.Prelude.{decimal, IfSome, Vec}
+use Rattle.std.proofs.Common.{rules, arith, ◌≡◌, ◌∙◌, ◌<◌, ◌^◌, ap, sym, refl, lit<, true, false, ℕ, List, ◌∷◌, ◌++◌, map, codes, get_or, Option, []}
+use Rattle.std.specs.Prelude.{decimal, Vec}
 use Rattle.std.specs.Global.{Global}
 use Rattle.std.specs.Bool.{nat_eq}
-use Rattle.std.specs.List.{All, starts_with}
-use Rattle.std.proofs.lemmas.Fmt.{decimal_injective}
-use Rattle.std.proofs.lemmas.List.{append_cancel_left, map-id}
-use Rattle.hex.specs.Hex.{encode_lower}
-use Rattle.noise_names.specs.declared.token.Role.{Role}
+use Rattle.noise_vectors.proofs.Common.{IfSome, All, starts_with, decimal_injective, append_cancel_left, map-id, encode_lower, Role, DatagramEvent, Event, Write, Say, Deliver, TableEntry, hex_of, cuts_of, IsDatagramEvent, IsEntry, IsEvent, IsExpected, AfterDatagrams, AfterEvents, answer_words, datagram_event_words, event_words, expect_words, key_word, key_words, lengths_word, lines_of, own_word, psk_words, role_word, IsKey, lacks}
 use Rattle.noise_events.specs.Events.{event_of}
 use Rattle.noise_events.specs.DatagramEvents.{datagram_event_of}
-use Rattle.noise_events.specs.declared.datagram_event.DatagramEvent.{DatagramEvent}
-use Rattle.noise_events.specs.declared.datagram_event.DatagramEvent.TheVariants as datagram
-use Rattle.noise_events.specs.declared.event.Event.{Event}
-use Rattle.noise_events.specs.declared.event.Event.TheVariants.{Write, Say, Deliver, Raw}
-use Rattle.noise_keys.specs.Table.{TableEntry}
-use Rattle.noise_vectors.specs.HexWord.{hex_of}
-use Rattle.noise_vectors.specs.SameFile.{cuts_of}
-use Rattle.noise_vectors.specs.VectorFile.{IsDatagramEvent, IsEntry, IsEvent, IsExpected}
-use Rattle.noise_vectors.specs.VectorText.{AfterDatagrams, AfterEvents, answer_words, datagram_event_words, event_words, expect_words, key_word, key_words, lengths_word, lines_of, own_word, psk_words, role_word}
-use Rattle.noise_vectors.specs.Words.{IsKey, lacks}
+use Rattle.noise_events.specs.declared.event.Event.TheVariants.{Raw}
 use Rattle.noise_vectors.proofs.AdditionLemmas.{datagram_event-stands, datagram_event_words-line, event-stands, expected-line}
 use Rattle.noise_vectors.proofs.EventLemmas.{event_words-line}
-use Rattle.noise_vectors.proofs.LackLemmas.{lacks-encode_lower, lacks-hex_of, lacks-key_word, own_word-plain, role_word-plain}
+use Rattle.noise_vectors.proofs.LackLemmas.{lacks-encode_lower, lacks-hex_of, lacks-key_word, own_word-plain}
 use Rattle.noise_vectors.proofs.PartLemmas.{lines-same}
 use Rattle.noise_vectors.proofs.PartyLemmas.{answer-stands, begins, lacks-answer_words}
 use Rattle.noise_vectors.proofs.ReadingLemmas.{psk-plain, psk-stands}
-use Rattle.noise_vectors.proofs.UniqueWords.{first-byte, hex-one, key-one, key_word-one, lengths-one, numbers-apart, own-one, parted-one, role-one}
+use Rattle.noise_vectors.proofs.UniqueWords.{first-byte, hex-one, key-one, key_word-one, lengths-one, numbers-apart, own-one, parted-one}
 use Rattle.noise_vectors.proofs.WordLemmas.{lacks-decimal}
+use Rattle.noise_events.specs.declared.datagram_event.DatagramEvent.TheVariants as datagram
 
 -- ---- psks
 
@@ -75,9 +63,7 @@ keys-one e s f t he hs hf ht same =
 
 -- a role, and what follows it
 roles-one : (r s : Role) (x y : List ℕ) → role_word r ++ 32 ∷ x ≡ role_word s ++ 32 ∷ y → (r ≡ s) × (x ≡ y)
-roles-one r s x y e =
-    let parts = parted-one 32 (role_word r) (role_word s) x y (role_word-plain r).1 (role_word-plain s).1 e in
-    (role-one r s parts.0, parts.1)
+roles-one r s x y e = search rules
 
 same-number : (m n : ℕ) → m < 2 ^ 32 → n < 2 ^ 32 → decimal m ≡ decimal n → m ≡ n
 same-number m n h k e = decimal_injective m n (omega (arith, h)) (omega (arith, k)) e
@@ -128,10 +114,7 @@ datagram-one (datagram.Seal r p) (datagram.Seal s q) h k e =
     let roles = roles-one r s (hex_of p.items) (hex_of q.items) (append_cancel_left (codes "seal ") _ _ e) in
     let payload = hex-one p.items q.items h.1 k.1 roles.1 in
     cc (roles.0, payload)
-datagram-one (datagram.Open r m) (datagram.Open s n) h k e =
-    let roles = roles-one r s (decimal m) (decimal n) (append_cancel_left (codes "open ") _ _ e) in
-    let number = same-number m n h k roles.1 in
-    cc (roles.0, number)
+datagram-one (datagram.Open r m) (datagram.Open s n) h k e = search (rules, same-number)
 datagram-one (datagram.Raw r p) (datagram.Raw s q) h k e =
     let roles = roles-one r s (hex_of p.items) (hex_of q.items) (append_cancel_left (codes "foreign ") _ _ e) in
     let bytes = hex-one p.items q.items h.1 k.1 roles.1 in

@@ -1,31 +1,10 @@
 -- No text is that of two vector files that say different things.
-use Rattle.std.proofs.Common.{◌≡◌, ◌∙◌, ap, sym, refl, subst, false, ◌==◌, ℕ, List, ◌∷◌, ◌++◌, codes, get_or, Option, Some, None, []}
-use Rattle.std.specs.Prelude.{decimal, IfSome, Vec}
+use Rattle.std.proofs.Common.{rules, ◌≡◌, ◌∙◌, ap, sym, refl, subst, false, ◌==◌, ℕ, List, ◌∷◌, ◌++◌, codes, get_or, Option, Some, None, []}
+use Rattle.std.specs.Prelude.{decimal, Vec}
 use Rattle.std.specs.Global.{Global}
-use Rattle.std.specs.List.{All}
-use Rattle.std.proofs.lemmas.Fmt.{decimal_injective}
-use Rattle.std.proofs.lemmas.List.{append_cancel_left}
-use Rattle.std.proofs.lemmas.List.Elements.{All-head, All-tail}
-use Rattle.noise_names.specs.declared.token.Role.{Role}
-use Rattle.noise_names.specs.declared.token.Role.TheVariants.{Initiator, Responder}
-use Rattle.noise_names.specs.Limits.{IsPattern}
-use Rattle.noise_names.specs.Names.{Section, name_bytes}
-use Rattle.noise_names.specs.Plan.{Plan}
-use Rattle.noise_names.specs.Text.{Spells, text_of as pattern_text}
-use Rattle.noise_events.specs.Windows.{width_of}
-use Rattle.noise_vectors.specs.Block.{IsInner}
-use Rattle.noise_vectors.specs.Block as Blocks
-use Rattle.noise_vectors.specs.HexWord.{hex_of}
-use Rattle.noise_vectors.specs.SameFile.{VectorTextsAreUnique, version_datagrams, expected_of, held_datagrams, version_number}
-use Rattle.noise_vectors.specs.VectorFile.{AreKeys, IsDatagramEvent, IsOwn, IsVectorFile, IsVersion}
-use Rattle.noise_vectors.specs.VectorText.{block_text, datagram_event_words, datagrams_text, expect_words, header_words, is_second, key_words, line_then, lines_of, party_text, role_word, file_text, version_text, window_words}
-use Rattle.noise_vectors.specs.WrongLine.{is_answer_line}
-use Rattle.noise_vectors.specs.declared.file_keys.FileKeys.{FileKeys}
-use Rattle.noise_vectors.specs.declared.file_keys.FileKeys.TheVariants.{Xor, Table}
-use Rattle.noise_vectors.specs.declared.vector.FileDatagrams.{FileDatagrams}
-use Rattle.noise_vectors.specs.declared.vector.VectorFile.{VectorFile}
-use Rattle.noise_vectors.specs.declared.vector.Version.{Version}
-use Rattle.noise_vectors.specs.declared.vector.Version.TheVariants.{One, Two}
+use Rattle.noise_vectors.proofs.Common.{IfSome, All, decimal_injective, append_cancel_left, All-head, All-tail, Role, Initiator, Responder, IsPattern, Section, name_bytes, Plan, Spells, width_of, IsInner, hex_of, VectorTextsAreUnique, version_datagrams, expected_of, held_datagrams, version_number, AreKeys, IsDatagramEvent, IsOwn, IsVectorFile, IsVersion, block_text, datagram_event_words, datagrams_text, expect_words, header_words, is_second, key_words, line_then, lines_of, party_text, role_word, file_text, version_text, window_words, is_answer_line, FileKeys, Xor, FileDatagrams, VectorFile, Version, One, Two}
+use Rattle.noise_names.specs.Text.{text_of as pattern_text}
+use Rattle.noise_vectors.specs.declared.file_keys.FileKeys.TheVariants.{Table}
 use Rattle.noise_vectors.proofs.AdditionLemmas.{expected-after, version-after, window_words-line}
 use Rattle.noise_vectors.proofs.BlockLemmas.{block-lines, lined-pattern}
 use Rattle.noise_vectors.proofs.PartLemmas.{header-lacks}
@@ -34,6 +13,7 @@ use Rattle.noise_vectors.proofs.ReadingLemmas.{interval-plain, prologue-plain, p
 use Rattle.noise_vectors.proofs.UniqueLines.{dh-results-one, datagrams-one, events-one, expected-one, keys-one, psks-one}
 use Rattle.noise_vectors.proofs.UniqueWords.{first-byte, hex-one, name-one, numbers-apart, parted-one, window-one}
 use Rattle.noise_vectors.proofs.VectorLemmas.{after_block, after_header, after_initiator, after_interval, after_prologue, after_protocol, after_psks, after_responder, initiator-ends, psks-end, responder-ends}
+use Rattle.noise_vectors.specs.Block as Blocks
 
 -- ---- the pattern that a file spells
 
@@ -88,9 +68,7 @@ blocks-one : PatternsOnce → (name : Section) (a b : Option Plan) (u v : List �
 blocks-one once name None None u v h k e = (refl, e)
 blocks-one once name None (Some q) u v h k e = absurd (cc (h.0.1 (k.0.0 refl)))
 blocks-one once name (Some p) None u v h k e = absurd (cc (k.0.1 (h.0.0 refl)))
-blocks-one once name (Some p) (Some q) u v h k e =
-    let parts = patterns-one once p q u v h.1.0 k.1.0 e in
-    (ap Some parts.0, parts.1)
+blocks-one once name (Some p) (Some q) u v h k e = search (rules, patterns-one)
 
 -- ---- parties
 
@@ -124,9 +102,7 @@ party-parts role a b u v h k e =
 
 pub party-one : (role : Role) (a b : FileKeys) (u v : List ℕ) → AreKeys a → AreKeys b → is_answer_line a u ≡ false → is_answer_line b v ≡ false
     → party_text role a u ≡ party_text role b v → (a ≡ b) × (u ≡ v)
-party-one role a b u v h k hu hv e =
-    let parts = party-parts role a b u v h k e in
-    keys-after a b u v h k hu hv parts.0 parts.1
+party-one role a b u v h k hu hv e = search (rules, party-parts, keys-after)
 
 -- ---- versions
 
@@ -141,10 +117,8 @@ over-one : (a b : Option FileDatagrams) (xs ys : List (Vec ℕ Global)) → IfSo
     → datagrams_text a (lines_of expect_words xs []) ≡ datagrams_text b (lines_of expect_words ys [])
     → (held_datagrams a ≡ held_datagrams b) × (lines_of expect_words xs [] ≡ lines_of expect_words ys [])
 over-one None None xs ys h k e = (refl, e)
-over-one None (Some b) (x ∷ xs) ys h k e =
-    absurd (first-apart (lines_of expect_words (x ∷ xs) []) (datagrams_text (Some b) (lines_of expect_words ys [])) e refl)
-over-one (Some a) None xs (y ∷ ys) h k e =
-    absurd (first-apart (datagrams_text (Some a) (lines_of expect_words xs [])) (lines_of expect_words (y ∷ ys) []) e refl)
+over-one None (Some b) (x ∷ xs) ys h k e = search first-apart
+over-one (Some a) None xs (y ∷ ys) h k e = search first-apart
 over-one (Some a) (Some b) xs ys h k e =
     let u = lines_of expect_words xs [] in
     let v = lines_of expect_words ys [] in

@@ -1,25 +1,11 @@
 -- No word or line of a vector file is that of two values.
-use Rattle.std.proofs.Common.{arith, ◌≡◌, ◌∙◌, ◌+◌, ◌<◌, ◌==◌, ap, sym, refl, subst, true, false, true≢false, not, ◌&&◌, ℕ, List, ◌∷◌, ◌++◌, map, codes, length, get_or, Option, Some, None, []}
-use Rattle.std.specs.Prelude.{decimal, nat_lt, IfSome}
-use Rattle.std.specs.List.{All, join_with_byte, list_all}
-use Rattle.std.proofs.lemmas.Bool.{and_parts, eq-eqb}
-use Rattle.std.proofs.lemmas.Fmt.{decimal_injective}
-use Rattle.std.proofs.lemmas.List.{append_cancel_left, append_cancel_right}
-use Rattle.std.proofs.lemmas.List.Elements.{All-head, All-tail}
-use Rattle.hex.specs.Hex.{decode_of, encode_lower, lower_digits}
-use Rattle.hex.proofs.HexLemmas.{decode_of-encode_lower, length-encode_with}
-use Rattle.noise_names.specs.declared.token.Role.{Role}
-use Rattle.noise_names.specs.declared.token.Role.TheVariants.{Initiator, Responder}
-use Rattle.noise_names.specs.Names.{IsSection, Section, is_base, is_base_byte, is_upper, modifier, name_bytes, prefix, section_bytes, suffix}
+use Rattle.std.proofs.Common.{rules, arith, ◌≡◌, ◌∙◌, ◌+◌, ◌<◌, ◌==◌, ap, sym, refl, subst, true, false, true≢false, not, ℕ, List, ◌∷◌, ◌++◌, map, codes, length, get_or, Option, Some, None, []}
+use Rattle.std.specs.Prelude.{decimal}
+use Rattle.std.proofs.lemmas.Bool.{eq-eqb}
+use Rattle.noise_vectors.proofs.Common.{IfSome, All, join_with_byte, list_all, and_parts, decimal_injective, append_cancel_left, append_cancel_right, All-head, All-tail, decode_of, encode_lower, lower_digits, decode_of-encode_lower, length-encode_with, IsSection, Section, is_base, is_base_byte, modifier, name_bytes, prefix, section_bytes, suffix, Window, width_of, AreLengths, hex_of, key_word, lengths_word, own_word, IsKey, lacks}
 use Rattle.noise_keys.specs.declared.keys.Own.{Own}
 use Rattle.noise_keys.specs.declared.keys.Own.TheVariants.{Ephemeral, Static}
-use Rattle.noise_events.specs.declared.window.Window.{Window}
 use Rattle.noise_events.specs.declared.window.Window.TheVariants.{W64, W256, W1024}
-use Rattle.noise_events.specs.Windows.{width_of}
-use Rattle.noise_vectors.specs.Cuts.{AreLengths}
-use Rattle.noise_vectors.specs.HexWord.{hex_of}
-use Rattle.noise_vectors.specs.VectorText.{key_word, lengths_word, own_word, role_word}
-use Rattle.noise_vectors.specs.Words.{IsKey, lacks}
 use Rattle.noise_vectors.proofs.CutLemmas.{hyphen-cuts, lacks-comma}
 use Rattle.noise_vectors.proofs.KeyLemmas.{decoded-key, length-key, bytes-at}
 use Rattle.noise_vectors.proofs.WordLemmas.{not_lacks}
@@ -27,18 +13,11 @@ use Rattle.noise_vectors.proofs.AdditionLemmas.{width-small}
 
 -- ---- texts parted by a byte
 
-lacks-first : (byte : ℕ) (x : List ℕ) → ¬ (lacks byte (byte ∷ x) ≡ true)
-lacks-first byte x h = not_lacks byte [] x h
-
 -- the first such byte parts a text in one way
 pub parted-one : (byte : ℕ) (a b x y : List ℕ) → lacks byte a ≡ true → lacks byte b ≡ true → a ++ byte ∷ x ≡ b ++ byte ∷ y → (a ≡ b) × (x ≡ y)
 parted-one byte [] [] x y h k e = (refl, cc (e))
-parted-one byte [] (c ∷ cs) x y h k e =
-    let same : c ≡ byte = cc (e) in
-    absurd (lacks-first byte cs (subst (λ (n : ℕ). lacks byte (n ∷ cs) ≡ true) same k))
-parted-one byte (c ∷ cs) [] x y h k e =
-    let same : c ≡ byte = cc (e) in
-    absurd (lacks-first byte cs (subst (λ (n : ℕ). lacks byte (n ∷ cs) ≡ true) same h))
+parted-one byte [] (c ∷ cs) x y h k e = search rules
+parted-one byte (c ∷ cs) [] x y h k e = search rules
 parted-one byte (c ∷ cs) (d ∷ ds) x y h k e =
     let first : c ≡ d = cc (e) in
     let tails : cs ++ byte ∷ x ≡ ds ++ byte ∷ y = cc (e) in
@@ -119,11 +98,6 @@ numbers-apart m n e differ = true≢false (sym (eq-eqb m n e) ∙ differ)
 pub first-byte : (x y : List ℕ) → x ≡ y → get_or x 0 0 ≡ get_or y 0 0
 first-byte x y e = ap (λ (t : List ℕ). get_or t 0 0) e
 
-pub role-one : (a b : Role) → role_word a ≡ role_word b → a ≡ b
-role-one Initiator Initiator e = refl
-role-one Responder Responder e = refl
-role-one a b e = absurd (numbers-apart _ _ (first-byte (role_word a) (role_word b) e) refl)
-
 pub own-one : (a b : Own) → own_word a ≡ own_word b → a ≡ b
 own-one Ephemeral Ephemeral e = refl
 own-one Static Static e = refl
@@ -140,24 +114,16 @@ window-one a b e = width-one a b (decimal_injective (width_of a) (width_of b) (w
 
 -- ---- protocol names
 
-wider : (b : ℕ) → is_upper b ≡ true → is_base_byte b ≡ true
-wider b h = rw h refl
-
 base-bytes : (base : List ℕ) → is_base base ≡ true → list_all is_base_byte base ≡ true
 base-bytes [] h = refl
-base-bytes (b ∷ bs) h =
-    let parts = and_parts (is_upper b) (list_all is_base_byte bs) (and_parts (is_upper b && list_all is_base_byte bs) (nat_lt (length bs) 8) h).0 in
-    rw (wider b parts.0, parts.1) refl
+base-bytes (b ∷ bs) h = search rules
 
 -- a base ends where the next byte is of none
 bases-one : (a b x y : List ℕ) → list_all is_base_byte a ≡ true → list_all is_base_byte b ≡ true → is_base_byte (get_or x 0 0) ≡ false
     → is_base_byte (get_or y 0 0) ≡ false → a ++ x ≡ b ++ y → (a ≡ b) × (x ≡ y)
 bases-one [] [] x y h k hx hy e = (refl, e)
-bases-one [] (c ∷ cs) x y h k hx hy e =
-    absurd (true≢false (sym (and_parts (is_base_byte c) (list_all is_base_byte cs) k).0 ∙ ap is_base_byte (sym (ap (λ (t : List ℕ). get_or t 0 0) e)) ∙ hx))
-bases-one (c ∷ cs) [] x y h k hx hy e =
-    let first : get_or y 0 0 ≡ c = ap (λ (t : List ℕ). get_or t 0 0) (sym e) in
-    absurd (true≢false (sym (and_parts (is_base_byte c) (list_all is_base_byte cs) h).0 ∙ ap is_base_byte (sym first) ∙ hy))
+bases-one [] (c ∷ cs) x y h k hx hy e = search rules
+bases-one (c ∷ cs) [] x y h k hx hy e = search rules
 bases-one (c ∷ cs) (d ∷ ds) x y h k hx hy e =
     let first : c ≡ d = cc (e) in
     let tails : cs ++ x ≡ ds ++ y = cc (e) in
@@ -176,9 +142,7 @@ joined-first (n ∷ m ∷ ns) = refl
 
 -- the digit of the first modifier
 digit-one : (m n : ℕ) (x y : List ℕ) → x ≡ y → get_or x 3 0 ≡ 48 + m → get_or y 3 0 ≡ 48 + n → m ≡ n
-digit-one m n x y e h k =
-    let same : get_or x 3 0 ≡ get_or y 3 0 = ap (λ (t : List ℕ). get_or t 3 0) e in
-    omega arith
+digit-one m n x y e h k = search rules
 
 places-one : (ms ns : List ℕ) → joined ms ≡ joined ns → ms ≡ ns
 places-one [] [] e = refl

@@ -1,18 +1,8 @@
 -- What is left of a vector file's text where its lines are read one after the other.
 use Rattle.std.proofs.Common.{◌≡◌, refl, subst, sym, false, ℕ, List, ◌∷◌, ◌++◌, Option, codes, decimal, []}
 use Rattle.std.specs.Bool.{nat_eq}
-use Rattle.std.specs.List.{starts_with}
-use Rattle.noise_names.specs.declared.token.Role.TheVariants.{Initiator, Responder}
-use Rattle.noise_names.specs.Names.{Section, name_bytes}
-use Rattle.noise_names.specs.Plan.{Plan}
-use Rattle.noise_events.specs.declared.event.Event.{Event}
-use Rattle.noise_events.specs.declared.event.Event.TheVariants.{Say}
-use Rattle.noise_vectors.specs.HexWord.{hex_of}
-use Rattle.noise_vectors.specs.VectorFile.{IsOwn}
-use Rattle.noise_vectors.specs.VectorText.{block_text, event_words, line_then, lines_of, party_text, psk_words, version_text}
-use Rattle.noise_vectors.specs.declared.file_keys.FileKeys.{FileKeys}
-use Rattle.noise_vectors.specs.declared.file_keys.FileKeys.TheVariants.{Xor, Table}
-use Rattle.noise_vectors.specs.declared.vector.VectorFile.{VectorFile}
+use Rattle.noise_vectors.proofs.Common.{starts_with, Initiator, Responder, Section, name_bytes, Plan, Event, Say, hex_of, IsOwn, block_text, event_words, line_then, lines_of, party_text, psk_words, version_text, FileKeys, Xor, VectorFile}
+use Rattle.noise_vectors.specs.declared.file_keys.FileKeys.TheVariants.{Table}
 use Rattle.noise_vectors.proofs.AdditionLemmas.{after_events-no_answer, version-after}
 
 -- ---- what follows each part of the text
@@ -67,8 +57,7 @@ initiator-ends file = responder-no_answer file.responder (after_responder file)
 
 -- nor after the responder's
 pub responder-ends : (file : VectorFile) → starts_with nat_eq (after_responder file) (codes "answer ") ≡ false
-responder-ends file =
-    events-no_answer file.events.items (version_text file.version) (after_events-no_answer (version_text file.version) (version-after file.version))
+responder-ends file = search (events-no_answer, after_events-no_answer, version-after)
 
 -- ---- the pattern
 

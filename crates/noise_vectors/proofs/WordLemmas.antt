@@ -1,16 +1,10 @@
 -- Where a byte stands first, and what decimal numbers look like.
-use Rattle.std.proofs.Common.{arith, ◌≡◌, ◌∙◌, ◌+◌, ◌-◌, ◌<◌, ◌≤◌, ◌^◌, ◌==◌, not, true, false, ap, refl, sym, add-one, eq-eqb, lit<, ℕ, zero, suc, List, ◌∷◌, ◌++◌, Some, None, length, get_or, take, drop, Bool, inl, inr, subst, ◌⊎◌, []}
-use Rattle.std.specs.Prelude.{decimal, position}
-use Rattle.std.specs.List.{prefix_len}
+use Rattle.std.proofs.Common.{rules, arith, ◌≡◌, ◌∙◌, ◌+◌, ◌-◌, ◌<◌, ◌≤◌, ◌^◌, ◌==◌, not, true, false, ap, refl, sym, add-one, eq-eqb, lit<, ℕ, zero, suc, List, ◌∷◌, ◌++◌, Some, None, length, get_or, take, drop, Bool, inl, inr, subst, ◌⊎◌, []}
+use Rattle.std.specs.Prelude.{decimal}
 use Rattle.std.specs.Str.Parse.{AllDigits}
-use Rattle.std.proofs.lemmas.Bool.{and_parts, eqb-true, lt-ltb}
-use Rattle.std.proofs.lemmas.Bool.Decides.{nat_tests}
-use Rattle.std.proofs.lemmas.Fmt.{decimal_digit, decimal_is_IsNumeral, first_decimal}
-use Rattle.std.proofs.lemmas.List.{append_assoc, length-append, length-drop, take-append-drop}
-use Rattle.std.proofs.Math.Seq.{drop-append_seam, drop-cons, take-append_seam, take-length}
 use Rattle.std.proofs.lemmas.List.Quantifiers.{position-Some}
 use Rattle.std.proofs.lemmas.Str.Parse.{digit_at, tells_digits}
-use Rattle.noise_vectors.specs.Words.{lacks}
+use Rattle.noise_vectors.proofs.Common.{position, prefix_len, and_parts, eqb-true, nat_tests, decimal_digit, decimal_is_IsNumeral, first_decimal, append_assoc, length-append, length-drop, take-append-drop, drop-append_seam, drop-cons, take-append_seam, take-length, lacks}
 
 -- ---- the first place of a byte
 
@@ -25,23 +19,15 @@ first_len byte (b ∷ bs) after h =
 -- it stands after what lacks it
 pub position-first : (byte : ℕ) (before after : List ℕ) → lacks byte before ≡ true
     → position (λ b. b == byte) (before ++ byte ∷ after) ≡ Some (length before)
-position-first byte before after h =
-    let len = first_len byte before after h in
-    let long = length-append before (byte ∷ after) in
-    let small : length before < length (before ++ byte ∷ after) = omega (arith, long) in
-    rw (len, lt-ltb (length before) (length (before ++ byte ∷ after)) small) refl
+position-first byte before after h = search (rules, first_len, length-append)
 
 pub place-first : (byte : ℕ) (text before after : List ℕ) (place : ℕ) → Some place ≡ position (λ b. b == byte) text
     → lacks byte before ≡ true → text ≡ before ++ byte ∷ after → place ≡ length before
-place-first byte text before after place found h e =
-    let same = found ∙ ap (position (λ b. b == byte)) e ∙ position-first byte before after h in
-    cc (same)
+place-first byte text before after place found h e = search (rules, position-first)
 
 pub no-place : (byte : ℕ) (text before after : List ℕ) → None ≡ position (λ b. b == byte) text
     → lacks byte before ≡ true → ¬ (text ≡ before ++ byte ∷ after)
-no-place byte text before after none h e =
-    let same = none ∙ ap (position (λ b. b == byte)) e ∙ position-first byte before after h in
-    cc (same)
+no-place byte text before after none h e = search (rules, position-first)
 
 -- what comes before that place and after it
 pub parted : (byte : ℕ) (text before after : List ℕ) (place : ℕ) → text ≡ before ++ byte ∷ after → place ≡ length before
@@ -71,12 +57,8 @@ parts-at byte text place found =
 
 -- a text with the byte doesn't lack it
 pub not_lacks : (byte : ℕ) (before after : List ℕ) → ¬ (lacks byte (before ++ byte ∷ after) ≡ true)
-not_lacks byte [] after h =
-    let parts = and_parts (not (byte == byte)) (lacks byte after) h in
-    let same = eq-eqb byte byte refl in
-    cc (rw same at parts.0)
-not_lacks byte (b ∷ bs) after h =
-    not_lacks byte bs after (and_parts (not (b == byte)) (lacks byte (bs ++ byte ∷ after)) h).1
+not_lacks byte [] after h = search rules
+not_lacks byte (b ∷ bs) after h = search ((not_lacks byte bs after (and_parts (not (b == byte)) (lacks byte (bs ++ byte ∷ after)) h).1))
 
 -- a text that is parted by its first such byte
 pub record Parted (byte : ℕ) (text : List ℕ) : Type 0 where
@@ -100,11 +82,7 @@ lacks-or byte (b ∷ bs) = parted-step byte b bs (b == byte) refl (lacks-or byte
 
 -- without a place the text lacks the byte
 pub lacks-no_place : (byte : ℕ) (text : List ℕ) → None ≡ position (λ b. b == byte) text → lacks byte text ≡ true
-lacks-no_place byte text none =
-    elim (lacks-or byte text) [
-      | inl h ↦ h
-      | inr s ↦ absurd (no-place byte text s.before s.after none s.plain s.text_is)
-    ]
+lacks-no_place byte text none = search (rules, lacks-or, no-place)
 
 -- what comes before the first place lacks the byte
 pub lacks-front : (byte : ℕ) (text : List ℕ) (place : ℕ) → Some place ≡ position (λ b. b == byte) text → lacks byte (take place text) ≡ true
@@ -137,8 +115,4 @@ lacks-decimal byte n low small =
 pub led-decimal : (n : ℕ) → n < 2 ^ 64
     → (48 ≤ get_or (decimal n) 0 0) × (get_or (decimal n) 0 0 ≤ 57) × (get_or (decimal n) 0 0 ≡ 48 → length (decimal n) ≡ 1)
 led-decimal zero small = rw (decimal_digit 0 (lit< tt)) (omega arith, omega arith, λ e. refl)
-led-decimal (suc n) small =
-    let numeral = decimal_is_IsNumeral (suc n) small in
-    let first = digit_at (decimal (suc n)) 0 numeral.0.1 numeral.0.0 in
-    let high = first_decimal (suc n) (omega arith) small in
-    (first.0, first.1, λ e. absurd (omega arith))
+led-decimal (suc n) small = search (rules, decimal_is_IsNumeral, digit_at, first_decimal)

@@ -1,22 +1,13 @@
 use Rattle.std.proofs.Common.{rules, ◌≡◌, ◌∙◌, ap, inl, inr, lit<, refl, subst, true, ℕ, List, ◌++◌, Option, Some, codes, []}
-use Rattle.std.proofs.lemmas.List.Elements.{All-nil}
-use Rattle.std.specs.Prelude.{IfSome}
 use Rattle.std.specs.Bool.{nat_eq}
-use Rattle.std.specs.List.{All, starts_with}
-use Rattle.noise_vectors.specs.VectorFile.{IsDatagramEvent}
-use Rattle.noise_vectors.specs.VectorText.{AfterDatagrams, datagram_event_words, datagrams_text, lines_of, window_words}
-use Rattle.noise_vectors.specs.declared.vector.FileDatagrams.{FileDatagrams}
+use Rattle.noise_vectors.proofs.Common.{All-nil, IfSome, All, starts_with, IsDatagramEvent, AfterDatagrams, datagram_event_words, datagrams_text, lines_of, window_words, FileDatagrams, last_number, ReportsAfter, datagram_lines, SayOnly, false≢true}
 use Rattle.noise_vectors.proofs.AdditionLemmas.{over-stands, window_words-line}
-use Rattle.noise_vectors.specs.Lines.{last_number}
-use Rattle.noise_vectors.specs.ReaderFaults.{ReportsAfter, datagram_lines}
-use Rattle.noise_vectors.specs.declared.vector.AllowedEvents.TheVariants.{SayOnly}
 use Rattle.noise_vectors.proofs.LineLemmas.{begun-by}
 use Rattle.noise_vectors.proofs.PartyReported.{window-reported}
 use Rattle.noise_vectors.proofs.ReportedLemmas.{counted-ended, ending-reported, wrong-line}
 use Rattle.noise_vectors.proofs.additions.read_datagrams.Goals.{After-read_window}
 use Rattle.noise_vectors.proofs.Results.{err-is}
 use Rattle.noise_vectors.proofs.additions.read_datagrams.Goals as goal
-use Rattle.std.proofs.lemmas.Bool.{false≢true}
 
 abbrev AreRight : Option FileDatagrams → Type 0
 AreRight found = IfSome found (λ over. All IsDatagramEvent over.events.items)

@@ -1,8 +1,6 @@
 use Rattle.std.proofs.Common.{rules, ◌≡◌, ◌∙◌, ap, inl, inr, subst, true, ℕ, []}
-use Rattle.noise_vectors.specs.VectorFile.{IsAllowedVersion, IsVersion}
-use Rattle.noise_vectors.specs.VectorText.{expect_words, lines_of, version_text}
+use Rattle.noise_vectors.proofs.Common.{IsAllowedVersion, IsVersion, expect_words, lines_of, version_text, ReportsAfter, expect_lines}
 use Rattle.noise_vectors.proofs.AdditionLemmas.{expected-after, no-datagrams, second-has}
-use Rattle.noise_vectors.specs.ReaderFaults.{ReportsAfter, expect_lines}
 use Rattle.noise_vectors.proofs.Results.{err-is}
 use Rattle.noise_vectors.proofs.additions.read_version.Goals as goal
 

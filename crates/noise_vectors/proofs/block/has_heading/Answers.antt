@@ -1,9 +1,6 @@
 use Rattle.std.proofs.Common.{◌∙◌, ap, refl, sym, ℕ, List, ◌++◌, Some, None, codes}
 use Rattle.std.specs.Bool.{nat_eq}
-use Rattle.std.specs.List.{starts_with}
-use Rattle.std.proofs.lemmas.Bool.Decides.{Decides-eqb}
-use Rattle.std.proofs.lemmas.Slice.Eq.{strip_prefix_is}
-use Rattle.noise_names.specs.Names.{section_bytes, suffix}
+use Rattle.noise_vectors.proofs.Common.{starts_with, Decides-eqb, strip_prefix_is, section_bytes, suffix}
 use Rattle.noise_vectors.proofs.HeadingLemmas.{heading-parts, heading-test, section-plain}
 use Rattle.noise_vectors.proofs.block.has_heading.Goals as goal
 

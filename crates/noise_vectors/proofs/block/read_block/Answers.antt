@@ -1,6 +1,6 @@
 use Rattle.std.proofs.Common.{◌∙◌, inl, inr, refl, sym}
+use Rattle.noise_vectors.proofs.Common.{last_number}
 use Rattle.noise_vectors.proofs.BlockLemmas.{block-cut, block-lines, lined-pattern}
-use Rattle.noise_vectors.specs.Lines.{last_number}
 use Rattle.noise_vectors.proofs.PartLemmas.{block-wrong}
 use Rattle.noise_vectors.proofs.Results.{err-is}
 use Rattle.noise_vectors.proofs.block.read_block.Goals as goal

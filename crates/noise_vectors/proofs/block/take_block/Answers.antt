@@ -1,13 +1,10 @@
 use Rattle.std.proofs.Common.{rules, ◌≡◌, ◌∙◌, ◌+◌, ◌-◌, ap, refl, sym, List, ℕ, ◌++◌, codes, length, take, []}
-use Rattle.std.specs.Prelude.{IsTrue}
-use Rattle.std.proofs.lemmas.Slice.Eq.{bytes_eq-Decides}
-use Rattle.noise_vectors.specs.VectorText.{line_then}
+use Rattle.noise_vectors.proofs.Common.{IsTrue, bytes_eq-Decides, line_then, Line}
 use Rattle.noise_vectors.proofs.BlockLemmas.{front-is, Left-last, Left-next, Left-start, Left-step, Read-end, Read-none, Read-open, Read-step}
 use Rattle.noise_vectors.proofs.LineLemmas.{Ends-after, Ends-whole}
-use Rattle.noise_vectors.specs.declared.faults.LineKind.TheVariants as kinds
-use Rattle.noise_vectors.specs.declared.faults.VectorFault.TheVariants.{Line}
 use Rattle.noise_vectors.proofs.ReportedLemmas.{counted-ended, counted-last, ending-reported}
 use Rattle.noise_vectors.proofs.Results.{err-is}
+use Rattle.noise_vectors.specs.declared.faults.LineKind.TheVariants as kinds
 use Rattle.noise_vectors.proofs.block.take_block.Goals as goal
 
 pub loop-lines-init : goal.loop-lines-init

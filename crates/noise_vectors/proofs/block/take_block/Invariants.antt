@@ -1,8 +1,5 @@
 use Rattle.std.proofs.Common.{◌≡◌, ℕ, List, codes, length}
-use Rattle.std.specs.List.{All}
-use Rattle.noise_vectors.specs.Lines.{last_number}
-use Rattle.noise_vectors.specs.Block.{IsInner, itself}
-use Rattle.noise_vectors.specs.VectorText.{line_then, lines_of}
+use Rattle.noise_vectors.proofs.Common.{All, last_number, IsInner, itself, line_then, lines_of}
 use Rattle.noise_vectors.proofs.BlockLemmas.{Left, Read}
 use Rattle.noise_vectors.proofs.LineLemmas.{Ends}
 use Rattle.noise_vectors.proofs.block.take_block.Given as goal

@@ -1,7 +1,5 @@
 use Rattle.std.proofs.Common.{rules, ◌≡◌, ◌∙◌, ap, subst, sym, codes, []}
-use Rattle.std.proofs.lemmas.Slice.Eq.{bytes_eq-Decides}
-use Rattle.noise_vectors.specs.Cuts.{AreLengths}
-use Rattle.noise_vectors.specs.VectorText.{lengths_word}
+use Rattle.noise_vectors.proofs.Common.{bytes_eq-Decides, AreLengths, lengths_word}
 use Rattle.noise_vectors.proofs.CutLemmas.{cuts-made, cuts-right, cuts-word, hyphen-cuts, no-cuts, other-cuts}
 use Rattle.noise_vectors.proofs.cuts.read_cuts.Goals as goal
 

@@ -1,8 +1,6 @@
 use Rattle.std.proofs.Common.{rules, arith, ◌≡◌, ◌∙◌, ◌<◌, ◌≤◌, ap, sym, subst, ℕ, List, ◌∷◌, ◌++◌, length, []}
-use Rattle.std.specs.List.{All}
-use Rattle.std.proofs.lemmas.List.Elements.{All-nil, All-push}
+use Rattle.noise_vectors.proofs.Common.{All, All-nil, All-push, lengths_word}
 use Rattle.arrayvec.specs.ArrayVec.{array_vec_len}
-use Rattle.noise_vectors.specs.VectorText.{lengths_word}
 use Rattle.noise_vectors.proofs.CutLemmas.{are_small, before, before-more, lengths_word-last, First-step, Last-done, Left, Left-first, Left-last, Left-room, Left-start}
 use Rattle.noise_vectors.proofs.cuts.read_lengths.Goals as goal
 

@@ -1,7 +1,5 @@
 use Rattle.std.proofs.Common.{◌≡◌, ◌<◌, ◌++◌, ℕ, List, ◌∷◌, length}
-use Rattle.std.specs.List.{All}
-use Rattle.noise_vectors.specs.Cuts.{AreLengths}
-use Rattle.noise_vectors.specs.VectorText.{lengths_word}
+use Rattle.noise_vectors.proofs.Common.{All, AreLengths, lengths_word}
 use Rattle.noise_vectors.proofs.CutLemmas.{before, Left}
 use Rattle.noise_vectors.proofs.cuts.read_lengths.Given as goal
 

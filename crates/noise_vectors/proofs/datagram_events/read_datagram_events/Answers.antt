@@ -1,14 +1,7 @@
 use Rattle.std.proofs.Common.{rules, refl, arith, ◌≡◌, ◌+◌, ◌∙◌, ap, sym, subst, List, ◌∷◌, ◌++◌, length, ◌<◌, ◌^◌, []}
-use Rattle.std.proofs.lemmas.Bool.{false≢true}
-use Rattle.std.specs.Prelude.{IsSome, IsTrue}
-use Rattle.std.specs.List.{All}
-use Rattle.std.proofs.lemmas.List.Elements.{All-nil, All-push}
-use Rattle.noise_events.specs.declared.datagram_event.DatagramEvent.{DatagramEvent}
-use Rattle.noise_vectors.specs.VectorFile.{IsDatagramEvent}
-use Rattle.noise_vectors.specs.VectorText.{AfterDatagrams, datagram_event_words, lines_of}
+use Rattle.noise_vectors.proofs.Common.{false≢true, IsTrue, All, All-nil, All-push, DatagramEvent, IsDatagramEvent, AfterDatagrams, datagram_event_words, lines_of, datagram_lines}
 use Rattle.noise_vectors.proofs.AdditionLemmas.{datagram_event-stands, datagram_event_words-line}
 use Rattle.noise_vectors.proofs.LineLemmas.{lines_of-more}
-use Rattle.noise_vectors.specs.ReaderFaults.{datagram_lines}
 use Rattle.noise_vectors.proofs.PartLemmas.{lines-over, next-of, reports-cut, reports-wrong}
 use Rattle.noise_vectors.proofs.ReportedLemmas.{counted-ended}
 use Rattle.noise_vectors.proofs.HeldLemmas.{lines-long}

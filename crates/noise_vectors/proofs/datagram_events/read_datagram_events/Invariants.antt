@@ -1,8 +1,5 @@
 use Rattle.std.proofs.Common.{◌≡◌, length}
-use Rattle.std.specs.List.{All}
-use Rattle.noise_vectors.specs.Lines.{last_number}
-use Rattle.noise_vectors.specs.VectorFile.{IsDatagramEvent}
-use Rattle.noise_vectors.specs.VectorText.{datagram_event_words, lines_of}
+use Rattle.noise_vectors.proofs.Common.{All, last_number, IsDatagramEvent, datagram_event_words, lines_of}
 use Rattle.noise_vectors.proofs.datagram_events.read_datagram_events.Given as goal
 
 abbrev pub invariant-loop-alloc : goal.invariant-loop-alloc

@@ -1,5 +1,5 @@
 use Rattle.std.specs.Prelude.{decimal}
-use Rattle.noise_vectors.specs.VectorText.{lengths_word}
+use Rattle.noise_vectors.proofs.Common.{lengths_word}
 use Rattle.noise_vectors.proofs.EventLemmas.{number-word}
 use Rattle.noise_vectors.proofs.events.read_delivery.Goals as goal
 

@@ -1,15 +1,8 @@
 use Rattle.std.proofs.Common.{rules, refl, arith, ◌≡◌, ◌+◌, ◌∙◌, ap, sym, subst, List, ◌∷◌, ◌++◌, length, ◌<◌, ◌^◌, []}
-use Rattle.std.proofs.lemmas.Bool.{false≢true}
-use Rattle.std.specs.Prelude.{IsSome, IsTrue}
-use Rattle.std.specs.List.{All}
-use Rattle.std.proofs.lemmas.List.Elements.{All-nil, All-push}
-use Rattle.noise_events.specs.declared.event.Event.{Event}
-use Rattle.noise_vectors.specs.VectorFile.{IsAllowed, IsEvent}
-use Rattle.noise_vectors.specs.VectorText.{AfterEvents, event_words, lines_of}
+use Rattle.noise_vectors.proofs.Common.{false≢true, IsTrue, All, All-nil, All-push, Event, IsAllowed, IsEvent, AfterEvents, event_words, lines_of, event_lines}
 use Rattle.noise_vectors.proofs.AdditionLemmas.{event-stands}
 use Rattle.noise_vectors.proofs.EventLemmas.{all-right, right-plain}
 use Rattle.noise_vectors.proofs.LineLemmas.{lines_of-more}
-use Rattle.noise_vectors.specs.ReaderFaults.{event_lines}
 use Rattle.noise_vectors.proofs.PartLemmas.{lines-over, next-of, reports-cut, reports-wrong}
 use Rattle.noise_vectors.proofs.ReportedLemmas.{counted-ended}
 use Rattle.noise_vectors.proofs.HeldLemmas.{lines-long}

@@ -1,8 +1,5 @@
 use Rattle.std.proofs.Common.{◌≡◌, length}
-use Rattle.std.specs.List.{All}
-use Rattle.noise_vectors.specs.Lines.{last_number}
-use Rattle.noise_vectors.specs.VectorFile.{IsAllowed, IsEvent}
-use Rattle.noise_vectors.specs.VectorText.{event_words, lines_of}
+use Rattle.noise_vectors.proofs.Common.{All, last_number, IsAllowed, IsEvent, event_words, lines_of}
 use Rattle.noise_vectors.proofs.events.read_events.Given as goal
 
 abbrev pub invariant-loop-alloc : goal.invariant-loop-alloc

@@ -1,6 +1,4 @@
-use Rattle.std.specs.Prelude.{IsSome}
-use Rattle.noise_vectors.specs.HexWord.{hex_of}
-use Rattle.noise_vectors.specs.VectorText.{lengths_word}
+use Rattle.noise_vectors.proofs.Common.{hex_of, lengths_word}
 use Rattle.noise_vectors.proofs.EventLemmas.{payload-word}
 use Rattle.noise_vectors.proofs.events.read_say.Goals as goal
 

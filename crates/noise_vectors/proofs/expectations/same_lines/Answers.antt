@@ -1,5 +1,5 @@
 use Rattle.std.proofs.Common.{rules, arith, ◌≡◌, ◌∙◌, ◌<◌, ap, sym, length, Some}
-use Rattle.noise_names.specs.Lists.{bytes_of}
+use Rattle.noise_vectors.proofs.Common.{bytes_of}
 use Rattle.noise_vectors.proofs.ExpectationLemmas.{line-at, same-more}
 use Rattle.noise_vectors.proofs.expectations.same_lines.Goals as goal
 

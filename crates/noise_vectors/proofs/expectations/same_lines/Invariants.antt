@@ -1,5 +1,5 @@
 use Rattle.std.proofs.Common.{◌≡◌, ◌-◌, ◌<◌, ◌≤◌, ℕ, length, slice_get}
-use Rattle.noise_names.specs.Lists.{bytes_of}
+use Rattle.noise_vectors.proofs.Common.{bytes_of}
 use Rattle.noise_vectors.proofs.expectations.same_lines.Given as goal
 
 abbrev pub invariant-loop-same : goal.invariant-loop-same

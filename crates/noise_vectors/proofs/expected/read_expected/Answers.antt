@@ -1,22 +1,12 @@
 use Rattle.std.proofs.Common.{rules, refl, arith, ◌≡◌, ◌+◌, ◌∙◌, ap, sym, subst, ℕ, Vec, List, ◌∷◌, ◌++◌, length, ◌<◌, ◌^◌, codes, []}
 use Rattle.std.specs.Global.{Global}
-use Rattle.std.specs.Prelude.{IsTrue}
-use Rattle.std.specs.List.{All}
-use Rattle.std.proofs.lemmas.List.Elements.{All-nil, All-push}
-use Rattle.noise_vectors.specs.VectorFile.{IsExpected}
-use Rattle.noise_vectors.specs.VectorText.{expect_line, expect_words, lines_of}
+use Rattle.noise_vectors.proofs.Common.{IsTrue, All, All-nil, All-push, IsExpected, expect_line, expect_words, lines_of, expect_kind, expect_lines, LineKind, Line, bytes_of, length-append, false≢true}
 use Rattle.noise_vectors.proofs.LineLemmas.{lines_of-more}
-use Rattle.noise_vectors.specs.ReaderFaults.{expect_kind, expect_lines}
-use Rattle.noise_vectors.specs.declared.faults.LineKind.{LineKind}
-use Rattle.noise_vectors.specs.declared.faults.VectorFault.TheVariants.{Line}
-use Rattle.noise_names.specs.Lists.{bytes_of}
-use Rattle.std.proofs.lemmas.List.{length-append}
 use Rattle.noise_vectors.proofs.PartLemmas.{Next, next-of, reports-cut, reports-wrong}
 use Rattle.noise_vectors.proofs.ReportedLemmas.{counted-ended}
 use Rattle.noise_vectors.proofs.HeldLemmas.{expect-more, good-plain, good-stands, partial-good, partial-lines, lines-long}
-use Rattle.noise_vectors.proofs.expected.read_expected.Goals as goal
 use Rattle.noise_vectors.proofs.Results.{chosen_ok, err-is}
-use Rattle.std.proofs.lemmas.Bool.{false≢true}
+use Rattle.noise_vectors.proofs.expected.read_expected.Goals as goal
 
 abbrev IsRight : Vec ℕ Global → Type 0
 IsRight words = IsExpected words.items

@@ -1,11 +1,6 @@
 use Rattle.std.proofs.Common.{◌≡◌, ℕ, Vec, length}
 use Rattle.std.specs.Global.{Global}
-use Rattle.std.specs.List.{All}
-use Rattle.noise_vectors.specs.Lines.{last_number}
-use Rattle.noise_names.specs.Lists.{bytes_of}
-use Rattle.noise_vectors.specs.ReaderFaults.{expect_kind}
-use Rattle.noise_vectors.specs.VectorFile.{IsExpected}
-use Rattle.noise_vectors.specs.VectorText.{expect_words, lines_of}
+use Rattle.noise_vectors.proofs.Common.{All, last_number, bytes_of, expect_kind, IsExpected, expect_words, lines_of}
 use Rattle.noise_vectors.proofs.expected.read_expected.Given as goal
 
 abbrev pub invariant-loop-alloc : goal.invariant-loop-alloc

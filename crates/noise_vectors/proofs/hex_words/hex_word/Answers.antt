@@ -1,7 +1,7 @@
 use Rattle.std.proofs.Common.{rules, arith, length, ◌≡◌, ◌<◌, ◌*◌}
 use Rattle.std.proofs.lemmas.Result.{err_from_is_err_and}
-use Rattle.std.specs.Prelude.{vec_capacity, vec_len, ◌+◌}
-use Rattle.noise_vectors.specs.HexWord.{hex_of}
+use Rattle.std.specs.Prelude.{vec_len, ◌+◌}
+use Rattle.noise_vectors.proofs.Common.{vec_capacity, hex_of}
 use Rattle.noise_vectors.proofs.HexWordLemmas.{length-hex_of}
 use Rattle.noise_vectors.proofs.hex_words.hex_word.Goals as goal
 

@@ -1,5 +1,5 @@
 use Rattle.std.proofs.Common.{◌≡◌, ◌∙◌, inl, inr, sym, codes}
-use Rattle.std.proofs.lemmas.Slice.Eq.{bytes_eq-Decides}
+use Rattle.noise_vectors.proofs.Common.{bytes_eq-Decides}
 use Rattle.noise_vectors.proofs.HexWordLemmas.{IsHexWord-cases, few-digits, short-hex_word}
 use Rattle.noise_vectors.proofs.hex_words.is_hex_word.Goals as goal
 

@@ -1,6 +1,5 @@
 use Rattle.std.proofs.Common.{◌≡◌, sym, ◌∙◌, refl, codes}
-use Rattle.std.proofs.lemmas.Slice.Eq.{bytes_eq-Decides}
-use Rattle.noise_vectors.specs.HexWord.{IsHexWord}
+use Rattle.noise_vectors.proofs.Common.{bytes_eq-Decides, IsHexWord}
 use Rattle.noise_vectors.proofs.HexWordLemmas.{word_of-decoded, IsHexWord-digits, not_IsHexWord}
 use Rattle.noise_vectors.proofs.hex_words.read_hex.Goals as goal
 

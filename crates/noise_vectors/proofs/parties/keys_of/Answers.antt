@@ -1,7 +1,5 @@
 use Rattle.std.proofs.Common.{◌∙◌, ap, ap₂, lit<, List, ℕ, ◌∷◌, ◌++◌, Some, None}
-use Rattle.std.proofs.lemmas.Bool.Decides.{Decides-eqb}
-use Rattle.std.proofs.lemmas.Slice.Eq.{strip_prefix_is}
-use Rattle.noise_vectors.specs.VectorText.{key_word, key_words}
+use Rattle.noise_vectors.proofs.Common.{Decides-eqb, strip_prefix_is, key_word, key_words}
 use Rattle.noise_vectors.proofs.LackLemmas.{lacks-key_word}
 use Rattle.noise_vectors.proofs.PartyLemmas.{after-front}
 use Rattle.noise_vectors.proofs.parties.keys_of.Goals as goal

@@ -1,7 +1,5 @@
-use Rattle.std.proofs.Common.{◌≡◌, ◌∙◌, ap₂, lit<, List, ℕ, ◌∷◌, ◌++◌, Some, codes}
-use Rattle.std.proofs.lemmas.Bool.Decides.{Decides-eqb}
-use Rattle.std.proofs.lemmas.Slice.Eq.{strip_prefix_is}
-use Rattle.hex.specs.Hex.{encode_lower}
+use Rattle.std.proofs.Common.{◌∙◌, ap₂, lit<, List, ℕ, ◌∷◌, ◌++◌, Some}
+use Rattle.noise_vectors.proofs.Common.{Decides-eqb, strip_prefix_is, encode_lower}
 use Rattle.noise_vectors.proofs.LackLemmas.{lacks-encode_lower}
 use Rattle.noise_vectors.proofs.PartyLemmas.{answer-keys}
 use Rattle.noise_vectors.proofs.parties.read_answer.Goals as goal

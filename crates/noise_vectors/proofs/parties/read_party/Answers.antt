@@ -1,16 +1,11 @@
-use Rattle.std.proofs.Common.{arith, ◌≡◌, ◌∙◌, ap, sym, refl, subst, inl, inr, ℕ, List, ◌++◌, codes, []}
-use Rattle.std.proofs.lemmas.List.Elements.{All-nil}
-use Rattle.noise_vectors.specs.Lines.{last_number}
-use Rattle.noise_vectors.specs.ReaderFaults.{ReportsAfter, answer_lines}
-use Rattle.noise_vectors.specs.VectorFile.{IsEntry}
-use Rattle.noise_vectors.specs.declared.file_keys.FileKeys.TheVariants.{Xor, Table}
+use Rattle.std.proofs.Common.{arith, ◌∙◌, ap, sym, refl, subst, inl, inr, ℕ, List, ◌++◌, []}
+use Rattle.noise_vectors.proofs.Common.{All-nil, last_number, ReportsAfter, answer_lines, IsEntry, Xor, key_words, false≢true}
+use Rattle.noise_vectors.specs.declared.file_keys.FileKeys.TheVariants.{Table}
 use Rattle.noise_vectors.proofs.PartyReported.{party-words, table-cut, table-line, table-reported, xor-cut}
 use Rattle.noise_vectors.proofs.ReportedLemmas.{counted-ended, ending-reported, wrong-line}
-use Rattle.noise_vectors.specs.VectorText.{key_words}
 use Rattle.noise_vectors.proofs.PartyLemmas.{not-xor, party-read, words_of, xor-after}
 use Rattle.noise_vectors.proofs.Results.{err-is}
 use Rattle.noise_vectors.proofs.parties.read_party.Goals as goal
-use Rattle.std.proofs.lemmas.Bool.{false≢true}
 
 pub returns-in_default-clause-every : goal.returns-in_default-clause-every
 returns-in_default-clause-every c = λ keys rest h other is.

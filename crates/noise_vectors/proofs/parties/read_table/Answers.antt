@@ -1,15 +1,8 @@
 use Rattle.std.proofs.Common.{rules, ℕ, List, ◌≡◌, ◌∙◌, ◌+◌, ◌≤◌, ap, subst, sym, refl, arith, ◌∷◌, ◌++◌, false, true≢false, length, []}
-use Rattle.std.proofs.lemmas.Bool.{false≢true}
-use Rattle.std.specs.Prelude.{IsTrue}
-use Rattle.std.specs.List.{All}
-use Rattle.std.proofs.lemmas.List.{length-append}
-use Rattle.std.proofs.lemmas.List.Elements.{All-push}
-use Rattle.noise_keys.specs.Table.{Table, TableEntry}
-use Rattle.noise_vectors.specs.VectorFile.{IsEntry}
-use Rattle.noise_vectors.specs.VectorText.{answer_words, lines_of}
+use Rattle.noise_vectors.proofs.Common.{false≢true, IsTrue, All, length-append, All-push, TableEntry, IsEntry, answer_words, lines_of, answer_lines}
+use Rattle.noise_keys.specs.Table.{Table}
 use Rattle.noise_vectors.proofs.LineLemmas.{begun-by, lines_of-more}
 use Rattle.noise_vectors.proofs.PartyLemmas.{answer-stands, begins, lacks-answer_words}
-use Rattle.noise_vectors.specs.ReaderFaults.{answer_lines}
 use Rattle.noise_vectors.proofs.PartLemmas.{Next, lines-over, next-of, reports-cut, reports-wrong}
 use Rattle.noise_vectors.proofs.ReportedLemmas.{counted-ended}
 use Rattle.noise_vectors.proofs.parties.read_table.Goals.{After-read_answer}

@@ -1,8 +1,5 @@
 use Rattle.std.proofs.Common.{◌≡◌, ◌≤◌, length}
-use Rattle.std.specs.List.{All}
-use Rattle.noise_vectors.specs.Lines.{last_number}
-use Rattle.noise_vectors.specs.VectorFile.{IsEntry}
-use Rattle.noise_vectors.specs.VectorText.{answer_words, lines_of}
+use Rattle.noise_vectors.proofs.Common.{All, last_number, IsEntry, answer_words, lines_of}
 use Rattle.noise_vectors.proofs.parties.read_table.Given as goal
 
 abbrev pub invariant-loop-lines : goal.invariant-loop-lines

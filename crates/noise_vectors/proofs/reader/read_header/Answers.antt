@@ -1,6 +1,5 @@
 use Rattle.std.proofs.Common.{rules, ◌≡◌, ◌∙◌, sym, true, true≢false}
-use Rattle.noise_vectors.specs.ReaderFaults.{IsHeaderLine}
-use Rattle.noise_vectors.specs.declared.vector.AllowedEvents.TheVariants.{VersionOne}
+use Rattle.noise_vectors.proofs.Common.{IsHeaderLine, VersionOne}
 use Rattle.noise_vectors.proofs.PartLemmas.{header-one, line-wrong}
 use Rattle.noise_vectors.proofs.reader.read_header.Goals as goal
 

@@ -1,11 +1,10 @@
 use Rattle.std.proofs.Common.{codes, decimal, refl, ◌++◌, rules}
-use Rattle.std.proofs.lemmas.Bool.{false≢true}
+use Rattle.noise_vectors.proofs.Common.{false≢true, IsIntervalLine}
 use Rattle.noise_vectors.proofs.ReadingLemmas.{interval-plain}
-use Rattle.noise_vectors.specs.ReaderFaults.{IsIntervalLine}
-use Rattle.noise_vectors.specs.declared.faults.LineKind.TheVariants as kinds
 use Rattle.noise_vectors.proofs.PartLemmas.{line-cut, line-wrong}
 use Rattle.noise_vectors.proofs.ReportedLemmas.{counted-ended}
 use Rattle.noise_vectors.proofs.Results.{err-is}
+use Rattle.noise_vectors.specs.declared.faults.LineKind.TheVariants as kinds
 use Rattle.noise_vectors.proofs.reader.read_interval.Goals as goal
 
 pub returns-in_default-clause-every : goal.returns-in_default-clause-every

@@ -1,12 +1,10 @@
 use Rattle.std.proofs.Common.{codes, ◌++◌, refl}
-use Rattle.std.proofs.lemmas.Bool.{false≢true}
-use Rattle.noise_names.specs.Names.{name_bytes}
+use Rattle.noise_vectors.proofs.Common.{false≢true, name_bytes, IsProtocolLine}
 use Rattle.noise_vectors.proofs.ReadingLemmas.{protocol-plain}
-use Rattle.noise_vectors.specs.ReaderFaults.{IsProtocolLine}
-use Rattle.noise_vectors.specs.declared.faults.LineKind.TheVariants as kinds
 use Rattle.noise_vectors.proofs.PartLemmas.{line-cut, line-wrong}
 use Rattle.noise_vectors.proofs.ReportedLemmas.{counted-ended}
 use Rattle.noise_vectors.proofs.Results.{err-is}
+use Rattle.noise_vectors.specs.declared.faults.LineKind.TheVariants as kinds
 use Rattle.noise_vectors.proofs.reader.read_protocol.Goals as goal
 
 pub returns-in_default-clause-every : goal.returns-in_default-clause-every

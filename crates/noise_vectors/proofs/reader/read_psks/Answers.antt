@@ -1,14 +1,6 @@
 use Rattle.std.proofs.Common.{rules, arith, ◌≡◌, ◌+◌, ◌≤◌, ◌∙◌, ap, subst, sym, refl, false, true≢false, List, ℕ, ◌∷◌, ◌++◌, codes, length, []}
-use Rattle.std.proofs.lemmas.Bool.{false≢true}
-use Rattle.std.specs.Prelude.{IsTrue}
 use Rattle.std.specs.Bool.{nat_eq}
-use Rattle.std.specs.List.{All, starts_with}
-use Rattle.std.proofs.lemmas.List.{length-append}
-use Rattle.std.proofs.lemmas.List.Elements.{All-nil, All-push}
-use Rattle.noise_vectors.specs.ReaderFaults.{psk_lines}
-use Rattle.noise_vectors.specs.VectorFile.{ArePsks}
-use Rattle.noise_vectors.specs.VectorText.{lines_of, psk_words}
-use Rattle.noise_vectors.specs.Words.{IsKey}
+use Rattle.noise_vectors.proofs.Common.{false≢true, IsTrue, All, starts_with, length-append, All-nil, All-push, psk_lines, ArePsks, lines_of, psk_words, IsKey}
 use Rattle.noise_vectors.proofs.LineLemmas.{begun-by, lines_of-more}
 use Rattle.noise_vectors.proofs.PartLemmas.{Next, lines-over, next-of, reports-cut, reports-wrong}
 use Rattle.noise_vectors.proofs.ReadingLemmas.{psk-plain, psk-stands}

@@ -1,7 +1,5 @@
 use Rattle.std.proofs.Common.{◌≡◌, length}
-use Rattle.noise_vectors.specs.Lines.{last_number}
-use Rattle.noise_vectors.specs.VectorFile.{ArePsks}
-use Rattle.noise_vectors.specs.VectorText.{lines_of, psk_words}
+use Rattle.noise_vectors.proofs.Common.{last_number, ArePsks, lines_of, psk_words}
 use Rattle.noise_vectors.proofs.reader.read_psks.Given as goal
 
 abbrev pub invariant-loop-lines : goal.invariant-loop-lines

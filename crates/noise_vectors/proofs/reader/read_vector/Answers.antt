@@ -1,14 +1,6 @@
 use Rattle.std.proofs.Common.{arith, rules, ◌≡◌, ◌∙◌, ◌+◌, ◌++◌, ap, sym, codes, List, ℕ}
-use Rattle.noise_names.specs.Names.{name_bytes}
-use Rattle.noise_vectors.specs.HexWord.{hex_of}
-use Rattle.noise_vectors.specs.Lines.{last_number}
-use Rattle.noise_names.specs.WrongText.{line_feeds}
-use Rattle.noise_vectors.specs.WrongLine.{up_to_initiator}
-use Rattle.std.proofs.lemmas.Bool.{false≢true}
-use Rattle.noise_vectors.specs.VectorFile.{IsAllowedFile, IsVectorFile}
-use Rattle.noise_vectors.specs.VectorText.{block_text, header_words, is_second, line_then, file_text, version_text}
-use Rattle.noise_vectors.specs.declared.vector.VectorFile.{VectorFile}
 use Rattle.std.specs.Prelude.{decimal}
+use Rattle.noise_vectors.proofs.Common.{name_bytes, hex_of, last_number, line_feeds, up_to_initiator, false≢true, IsAllowedFile, IsVectorFile, block_text, header_words, is_second, line_then, file_text, version_text, VectorFile}
 use Rattle.noise_vectors.proofs.AdditionLemmas.{no-second, version-after}
 use Rattle.noise_vectors.proofs.VectorLemmas.{after_block, after_header, after_initiator, after_interval, after_prologue, after_protocol, after_psks, after_responder, initiator-ends, own-read, psks-end, responder-ends}
 use Rattle.noise_vectors.proofs.BegunFiles.{BegunAt, past-events, past-initiator, past-responder}

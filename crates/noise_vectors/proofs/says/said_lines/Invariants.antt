@@ -1,5 +1,5 @@
 use Rattle.std.proofs.Common.{◌≡◌, map}
-use Rattle.noise_vectors.specs.VectorFile.{say_of}
+use Rattle.noise_vectors.proofs.Common.{say_of}
 use Rattle.noise_vectors.proofs.says.said_lines.Given as goal
 
 abbrev pub invariant-loop-event : goal.invariant-loop-event

@@ -1,6 +1,5 @@
 use Rattle.std.proofs.Common.{rules, arith, ◌≡◌, ◌≤◌, ◌/◌, ℕ, List, Option, Some, None, length, Vec, Global, vec_len}
-use Rattle.std.specs.Prelude.{IfSome, IsSome}
-use Rattle.noise_vectors.specs.HexWord.{hex_of}
+use Rattle.noise_vectors.proofs.Common.{IfSome, IsSome, hex_of}
 use Rattle.noise_vectors.proofs.HexWordLemmas.{bytes_of-word, length-hex_word, short-hex_word}
 use Rattle.noise_vectors.proofs.words.read_bytes.Goals as goal
 

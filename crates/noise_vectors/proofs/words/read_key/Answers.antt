@@ -1,6 +1,5 @@
 use Rattle.std.proofs.Common.{rules, ◌≡◌, ap, length, Some, IsErr}
-use Rattle.std.specs.Prelude.{IsOk}
-use Rattle.hex.specs.Hex.{decode_sized}
+use Rattle.noise_vectors.proofs.Common.{IsOk, decode_sized}
 use Rattle.noise_vectors.proofs.HexWordLemmas.{bytes_of-decoded, decoded_is, digits_of-decoded}
 use Rattle.noise_vectors.proofs.KeyLemmas.{IsDigits-key, decoded-key, written-key}
 use Rattle.noise_vectors.proofs.words.read_key.Goals as goal

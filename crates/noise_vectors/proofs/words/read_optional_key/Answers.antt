@@ -1,7 +1,5 @@
 use Rattle.std.proofs.Common.{rules, arith, ◌≡◌, ◌∙◌, ap, sym, refl, ℕ, List, Option, Some, None, codes, length}
-use Rattle.std.specs.Prelude.{IfSome}
-use Rattle.noise_vectors.specs.VectorText.{key_word}
-use Rattle.noise_vectors.specs.Words.{IsKey}
+use Rattle.noise_vectors.proofs.Common.{IfSome, key_word, IsKey}
 use Rattle.noise_vectors.proofs.KeyLemmas.{length-key}
 use Rattle.noise_vectors.proofs.words.read_optional_key.Goals as goal
 
