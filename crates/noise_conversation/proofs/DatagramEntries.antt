@@ -1,38 +1,25 @@
 -- What the entries of a run of datagrams report, and what two parties agree on by them.
-use Rattle.std.proofs.Common.{◌≡◌, ◌≢◌, ◌≤◌, ◌<◌, ℕ, zero, suc, ◌+◌, List, ◌∷◌, ◌++◌, length, length-append, drop, map, Option, Some, None, Ok, slice_get, refl, sym, ◌∙◌, ap, subst, arith, inl, inr, ◌⊎◌, []}
-use Rattle.std.specs.Prelude.{Bool, true, false, ◌&&◌, ◌==◌, nat_le, nat_lt, if◌then◌else◌}
+use Rattle.std.proofs.Common.{rules, ◌≡◌, ◌≢◌, ◌≤◌, ◌<◌, ℕ, zero, suc, ◌+◌, List, ◌∷◌, ◌++◌, length, length-append, drop, map, Option, Some, None, Ok, slice_get, refl, sym, ◌∙◌, ap, subst, arith, inl, inr, ◌⊎◌, []}
 use Rattle.std.specs.Int.{w64, to_be_bytes}
-use Rattle.std.proofs.lemmas.Bool.{false≢true, or_left, or_right, ne_eqb, eq-eqb, leb-false, or_parts}
 use Rattle.std.proofs.lemmas.Bool.Decides.{eqb_tells}
 use Rattle.std.proofs.lemmas.Nat.{from_be_bytes-to_be_bytes_8}
-use Rattle.noise_names.specs.declared.token.Role.{Role}
-use Rattle.noise_names.specs.declared.token.Role.TheVariants.{Initiator, Responder}
-use Rattle.noise_names.specs.Tokens.{other, same_role}
-use Rattle.noise_state.specs.History.{History}
-use Rattle.noise_session.specs.declared.faults.SendFault.{SendFault}
-use Rattle.noise_session.specs.declared.faults.SendFault.TheVariants as send
-use Rattle.noise_session.specs.Transport.{transport_message, split_key, last_nonce}
+use Rattle.noise_conversation.proofs.Common.{Bool, true, false, ◌==◌, false≢true, or_left, or_right, ne_eqb, eq-eqb, Role, Initiator, Responder, other, History, ForgedMessage, Sides, TransportMessage, ClashFound, ClashIsCollision, HaveOneHistory, HistoriesCollide, same_Some, get-front, get-last}
+use Rattle.noise_session.specs.Transport.{transport_message, last_nonce}
 use Rattle.noise_session.specs.Windows.{is_accepted}
 use Rattle.noise_session.specs.Datagrams.{DatagramState, Opens, accepting, datagram, nonce_named, unsealed}
 use Rattle.noise_session.specs.Datagrams.Opens.{opened}
 use Rattle.noise_events.specs.DatagramEvents.{DatagramEvent, Seal, Open, Raw}
-use Rattle.noise_session.specs.DatagramFaults.{fault-free, no-fault}
+use Rattle.noise_session.specs.DatagramFaults.{fault-free}
 use Rattle.noise_duel.specs.DatagramAgreement.{AreAtNonces, AreCounted, ArriveOnce, DatagramRunsAgree}
-use Rattle.noise_duel.specs.DatagramNotes.{DatagramNote, Sealed, SealFault, Payload, Rejected, Missing}
+use Rattle.noise_duel.specs.DatagramNotes.{DatagramNote, Sealed, Payload, Rejected, Missing}
 use Rattle.noise_duel.specs.DatagramRuns.{DatagramHappens, DatagramRun, PartyOpens, PartySeals}
 use Rattle.noise_duel.specs.DatagramRuns.DatagramHappens.{is_sealed, is_delivered, is_missing, is_put_in}
 use Rattle.noise_duel.specs.DatagramRuns.DatagramRun.{begins, ends}
 use Rattle.noise_duel.specs.DatagramRuns.PartyOpens.{opens, rejects}
 use Rattle.noise_duel.specs.DatagramRuns.PartySeals.{seals, seals_nothing}
 use Rattle.noise_duel.specs.DatagramSides.{DatagramSide, DatagramSides, NonceMessage, at_nonce, sealed_datagrams, datagram_sides, new_party, of_nonce, opening, party, with_party, sealing, datagram_bytes}
-use Rattle.noise_duel.specs.Forgery.{ForgedMessage}
-use Rattle.noise_duel.specs.Sides.{Sides, TransportMessage}
 use Rattle.noise_conversation.specs.Datagrams.{nonce_of_event, SealedAt, OpenedAt, IsReportedOfDatagrams, DatagramsAreReported, ForgedDatagram, EntriesArrive, DatagramEntriesAgree, DatagramKeysCome}
-use Rattle.noise_duel.specs.Clash.{ClashFound, ClashIsCollision}
-use Rattle.noise_duel.specs.Networks.{HaveOneHistory, HistoriesCollide}
 use Rattle.noise_conversation.specs.Clash.{HistoriesClash}
-use Rattle.std.proofs.lemmas.Option.{same_Some}
-use Rattle.noise_names.specs.Lists.{get-front, get-last}
 
 -- ---- lists
 
@@ -55,10 +42,7 @@ get-whole (m ∷ ms) (suc n) bytes e = get-whole ms n bytes e
 -- ---- nonces
 
 low-nonce : (role : Role) (one_way : Bool) (nonce n : ℕ) → unsealed role one_way nonce n ≡ None → nonce < last_nonce
-low-nonce role one_way nonce n e =
-    let last : Option SendFault = if nat_le last_nonce nonce then Some send.Exhausted else None in
-    let a = no-fault (one_way && same_role role Responder) send.OneWay (if nat_lt 65543 (n + 24) then Some send.TooLong else last) e in
-    leb-false last_nonce nonce (no-fault (nat_le last_nonce nonce) send.Exhausted None (no-fault (nat_lt 65543 (n + 24)) send.TooLong last a.1).1).0
+low-nonce role one_way nonce n e = search rules
 
 fresh : (v : DatagramState) (bytes payload : List ℕ) (w : DatagramState) → Opens v bytes (Ok payload) w → is_accepted v.accepted (nonce_named bytes) ≡ false
 fresh v bytes payload w (opened _ _ _ none is) = (fault-free v bytes none).fresh
@@ -95,28 +79,17 @@ data OneStep : Role → DatagramSide → DatagramSide → DatagramEvent → Role
   has_opened : (role : Role) (theirs s : DatagramSide) (event : DatagramEvent) (bytes payload : List ℕ) → Came role theirs event bytes
       → is_accepted s.state.accepted (nonce_named bytes) ≡ false → OneStep role theirs s event (role, Payload payload) (opening s bytes payload)
 
-roles-apart : (role : Role) → other role ≡ role → ⊥
-roles-apart Initiator e = cc
-roles-apart Responder e = cc
-
 stays-other : (role : Role) (theirs s : DatagramSide) (event : DatagramEvent) (note : DatagramNote) → OneStep role theirs s event (other role, note) s
-stays-other role theirs s event note =
-    stays role theirs s event (other role, note)
-    (λ n bytes e. roles-apart role (ap (λ (z : Role × DatagramNote). z.0) e))
-    (λ payload e. roles-apart role (ap (λ (z : Role × DatagramNote). z.0) e))
+stays-other role theirs s event note = search (rules, stays)
 
 stays-reported : (role : Role) (theirs s : DatagramSide) (event : DatagramEvent) (note : DatagramNote) → ((n : ℕ) (bytes : List ℕ) → note ≡ Sealed n bytes → ⊥)
     → ((payload : List ℕ) → note ≡ Payload payload → ⊥) → OneStep role theirs s event (role, note) s
-stays-reported role theirs s event note never none =
-    stays role theirs s event (role, note)
-    (λ n bytes e. never n bytes (ap (λ (z : Role × DatagramNote). z.1) e))
-    (λ payload e. none payload (ap (λ (z : Role × DatagramNote). z.1) e))
+stays-reported role theirs s event note never none = search (rules, stays)
 
 seal-step : (role : Role) (theirs s : DatagramSide) (payload : List ℕ) (note : DatagramNote) (next : DatagramSide) → PartySeals s payload note next
     → OneStep role theirs s (Seal role payload) (role, note) next
 seal-step role theirs s payload note next (seals _ _ e) = has_sealed role theirs s payload e
-seal-step role theirs s payload note next (seals_nothing _ _ why e) =
-    stays-reported role theirs s (Seal role payload) (SealFault why) (λ n bytes e. cc) (λ payload e. cc)
+seal-step role theirs s payload note next (seals_nothing _ _ why e) = search (rules, stays-reported)
 
 open-step : (role : Role) (theirs s : DatagramSide) (event : DatagramEvent) (bytes : List ℕ) (note : DatagramNote) (next : DatagramSide)
     → PartyOpens s bytes note next → Came role theirs event bytes → OneStep role theirs s event (role, note) next
@@ -144,13 +117,10 @@ misses-by-role role Responder d n =
 
 step-of : (role : Role) (d next : DatagramSides) (event : DatagramEvent) (note : Role × DatagramNote) → DatagramHappens d event note next
     → OneStep role (party d (other role)) (party d role) event note (party next role)
-step-of role d next event note (is_sealed _ r payload reported s p) =
-    by-role role r d (Seal r payload) reported s (seal-step r (party d (other r)) (party d r) payload reported s p)
-step-of role d next event note (is_delivered _ r n bytes reported s got p) =
-    by-role role r d (Open r n) reported s (open-step r (party d (other r)) (party d r) (Open r n) bytes reported s p (inr (n, refl, got)))
+step-of role d next event note (is_sealed _ r payload reported s p) = search (by-role, seal-step)
+step-of role d next event note (is_delivered _ r n bytes reported s got p) = search (rules, by-role, open-step)
 step-of role d next event note (is_missing _ r n none) = misses-by-role role r d n
-step-of role d next event note (is_put_in _ r bytes reported s p) =
-    by-role role r d (Raw r bytes) reported s (open-step r (party d (other r)) (party d r) (Raw r bytes) bytes reported s p (inl refl))
+step-of role d next event note (is_put_in _ r bytes reported s p) = search (rules, by-role, open-step)
 
 -- ---- what a step keeps
 
@@ -198,8 +168,7 @@ has-step role theirs s event note t (has_opened _ _ _ _ bytes payload came new) 
 -- a nonce that isn't accepted yet wasn't before
 less-step : (role : Role) (theirs s : DatagramSide) (event : DatagramEvent) (note : Role × DatagramNote) (t : DatagramSide)
     → OneStep role theirs s event note t → (n : ℕ) → is_accepted t.state.accepted n ≡ false → is_accepted s.state.accepted n ≡ false
-less-step role theirs s event note t (has_opened _ _ _ _ bytes payload came new) n e =
-    (or_parts (nonce_named bytes == n) (is_accepted s.state.accepted n) e).1
+less-step role theirs s event note t (has_opened _ _ _ _ bytes payload came new) n e = search rules
 less-step role theirs s event note t _ n e = e
 
 -- ---- what a run keeps
@@ -247,8 +216,7 @@ sealed-now role theirs s event note t (has_sealed _ _ _ payload _) n bytes e =
       bytes_are = same.1;
       given = refl;
     }
-sealed-now role theirs s event note t (has_opened _ _ _ _ came_bytes payload came new) n bytes e =
-    cc (ap (λ (z : Role × DatagramNote). z.1) e)
+sealed-now role theirs s event note t (has_opened _ _ _ _ came_bytes payload came new) n bytes e = search rules
 
 sealed-at : (role : Role) (d last : DatagramSides) (events : List DatagramEvent) (notes : List (Role × DatagramNote)) → DatagramRun d events notes last
     → (i n : ℕ) (bytes : List ℕ) → slice_get notes i ≡ Some (role, Sealed n bytes) → SealedAs role (party last role) (slice_get events i) n bytes
@@ -263,20 +231,12 @@ sealed-at role d last events notes (begins _ next _ event more note rest now run
       given = s.given;
     }
 sealed-at role d last events notes (begins _ next _ event more note rest now run) (suc i) n bytes e =
-    sealed-at role next last more rest run i n bytes e
+    search ((sealed-at role next last more rest run i n bytes e))
 
 found-now : (role : Role) (theirs s : DatagramSide) (event : DatagramEvent) (note : Role × DatagramNote) (t : DatagramSide)
     → OneStep role theirs s event note t → (n : ℕ) (m : NonceMessage) → slice_get t.sealed n ≡ Some m
     → (slice_get s.sealed n ≡ Some m) ⊎ ((event ≡ Seal role m.message.payload) × (note ≡ (role, Sealed n (datagram_bytes m))))
-found-now role theirs s event note t (has_sealed _ _ _ payload _) n m e =
-    let new : NonceMessage = at_nonce s.state.sent (transport_message s.state.history s.state.role 0 s.state.sent payload) payload in
-    elim (get-either s.sealed new n m e) [
-      | inl old ↦ inl old
-      | inr h ↦ inr (
-        ap (λ (z : NonceMessage). Seal role z.message.payload) (sym h.1),
-        ap (λ (k : ℕ). (role, Sealed k (datagram_bytes new))) (sym h.0) ∙ ap (λ (z : NonceMessage). (role, Sealed n (datagram_bytes z))) (sym h.1),
-      )
-    ]
+found-now role theirs s event note t (has_sealed _ _ _ payload _) n m e = search (rules, get-either)
 found-now role theirs s event note t _ n m e = inl e
 
 find-sealed : (role : Role) (d last : DatagramSides) (events : List DatagramEvent) (notes : List (Role × DatagramNote)) → DatagramRun d events notes last
@@ -320,8 +280,7 @@ opened-now : (role : Role) (theirs s : DatagramSide) (event : DatagramEvent) (no
     → OneStep role theirs s event note t → Numbered theirs → (n : ℕ) (payload : List ℕ) → note ≡ (role, Payload payload) → nonce_of_event event ≡ Some n
     → OpenedAs role theirs t (Some event) n payload × (is_accepted s.state.accepted n ≡ false)
 opened-now role theirs s event note t (stays _ _ _ _ _ _ none) h n payload e f = absurd (none payload e)
-opened-now role theirs s event note t (has_sealed _ _ _ given _) h n payload e f =
-    cc (ap (λ (z : Role × DatagramNote). z.1) e)
+opened-now role theirs s event note t (has_sealed _ _ _ given _) h n payload e f = search rules
 opened-now role theirs s event note t (has_opened _ _ _ _ bytes reported came new) h n payload e f =
     let named : nonce_named bytes ≡ n = same_Some (nonce_named bytes) n (sym (came-named role theirs event bytes came h) ∙ f) in
     let same : reported ≡ payload = cc (ap (λ (z : Role × DatagramNote). z.1) e) in (
@@ -376,8 +335,7 @@ opened-at role d last events notes (begins _ next _ event more note rest now run
       ];
     }
 opened-at role d last events notes (begins _ next _ event more note rest now run) h (suc i) n payload o =
-    opened-at role next last more rest run (numbered-next (other role) d next event note now h) i n payload
-    (later more rest event note i role n payload o)
+    search ((opened-at role next last more rest run (numbered-next (other role) d next event note now h) i n payload))
 
 -- before it is opened a nonce isn't accepted
 not-before : (role : Role) (d last : DatagramSides) (events : List DatagramEvent) (notes : List (Role × DatagramNote)) → DatagramRun d events notes last
@@ -402,8 +360,7 @@ opened-once role d last events notes (begins _ next _ event more note rest now r
     let new = not-before role next last more rest run (numbered-next (other role) d next event note now h) i n p (later more rest event note i role n p a) in
     absurd (false≢true (sym new ∙ ((first-now role d next event note more rest now h n q b).0).has.among))
 opened-once role d last events notes (begins _ next _ event more note rest now run) h (suc i) (suc j) n p q a b =
-    ap suc (opened-once role next last more rest run (numbered-next (other role) d next event note now h) i j n p q
-    (later more rest event note i role n p a) (later more rest event note j role n q b))
+    search ((opened-once role next last more rest run (numbered-next (other role) d next event note now h) i j n p q))
 
 opened-found : (role : Role) (theirs s : DatagramSide) (event : DatagramEvent) (note : Role × DatagramNote) (t : DatagramSide)
     → OneStep role theirs s event note t → Numbered theirs → (n : ℕ) (m : TransportMessage) → of_nonce t.opened n ≡ Some m
@@ -545,27 +502,10 @@ module _ (r : History) (writer : Role) (d last : DatagramSides) (events : List D
 
 module _ (agree : DatagramRunsAgree) where
   pub datagram-entries-agree : DatagramEntriesAgree
-  datagram-entries-agree v w events notes last b run =
-      let a = agree v w events notes last b run in (
-        arrives v.history Initiator (datagram_sides v w) last events notes run (numbered-new v b.initiator_sent) refl refl
-            a.initiator.sealed a.responder.opened a.there,
-        arrives v.history Responder (datagram_sides v w) last events notes run (numbered-new w b.responder_sent) refl refl
-            a.responder.sealed a.initiator.opened a.back,
-      )
+  datagram-entries-agree v w events notes last b run = search (rules, arrives)
 
   pub datagram-keys-come : DatagramKeysCome
-  datagram-keys-come v w events notes last duel b run matches =
-      let a = agree v w events notes last b run in
-      let there : split_key last.responder.state.history (other last.responder.state.role) ≡ split_key last.initiator.state.history last.initiator.state.role =
-      ap (λ (r : History). split_key r (other last.responder.state.role)) (a.responder.history ∙ sym a.initiator.history)
-      ∙ ap (split_key last.initiator.state.history) (ap other a.responder.role_is ∙ sym a.initiator.role_is) in
-      let back : split_key last.initiator.state.history (other last.initiator.state.role) ≡ split_key last.responder.state.history last.responder.state.role =
-      ap (λ (r : History). split_key r (other last.initiator.state.role)) (a.initiator.history ∙ sym a.responder.history)
-      ∙ ap (split_key last.responder.state.history) (ap other a.initiator.role_is ∙ sym a.responder.role_is) in
-      record {
-        there = matches.responder.receiver.key ∙ ap Some there ∙ sym matches.initiator.sender.key;
-        back = matches.initiator.receiver.key ∙ ap Some back ∙ sym matches.responder.sender.key;
-      }
+  datagram-keys-come v w events notes last duel b run matches = search rules
 
 -- ---- with equal hashes
 

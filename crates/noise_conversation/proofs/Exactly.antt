@@ -1,21 +1,14 @@
 -- What is reported of a whole message, by what the message is.
-use Rattle.std.proofs.Common.{◌≡◌, ℕ, List, refl, sym, ◌∙◌, ap, subst, arith, Result, Ok, Err}
-use Rattle.noise_names.specs.declared.token.Role.{Role}
-use Rattle.noise_names.specs.declared.token.Role.TheVariants.{Initiator, Responder}
-use Rattle.noise_names.specs.Tokens.{other, turn_from}
+use Rattle.std.proofs.Common.{rules, ◌≡◌, ℕ, List, refl, sym, ◌∙◌, ap, subst, arith, Result, Ok, Err}
+use Rattle.noise_conversation.proofs.Common.{Role, Initiator, Responder, other, turn_from, Party, Listens, Accepts, Refuses, StepValue, EndState, Judges, MatchBool-at_true}
 use Rattle.noise_handshake.specs.declared.faults.Cause.{Cause}
 use Rattle.noise_handshake.specs.declared.faults.ReadFault.{ReadFault}
-use Rattle.noise_handshake.specs.declared.faults.ReadFault.TheVariants as read
-use Rattle.noise_handshake.specs.Party.{Party, Listens, Accepts, Refuses}
 use Rattle.noise_handshake.specs.Matching.{DoesNotRead}
-use Rattle.noise_session.specs.Steps.{StepValue}
 use Rattle.noise_session.specs.Steps.StepValue.{Dropped, Exhausted}
-use Rattle.noise_session.specs.Ends.{EndState}
-use Rattle.noise_session.specs.Taking.{Judges}
 use Rattle.noise_session.specs.Taking.Judges.{refused, dropped, exhausted}
 use Rattle.noise_session.specs.Exactly.{AcceptedExactly}
 use Rattle.noise_conversation.specs.Exactly.{IsDropped, HasNoNonce, ReportedExactly, IsReadResult, ReadExactly}
-use Rattle.std.proofs.lemmas.Bool.{MatchBool-at_true}
+use Rattle.noise_handshake.specs.declared.faults.ReadFault.TheVariants as read
 
 -- ---- what is dropped
 
@@ -93,8 +86,7 @@ module _ (one : (v : Party) (message : List ℕ) (xs ys : List (List ℕ)) (p q 
   is-refused : (v : Party) (message : List ℕ) (token : ℕ) (cause : Cause) (returned : Result (List ℕ) ReadFault) → IsReadResult v message returned
       → returned ≡ Err (read.Refused token cause) → Refuses v message token cause
   is-refused v message token cause (Ok p) a e = absurd (cc)
-  is-refused v message token cause (Err f) a e =
-      subst (λ (g : ReadFault). DoesNotRead v message g) (err-same f (read.Refused token cause) (Err f) refl e) a
+  is-refused v message token cause (Err f) a e = search rules
 
   refused-is : (v : Party) (message : List ℕ) (token : ℕ) (cause : Cause) (returned : Result (List ℕ) ReadFault) → Listens v → IsReadResult v message returned
       → Refuses v message token cause → returned ≡ Err (read.Refused token cause)

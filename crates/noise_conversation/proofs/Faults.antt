@@ -1,10 +1,9 @@
 -- Which fault of a setup is reported.
 use Rattle.std.proofs.Common.{◌≡◌, ◌∙◌, refl, ap, sym, Option, Some, None, Result, Ok, Err}
-use Rattle.std.specs.Prelude.{IsOk, MatchOption}
+use Rattle.noise_conversation.proofs.Common.{IsOk, MatchOption, IsReportedFault, or_next}
 use Rattle.noise_keys.specs.declared.faults.SetupFault.{SetupFault}
 use Rattle.noise_conversation.specs.declared.fault.ConversationFault.{ConversationFault}
 use Rattle.noise_conversation.specs.declared.fault.ConversationFault.TheVariants.{Setup, Memory}
-use Rattle.noise_conversation.specs.Setup.{IsReportedFault, or_next}
 
 -- where something was made there is no fault, and else it is the one that is reported
 pub none-found : {T : Type 0} (found : Option SetupFault) (result : Result T SetupFault) (value : T) → result ≡ Ok value

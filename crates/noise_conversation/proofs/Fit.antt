@@ -1,48 +1,10 @@
 -- Lines that fit are in turn, and what comes of them leaves no byte over.
-use Rattle.std.proofs.Common.{◌≡◌, ◌∙◌, refl, ap, sym, ℕ, zero, suc, ◌+◌, ◌≤◌, ◌<◌, List, ◌∷◌, length, arith, add-one, []}
-use Rattle.std.specs.Prelude.{Bool, true, false, not, ◌&&◌, ◌||◌, nat_le, nat_lt, MatchBool, IsTrue, if◌then◌else◌}
-use Rattle.std.proofs.lemmas.Bool.Decides.{nat_tests}
-use Rattle.noise_names.specs.declared.token.Role.{Role}
-use Rattle.noise_names.specs.declared.token.Role.TheVariants.{Initiator, Responder}
-use Rattle.noise_names.specs.Tokens.{other, same_role, turn_from}
-use Rattle.noise_names.specs.Plan.{Plan, is_one_way}
-use Rattle.noise_names.specs.Overhead.{overhead_of}
-use Rattle.noise_session.specs.Transport.{last_nonce}
-use Rattle.noise_duel.specs.Conversation.{InTurn, notes_of_lines}
-use Rattle.noise_conversation.specs.Lines.{line_fits, lines_fit_from, bytes_not_taken}
-use Rattle.std.proofs.lemmas.Bool.{and_parts, ltb-true}
-use Rattle.noise_names.specs.Roles.{same_role-true}
-
-pick : (b x y : Bool) (P Q : Type 0) → (x ≡ true → P) → (y ≡ true → Q) → (if b then x else y) ≡ true → MatchBool b P Q
-pick true x y P Q f g h = f h
-pick false x y P Q f g h = g h
-
-le-true : (m n : ℕ) → nat_le m n ≡ true → m ≤ n
-le-true m n h = grind (arith, nat_tests)
-
-one-way-role : (one_way : Bool) (role : Role) → (not one_way || same_role role Initiator) ≡ true → IsTrue one_way → role ≡ Initiator
-one-way-role true role h k = same_role-true role Initiator h
-one-way-role false role h k = absurd (cc)
-
-line-fits : (p : Plan) (n : ℕ) (l : Role × List ℕ) → line_fits p n l.0 (length l.1) ≡ true
-    → MatchBool (nat_lt n (length p.messages))
-    ((l.0 ≡ turn_from Initiator n) × (overhead_of p (n + 1) + length l.1 ≤ 65535))
-    ((IsTrue (is_one_way p) → l.0 ≡ Initiator) × (length l.1 ≤ 65519) × (n < last_nonce))
-line-fits p n l h =
-    pick (nat_lt n (length p.messages)) _ _ _ _
-    (λ e. (same_role-true l.0 (turn_from Initiator n) (and_parts _ _ e).0, le-true _ _ (and_parts (same_role l.0 (turn_from Initiator n)) _ e).1))
-    (λ e. let front = (and_parts ((not (is_one_way p) || same_role l.0 Initiator) && nat_le (length l.1) 65519) (nat_lt n last_nonce) e).0 in (
-      one-way-role (is_one_way p) l.0 (and_parts _ _ front).0,
-      le-true _ _ (and_parts (not (is_one_way p) || same_role l.0 Initiator) _ front).1,
-      ltb-true _ _ (and_parts ((not (is_one_way p) || same_role l.0 Initiator) && nat_le (length l.1) 65519) (nat_lt n last_nonce) e).1,
-    )) h
+use Rattle.std.proofs.Common.{rules, ◌≡◌, refl, ℕ, zero, suc, ◌+◌, List, ◌∷◌, length, arith, add-one, []}
+use Rattle.noise_conversation.proofs.Common.{Bool, true, false, if◌then◌else◌, Role, Initiator, Responder, other, same_role, turn_from, Plan, InTurn, notes_of_lines, line_fits, lines_fit_from, bytes_not_taken, and_parts}
 
 pub in-turn : (p : Plan) (n : ℕ) (lines : List (Role × List ℕ)) → lines_fit_from p n lines ≡ true → InTurn p n lines
 in-turn p n [] h = tt
-in-turn p n (l ∷ lines) h = (
-  line-fits p n l (and_parts (line_fits p n l.0 (length l.1)) (lines_fit_from p (n + 1) lines) h).0,
-  in-turn p (n + 1) lines (and_parts (line_fits p n l.0 (length l.1)) (lines_fit_from p (n + 1) lines) h).1,
-)
+in-turn p n (l ∷ lines) h = search (rules, (in-turn p (n + 1) lines (and_parts (line_fits p n l.0 (length l.1)) (lines_fit_from p (n + 1) lines) h).1))
 
 -- nothing is left over of lines that come through
 zero-more : (b : Bool) (n : ℕ) → n ≡ 0 → (if b then 0 else 0) + n ≡ 0
@@ -68,5 +30,4 @@ turn-next party n = rw add-one (turn-suc party n)
 -- where a line fits, all lines from it on fit if those after it do
 pub one-line : (p : Plan) (n : ℕ) (role : Role) (payload : List ℕ) (len : ℕ) (lines : List (Role × List ℕ)) (fits : Bool) → len ≡ length payload
     → fits ≡ line_fits p n role len → fits ≡ true → lines_fit_from p n ((role, payload) ∷ lines) ≡ lines_fit_from p (n + 1) lines
-one-line p n role payload len lines fits a b d =
-    ap (λ (here : Bool). here && lines_fit_from p (n + 1) lines) (ap (λ (k : ℕ). line_fits p n role k) (sym a) ∙ sym b ∙ d)
+one-line p n role payload len lines fits a b d = search

@@ -1,41 +1,24 @@
 -- What a report reports of payloads and keys, from what agreement says of the run.
-use Rattle.std.proofs.Common.{◌≡◌, ℕ, ◌+◌, List, ◌∷◌, ◌++◌, length, map, take, drop, refl, ap, sym, subst, ◌∙◌, arith, inl, inr, append_assoc, length-append, Option, Some, None, []}
+use Rattle.std.proofs.Common.{rules, ◌≡◌, ℕ, ◌+◌, List, ◌∷◌, ◌++◌, length, map, take, drop, refl, ap, sym, subst, ◌∙◌, arith, inl, inr, append_assoc, length-append, Option, Some, None, []}
 use Rattle.std.proofs.Math.Seq.{take-append-add}
-use Rattle.std.proofs.lemmas.List.{length-map}
-use Rattle.std.proofs.lemmas.Option.{slice_get-map}
-use Rattle.std.specs.Prelude.{Bool, true, false, suc, slice_get, option_map, if◌then◌else◌, ◌==◌}
-use Rattle.noise_names.specs.declared.token.Role.{Role}
-use Rattle.noise_names.specs.declared.token.Role.TheVariants.{Initiator, Responder}
-use Rattle.noise_names.specs.Tokens.{other, same_role, turn_from}
-use Rattle.noise_names.specs.Plan.{Plan}
-use Rattle.noise_keys.specs.declared.keys.Own.{Own}
-use Rattle.noise_state.specs.History.{History, hash}
+use Rattle.std.specs.Prelude.{suc, slice_get, option_map}
+use Rattle.noise_conversation.proofs.Common.{length-map, slice_get-map, Bool, true, false, if◌then◌else◌, ◌==◌, Role, Initiator, Responder, other, same_role, turn_from, Plan, Own, History, hash, EndState, PhaseMatches, session_hash, ForgedMessage, PrefixOrForgedMessage, contents, in_stream, HandshakeMessage, HaveOneHistory, PayloadsAgree, PayloadsCome, PsksMakeOne, Note, Side, TransportMessage, own_payloads, reported_to, written_by, eqb-true}
 use Rattle.noise_session.specs.declared.phase.Phase.{Phase}
-use Rattle.noise_session.specs.declared.phase.Phase.TheVariants as phase
-use Rattle.noise_session.specs.Ends.{EndState, PhaseMatches, session_hash}
 use Rattle.noise_session.specs.Frames.{frame}
 use Rattle.noise_session.specs.Transport.{transport_message, transport_key}
-use Rattle.noise_duel.specs.Forgery.{ForgedMessage, PrefixOrForgedMessage, contents, in_stream}
 use Rattle.noise_duel.specs.Invariant.{EndsComeOfMessages}
-use Rattle.noise_duel.specs.Messages.{HandshakeMessage}
-use Rattle.noise_duel.specs.Networks.{HaveOneHistory, PayloadsAgree, PayloadsCome, PsksMakeOne}
-use Rattle.noise_duel.specs.Notes.{Note}
 use Rattle.noise_duel.specs.OwnFrames.{EndsFrame, own_messages}
 use Rattle.noise_duel.specs.Reports.{receive_key_in, send_key_in}
-use Rattle.noise_duel.specs.Sides.{Side, TransportMessage}
 use Rattle.noise_conversation.specs.Entries.{turns_of, ForgedFrame, PrefixOrForgedFrame, EntriesAgree, EntriesCome, KeysMeet, KeysCome}
-use Rattle.noise_conversation.specs.Payloads.{own_payloads, reported_to, written_by}
 use Rattle.noise_conversation.proofs.Payloads.{Unchanged, ends-unchanged, payloads-are-reported}
 use Rattle.noise_conversation.proofs.Places.{placed}
-use Rattle.std.proofs.lemmas.Bool.{eqb-true}
+use Rattle.noise_session.specs.declared.phase.Phase.TheVariants as phase
 
 -- ---- lists
 
 get-after : {X : Type 0} (xs ys : List X) (n : ℕ) → slice_get (xs ++ ys) (length xs + n) ≡ slice_get ys n
 get-after [] ys n = ap (slice_get ys) (omega arith)
-get-after (x ∷ xs) ys n =
-    let one : length (x ∷ xs) + n ≡ suc (length xs + n) = omega arith in
-    ap (slice_get ((x ∷ xs) ++ ys)) one ∙ get-after xs ys n
+get-after (x ∷ xs) ys n = search (rules, (get-after xs ys n))
 
 take-after : (xs ys zs : List (List ℕ)) (n : ℕ) → take n ys ≡ take n zs → take (length xs + n) (xs ++ ys) ≡ take (length xs + n) (xs ++ zs)
 take-after xs ys zs n e = take-append-add xs ys n ∙ ap (λ (z : List (List ℕ)). xs ++ z) e ∙ sym (take-append-add xs zs n)
@@ -55,10 +38,7 @@ own-as-many role n (p ∷ ps) =
 
 -- those from message n on, and those before it
 turns-own : (role : Role) (n : ℕ) (ps : List HandshakeMessage) → turns_of role n + length (own_payloads role n ps) ≡ turns_of role (n + length ps)
-turns-own role n [] =
-    let same : n + length {A = HandshakeMessage} [] ≡ n = omega arith in
-    let none : turns_of role n + length {A = List ℕ} [] ≡ turns_of role n = omega arith in
-    none ∙ ap (turns_of role) (sym same)
+turns-own role n [] = search rules
 turns-own role n (p ∷ ps) =
     let one : n + 1 ≡ suc n = omega arith in
     let same : (n + 1) + length ps ≡ n + length (p ∷ ps) = omega arith in
@@ -73,11 +53,7 @@ turns-own role n (p ∷ ps) =
     by false e f = omega (arith, e, f)
 
 own-count : (role : Role) (ps : List HandshakeMessage) (n : ℕ) → length ps ≡ n → turns_of role n ≡ length (own_payloads role 0 ps)
-own-count role ps n e =
-    let all = turns-own role 0 ps in
-    let same : 0 + length ps ≡ n = omega (arith, e) in
-    let none : 0 + length (own_payloads role 0 ps) ≡ length (own_payloads role 0 ps) = omega arith in
-    sym (ap (turns_of role) same) ∙ sym all ∙ none
+own-count role ps n e = search (rules, turns-own)
 
 -- ---- what was reported of what was written
 
@@ -91,10 +67,7 @@ frame-after : (mine : List (List ℕ)) (sent : List TransportMessage) (frames : 
 frame-after mine sent frames h n bytes e same is =
     let messages : List (List ℕ) = map (λ (m : TransportMessage). m.message) sent in
     let there : slice_get frames (h + n) ≡ option_map frame (option_map (λ (m : TransportMessage). m.message) (slice_get sent n)) =
-    ap (λ (fs : List (List ℕ)). slice_get fs (h + n)) e
-    ∙ slice_get-map frame (mine ++ messages) (h + n)
-    ∙ ap (λ (k : ℕ). option_map frame (slice_get (mine ++ messages) (k + n))) same
-    ∙ ap (option_map frame) (get-after mine messages n ∙ slice_get-map (λ (m : TransportMessage). m.message) sent n) in
+    search (rules, slice_get-map, get-after) in
     by (slice_get sent n) refl (sym there ∙ is)
   where
     by : (o : Option TransportMessage) → slice_get sent n ≡ o
@@ -221,12 +194,7 @@ module _ {K : Type 0} (public_of : K → Own → Option (List ℕ)) (agreement :
 -- as many were received as were sent
 as-many : (own written reported : List (List ℕ)) (sent received : List TransportMessage) (n m : ℕ) → written ≡ own ++ contents sent
     → reported ≡ own ++ contents received → length reported ≡ length written → n ≡ length sent → m ≡ length received → m ≡ n
-as-many own written reported sent received n m w t e f g =
-    let a = ap length w ∙ length-append own (contents sent) in
-    let b = ap length t ∙ length-append own (contents received) in
-    let c : length (contents sent) ≡ length sent = simp length-map in
-    let d : length (contents received) ≡ length received = simp length-map in
-    omega (arith, a, b, c, d, e, f, g)
+as-many own written reported sent received n m w t e f g = search (rules, length-append, length-map)
 
 keys-same : (v w : EndState) (k l : List ℕ) → k ≡ transport_key v.party.history v.party.role v.interval v.sent
     → l ≡ transport_key w.party.history (other w.party.role) w.interval w.received

@@ -1,18 +1,13 @@
 -- The texts that a party hashes as it mixes texts, and the two of two parties that clash.
-use Rattle.std.proofs.Common.{◌≡◌, ◌<◌, ℕ, List, ◌∷◌, ◌++◌, length, reverse, refl, ap, sym, subst, ◌∙◌, inl, inr, Option, Some, get_or, []}
-use Rattle.std.proofs.lemmas.List.{map-append, reverse-append}
-use Rattle.std.proofs.lemmas.Option.{same_Some, slice_get-map, slice_get_cases, slice_get_read}
-use Rattle.std.specs.Global.{Global}
+use Rattle.std.proofs.Common.{rules, ◌≡◌, ◌<◌, ℕ, List, ◌∷◌, ◌++◌, length, reverse, refl, ap, sym, subst, ◌∙◌, inl, inr, Option, Some, get_or, []}
 use Rattle.std.specs.Option.{option_map}
-use Rattle.std.specs.Prelude.{Vec, slice_get}
+use Rattle.std.specs.Prelude.{slice_get}
+use Rattle.noise_conversation.proofs.Common.{map-append, reverse-append, same_Some, slice_get-map, slice_get_cases, slice_get_read, Global, Vec, History, Entry, MixHash, Ciphertext, MixKey, MixKeyAndHash, and_then, hash, hash_of, ClashIsCollision, first_clash, bytes_of}
 use Rattle.sha2.specs.Sha256.{sha256}
-use Rattle.noise_kdf.specs.Hkdf.{second_output}
 use Rattle.noise_state.specs.declared.symmetric.SymmetricState.{SymmetricState}
-use Rattle.noise_state.specs.History.{History, Entry, MixHash, Ciphertext, MixKey, MixKeyAndHash, and_then, chaining_key_of, hash, hash_of}
 use Rattle.noise_state.specs.Standing.{StateMatches}
-use Rattle.noise_duel.specs.Clash.{ClashIsCollision, clash_position, first_clash}
+use Rattle.noise_duel.specs.Clash.{clash_position}
 use Rattle.noise_duel.specs.Collision.{hash_texts, hash_texts_of, hashed, hashed_of}
-use Rattle.noise_names.specs.Lists.{bytes_of}
 use Rattle.noise_conversation.specs.declared.clash.HashClash.{HashClash}
 use Rattle.noise_conversation.specs.Mixed.{HasMixed, IsHashClash}
 
@@ -35,9 +30,7 @@ alike name [] = (refl, refl)
 alike name (MixHash text ∷ es) = let older = alike name es in (ap (λ (h : List ℕ). sha256 (h ++ text)) older.0, rw (older.0, older.1) refl)
 alike name (Ciphertext bytes ∷ es) = let older = alike name es in (ap (λ (h : List ℕ). sha256 (h ++ bytes)) older.0, rw (older.0, older.1) refl)
 alike name (MixKey input ∷ es) = alike name es
-alike name (MixKeyAndHash input ∷ es) =
-    let older = alike name es in
-    (ap (λ (h : List ℕ). sha256 (h ++ second_output (chaining_key_of name es) input)) older.0, rw (older.0, older.1) refl)
+alike name (MixKeyAndHash input ∷ es) = search (rules, (alike name es))
 
 pub texts-mixed : (r : History) (name : List ℕ) (xs : List (List ℕ)) → HasMixed r name xs → hash_texts r ≡ hash_texts (mixing name (reverse xs))
 texts-mixed r name xs h =

@@ -1,40 +1,24 @@
 -- In every run the payloads that a report reports of are those of the messages that the ends wrote and accepted.
-use Rattle.std.proofs.Common.{◌≡◌, ℕ, ◌+◌, ◌<◌, List, ◌∷◌, ◌++◌, length, refl, ap, sym, subst, ◌∙◌, arith, append-nil, append_assoc, length-append, []}
+use Rattle.std.proofs.Common.{rules, ◌≡◌, ℕ, ◌+◌, ◌<◌, List, ◌∷◌, ◌++◌, length, refl, ap, sym, subst, ◌∙◌, arith, append-nil, append_assoc, length-append, []}
 use Rattle.std.proofs.lemmas.Grind.{flat_map-append}
-use Rattle.std.proofs.lemmas.List.{map-append}
 use Rattle.std.specs.List.{flat_map}
-use Rattle.std.specs.Prelude.{◌==◌, Bool, true, false, IsTrue, zero, suc, Err, if◌then◌else◌}
+use Rattle.std.specs.Prelude.{zero, suc, Err}
 use Rattle.std.proofs.lemmas.Bool.Decides.{nat_tests}
-use Rattle.noise_names.specs.declared.token.Role.{Role}
-use Rattle.noise_names.specs.declared.token.Role.TheVariants.{Initiator, Responder}
-use Rattle.noise_names.specs.Tokens.{other, same_role, turn_from}
-use Rattle.noise_names.specs.Plan.{Plan, is_one_way}
-use Rattle.noise_handshake.specs.Party.{Party}
+use Rattle.noise_conversation.proofs.Common.{map-append, ◌==◌, Bool, true, false, IsTrue, if◌then◌else◌, Role, Initiator, Responder, other, same_role, turn_from, Plan, is_one_way, Party, StepValue, is_open, EndState, ended_session, end_of, progress_of, Judges, Event, sides_at_start, contents, HandshakeMessage, Start, begun_as, Note, Wrote, WriteFault, Judged, held_note, left_note, noted_by, TransportMessage, Side, Sides, new_side, with_state, wrote_handshake, accepted_handshake, wrote_transport, accepted_transport, notes_about, payload_reported, payload_given, was_written, done_of, own_payloads, PayloadsAreReported}
 use Rattle.noise_session.specs.declared.faults.SendFault.{SendFault}
 use Rattle.noise_session.specs.declared.faults.SendFault.TheVariants.{Agreement}
 use Rattle.noise_session.specs.Faults.{ends}
-use Rattle.noise_session.specs.Steps.{StepValue}
 use Rattle.noise_session.specs.Steps.StepValue.{Payload}
-use Rattle.noise_session.specs.Progress.{is_open}
 use Rattle.noise_session.specs.Progress.Progress.{Handshaking, Open, HasEnded}
-use Rattle.noise_session.specs.Ends.{EndState, ended_session, end_of, progress_of}
-use Rattle.noise_session.specs.Taking.{Judges}
 use Rattle.noise_session.specs.Taking.Judges.{accepted, refused, opened, dropped, exhausted}
 use Rattle.noise_session.specs.Sending.{Sends, after_fault}
 use Rattle.noise_session.specs.Sending.Sends.{refuses, lacks_dh_result}
-use Rattle.noise_events.specs.Events.{Event}
-use Rattle.noise_duel.specs.Conversation.{sides_at_start}
-use Rattle.noise_duel.specs.Forgery.{contents}
-use Rattle.noise_duel.specs.Messages.{HandshakeMessage, Start, begun_as}
-use Rattle.noise_duel.specs.Notes.{Note, Wrote, WriteFault, Judged, held_note, left_note, noted_by}
 use Rattle.noise_duel.specs.Runs.{SideWrites, SideReads, SideReceives, Happens, Run, GivesNoPayload}
 use Rattle.noise_duel.specs.Runs.SideWrites.{writes_nothing, writes_handshake, writes_transport}
 use Rattle.noise_duel.specs.Runs.SideReads.{accepts_handshake, accepts_transport, refuses_message}
 use Rattle.noise_duel.specs.Runs.SideReceives.{is_idle, waits, reads_frame}
 use Rattle.noise_duel.specs.Runs.Happens.{writes, says_nothing, says, delivers, misses, injects}
 use Rattle.noise_duel.specs.Runs.Run.{ends as run_ends, begins}
-use Rattle.noise_duel.specs.Sides.{TransportMessage, Side, Sides, new_side, with_state, wrote_handshake, accepted_handshake, wrote_transport, accepted_transport}
-use Rattle.noise_conversation.specs.Payloads.{notes_about, payload_reported, payload_given, was_written, done_of, own_payloads, PayloadsAreReported}
 use Rattle.noise_names.specs.Roles.{same_role-self, same_role-other, other-same_role}
 
 -- no message of the handshake is due at an end that is open
@@ -51,28 +35,17 @@ none-due v opens more = go v.party.ended (v.party.passed == length v.party.patte
 
 done-append : (ps qs : List (List ℕ)) (bs cs : List Bool) → length ps ≡ length bs → done_of (ps ++ qs) (bs ++ cs) ≡ done_of ps bs ++ done_of qs cs
 done-append [] qs [] cs e = refl
-done-append (p ∷ ps) qs (b ∷ bs) cs e =
-    let one : List (List ℕ) = if b then p ∷ [] else [] in
-    ap (λ (zs : List (List ℕ)). one ++ zs) (done-append ps qs bs cs (omega (arith, e))) ∙ sym (append_assoc one (done_of ps bs) (done_of qs cs))
+done-append (p ∷ ps) qs (b ∷ bs) cs e = search (append_assoc, (done-append ps qs bs cs (omega (arith, e))))
 done-append _ qs _ cs e = absurd (omega (arith, e))
 
 -- a list in between that is empty
 moved : (xs ys zs : List (List ℕ)) → zs ≡ [] → (xs ++ ys) ++ zs ≡ (xs ++ zs) ++ ys
-moved xs ys zs e =
-    subst (λ none. (xs ++ ys) ++ none ≡ (xs ++ none) ++ ys) (sym e) (append-nil (xs ++ ys) ∙ ap (λ (a : List (List ℕ)). a ++ ys) (sym (append-nil xs)))
+moved xs ys zs e = search rules
 
 own-more : (role : Role) (n : ℕ) (ps : List HandshakeMessage) (p : HandshakeMessage)
     → own_payloads role n (ps ++ p ∷ []) ≡ own_payloads role n ps ++ (if same_role (turn_from Initiator (n + length ps)) role then p.payload ∷ [] else [])
-own-more role n [] p =
-    let same : n ≡ n + length {A = HandshakeMessage} [] = omega arith in
-    append-nil (if same_role (turn_from Initiator n) role then p.payload ∷ [] else [])
-    ∙ ap (λ (k : ℕ). if same_role (turn_from Initiator k) role then p.payload ∷ [] else []) same
-own-more role n (q ∷ qs) p =
-    let same : (n + 1) + length qs ≡ n + length (q ∷ qs) = omega arith in
-    let one : List (List ℕ) = if same_role (turn_from Initiator n) role then q.payload ∷ [] else [] in
-    ap (λ (ms : List (List ℕ)). one ++ ms) (own-more role (n + 1) qs p)
-    ∙ ap (λ (k : ℕ). one ++ (own_payloads role (n + 1) qs ++ (if same_role (turn_from Initiator k) role then p.payload ∷ [] else []))) same
-    ∙ sym (append_assoc one (own_payloads role (n + 1) qs) (if same_role (turn_from Initiator (n + length (q ∷ qs))) role then p.payload ∷ [] else []))
+own-more role n [] p = search rules
+own-more role n (q ∷ qs) p = search (rules, (own-more role (n + 1) qs p))
 
 -- ---- one end
 
@@ -290,15 +263,11 @@ noted-other _ [] = refl
 module _ (plan : Plan) (role : Role) where
   hears : (s t : Side) (bytes : List ℕ) (notes : List Note) → Unchanged plan role s → SideReceives s bytes notes t
       → Took plan role s t [] (notes_about role (noted_by role (notes ++ held_note (length t.state.partial))))
-  hears s t bytes notes k receives =
-      let all : List Note = notes ++ held_note (length t.state.partial) in
-      subst (λ ns. Took plan role s t [] ns) (sym (noted-own role all)) (comes-took plan role s t bytes notes k receives)
+  hears s t bytes notes k receives = search (noted-own, comes-took)
 
   joined : (s t u : Side) (given more : List (List ℕ)) (notes later : List (Role × Note)) → Took plan role s t given (notes_about role notes)
       → Took plan role t u more (notes_about role later) → Took plan role s u (given ++ more) (notes_about role (notes ++ later))
-  joined s t u given more notes later x y =
-      subst (λ ns. Took plan role s u (given ++ more) ns) (sym (flat_map-append (λ (n : Role × Note). if same_role n.0 role then n.1 ∷ [] else []) notes later))
-      (both plan role s t u given more (notes_about role notes) (notes_about role later) x y)
+  joined s t u given more notes later x y = search (flat_map-append, both)
 
   -- the other end's notes
   apart : (s : Side) (notes : List Note) → Unchanged plan role s → notes_about role (noted_by (other role) notes) ≡ []
@@ -308,8 +277,7 @@ module _ (plan : Plan) (role : Role) where
   said : (s t : Side) (payload : List ℕ) (n : ℕ) (notes : List Note) → Took plan role s t (payload ∷ []) (Wrote n ∷ [])
       → notes_about role (noted_by (other role) notes) ≡ []
       → Took plan role s t (payload ∷ []) (Wrote n ∷ notes_about role (noted_by (other role) notes))
-  said s t payload n notes took e =
-      let P : List Note → Type 0 = λ ns. Took plan role s t (payload ∷ []) (Wrote n ∷ ns) in subst P (sym e) took
+  said s t payload n notes took e = search
 
 module _ (plan : Plan) where
   -- what is said of both ends

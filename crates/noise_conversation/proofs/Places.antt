@@ -2,16 +2,11 @@
 use Rattle.std.proofs.Common.{◌≡◌, ℕ, zero, suc, List, ◌∷◌, ◌++◌, length, take, refl, ap, sym, ◌∙◌, inl, inr, ◌⊎◌, Some, []}
 use Rattle.std.proofs.lemmas.Grind.{flat_map-append}
 use Rattle.std.specs.List.{flat_map}
-use Rattle.std.specs.Prelude.{slice_get, if◌then◌else◌}
-use Rattle.noise_names.specs.declared.token.Role.{Role}
-use Rattle.noise_names.specs.declared.token.Role.TheVariants.{Initiator, Responder}
-use Rattle.noise_names.specs.Tokens.{same_role}
-use Rattle.noise_session.specs.Steps.{StepValue}
+use Rattle.std.specs.Prelude.{slice_get}
+use Rattle.noise_conversation.proofs.Common.{if◌then◌else◌, Role, Initiator, Responder, same_role, StepValue, Note, Wrote, WriteFault, Judged, Left, Held, notes_about, payload_reported, reported_to, same_Some}
 use Rattle.noise_session.specs.Steps.StepValue.{Payload}
-use Rattle.noise_duel.specs.Notes.{Note, Wrote, WriteFault, Judged, Left, Missing, Held}
+use Rattle.noise_duel.specs.Notes.{Missing}
 use Rattle.noise_conversation.specs.Entries.{IsPayloadAt}
-use Rattle.noise_conversation.specs.Payloads.{notes_about, payload_reported, reported_to}
-use Rattle.std.proofs.lemmas.Option.{same_Some}
 
 -- what one note reports a role
 abbrev reported_by : Role → Role × Note → List (List ℕ)

@@ -1,17 +1,11 @@
 -- The toy keys have a DH result at each DH.
 use Rattle.std.proofs.Common.{◌≡◌, refl, ℕ, List, Option, Some}
-use Rattle.std.specs.Prelude.{true, is_some, IsSome}
-use Rattle.noise_names.specs.declared.token.Role.{Role}
-use Rattle.noise_names.specs.declared.token.Role.TheVariants.{Initiator, Responder}
+use Rattle.noise_conversation.proofs.Common.{true, is_some, IsSome, Role, Initiator, Responder, Own, public_keys, dh_result_of, remote_at, XorKeysHaveDhResults}
 use Rattle.noise_names.specs.declared.token.Token.{Token}
 use Rattle.noise_names.specs.declared.token.Token.TheVariants.{Ee, Es, Se, Ss}
-use Rattle.noise_keys.specs.declared.keys.Own.{Own}
 use Rattle.noise_keys.specs.declared.keys.Own.TheVariants.{Ephemeral, Static}
 use Rattle.noise_keys.specs.Keys.{key_of, xor_dh_result}
 use Rattle.noise_handshake.specs.Counterparts.{is_dh}
-use Rattle.noise_handshake.specs.Setup.{public_keys}
-use Rattle.noise_handshake.specs.Party.{dh_result_of, own_at, remote_at}
-use Rattle.noise_conversation.specs.Setup.{XorKeysHaveDhResults}
 
 gives : (e s : Option (List ℕ)) (x : Own) (l : Option (List ℕ)) → IsSome e → IsSome s → IsSome l
     → is_some (dh_result_of (λ own remote. xor_dh_result (key_of own e s) remote) x l) ≡ true
@@ -32,7 +26,4 @@ there Responder e s Ss d f g = g
 there role e s _ d f g = absurd (cc)
 
 pub xor-keys-have-dh-results : XorKeysHaveDhResults
-xor-keys-have-dh-results p a b ae as-is be bs t d o = (
-  gives a.e a.s (own_at Initiator t) (remote_at Initiator (public_keys (λ own. key_of own b.e b.s)) t) ae as-is (there Initiator b.e b.s t d be bs),
-  gives b.e b.s (own_at Responder t) (remote_at Responder (public_keys (λ own. key_of own a.e a.s)) t) be bs (there Responder a.e a.s t d ae as-is),
-)
+xor-keys-have-dh-results p a b ae as-is be bs t d o = search (gives, there)

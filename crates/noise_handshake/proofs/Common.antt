@@ -6,7 +6,7 @@ pub use Rattle.std.proofs.lemmas.List.{drop-append-le, drop-set-add, drop-take, 
 pub use Rattle.std.proofs.lemmas.List.Folds.{list_any-append}
 pub use Rattle.std.proofs.lemmas.List.Sums.{sum_by-append, sum_by-cons, sum_by-take-le}
 pub use Rattle.std.specs.List.{list_all, list_any, refill}
-pub use Rattle.std.specs.Prelude.{Err, IfOk, IfSome, IsFalse, IsTrue, MatchOption, MatchResult, None, Ok, OnOk, Option, Result, Some, count_by, is_none, nat_le, unwrap_or, ◌&&◌, ◌==◌, ◌||◌, ◌↔◌}
+pub use Rattle.std.specs.Prelude.{Err, IfOk, IsFalse, IsTrue, MatchOption, MatchResult, None, Ok, OnOk, Option, Result, Some, count_by, is_none, nat_le, unwrap_or, ◌&&◌, ◌==◌, ◌||◌, ◌↔◌}
 pub use Rattle.noise_keys.specs.declared.keys.Own.{Own}
 pub use Rattle.noise_keys.specs.declared.keys.Own.TheVariants.{Ephemeral, Static}
 pub use Rattle.noise_names.specs.Limits.{HavePsksAt, IsPattern, is_pre_message, psk_if, with_psk_tokens}
@@ -20,7 +20,7 @@ pub use Rattle.noise_names.specs.declared.token.Role.TheVariants.{Initiator, Res
 pub use Rattle.noise_names.specs.declared.token.Token.{Token}
 pub use Rattle.noise_names.specs.declared.token.Token.TheVariants.{E, Ee, Es, S, Se, Ss}
 pub use Rattle.noise_state.specs.Ciphertexts.{ciphertext-same, length-ciphertext}
-pub use Rattle.noise_state.specs.History.{Ciphertext, History, MixHash, MixKey, MixKeyAndHash, and_then, cipher_key, ciphertext, nonce}
+pub use Rattle.noise_state.specs.History.{Ciphertext, History, MixHash, MixKeyAndHash, and_then, cipher_key, ciphertext, nonce}
 pub use Rattle.noise_state.specs.Standing.{StateMatches, keyed, keyed-is, nonce_now, nonce_now-is}
 pub use Rattle.noise_state.specs.declared.symmetric.SymmetricState.{SymmetricState}
 pub use Rattle.noise_handshake.specs.Counterparts.{Counterparts, DhResultsAgree, DhResultsAlike, IsEquipped, counterpart, is_dh, keys_if, shown_after, shown_before, xor_agreement, xor_public}

@@ -16,15 +16,8 @@ wide : (k : Bool) (n : ℕ) → n ≡ 32 → (if k then n + 16 else n) ≡ (if k
 wide true n e = omega arith
 wide false n e = e
 
-thin : (k : Bool) (n : ℕ) → (if k then n + 16 else n) ≡ (if k then 48 else 32) → n ≡ 32
-thin true n e = omega arith
-thin false n e = e
-
 pub length-key : (r : History) (x : List ℕ) → length x ≡ 32 → length (ciphertext r x) ≡ width_of_key r
 length-key r x e = length-ciphertext r x ∙ wide (is_some (cipher_key r)) (length x) e
-
-pub length-of_key : (r : History) (x : List ℕ) → length (ciphertext r x) ≡ width_of_key r → length x ≡ 32
-length-of_key r x e = thin (is_some (cipher_key r)) (length x) (sym (length-ciphertext r x) ∙ e)
 
 -- the message is too short for any
 pub short-key : (r : History) (m : List ℕ) (n : ℕ) → n ≡ width_of_key r → length m < n → (x rest : List ℕ) → length x ≡ 32 → m ≡ ciphertext r x ++ rest → ⊥
@@ -41,8 +34,3 @@ pub wrong-key : (r : History) (m : List ℕ) (n : ℕ) → n ≡ width_of_key r 
     → length x ≡ 32 → m ≡ ciphertext r x ++ rest → ⊥
 wrong-key r m n e bad x rest f s =
     bad x (ap (λ (k : ℕ). take k m) (e ∙ sym (length-key r x f)) ∙ ap (take (length (ciphertext r x))) s ∙ take-append_seam (ciphertext r x) rest)
-
--- what was opened fills the first 32 bytes
-pub opened-key : (r : History) (old new : List ℕ) (n : ℕ) → length old ≡ width_of_key r → length new ≡ length old → n ≤ length new
-    → old ≡ ciphertext r (take n new) → take n new ≡ take 32 new
-opened-key r old new n w same h e = search (rules, length-of_key)

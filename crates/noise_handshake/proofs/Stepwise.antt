@@ -1,7 +1,7 @@
 -- What a message's tokens ask and leave, reported of its first token and of those after it.
 use Rattle.std.proofs.Common.{rules, ◌≡◌, ℕ, suc, ◌+◌, ◌-◌, ◌^◌, ◌<◌, ◌≤◌, List, [], ◌∷◌, length, take, sym, ap, subst, ◌∙◌, arith}
 use Rattle.std.specs.Prelude.{Bool}
-use Rattle.noise_handshake.proofs.Common.{and_parts, IsTrue, count_by, Token, E, S, Ee, Es, Se, Ss, is_psk, keyed_after, keyed_after_tokens, token_width, tokens_width, Remote, Writer, Gives, Given, LacksDhResultAt, nonce_after, nonce_after_tokens, Keying, keying_after, keying_after_tokens, list_all, psks_after, other_psks}
+use Rattle.noise_handshake.proofs.Common.{and_parts, IsTrue, count_by, Token, E, S, Ee, Es, Se, Ss, is_psk, keyed_after, keyed_after_tokens, token_width, tokens_width, Remote, Writer, Gives, Given, LacksDhResultAt, nonce_after, list_all, psks_after, other_psks}
 use Rattle.noise_names.specs.declared.token.Token.TheVariants.{Psk}
 use Rattle.noise_handshake.proofs.Counting.{nonce-most}
 use Rattle.noise_handshake.proofs.Later.{one-more}
@@ -25,14 +25,6 @@ module _ (tokens ts : List Token) (t : Token) (split : tokens ≡ t ∷ ts) wher
       → key3 ≡ keyed_after_tokens has_psks key tokens
   keyed-on has_psks key key2 key3 e f = search
 
-  pub keying-on : (has_psks : Bool) (k k2 k3 : Keying) → k2 ≡ keying_after has_psks k t → k3 ≡ keying_after_tokens has_psks k2 ts
-      → k3 ≡ keying_after_tokens has_psks k tokens
-  keying-on has_psks k k2 k3 e f = search rules
-
-  pub nonce-on : (has_psks key key2 : Bool) (n n2 n3 : ℕ) → key2 ≡ keyed_after has_psks key t → n2 ≡ nonce_after has_psks key n t
-      → n3 ≡ nonce_after_tokens has_psks key2 n2 ts → n3 ≡ nonce_after_tokens has_psks key n tokens
-  nonce-on has_psks key key2 n n2 n3 e f g = search
-
   pub some-token : 0 < length tokens
   some-token = omega (arith, ap length split)
 
@@ -52,11 +44,6 @@ module _ (tokens ts : List Token) (t : Token) (split : tokens ≡ t ∷ ts) wher
   -- its place in what is counted on the way
   pub place-fits : (n k : ℕ) → n + length tokens < 2 ^ 64 - 1 → k < length ts → k + 1 < 2 ^ 64
   place-fits n k h j = omega (arith, h, j, ap length split)
-
-  -- how many bytes they take
-  pub width-on : (has_psks key key2 : Bool) (n k : ℕ) → n ≡ token_width key t → key2 ≡ keyed_after has_psks key t → k ≡ tokens_width has_psks key2 ts
-      → n + k ≡ tokens_width has_psks key tokens
-  width-on has_psks key key2 n k e f g = search
 
   pub room-first : (has_psks key : Bool) (room : ℕ) → tokens_width has_psks key tokens ≤ room → token_width key t ≤ room
   room-first has_psks key room h = search rules

@@ -1,7 +1,7 @@
 -- What holds of every handshake, and what a caller's parts are tested for.
 use Rattle.std.proofs.Common.{◌≡◌, ℕ, List, Bool, true, false}
-use Rattle.std.specs.Prelude.{not, is_some}
-use Rattle.noise_handshake.proofs.Common.{and_from, and_parts, not-true, not_from_false, ◌&&◌, Option, E, S, other, is_among, has_key, keyed, nonce_now, Own, HandshakeValue, nonce_due, passed_places}
+use Rattle.std.specs.Prelude.{not}
+use Rattle.noise_handshake.proofs.Common.{and_from, and_parts, not-true, not_from_false, ◌&&◌, Option, has_key, keyed, nonce_now, Own, HandshakeValue, nonce_due, passed_places}
 
 left : (a b : Bool) → (not a && not b) ≡ true → a ≡ false
 left a b e = not-true a (and_parts (not a) (not b) e).0
@@ -13,9 +13,5 @@ both : (a b : Bool) → a ≡ false → b ≡ false → (not a && not b) ≡ tru
 both a b e f = and_from (not a) (not b) (not_from_false a e) (not_from_false b f)
 
 module _ {K : Type 0} (public_of : K → Own → Option (List ℕ)) (h : HandshakeValue K) where
-  abbrev pub Known : Type 0
-  Known = (is_some h.remote.e ≡ is_among (other h.role) E (passed_places h.pattern h.passed))
-      × (is_some h.remote.s ≡ is_among (other h.role) S (passed_places h.pattern h.passed))
-
   abbrev pub Keyed : Type 0
   Keyed = (keyed h.state ≡ has_key h.pattern (passed_places h.pattern h.passed)) × (nonce_now h.state ≡ nonce_due h.pattern h.passed)

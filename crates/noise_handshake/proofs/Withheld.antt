@@ -1,7 +1,7 @@
 -- Why a payload isn't written, whatever the keys agree on.
-use Rattle.std.proofs.Common.{rules, ◌≡◌, ℕ, ◌+◌, ◌<◌, ◌≤◌, List, true, length, sym}
+use Rattle.std.proofs.Common.{rules, ◌≡◌, ℕ, ◌+◌, ◌<◌, ◌≤◌, List, true, length}
 use Rattle.std.specs.Prelude.{nat_lt}
-use Rattle.noise_handshake.proofs.Common.{Option, None, Some, IfSome, overhead_of, Own, WriteFault, HandshakeValue, length_now, write_fault, Matches, DoesNotWrite, Party}
+use Rattle.noise_handshake.proofs.Common.{Option, Some, overhead_of, Own, WriteFault, HandshakeValue, length_now, write_fault, Matches, DoesNotWrite, Party}
 
 module _ {K : Type 0} (public_of : K → Own → Option (List ℕ)) (agreement : K → Own → List ℕ → Option (List ℕ)) (h : HandshakeValue K) (v : Party)
     (s : Matches public_of agreement h v) (within : h.passed ≤ length h.pattern.messages) (payload : ℕ) where
@@ -10,7 +10,3 @@ module _ {K : Type 0} (public_of : K → Own → Option (List ℕ)) (agreement :
 
   pub withholds-of : (f : WriteFault) → write_fault h payload ≡ Some f → DoesNotWrite v payload f
   withholds-of f e = search rules
-
-  pub withholds-all : (o : Option WriteFault) → o ≡ write_fault h payload → IfSome o (λ f. DoesNotWrite v payload f)
-  withholds-all None e = tt
-  withholds-all (Some f) e = withholds-of f (sym e)

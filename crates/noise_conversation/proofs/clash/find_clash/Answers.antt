@@ -1,8 +1,5 @@
 use Rattle.std.proofs.Common.{◌≡◌, ◌∙◌, refl, sym, ℕ, zero, suc, ◌≤◌, min, List, ◌∷◌, length, drop, arith, None, []}
-use Rattle.std.specs.Global.{Global}
-use Rattle.std.specs.Prelude.{Vec}
-use Rattle.noise_duel.specs.Clash.{first_clash}
-use Rattle.noise_names.specs.Lists.{bytes_of}
+use Rattle.noise_conversation.proofs.Common.{Global, Vec, first_clash, bytes_of}
 use Rattle.noise_conversation.proofs.clash.find_clash.Goals as goal
 
 no-right : (n : ℕ) (texts : List (List ℕ)) → first_clash n texts [] ≡ None

@@ -1,6 +1,5 @@
 use Rattle.std.proofs.Common.{◌≡◌, drop}
-use Rattle.noise_duel.specs.Clash.{first_clash}
-use Rattle.noise_names.specs.Lists.{bytes_of}
+use Rattle.noise_conversation.proofs.Common.{first_clash, bytes_of}
 use Rattle.noise_conversation.proofs.clash.find_clash.Given as goal
 
 abbrev pub invariant-loop-position : goal.invariant-loop-position

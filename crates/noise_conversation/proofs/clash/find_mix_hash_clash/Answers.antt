@@ -1,6 +1,5 @@
 use Rattle.std.proofs.Common.{◌∙◌, reverse, arith}
-use Rattle.noise_state.specs.History.{History}
-use Rattle.noise_names.specs.Lists.{bytes_of}
+use Rattle.noise_conversation.proofs.Common.{History, bytes_of}
 use Rattle.noise_conversation.proofs.Mixed.{both-within, clash-at, has-mixed, is-hash-clash, mixing}
 use Rattle.noise_conversation.proofs.clash.find_mix_hash_clash.Goals as goal
 

@@ -1,11 +1,7 @@
 use Rattle.std.proofs.Common.{◌≡◌, ◌∙◌, ℕ, ◌+◌, List, ◌∷◌, ◌++◌, ap, sym, subst, reverse, take, arith, []}
-use Rattle.std.proofs.lemmas.List.{take_all, take_more}
-use Rattle.std.specs.Global.{Global}
-use Rattle.std.specs.Prelude.{Vec}
-use Rattle.noise_state.specs.History.{History, MixHash, and_then}
+use Rattle.noise_conversation.proofs.Common.{take_all, take_more, Global, Vec, History, MixHash, and_then, bytes_of}
 use Rattle.noise_state.specs.Standing.{StateMatches}
 use Rattle.noise_duel.specs.Collision.{hash_texts}
-use Rattle.noise_names.specs.Lists.{bytes_of}
 use Rattle.noise_conversation.proofs.Mixed.{Mixes, mixes-more, mixing, texts-mixed}
 use Rattle.noise_conversation.proofs.clash.texts_hashed.Goals as goal
 

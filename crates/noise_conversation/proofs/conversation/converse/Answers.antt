@@ -1,4 +1,4 @@
-use Rattle.std.proofs.lemmas.Result.{err_from_is_err_and}
+use Rattle.noise_conversation.proofs.Common.{err_from_is_err_and}
 use Rattle.noise_conversation.proofs.conversation.converse.Goals as goal
 
 pub returns-in_err-duel : goal.returns-in_err-duel

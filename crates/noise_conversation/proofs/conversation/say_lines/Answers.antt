@@ -1,12 +1,6 @@
 use Rattle.std.proofs.Common.{◌≡◌, sym, subst, ◌∙◌, List}
-use Rattle.noise_names.specs.declared.token.Role.{Role}
-use Rattle.noise_names.specs.declared.token.Role.TheVariants.{Initiator, Responder}
-use Rattle.noise_duel.specs.Acts.{roles_and_payloads}
-use Rattle.noise_duel.specs.Conversation.{HaveParts, end_after}
-use Rattle.noise_duel.specs.Notes.{Note}
+use Rattle.noise_conversation.proofs.Common.{Role, Initiator, Responder, roles_and_payloads, HaveParts, end_after, Note, bytes_not_taken, history_of}
 use Rattle.noise_duel.specs.SetUpAlike.{material_of}
-use Rattle.noise_conversation.specs.Lines.{bytes_not_taken}
-use Rattle.noise_conversation.specs.Setup.{history_of}
 use Rattle.noise_conversation.proofs.Fit.{in-turn, none-left-ended_party}
 use Rattle.noise_conversation.proofs.HashReported.{hash-reported}
 use Rattle.noise_conversation.proofs.conversation.say_lines.Goals as goal

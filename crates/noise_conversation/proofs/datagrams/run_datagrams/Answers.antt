@@ -1,17 +1,10 @@
 use Rattle.std.proofs.Common.{ℕ, List}
-use Rattle.noise_names.specs.declared.token.Role.{Role}
-use Rattle.noise_names.specs.Plan.{Plan}
+use Rattle.noise_conversation.proofs.Common.{Role, Plan, Event, sides_at_start, Start, HaveOneHistory, Note, Sides}
 use Rattle.noise_session.specs.Datagrams.{DatagramState, datagrams_of}
 use Rattle.noise_events.specs.DatagramEvents.{datagram_events_of}
-use Rattle.noise_events.specs.Events.{Event}
-use Rattle.noise_duel.specs.Conversation.{sides_at_start}
 use Rattle.noise_duel.specs.DatagramReports.{datagram_notes_of}
 use Rattle.noise_duel.specs.DuelValue.{DuelMatches}
-use Rattle.noise_duel.specs.Messages.{Start}
-use Rattle.noise_duel.specs.Networks.{HaveOneHistory}
-use Rattle.noise_duel.specs.Notes.{Note}
 use Rattle.noise_duel.specs.Runs.{Run}
-use Rattle.noise_duel.specs.Sides.{Sides}
 use Rattle.noise_conversation.specs.Datagrams.{DatagramsOverNetwork}
 use Rattle.noise_conversation.proofs.DatagramEntries.{or-clash}
 use Rattle.noise_conversation.proofs.datagrams.run_datagrams.Goals as goal

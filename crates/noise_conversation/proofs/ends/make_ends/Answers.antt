@@ -1,15 +1,8 @@
 use Rattle.std.proofs.Common.{◌≡◌, ◌∙◌, sym, refl, subst, ℕ, length, Option}
-use Rattle.std.proofs.lemmas.Result.{err_from_is_err_and}
-use Rattle.noise_names.specs.declared.token.Role.TheVariants.{Initiator, Responder}
-use Rattle.noise_names.specs.Plan.{Plan}
+use Rattle.noise_conversation.proofs.Common.{err_from_is_err_and, Initiator, Responder, Plan, party_at_start, EndMatches, end_of, sides_at_start, Start, start_by, IsReportedFault}
 use Rattle.noise_handshake.specs.declared.remote.Remote.{Remote}
-use Rattle.noise_handshake.specs.Setup.{party_at_start}
 use Rattle.noise_keys.specs.declared.faults.SetupFault.{SetupFault}
-use Rattle.noise_session.specs.Ends.{EndMatches, end_of}
-use Rattle.noise_duel.specs.Conversation.{sides_at_start}
 use Rattle.noise_duel.specs.DuelValue.{DuelValue, DuelMatches}
-use Rattle.noise_duel.specs.Messages.{Start}
-use Rattle.noise_conversation.specs.Setup.{start_by, IsReportedFault}
 use Rattle.noise_conversation.proofs.Alike.{fault-same}
 use Rattle.noise_conversation.proofs.Faults.{first-reported, next-reported, none-reported}
 use Rattle.noise_conversation.proofs.ends.make_ends.Goals as goal

@@ -1,4 +1,4 @@
-use Rattle.noise_session.specs.Steps.{step_value}
+use Rattle.noise_conversation.proofs.Common.{step_value}
 use Rattle.noise_conversation.proofs.Framed.{judged}
 use Rattle.noise_conversation.proofs.frame.comes_as.Goals as goal
 

@@ -1,10 +1,5 @@
 use Rattle.std.proofs.Common.{◌≡◌, ◌∙◌, ◌∷◌, ◌+◌, ap, sym, ℕ, arith, drop, length}
-use Rattle.std.specs.Prelude.{true}
-use Rattle.std.proofs.lemmas.List.{drop_more}
-use Rattle.noise_names.specs.declared.token.Role.TheVariants.{Initiator}
-use Rattle.noise_names.specs.Tokens.{other}
-use Rattle.noise_duel.specs.Acts.{roles_and_payloads}
-use Rattle.noise_conversation.specs.Lines.{lines_fit_from}
+use Rattle.noise_conversation.proofs.Common.{true, drop_more, Initiator, other, roles_and_payloads, lines_fit_from}
 use Rattle.noise_conversation.proofs.Fit.{one-line, turn-next}
 use Rattle.noise_conversation.proofs.lengths.lines_fit.Goals as goal
 

@@ -1,8 +1,5 @@
 use Rattle.std.proofs.Common.{◌≡◌, drop}
-use Rattle.noise_names.specs.declared.token.Role.TheVariants.{Initiator}
-use Rattle.noise_names.specs.Tokens.{turn_from}
-use Rattle.noise_duel.specs.Acts.{roles_and_payloads}
-use Rattle.noise_conversation.specs.Lines.{lines_fit_from}
+use Rattle.noise_conversation.proofs.Common.{Initiator, turn_from, roles_and_payloads, lines_fit_from}
 use Rattle.noise_conversation.proofs.lengths.lines_fit.Given as goal
 
 abbrev pub invariant-loop-role : goal.invariant-loop-role

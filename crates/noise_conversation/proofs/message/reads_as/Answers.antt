@@ -1,5 +1,5 @@
 use Rattle.std.proofs.Common.{List, ℕ, Ok, Err, ap}
-use Rattle.std.specs.Prelude.{slice_range}
+use Rattle.noise_conversation.proofs.Common.{slice_range}
 use Rattle.noise_conversation.proofs.message.reads_as.Goals as goal
 
 pub returns-in-Ok-clause-exactly : goal.returns-in-Ok-clause-exactly

@@ -1,11 +1,6 @@
 use Rattle.std.proofs.Common.{refl, inr, ℕ}
-use Rattle.std.proofs.lemmas.Result.{err_from_is_err_and}
-use Rattle.noise_names.specs.declared.token.Role.TheVariants.{Initiator, Responder}
-use Rattle.noise_events.specs.Events.{events_of}
+use Rattle.noise_conversation.proofs.Common.{err_from_is_err_and, Initiator, Responder, events_of, Start, HaveSamePsks, start_by}
 use Rattle.noise_duel.specs.Entries.{notes_of}
-use Rattle.noise_duel.specs.Messages.{Start}
-use Rattle.noise_duel.specs.Networks.{HaveSamePsks}
-use Rattle.noise_conversation.specs.Setup.{start_by}
 use Rattle.noise_conversation.proofs.network.run_events.Goals as goal
 
 pub returns-in_err-duel : goal.returns-in_err-duel

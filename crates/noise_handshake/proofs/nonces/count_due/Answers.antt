@@ -3,6 +3,4 @@ use Rattle.noise_handshake.proofs.Counting.{keyed-passed}
 use Rattle.noise_handshake.proofs.nonces.count_due.Goals as goal
 
 pub returns-clause-keyed : goal.returns-clause-keyed
-returns-clause-keyed c =
-    let passed = keyed-passed c.args.valid.now c.args.passed c.requires in
-    search (rules, passed)
+returns-clause-keyed c = search (rules, keyed-passed)

@@ -1,27 +1,11 @@
-use Rattle.std.proofs.Common.{◌≡◌, suc, ap, ℕ, ◌+◌, List, ◌∷◌, ◌++◌, length, drop, sym, subst, arith, drop-drop}
+use Rattle.std.proofs.Common.{rules, ◌≡◌, suc, ap, ℕ, ◌+◌, List, ◌∷◌, ◌++◌, length, drop, sym, subst, arith, drop-drop}
 use Rattle.std.specs.Prelude.{Bool, is_some}
 use Rattle.noise_handshake.proofs.Common.{reader_of, Token, StateMatches, keyed, nonce_now, cipher_key, PlacedToken, token_bytes, after_token, after_tokens, Reader, BeginsAs, cause_of, tokens_of, Fails, Keying, keying_of, keying_after_tokens, nil_from_length}
 use Rattle.noise_handshake.proofs.DhTokens.{none_taken}
-use Rattle.noise_handshake.proofs.Layouts.{first-placed, later-placed, rest-first}
-use Rattle.noise_handshake.proofs.Stepwise.{keying-on, some-token, one-later, place-fits, nonce-left, psk-due, none-after, psks-later, nonces-later}
+use Rattle.noise_handshake.proofs.Layouts.{later-placed, rest-first}
+use Rattle.noise_handshake.proofs.Stepwise.{some-token, one-later, nonce-left, psk-due, none-after, psks-later, nonces-later}
 use Rattle.noise_handshake.proofs.Steps.{led-none, stopped, led, learned-on, stopped-later}
 use Rattle.noise_handshake.proofs.reader.+read_tokens.Goals as goal
-
-pub bytes_from-rest-requires : goal.bytes_from-rest-requires
-bytes_from-rest-requires g t c =
-    let u = first-placed c.args.means.now.has_psks (keyed c.args.state.now) c.requires.placed.0 c.args.placed.now c.in-Some.first.now c.in-Some.later.now c.in-Some.ensures.cases.0 c.requires.placed.2 in
-    omega (arith, u.0, c.requires.placed.1)
-
-pub read_token-requires-clause-width : goal.read_token-requires-clause-width
-read_token-requires-clause-width g t c =
-    let u = first-placed c.args.means.now.has_psks (keyed c.args.state.now) c.requires.placed.0 c.args.placed.now c.in-Some.first.now c.in-Some.later.now c.in-Some.ensures.cases.0 c.requires.placed.2 in
-    u.1
-
-pub overflow_add-result : goal.overflow_add-result
-overflow_add-result g t c =
-    let u = later-placed c.args.means.now.has_psks (keyed c.args.state.now) c.requires.placed.0 c.args.placed.now c.in-Some.first.now c.in-Some.later.now c.in-Some.ensures.cases.0 c.requires.placed.2
-    c.args.message.now c.bytes_from-rest.result.now c.bytes_from-rest.ensures c.requires.placed.1 c.in-Ok.n (keyed c.read_token.new.state) c.in-Ok.ensures.width c.in-Ok.ensures.range (ap (λ (k : Keying). k.keyed) c.in-Ok.ensures.keying) in
-    omega (arith, u.0, c.in-Ok-read_tokens.ensures.range (c.requires.placed.0 + c.in-Some.first.now.width) u.1 u.2)
 
 pub returns-in-Ok-read_tokens-clause-within : goal.returns-in-Ok-read_tokens-clause-within
 returns-in-Ok-read_tokens-clause-within g t c =
@@ -125,18 +109,10 @@ pub returns-in_default-clause-range : goal.returns-in_default-clause-range
 returns-in_default-clause-range g t c place within are = none-after place (length c.args.message.now) within
 
 pub returns-in_default-clause-keying : goal.returns-in_default-clause-keying
-returns-in_default-clause-keying g t c =
-    ap (λ (us : List Token). keying_after_tokens c.args.means.now.has_psks (keying_of c.args.state.now c.args.known.now) us)
-    (sym (ap tokens_of (nil_from_length c.args.placed.now c.in_default.ensures.cases)))
+returns-in_default-clause-keying g t c = search (rules, keying_after_tokens, keying_of, tokens_of, nil_from_length)
 
 pub returns-in-Err-clause-stop : goal.returns-in-Err-clause-stop
 returns-in-Err-clause-stop g t c = some-token (tokens_of c.args.placed.now) (tokens_of c.in-Some.later.now) c.in-Some.first.now.token (ap tokens_of c.in-Some.ensures.cases.0)
-
-pub returns-in-Ok-read_tokens-clause-keying : goal.returns-in-Ok-read_tokens-clause-keying
-returns-in-Ok-read_tokens-clause-keying g t c =
-    keying-on (tokens_of c.args.placed.now) (tokens_of c.in-Some.later.now) c.in-Some.first.now.token (ap tokens_of c.in-Some.ensures.cases.0) c.args.means.now.has_psks
-    (keying_of c.args.state.now c.args.known.now) (keying_of c.read_token.new.state c.read_token.new.known)
-    (keying_of c.read_tokens.new.state c.read_tokens.new.known) c.in-Ok.ensures.keying c.in-Ok-read_tokens.ensures.keying
 
 pub returns-in-Err-read_tokens-clause-stop : goal.returns-in-Err-read_tokens-clause-stop
 returns-in-Err-read_tokens-clause-stop g t c = one-later (tokens_of c.args.placed.now) (tokens_of c.in-Some.later.now) c.in-Some.first.now.token (ap tokens_of c.in-Some.ensures.cases.0) c.in-Err-read_tokens.k c.in-Err-read_tokens.ensures.stop
@@ -149,14 +125,6 @@ read_token-requires-clause-nonces g t c = nonce-left (tokens_of c.args.placed.no
 
 pub psks_after-others-requires : goal.psks_after-others-requires
 psks_after-others-requires g t c = psk-due (tokens_of c.args.placed.now) (tokens_of c.in-Some.later.now) c.in-Some.first.now.token (ap tokens_of c.in-Some.ensures.cases.0) (length c.args.psks.now) c.requires.psks
-
-pub overflow_add-result-in-Err-read_tokens : goal.overflow_add-result-in-Err-read_tokens
-overflow_add-result-in-Err-read_tokens g t c =
-    omega (
-      arith,
-      place-fits (tokens_of c.args.placed.now) (tokens_of c.in-Some.later.now) c.in-Some.first.now.token (ap tokens_of c.in-Some.ensures.cases.0)
-          (nonce_now c.args.state.now) c.in-Err-read_tokens.k c.requires.nonces c.in-Err-read_tokens.ensures.stop,
-    )
 
 pub read_tokens-requires : goal.read_tokens-requires
 read_tokens-requires g t c κs k =

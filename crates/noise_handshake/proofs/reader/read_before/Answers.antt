@@ -1,5 +1,5 @@
-use Rattle.std.proofs.Common.{◌<◌, ◌+◌, List, length, take, drop, sym, ap, subst, refl, ◌∙◌, arith, length-take}
-use Rattle.noise_handshake.proofs.Common.{reader_of, count_by, Token, is_psk, StateMatches, keyed, nonce_now, SymmetricState, Remote, Reader, BeginsAs, remote_after, tokens_of, ArePlaced, StopsKnowing}
+use Rattle.std.proofs.Common.{rules, ◌<◌, List, length, take, sym, ap, subst, refl, arith, length-take}
+use Rattle.noise_handshake.proofs.Common.{reader_of, count_by, Token, is_psk, StateMatches, keyed, nonce_now, SymmetricState, Reader, remote_after, tokens_of, ArePlaced, StopsKnowing}
 use Rattle.noise_handshake.proofs.Fronts.{tokens-take, placed-take, stops-all}
 use Rattle.noise_handshake.proofs.Later.{count-take}
 use Rattle.noise_handshake.proofs.Layouts.{length-tokens_of}
@@ -18,50 +18,20 @@ read_tokens-requires-clause-psks g c =
     omega (arith, c.requires.psks, ap (count_by is_psk) (tokens-take c.args.placed.now c.args.k), count-take (tokens_of c.args.placed.now) c.args.k)
 
 pub read_tokens-requires-clause-nonces : goal.read_tokens-requires-clause-nonces
-read_tokens-requires-clause-nonces g c =
-    omega (
-      arith,
-      c.requires.nonces,
-      ap (λ (z : SymmetricState). nonce_now z) c.for_trial-trial.ensures,
-      ap length (tokens-take c.args.placed.now c.args.k),
-      length-take c.args.k (tokens_of c.args.placed.now),
-    )
+read_tokens-requires-clause-nonces g c = search (rules, nonce_now, tokens-take, length-take, tokens_of)
 
 pub overflow_cast-result : goal.overflow_cast-result
-overflow_cast-result g c =
-    omega (
-      arith,
-      c.in-Err.ensures.stop,
-      ap length (tokens-take c.args.placed.now c.args.k),
-      length-take c.args.k (tokens_of c.args.placed.now),
-      length-tokens_of c.args.placed.now,
-      c.requires.few,
-    )
+overflow_cast-result g c = search (rules, tokens-take, length-take, tokens_of, length-tokens_of)
 
 pub returns-in-Ok : goal.returns-in-Ok
-returns-in-Ok g c r s =
-    let v : Reader = reader_of g.K.Keys.agreement c.args.means.now in
-    let trial : StateMatches c.for_trial-trial.result r = subst (λ (z : SymmetricState). StateMatches z r) (sym c.for_trial-trial.ensures) s in
-    let placed : ArePlaced c.args.means.now.has_psks (keyed c.for_trial-trial.result) 0 (take c.args.k c.args.placed.now) =
-    subst (λ (z : SymmetricState). ArePlaced c.args.means.now.has_psks (keyed z) 0 (take c.args.k c.args.placed.now)) (sym c.for_trial-trial.ensures)
-    (placed-take c.args.means.now.has_psks (keyed c.args.state.now) 0 c.args.placed.now c.args.k c.requires.placed) in
-    let i = c.in-Ok.ensures.read r 0 trial (omega arith) placed in
-    let e = tokens-take c.args.placed.now c.args.k in
-    record {
-      carried = i.0;
-      rest = drop (0 + c.in-Ok.field-0) c.args.message.now;
-      leads = subst (λ (us : List Token). BeginsAs v c.args.known.now c.args.psks.now r us i.0 c.args.message.now
-          (drop (0 + c.in-Ok.field-0) c.args.message.now)) e i.1;
-      remote_is = ap (λ (z : Remote). z.s) i.3 ∙ ap (λ (us : List Token). (remote_after c.args.known.now us i.0).s) e;
-    }
+returns-in-Ok g c r s = search (rules, reader_of, keyed, placed-take, tokens-take, remote_after)
 
 pub returns-in-Err : goal.returns-in-Err
 returns-in-Err g c r s =
     let v : Reader = reader_of g.K.Keys.agreement c.args.means.now in
     let trial : StateMatches c.for_trial-trial.result r = subst (λ (z : SymmetricState). StateMatches z r) (sym c.for_trial-trial.ensures) s in
     let placed : ArePlaced c.args.means.now.has_psks (keyed c.for_trial-trial.result) 0 (take c.args.k c.args.placed.now) =
-    subst (λ (z : SymmetricState). ArePlaced c.args.means.now.has_psks (keyed z) 0 (take c.args.k c.args.placed.now)) (sym c.for_trial-trial.ensures)
-    (placed-take c.args.means.now.has_psks (keyed c.args.state.now) 0 c.args.placed.now c.args.k c.requires.placed) in
+    search (rules, keyed, placed-take) in
     let i = c.in-Err.ensures.read r 0 trial (omega arith) placed in
     let ts : List Token = tokens_of c.args.placed.now in
     let e = tokens-take c.args.placed.now c.args.k in

@@ -1,4 +1,4 @@
-use Rattle.std.proofs.Common.{arith, refl, sym, subst}
+use Rattle.std.proofs.Common.{arith, sym, subst}
 use Rattle.noise_handshake.proofs.Common.{reader_of, StateMatches, keyed, SymmetricState, Reader, tokens_of, ArePlaced}
 use Rattle.noise_handshake.proofs.Wanted.{all-read}
 use Rattle.noise_handshake.proofs.reader.read_lacking.Goals as goal
@@ -18,11 +18,3 @@ returns-in-Ok g c r s k stops =
     subst (λ (z : SymmetricState). ArePlaced c.args.means.now.has_psks (keyed z) 0 c.args.placed.now) (sym c.for_trial-trial.ensures) c.requires.placed in
     let i = c.in-Ok.ensures.read r 0 trial (omega arith) placed in
     all-read v c.args.known.now c.args.psks.now r (tokens_of c.args.placed.now) i.0 c.args.message.now _ k i.1 stops
-
-pub returns-in-Err : goal.returns-in-Err
-returns-in-Err g c r s =
-    let v : Reader = reader_of g.K.Keys.agreement c.args.means.now in
-    let trial : StateMatches c.for_trial-trial.result r = subst (λ (z : SymmetricState). StateMatches z r) (sym c.for_trial-trial.ensures) s in
-    let placed : ArePlaced c.args.means.now.has_psks (keyed c.for_trial-trial.result) 0 c.args.placed.now =
-    subst (λ (z : SymmetricState). ArePlaced c.args.means.now.has_psks (keyed z) 0 c.args.placed.now) (sym c.for_trial-trial.ensures) c.requires.placed in
-    c.lacked.ensures v c.args.known.now c.args.psks.now r c.args.message.now refl c.requires.known (c.in-Err.ensures.read r 0 trial (omega arith) placed)

@@ -1,6 +1,6 @@
 use Rattle.std.proofs.Common.{◌≡◌, ◌<◌, ◌≤◌, ◌^◌, ℕ, ◌+◌, ◌-◌, List, length, take, drop, slice_range, ap, sym, subst, ◌∙◌, arith, length-drop, rules, length-take, take_all, nat_lt, if◌then◌else◌}
 use Rattle.std.proofs.lemmas.Slice.{take-put_mid_below}
-use Rattle.noise_handshake.proofs.Common.{reader_of, take_rest, StateMatches, keyed, nonce_now, nonce_now-is, History, Ciphertext, and_then, ciphertext, nonce, after_tokens, Token, Reader, BeginsAs, StopsKnowing, tokens_of, Keying}
+use Rattle.noise_handshake.proofs.Common.{reader_of, take_rest, StateMatches, keyed, nonce_now, History, Ciphertext, and_then, ciphertext, nonce, after_tokens, Token, Reader, BeginsAs, StopsKnowing, tokens_of}
 use borrow.Rule.Slice.PartMut.{put_mid}
 use Rattle.noise_handshake.specs.declared.faults.Cause.TheVariants.{Short, Tag}
 use Rattle.noise_handshake.proofs.Counting.{nonces-most}
@@ -14,26 +14,10 @@ pub read_tokens-requires-clause-placed : goal.read_tokens-requires-clause-placed
 read_tokens-requires-clause-placed g c = (0, omega arith, c.requires.placed)
 
 pub unreachable-requires : goal.unreachable-requires
-unreachable-requires g c =
-    let left : nonce_now c.read_tokens.new.state < 2 ^ 64 - 1 =
-    omega (
-      arith,
-      ap (λ (k : Keying). k.nonce) c.in-Ok.ensures.keying,
-      nonces-most c.args.means.now.has_psks (keyed c.args.state.now) (nonce_now c.args.state.now) (tokens_of c.args.placed.now),
-      c.requires.nonces,
-    ) in
-    search rules
+unreachable-requires g c = search (rules, nonce_now, nonces-most, keyed, tokens_of)
 
 pub returns-in-Ok-decrypt_and_hash-clause-beyond : goal.returns-in-Ok-decrypt_and_hash-clause-beyond
-returns-in-Ok-decrypt_and_hash-clause-beyond g c =
-    let m : List ℕ = c.args.message.now in
-    let n : ℕ = c.in-Ok.from in
-    let new : List ℕ = c.decrypt_and_hash.new.buf in
-    let within : n ≤ length m = omega (arith, c.in-Ok.ensures.within) in (
-      take-put_mid_below n (length m - n) m new n (omega arith) within,
-      rest-at m new n c.in-Ok-decrypt_and_hash.len within
-          (c.in-Ok-decrypt_and_hash.ensures.beyond ∙ ap (drop c.in-Ok-decrypt_and_hash.len) (take_rest m n)),
-    )
+returns-in-Ok-decrypt_and_hash-clause-beyond g c = search (rules, take-put_mid_below, rest-at, take_rest)
 
 pub returns-in-Ok-decrypt_and_hash-clause-read : goal.returns-in-Ok-decrypt_and_hash-clause-read
 returns-in-Ok-decrypt_and_hash-clause-read g c r s =
@@ -72,13 +56,7 @@ returns-in-Err-Short-clause-read g c r s =
     let i1 : BeginsAs v c.args.known.now c.args.psks.now r (tokens_of c.args.placed.now) start.0 m (drop n m) =
     subst (λ (k : ℕ). BeginsAs v c.args.known.now c.args.psks.now r (tokens_of c.args.placed.now) start.0 m (drop k m)) none start.1 in
     let after : History = after_tokens c.args.means.now.has_psks r (tokens_of c.args.placed.now) start.0 in
-    let nonces : nonce after < 2 ^ 64 - 1 =
-    omega (
-      arith,
-      nonce_now-is c.read_tokens.new.state after start.2,
-      ap (λ (k : Keying). k.nonce) c.in-Ok.ensures.keying,
-      nonces-most c.args.means.now.has_psks (keyed c.args.state.now) (nonce_now c.args.state.now) (tokens_of c.args.placed.now),
-    ) in
+    let nonces : nonce after < 2 ^ 64 - 1 = search rules in
     let fits : length (take (length m - n) (drop n m)) ≤ 65535 = omega (arith, length-drop n m, length-take (length m - n) (drop n m)) in
     let goes : take (length m - n) (drop n m) ≡ drop n m = take_all (length m - n) (drop n m) (omega (arith, length-drop n m)) in
     let ts : List Token = tokens_of c.args.placed.now in

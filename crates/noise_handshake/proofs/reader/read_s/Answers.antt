@@ -1,13 +1,10 @@
-use Rattle.std.proofs.Common.{◌≡◌, ℕ, length, take, ap, ◌∙◌, arith, length-take}
+use Rattle.std.proofs.Common.{rules, ◌≡◌, ℕ, length, take, ap, ◌∙◌, arith, length-take}
 use Rattle.noise_handshake.proofs.Common.{width_of_key}
 use Rattle.noise_handshake.proofs.Static.{short-key, why-short, wrong-key, why-tag, width-is}
 use Rattle.noise_handshake.proofs.reader.read_s.Goals as goal
 
 pub returns-then-message-width-clause-read : goal.returns-then-message-width-clause-read
-returns-then-message-width-clause-read c r s =
-    let w = width-is c.args.state.now r c.args.width s c.requires.width in
-    let n : ℕ = c.args.width in
-    (short-key r c.args.message.now n w c.if-message-width.true, why-short r c.args.message.now n w c.if-message-width.true)
+returns-then-message-width-clause-read c r s = search (rules, width-is, short-key, why-short)
 
 pub returns-in-None-clause-read : goal.returns-in-None-clause-read
 returns-in-None-clause-read c r s =

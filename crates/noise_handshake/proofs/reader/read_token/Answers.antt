@@ -1,7 +1,6 @@
-use Rattle.std.proofs.Common.{◌≡◌, [], get_or, length, refl, sym, ap, subst, ◌∙◌}
-use Rattle.std.specs.Prelude.{true, is_some}
-use Rattle.noise_handshake.proofs.Common.{reader_of, StateMatches, keyed, nonce_now, cipher_key, IfOk, OnOk, Token, E, S, token_width, keying_of, keying_after}
-use Rattle.noise_handshake.proofs.DhTokens.{dh-width, dh-keying, dh-read, dh-fails, none_taken, keying-is}
+use Rattle.std.proofs.Common.{◌≡◌, [], get_or, length, refl, sym, ap, subst}
+use Rattle.noise_handshake.proofs.Common.{reader_of, StateMatches, keyed, IfOk, OnOk, Token, E, S, token_width, keying_of, keying_after}
+use Rattle.noise_handshake.proofs.DhTokens.{none_taken}
 use Rattle.noise_handshake.proofs.Psks.{first_psk-read, psk-read, read-as, of_width}
 use Rattle.noise_handshake.proofs.reader.read_token.Goals as goal
 
@@ -12,27 +11,8 @@ returns-in-Psk-clause-read g c r s =
     c.args.known.now c.args.psks.now r c.args.placed.token c.args.message.now (get_or c.args.psks.now 0 [])
     c.in-Psk.is (first_psk-read c.args.psks.now) (c.mix_key_and_hash.ensures.matches r s)
 
-pub returns-in-Some-clause-width : goal.returns-in-Some-clause-width
-returns-in-Some-clause-width g c =
-    let d = c.in_default in
-    dh-width c.args.placed.token d.not-E d.not-S d.not-Psk (keyed c.args.state.now)
-
-pub returns-in-Some-clause-read : goal.returns-in-Some-clause-read
-returns-in-Some-clause-read g c r s =
-    let d = c.in_default in
-    dh-read c.args.placed.token d.not-E d.not-S d.not-Psk StateMatches c.mix_key.new.self
-    (reader_of g.K.Keys.agreement c.args.means.now)
-    c.args.known.now c.args.psks.now r c.args.message.now c.in-Some.dh_result c.dh_result_at.result c.dh_result_at.ensures c.in-Some.is (c.mix_key.ensures.matches r s)
-
 pub returns-in-None-clause-unchanged : goal.returns-in-None-clause-unchanged
 returns-in-None-clause-unchanged g c = refl
-
-pub returns-in-None-clause-read : goal.returns-in-None-clause-read
-returns-in-None-clause-read g c r s =
-    let d = c.in_default in
-    dh-fails c.args.placed.token d.not-E d.not-S d.not-Psk
-    (reader_of g.K.Keys.agreement c.args.means.now)
-    c.args.known.now c.args.psks.now r c.args.message.now (is_some (cipher_key r)) c.dh_result_at.result c.dh_result_at.ensures c.in-None.is
 
 pub returns-in-E-clause-width : goal.returns-in-E-clause-width
 returns-in-E-clause-width g c = subst (λ (t : Token). IfOk c.read_e.result (λ n. n ≡ token_width (keyed c.args.state.now) t)) (sym c.in-E.is) c.read_e.ensures.width
@@ -72,23 +52,6 @@ returns-in-Psk-clause-range g c = none_taken (length c.args.message.now)
 
 pub returns-in-Some-clause-range : goal.returns-in-Some-clause-range
 returns-in-Some-clause-range g c = none_taken (length c.args.message.now)
-
-pub returns-in-Some-clause-keying : goal.returns-in-Some-clause-keying
-returns-in-Some-clause-keying g c =
-    let d = c.in_default in
-    keying-is (keying_of c.args.state.now c.args.known.now) (keyed c.mix_key.new.self) true (nonce_now c.mix_key.new.self) 0 c.mix_key.ensures.key c.mix_key.ensures.nonce
-    ∙ dh-keying c.args.placed.token d.not-E d.not-S d.not-Psk c.args.means.now.has_psks (keying_of c.args.state.now c.args.known.now)
-
-pub returns-in-Psk-clause-keying : goal.returns-in-Psk-clause-keying
-returns-in-Psk-clause-keying g c =
-    keying-is (keying_of c.args.state.now c.args.known.now) (keyed c.mix_key_and_hash.new.self) true (nonce_now c.mix_key_and_hash.new.self) 0
-    c.mix_key_and_hash.ensures.key c.mix_key_and_hash.ensures.nonce
-    ∙ ap (keying_after c.args.means.now.has_psks (keying_of c.args.state.now c.args.known.now)) (sym c.in-Psk.is)
-
-pub returns-in-E-clause-keying : goal.returns-in-E-clause-keying
-returns-in-E-clause-keying g c =
-    subst (λ (t : Token). OnOk c.read_e.result (keying_of c.read_e.new.state c.read_e.new.known
-    ≡ keying_after c.args.means.now.has_psks (keying_of c.args.state.now c.args.known.now) t)) (sym c.in-E.is) c.read_e.ensures.keying
 
 pub returns-in-S-clause-keying : goal.returns-in-S-clause-keying
 returns-in-S-clause-keying g c =

@@ -1,4 +1,4 @@
-use Rattle.std.proofs.Common.{◌≡◌, suc, ap, refl, length, arith}
+use Rattle.std.proofs.Common.{rules, ap, refl, length}
 use Rattle.std.specs.Prelude.{is_some}
 use Rattle.noise_handshake.proofs.Common.{writer_of, is_known, has_own, Writer, tokens_of}
 use Rattle.noise_handshake.proofs.Stepwise.{psk-due, all-first, all-later, psks-later}
@@ -6,11 +6,7 @@ use Rattle.noise_handshake.proofs.Lacked.{asked-later, asked-first}
 use Rattle.noise_handshake.proofs.writer.+write_lacking.Goals as goal
 
 pub returns-in-Some : goal.returns-in-Some
-returns-in-Some g t c =
-    let w : Writer = writer_of g.K.Keys.public_of g.K.Keys.agreement c.args.means.now in
-    asked-later w c.args.known.now c.args.psks.now c.psks_after-others.result.now (tokens_of c.args.placed.now) (tokens_of c.in_ok-first.later.now)
-    c.in_ok-first.first.now.token _ (ap tokens_of c.in_ok-first.ensures.cases.0) c.psks_after-others.ensures c.in-Some.ensures.text
-    c.write_lacking.result c.write_lacking.ensures
+returns-in-Some g t c = search (rules, writer_of, asked-later, tokens_of)
 
 pub returns-in-None : goal.returns-in-None
 returns-in-None g t c =
@@ -31,17 +27,4 @@ pub psks_after-others-requires : goal.psks_after-others-requires
 psks_after-others-requires g t c = psk-due (tokens_of c.args.placed.now) (tokens_of c.in_ok-first.later.now) c.in_ok-first.first.now.token (ap tokens_of c.in_ok-first.ensures.cases.0) (length c.args.psks.now) c.requires.psks
 
 pub write_lacking-requires : goal.write_lacking-requires
-write_lacking-requires g t c κs k =
-    let fewer : length c.args.placed.now ≡ suc (length c.in_ok-first.later.now) = ap length c.in_ok-first.ensures.cases.0 in (
-      omega (arith, fewer, c.decreases),
-      (
-        k,
-        (
-          psks-later (tokens_of c.args.placed.now) (tokens_of c.in_ok-first.later.now) c.in_ok-first.first.now.token (ap tokens_of c.in_ok-first.ensures.cases.0) c.args.psks.now c.psks_after-others.result.now c.psks_after-others.ensures c.requires.psks,
-          (
-            all-later (tokens_of c.args.placed.now) (tokens_of c.in_ok-first.later.now) c.in_ok-first.first.now.token (ap tokens_of c.in_ok-first.ensures.cases.0) (has_own (g.K.Keys.public_of c.args.means.now.keys)) c.requires.own,
-            all-later (tokens_of c.args.placed.now) (tokens_of c.in_ok-first.later.now) c.in_ok-first.first.now.token (ap tokens_of c.in_ok-first.ensures.cases.0) (is_known c.args.means.now.role (is_some c.args.known.now.e) (is_some c.args.known.now.s)) c.requires.known,
-          ),
-        ),
-      ),
-    )
+write_lacking-requires g t c κs k = search (rules, psks-later, tokens_of, all-later, has_own, is_known)

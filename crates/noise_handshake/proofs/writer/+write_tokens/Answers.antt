@@ -1,26 +1,13 @@
-use Rattle.std.proofs.Common.{◌≡◌, suc, ap, ℕ, ◌+◌, ◌-◌, ◌≤◌, List, ◌∷◌, length, take, drop, sym, ◌∙◌, arith, length-take, length-drop}
+use Rattle.std.proofs.Common.{rules, ◌≡◌, suc, ap, ℕ, ◌+◌, ◌-◌, ◌≤◌, List, ◌∷◌, length, take, drop, sym, ◌∙◌, arith, length-take, length-drop}
 use Rattle.std.specs.Prelude.{Bool}
 use Rattle.noise_handshake.proofs.Common.{writer_of, StateMatches, keyed, nonce_now, Token, History, after_token, Writer, tokens_of, keyed_after_tokens, tokens_width, nonce_after_tokens, nil_from_length, has_own}
 use Rattle.noise_handshake.proofs.Giving.{widths, given-on, front-on, after-on, lacks-on}
-use Rattle.noise_handshake.proofs.Stepwise.{keyed-on, nonce-on, some-token, one-later, nonce-left, psk-due, place-fits, width-on, room-first, room-later, lacks-first, all-first, all-later, psks-later, nonces-later}
+use Rattle.noise_handshake.proofs.Stepwise.{keyed-on, some-token, one-later, nonce-left, psk-due, place-fits, room-first, room-later, all-later, psks-later, nonces-later}
 use Rattle.noise_handshake.proofs.Written.{joined, rest-after}
 use Rattle.noise_handshake.proofs.writer.+write_tokens.Goals as goal
 
 pub returns-in-Ok-clause-beyond : goal.returns-in-Ok-clause-beyond
-returns-in-Ok-clause-beyond g t c =
-    let n : ℕ = c.in-Some-write_token.n in
-    let k : ℕ = c.in-Ok.more in
-    let token : Token = c.in-Some.first.now.token in
-    let later : List Token = tokens_of c.in-Some.later.now in
-    let key : Bool = keyed c.args.state.now in
-    let split : tokens_of c.args.placed.now ≡ token ∷ later = ap tokens_of c.in-Some.ensures.cases.0 in
-    let both : n + k ≤ length c.args.out.now =
-    widths c.args.means.now.has_psks key (keyed c.write_token.new.state) (tokens_of c.args.placed.now) later token n k (length c.args.out.now) split c.requires.room
-    c.in-Some-write_token.ensures.width c.in-Some-write_token.ensures.keyed c.in-Ok.ensures.width in
-    let fits : n ≤ length c.write_token.new.out = omega (arith, both) in
-    let long : k ≤ length c.write_tokens.new.out =
-    omega (arith, both, length-take (length c.write_token.new.out - n) (drop n c.write_token.new.out), length-drop n c.write_token.new.out) in
-    rest-after c.write_token.new.out c.write_tokens.new.out n k fits long c.args.out.now c.in-Some-write_token.ensures.beyond c.in-Ok.ensures.beyond
+returns-in-Ok-clause-beyond g t c = search (rules, tokens_of, keyed, widths, length-take, length-drop, rest-after)
 
 pub returns-in-Ok-clause-written : goal.returns-in-Ok-clause-written
 returns-in-Ok-clause-written g t c r s =
@@ -31,9 +18,7 @@ returns-in-Ok-clause-written g t c r s =
     let later : List Token = tokens_of c.in-Some.later.now in
     let key : Bool = keyed c.args.state.now in
     let split : tokens_of c.args.placed.now ≡ token ∷ later = ap tokens_of c.in-Some.ensures.cases.0 in
-    let both : n + k ≤ length c.args.out.now =
-    widths c.args.means.now.has_psks key (keyed c.write_token.new.state) (tokens_of c.args.placed.now) later token n k (length c.args.out.now) split c.requires.room
-    c.in-Some-write_token.ensures.width c.in-Some-write_token.ensures.keyed c.in-Ok.ensures.width in
+    let both : n + k ≤ length c.args.out.now = search rules in
     let fits : n ≤ length c.write_token.new.out = omega (arith, both) in
     let long : k ≤ length c.write_tokens.new.out =
     omega (arith, both, length-take (length c.write_token.new.out - n) (drop n c.write_token.new.out), length-drop n c.write_token.new.out) in
@@ -73,23 +58,8 @@ returns-in_default-clause-counted g t c = ap (λ (us : List Token). nonce_after_
 pub returns-in_default-write_token-clause-width : goal.returns-in_default-write_token-clause-width
 returns-in_default-write_token-clause-width g t c = some-token (tokens_of c.args.placed.now) (tokens_of c.in-Some.later.now) c.in-Some.first.now.token (ap tokens_of c.in-Some.ensures.cases.0)
 
-pub returns-in_default-write_token-clause-written : goal.returns-in_default-write_token-clause-written
-returns-in_default-write_token-clause-written g t c r s =
-    let w : Writer = writer_of g.K.Keys.public_of g.K.Keys.agreement c.args.means.now in
-    lacks-first (tokens_of c.args.placed.now) (tokens_of c.in-Some.later.now) c.in-Some.first.now.token (ap tokens_of c.in-Some.ensures.cases.0) w c.args.known.now c.args.psks.now (c.in_default-write_token.ensures.written r s)
-
-pub returns-in-Ok-clause-width : goal.returns-in-Ok-clause-width
-returns-in-Ok-clause-width g t c =
-    width-on (tokens_of c.args.placed.now) (tokens_of c.in-Some.later.now) c.in-Some.first.now.token (ap tokens_of c.in-Some.ensures.cases.0) c.args.means.now.has_psks (keyed c.args.state.now) (keyed c.write_token.new.state) c.in-Some-write_token.n c.in-Ok.more
-    c.in-Some-write_token.ensures.width c.in-Some-write_token.ensures.keyed c.in-Ok.ensures.width
-
 pub returns-in-Ok-clause-keyed : goal.returns-in-Ok-clause-keyed
 returns-in-Ok-clause-keyed g t c = keyed-on (tokens_of c.args.placed.now) (tokens_of c.in-Some.later.now) c.in-Some.first.now.token (ap tokens_of c.in-Some.ensures.cases.0) c.args.means.now.has_psks (keyed c.args.state.now) (keyed c.write_token.new.state) (keyed c.write_tokens.new.state) c.in-Some-write_token.ensures.keyed c.in-Ok.ensures.keyed
-
-pub returns-in-Ok-clause-counted : goal.returns-in-Ok-clause-counted
-returns-in-Ok-clause-counted g t c =
-    nonce-on (tokens_of c.args.placed.now) (tokens_of c.in-Some.later.now) c.in-Some.first.now.token (ap tokens_of c.in-Some.ensures.cases.0) c.args.means.now.has_psks (keyed c.args.state.now) (keyed c.write_token.new.state)
-    (nonce_now c.args.state.now) (nonce_now c.write_token.new.state) (nonce_now c.write_tokens.new.state) c.in-Some-write_token.ensures.keyed c.in-Some-write_token.ensures.counted c.in-Ok.ensures.counted
 
 pub returns-in-Err-clause-width : goal.returns-in-Err-clause-width
 returns-in-Err-clause-width g t c = one-later (tokens_of c.args.placed.now) (tokens_of c.in-Some.later.now) c.in-Some.first.now.token (ap tokens_of c.in-Some.ensures.cases.0) c.in-Err.k c.in-Err.ensures.width
@@ -108,11 +78,6 @@ psks_after-others-requires g t c = psk-due (tokens_of c.args.placed.now) (tokens
 
 pub overflow_add-result-in-Err : goal.overflow_add-result-in-Err
 overflow_add-result-in-Err g t c = omega (arith, place-fits (tokens_of c.args.placed.now) (tokens_of c.in-Some.later.now) c.in-Some.first.now.token (ap tokens_of c.in-Some.ensures.cases.0) (nonce_now c.args.state.now) c.in-Err.k c.requires.nonces c.in-Err.ensures.width)
-
-pub write_token-requires-clause-own : goal.write_token-requires-clause-own
-write_token-requires-clause-own g t c =
-    all-first (tokens_of c.args.placed.now) (tokens_of c.in-Some.later.now) c.in-Some.first.now.token (ap tokens_of c.in-Some.ensures.cases.0)
-    (has_own (g.K.Keys.public_of c.args.means.now.keys)) c.requires.own
 
 pub write_tokens-requires : goal.write_tokens-requires
 write_tokens-requires g t c κs k =

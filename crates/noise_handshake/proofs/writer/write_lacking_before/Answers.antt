@@ -1,5 +1,4 @@
-use Rattle.std.proofs.Common.{◌≡◌, ℕ, List, true, sym, ap, subst, arith}
-use Rattle.std.specs.Prelude.{is_some}
+use Rattle.std.proofs.Common.{rules, ℕ, List, ap, subst, arith}
 use Rattle.noise_handshake.proofs.Common.{writer_of, MatchOption, count_by, list_all, Token, is_psk, LacksDhResultFor, Writer, LacksDhResultAt, is_known, tokens_of, has_own}
 use Rattle.noise_handshake.proofs.Fronts.{tokens-take, all-take}
 use Rattle.noise_handshake.proofs.Later.{count-take}
@@ -10,16 +9,10 @@ write_lacking-requires-clause-psks g c =
     omega (arith, c.requires.psks, ap (count_by is_psk) (tokens-take c.args.placed.now c.args.k), count-take (tokens_of c.args.placed.now) c.args.k)
 
 pub write_lacking-requires-clause-own : goal.write_lacking-requires-clause-own
-write_lacking-requires-clause-own g c =
-    subst (λ (us : List Token). list_all (has_own (g.K.Keys.public_of c.args.means.now.keys)) us ≡ true) (sym (tokens-take c.args.placed.now c.args.k))
-    (all-take (has_own (g.K.Keys.public_of c.args.means.now.keys)) (tokens_of c.args.placed.now) c.args.k c.requires.own)
+write_lacking-requires-clause-own g c = search (rules, list_all, has_own, tokens-take, all-take, tokens_of)
 
 pub write_lacking-requires-clause-known : goal.write_lacking-requires-clause-known
-write_lacking-requires-clause-known g c =
-    subst (λ (us : List Token). list_all (is_known c.args.means.now.role (is_some c.args.known.now.e) (is_some c.args.known.now.s)) us ≡ true)
-    (sym (tokens-take c.args.placed.now c.args.k))
-    (all-take (is_known c.args.means.now.role (is_some c.args.known.now.e) (is_some c.args.known.now.s)) (tokens_of c.args.placed.now) c.args.k
-    c.requires.known)
+write_lacking-requires-clause-known g c = search (rules, list_all, is_known, tokens-take, all-take, tokens_of)
 
 pub returns : goal.returns
 returns g c =

@@ -1,4 +1,4 @@
-use Rattle.std.proofs.Common.{ℕ, ◌+◌, ◌-◌, ◌≤◌, List, ◌++◌, length, take, drop, ap, ◌∙◌, arith, length-take, length-drop}
+use Rattle.std.proofs.Common.{rules, ℕ, ◌+◌, ◌-◌, ◌≤◌, List, ◌++◌, length, take, drop, ap, ◌∙◌, arith, length-take, length-drop}
 use Rattle.noise_handshake.proofs.Common.{keyed, nonce_now, before_payload, after_tokens, tokens_of}
 use Rattle.noise_handshake.proofs.Counting.{nonces-most}
 use Rattle.noise_handshake.proofs.Giving.{widths-last}
@@ -6,27 +6,10 @@ use Rattle.noise_handshake.proofs.Written.{joined, rest-after}
 use Rattle.noise_handshake.proofs.writer.write_message.Goals as goal
 
 pub write_part-requires-clause-nonces : goal.write_part-requires-clause-nonces
-write_part-requires-clause-nonces g c =
-    omega (
-      arith,
-      c.in-Ok.ensures.counted,
-      nonces-most c.args.means.now.has_psks (keyed c.args.state.now) (nonce_now c.args.state.now) (tokens_of c.args.placed.now),
-      c.requires.nonces,
-    )
+write_part-requires-clause-nonces g c = search (rules, nonces-most, keyed, nonce_now, tokens_of)
 
 pub returns-clause-beyond : goal.returns-clause-beyond
-returns-clause-beyond g c =
-    let n : ℕ = c.in-Ok.from in
-    let k : ℕ = c.write_part.result in
-    let first : List ℕ = c.write_tokens.new.out in
-    let second : List ℕ = c.write_part.new.out in
-    let both : n + k ≤ length c.args.out.now =
-    widths-last c.args.means.now.has_psks (keyed c.args.state.now) (keyed c.write_tokens.new.state) (tokens_of c.args.placed.now) n k
-    (length c.args.payload.now) (length c.args.out.now)
-    c.requires.room c.in-Ok.ensures.width c.in-Ok.ensures.keyed c.write_part.ensures.width in
-    let fits : n ≤ length first = omega (arith, both) in
-    let long : k ≤ length second = omega (arith, both, length-take (length first - n) (drop n first), length-drop n first) in
-    rest-after first second n k fits long c.args.out.now c.in-Ok.ensures.beyond c.write_part.ensures.beyond
+returns-clause-beyond g c = search (rules, widths-last, keyed, tokens_of, length-take, length-drop, rest-after)
 
 pub returns-clause-written : goal.returns-clause-written
 returns-clause-written g c r s =
@@ -34,10 +17,7 @@ returns-clause-written g c r s =
     let k : ℕ = c.write_part.result in
     let first : List ℕ = c.write_tokens.new.out in
     let second : List ℕ = c.write_part.new.out in
-    let both : n + k ≤ length c.args.out.now =
-    widths-last c.args.means.now.has_psks (keyed c.args.state.now) (keyed c.write_tokens.new.state) (tokens_of c.args.placed.now) n k
-    (length c.args.payload.now) (length c.args.out.now)
-    c.requires.room c.in-Ok.ensures.width c.in-Ok.ensures.keyed c.write_part.ensures.width in
+    let both : n + k ≤ length c.args.out.now = search rules in
     let fits : n ≤ length first = omega (arith, both) in
     let long : k ≤ length second = omega (arith, both, length-take (length first - n) (drop n first), length-drop n first) in
     let a = c.in-Ok.ensures.written r s in

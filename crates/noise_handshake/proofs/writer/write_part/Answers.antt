@@ -14,11 +14,6 @@ returns-clause-beyond c =
     let n : c.in-Ok.width ≡ len + tag = omega (arith, c.in-Ok.ensures.range.0, sealed_len-tag (keyed c.args.state.now) len, c.tag_width.ensures) in
     rest-unchanged c.args.out.now put new len tag (len + tag) c.in-Ok.width refl n same c.put-len.ensures.beyond
 
-pub encrypt_and_hash-requires : goal.encrypt_and_hash-requires
-encrypt_and_hash-requires c _ =
-    let len : ℕ = c.put-len.result in
-    omega (arith, length-take (len + c.tag_width.result) c.put-len.new.out, sealed_len-tag (keyed c.args.state.now) len, c.tag_width.ensures)
-
 pub unreachable-requires : goal.unreachable-requires
 unreachable-requires c = let a = c.in-Err in not-refused (keyed c.args.state.now) (nonce_now c.args.state.now) c.put-len.result c.in-Err.field-0
     (omega arith) (omega (arith, c.tag_width.ensures)) c.in-Err.ensures.refused

@@ -1,5 +1,5 @@
-use Rattle.std.proofs.Common.{◌≡◌, ℕ, List, [], length, take, get_or, refl, sym, ap, ◌∙◌, arith}
-use Rattle.noise_handshake.proofs.Common.{writer_of, StateMatches, keyed, nonce_now, keyed_after, token_width, nonce_after, Writer, E, S}
+use Rattle.std.proofs.Common.{[], get_or, refl, sym, ap, ◌∙◌}
+use Rattle.noise_handshake.proofs.Common.{writer_of, StateMatches, keyed, nonce_now, keyed_after, token_width, nonce_after, Writer}
 use Rattle.noise_names.specs.declared.token.Token.TheVariants.{Psk}
 use Rattle.noise_handshake.proofs.Psks.{first_psk-read, written-as}
 use Rattle.noise_handshake.proofs.writer.write_token.Goals as goal
@@ -33,24 +33,6 @@ returns-in-Psk-clause-keyed g c = c.mix_key_and_hash.ensures.key ∙ ap (keyed_a
 
 pub returns-in-Psk-clause-counted : goal.returns-in-Psk-clause-counted
 returns-in-Psk-clause-counted g c = c.mix_key_and_hash.ensures.nonce ∙ ap (nonce_after c.args.means.now.has_psks (keyed c.args.state.now) (nonce_now c.args.state.now)) (sym c.in-Psk.is)
-
-pub returns-in-Some-clause-written : goal.returns-in-Some-clause-written
-returns-in-Some-clause-written g c r s =
-    let w : Writer = writer_of g.K.Keys.public_of g.K.Keys.agreement c.args.means.now in
-    let key : List ℕ = c.in-Some.key in
-    let long : length key ≡ 32 = omega arith in
-    let d = c.write_e.ensures.written r s in
-    written-as StateMatches c.write_e.new.state w c.args.known.now c.args.psks.now r (take c.write_e.result c.write_e.new.out) E c.args.token c.in-E.is
-    (key, (cc, long), d.0, d.1)
-
-pub returns-in-Some-public-clause-written : goal.returns-in-Some-public-clause-written
-returns-in-Some-public-clause-written g c r s =
-    let w : Writer = writer_of g.K.Keys.public_of g.K.Keys.agreement c.args.means.now in
-    let key : List ℕ = c.in-Some-public.key in
-    let long : length key ≡ 32 = omega arith in
-    let d = c.write_part.ensures.written r s in
-    written-as StateMatches c.write_part.new.state w c.args.known.now c.args.psks.now r (take c.write_part.result c.write_part.new.out) S c.args.token c.in-S.is
-    (key, (cc, long), d.0, d.1)
 
 pub returns-in-Psk-clause-written : goal.returns-in-Psk-clause-written
 returns-in-Psk-clause-written g c r s =

@@ -1,4 +1,4 @@
-use Rattle.std.proofs.Common.{◌∙◌, length, refl, ap, arith}
+use Rattle.std.proofs.Common.{rules, ◌∙◌, length, refl, ap, arith}
 use Rattle.noise_handshake.proofs.Common.{Keying}
 use Rattle.noise_handshake.proofs.Layouts.{length-tokens_of}
 use Rattle.noise_handshake.proofs.Next.{reads-next, reads-theirs, reads-unended, places-next, psks-next, nonces-next, known-next, used-next, key-next, unchanged-read, advances-next, trial-next, listening-next, after-read}
@@ -7,20 +7,13 @@ use Rattle.noise_handshake.proofs.Wanted.{wants}
 use Rattle.noise_handshake.proofs.handshake.Handshake.attempt.Goals as goal
 
 pub read_message-requires-clause-placed : goal.read_message-requires-clause-placed
-read_message-requires-clause-placed g c =
-    let less = reads-next g.K.Keys.public_of c.self.inside c.self.invariant c.args.self.now c.self.view_is c.requires.due in
-    places-next g.K.Keys.public_of c.self.inside c.self.invariant less c.deref-2.result.now c.deref-2.ensures.0 c.for_trial-state.result c.for_trial-state.ensures
+read_message-requires-clause-placed g c = search (rules, reads-next, places-next)
 
 pub read_message-requires-clause-psks : goal.read_message-requires-clause-psks
-read_message-requires-clause-psks g c =
-    let less = reads-next g.K.Keys.public_of c.self.inside c.self.invariant c.args.self.now c.self.view_is c.requires.due in
-    psks-next g.K.Keys.public_of c.self.inside c.self.invariant less c.deref-2.result.now c.deref-2.ensures.0 c.deref.result.now c.deref.ensures.0
+read_message-requires-clause-psks g c = search (rules, reads-next, psks-next)
 
 pub read_message-requires-clause-nonces : goal.read_message-requires-clause-nonces
-read_message-requires-clause-nonces g c =
-    let less = reads-next g.K.Keys.public_of c.self.inside c.self.invariant c.args.self.now c.self.view_is c.requires.due in
-    nonces-next g.K.Keys.public_of c.self.inside c.self.invariant less c.deref-2.result.now c.deref-2.ensures.0 c.for_trial-state.result c.for_trial-state.ensures
-    (omega (arith, c.deref-2.ensures.1))
+read_message-requires-clause-nonces g c = search (rules, reads-next, nonces-next)
 
 pub overflow_add-self : goal.overflow_add-self
 overflow_add-self g c =

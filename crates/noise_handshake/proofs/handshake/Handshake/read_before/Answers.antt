@@ -1,4 +1,4 @@
-use Rattle.std.proofs.Common.{ℕ, ◌<◌, ◌≤◌, length, refl, ap, sym, subst, arith}
+use Rattle.std.proofs.Common.{rules, ℕ, ◌<◌, ◌≤◌, length, refl, ap, sym, subst, arith}
 use Rattle.noise_handshake.proofs.Common.{MatchOption, MatchResult, Agreement, HandshakeValue, Stops, tokens_at, StopsFor, BeginsBefore}
 use Rattle.noise_handshake.proofs.Before.{before-of}
 use Rattle.noise_handshake.proofs.Layouts.{length-tokens_of}
@@ -7,25 +7,16 @@ use Rattle.noise_handshake.proofs.Standing.{for-view}
 use Rattle.noise_handshake.proofs.handshake.Handshake.read_before.Goals as goal
 
 pub read_before-requires-clause-placed : goal.read_before-requires-clause-placed
-read_before-requires-clause-placed g c =
-    let less = reads-next g.K.Keys.public_of c.self.inside c.self.invariant c.args.self.now c.self.view_is c.requires.due in
-    places-next g.K.Keys.public_of c.self.inside c.self.invariant less c.deref-2.result.now c.deref-2.ensures.0 c.self.inside.state refl
+read_before-requires-clause-placed g c = search (rules, reads-next, places-next)
 
 pub read_before-requires-clause-psks : goal.read_before-requires-clause-psks
-read_before-requires-clause-psks g c =
-    let less = reads-next g.K.Keys.public_of c.self.inside c.self.invariant c.args.self.now c.self.view_is c.requires.due in
-    psks-next g.K.Keys.public_of c.self.inside c.self.invariant less c.deref-2.result.now c.deref-2.ensures.0 c.deref.result.now c.deref.ensures.0
+read_before-requires-clause-psks g c = search (rules, reads-next, psks-next)
 
 pub read_before-requires-clause-nonces : goal.read_before-requires-clause-nonces
-read_before-requires-clause-nonces g c =
-    let less = reads-next g.K.Keys.public_of c.self.inside c.self.invariant c.args.self.now c.self.view_is c.requires.due in
-    nonces-next g.K.Keys.public_of c.self.inside c.self.invariant less c.deref-2.result.now c.deref-2.ensures.0 c.self.inside.state refl
-    (omega (arith, c.deref-2.ensures.1))
+read_before-requires-clause-nonces g c = search (rules, reads-next, nonces-next)
 
 pub read_before-requires-clause-known : goal.read_before-requires-clause-known
-read_before-requires-clause-known g c =
-    let less = reads-next g.K.Keys.public_of c.self.inside c.self.invariant c.args.self.now c.self.view_is c.requires.due in
-    known-next g.K.Keys.public_of c.self.inside c.self.invariant less c.deref-2.result.now c.deref-2.ensures.0
+read_before-requires-clause-known g c = search (rules, reads-next, known-next)
 
 pub read_before-requires-clause-within : goal.read_before-requires-clause-within
 read_before-requires-clause-within g c =

@@ -1,4 +1,4 @@
-use Rattle.std.proofs.Common.{ℕ, ◌≤◌, length, take, ap, sym, subst, arith}
+use Rattle.std.proofs.Common.{rules, ℕ, ◌≤◌, length, take, ap, sym, subst, arith}
 use Rattle.noise_handshake.proofs.Common.{MatchOption, HandshakeValue, tokens_at, LacksDhResultFor, LacksDhResultAt}
 use Rattle.noise_handshake.proofs.Layouts.{length-tokens_of}
 use Rattle.noise_handshake.proofs.Next.{speaks-next, speaks-ours, tokens-next, psks-next, own-ours, known-ours, due-next}
@@ -6,21 +6,13 @@ use Rattle.noise_handshake.proofs.Wrote.{for-view}
 use Rattle.noise_handshake.proofs.handshake.Handshake.wants_before.Goals as goal
 
 pub write_lacking_before-requires-clause-psks : goal.write_lacking_before-requires-clause-psks
-write_lacking_before-requires-clause-psks g c =
-    let less = speaks-next g.K.Keys.public_of c.self.inside c.self.invariant c.args.self.now c.self.view_is c.requires.due in
-    psks-next g.K.Keys.public_of c.self.inside c.self.invariant less c.deref-2.result.now c.deref-2.ensures.0 c.deref.result.now c.deref.ensures.0
+write_lacking_before-requires-clause-psks g c = search (rules, speaks-next, psks-next)
 
 pub write_lacking_before-requires-clause-own : goal.write_lacking_before-requires-clause-own
-write_lacking_before-requires-clause-own g c =
-    let less = speaks-next g.K.Keys.public_of c.self.inside c.self.invariant c.args.self.now c.self.view_is c.requires.due in
-    own-ours g.K.Keys.public_of c.self.inside c.self.invariant less c.deref-2.result.now c.deref-2.ensures.0
-    (speaks-ours g.K.Keys.public_of c.self.inside c.self.invariant c.args.self.now c.self.view_is c.requires.due)
+write_lacking_before-requires-clause-own g c = search (rules, speaks-next, own-ours, speaks-ours)
 
 pub write_lacking_before-requires-clause-known : goal.write_lacking_before-requires-clause-known
-write_lacking_before-requires-clause-known g c =
-    let less = speaks-next g.K.Keys.public_of c.self.inside c.self.invariant c.args.self.now c.self.view_is c.requires.due in
-    known-ours g.K.Keys.public_of c.self.inside c.self.invariant less c.deref-2.result.now c.deref-2.ensures.0
-    (speaks-ours g.K.Keys.public_of c.self.inside c.self.invariant c.args.self.now c.self.view_is c.requires.due)
+write_lacking_before-requires-clause-known g c = search (rules, speaks-next, known-ours, speaks-ours)
 
 pub write_lacking_before-requires-clause-within : goal.write_lacking_before-requires-clause-within
 write_lacking_before-requires-clause-within g c =

@@ -1,28 +1,19 @@
-use Rattle.std.proofs.Common.{refl, sym, ◌∙◌, arith}
+use Rattle.std.proofs.Common.{rules, refl, sym, ◌∙◌}
 use Rattle.noise_handshake.proofs.Next.{reads-next, places-next, psks-next, nonces-next, known-next, trial-next, listening-next}
 use Rattle.noise_handshake.proofs.Wanted.{wants}
 use Rattle.noise_handshake.proofs.handshake.Handshake.wants_to_read.Goals as goal
 
 pub read_lacking-requires-clause-placed : goal.read_lacking-requires-clause-placed
-read_lacking-requires-clause-placed g c =
-    let less = reads-next g.K.Keys.public_of c.self.inside c.self.invariant c.args.self.now c.self.view_is (sym c.read_fault.ensures.value ∙ c.in_default.is) in
-    places-next g.K.Keys.public_of c.self.inside c.self.invariant less c.deref-2.result.now c.deref-2.ensures.0 c.self.inside.state refl
+read_lacking-requires-clause-placed g c = search (rules, reads-next, places-next)
 
 pub read_lacking-requires-clause-psks : goal.read_lacking-requires-clause-psks
-read_lacking-requires-clause-psks g c =
-    let less = reads-next g.K.Keys.public_of c.self.inside c.self.invariant c.args.self.now c.self.view_is (sym c.read_fault.ensures.value ∙ c.in_default.is) in
-    psks-next g.K.Keys.public_of c.self.inside c.self.invariant less c.deref-2.result.now c.deref-2.ensures.0 c.deref.result.now c.deref.ensures.0
+read_lacking-requires-clause-psks g c = search (rules, reads-next, psks-next)
 
 pub read_lacking-requires-clause-nonces : goal.read_lacking-requires-clause-nonces
-read_lacking-requires-clause-nonces g c =
-    let less = reads-next g.K.Keys.public_of c.self.inside c.self.invariant c.args.self.now c.self.view_is (sym c.read_fault.ensures.value ∙ c.in_default.is) in
-    nonces-next g.K.Keys.public_of c.self.inside c.self.invariant less c.deref-2.result.now c.deref-2.ensures.0 c.self.inside.state refl
-    (omega (arith, c.deref-2.ensures.1))
+read_lacking-requires-clause-nonces g c = search (rules, reads-next, nonces-next)
 
 pub read_lacking-requires-clause-known : goal.read_lacking-requires-clause-known
-read_lacking-requires-clause-known g c =
-    let less = reads-next g.K.Keys.public_of c.self.inside c.self.invariant c.args.self.now c.self.view_is (sym c.read_fault.ensures.value ∙ c.in_default.is) in
-    known-next g.K.Keys.public_of c.self.inside c.self.invariant less c.deref-2.result.now c.deref-2.ensures.0
+read_lacking-requires-clause-known g c = search (rules, reads-next, known-next)
 
 pub returns : goal.returns
 returns g c v s =

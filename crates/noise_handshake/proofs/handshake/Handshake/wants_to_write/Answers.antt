@@ -1,24 +1,16 @@
-use Rattle.std.proofs.Common.{sym, ◌∙◌}
+use Rattle.std.proofs.Common.{rules, sym, ◌∙◌}
 use Rattle.noise_handshake.proofs.Lacked.{wants}
 use Rattle.noise_handshake.proofs.Next.{speaks-next, speaks-ours, psks-next, own-ours, known-ours, due-next}
 use Rattle.noise_handshake.proofs.handshake.Handshake.wants_to_write.Goals as goal
 
 pub write_lacking-requires-clause-psks : goal.write_lacking-requires-clause-psks
-write_lacking-requires-clause-psks g c =
-    let less = speaks-next g.K.Keys.public_of c.self.inside c.self.invariant c.args.self.now c.self.view_is (sym c.speaks.ensures ∙ c.if-not-speaks.false) in
-    psks-next g.K.Keys.public_of c.self.inside c.self.invariant less c.deref-2.result.now c.deref-2.ensures.0 c.deref.result.now c.deref.ensures.0
+write_lacking-requires-clause-psks g c = search (rules, speaks-next, psks-next)
 
 pub write_lacking-requires-clause-own : goal.write_lacking-requires-clause-own
-write_lacking-requires-clause-own g c =
-    let less = speaks-next g.K.Keys.public_of c.self.inside c.self.invariant c.args.self.now c.self.view_is (sym c.speaks.ensures ∙ c.if-not-speaks.false) in
-    own-ours g.K.Keys.public_of c.self.inside c.self.invariant less c.deref-2.result.now c.deref-2.ensures.0
-    (speaks-ours g.K.Keys.public_of c.self.inside c.self.invariant c.args.self.now c.self.view_is (sym c.speaks.ensures ∙ c.if-not-speaks.false))
+write_lacking-requires-clause-own g c = search (rules, speaks-next, own-ours, speaks-ours)
 
 pub write_lacking-requires-clause-known : goal.write_lacking-requires-clause-known
-write_lacking-requires-clause-known g c =
-    let less = speaks-next g.K.Keys.public_of c.self.inside c.self.invariant c.args.self.now c.self.view_is (sym c.speaks.ensures ∙ c.if-not-speaks.false) in
-    known-ours g.K.Keys.public_of c.self.inside c.self.invariant less c.deref-2.result.now c.deref-2.ensures.0
-    (speaks-ours g.K.Keys.public_of c.self.inside c.self.invariant c.args.self.now c.self.view_is (sym c.speaks.ensures ∙ c.if-not-speaks.false))
+write_lacking-requires-clause-known g c = search (rules, speaks-next, known-ours, speaks-ours)
 
 pub returns : goal.returns
 returns g c v s =

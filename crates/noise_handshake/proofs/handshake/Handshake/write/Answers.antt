@@ -1,4 +1,4 @@
-use Rattle.std.proofs.Common.{◌≡◌, ℕ, ◌+◌, ◌≤◌, length, take, refl, ap, sym, subst, true, ◌∙◌, arith, length-take}
+use Rattle.std.proofs.Common.{rules, ◌≡◌, ℕ, ◌+◌, ◌≤◌, length, take, refl, ap, sym, subst, true, ◌∙◌, arith, length-take}
 use Rattle.noise_handshake.proofs.Common.{Some, WriteFault, HandshakeValue, write_fault, Matches, Party, held_in}
 use Rattle.noise_handshake.proofs.LateParties.{fault-no-agreement, withheld-view}
 use Rattle.noise_handshake.proofs.Layouts.{length-tokens_of}
@@ -22,12 +22,7 @@ write_message-requires-clause-nonces g c =
     (omega (arith, c.deref-2.ensures.1))
 
 pub write_message-requires-clause-own : goal.write_message-requires-clause-own
-write_message-requires-clause-own g c =
-    let less = writes-next g.K.Keys.public_of c.self.inside c.self.invariant c.args.self.now c.self.view_is
-    (length c.args.payload.now) (sym c.write_fault.ensures.value ∙ c.in_default.is) in
-    own-ours g.K.Keys.public_of c.self.inside c.self.invariant less c.deref-2.result.now c.deref-2.ensures.0
-    (writes-ours g.K.Keys.public_of c.self.inside c.self.invariant c.args.self.now c.self.view_is
-    (length c.args.payload.now) (sym c.write_fault.ensures.value ∙ c.in_default.is))
+write_message-requires-clause-own g c = search (rules, writes-next, own-ours, writes-ours)
 
 pub write_message-requires-clause-room : goal.write_message-requires-clause-room
 write_message-requires-clause-room g c =

@@ -1,24 +1,14 @@
-use Rattle.std.proofs.Common.{◌≡◌, ◌-◌, ◌++◌, ℕ, List, length, take, ap, sym, ◌∙◌, arith}
+use Rattle.std.proofs.Common.{rules, ◌≡◌, ◌-◌, ◌++◌, ℕ, List, length, take, ap, sym, ◌∙◌, arith}
 use Rattle.noise_handshake.proofs.Common.{None, psks_of, setup_fault}
 use Rattle.noise_handshake.proofs.Setting.{counted}
 use Rattle.noise_handshake.proofs.Standing.{with-psks}
 use Rattle.noise_handshake.proofs.late.LateHandshake.new.Goals as goal
 
 pub overflow_sub-lacking : goal.overflow_sub-lacking
-overflow_sub-lacking g c =
-    let own = g.K.Keys.public_of c.args.keys in
-    let n : ℕ = c.max-count.result in
-    let none : setup_fault c.pattern-plan.result.now c.args.role own c.args.remote n ≡ None = sym c.setup_fault.ensures.fault ∙ c.in_default.is in
-    let total : c.psk_total-total.result ≡ psks_of c.pattern-plan.result.now.messages = c.psk_total-total.ensures.total ∙ ap psks_of c.messages.ensures.value in
-    omega (arith, total, counted c.pattern-plan.result.now c.args.role own c.args.remote n none, c.max-count.ensures)
+overflow_sub-lacking g c = search (rules, setup_fault, psks_of, counted)
 
 pub filled-psks-requires-clause-fits : goal.filled-psks-requires-clause-fits
-filled-psks-requires-clause-fits g c =
-    let own = g.K.Keys.public_of c.args.keys in
-    let n : ℕ = c.max-count.result in
-    let none : setup_fault c.pattern-plan.result.now c.args.role own c.args.remote n ≡ None = sym c.setup_fault.ensures.fault ∙ c.in_default.is in
-    let total : c.psk_total-total.result ≡ psks_of c.pattern-plan.result.now.messages = c.psk_total-total.ensures.total ∙ ap psks_of c.messages.ensures.value in
-    omega (arith, total, counted c.pattern-plan.result.now c.args.role own c.args.remote n none, c.max-count.ensures)
+filled-psks-requires-clause-fits g c = search (rules, setup_fault, psks_of, counted)
 
 pub returns-clause-matches : goal.returns-clause-matches
 returns-clause-matches g c later =

@@ -1,15 +1,7 @@
-use Rattle.std.proofs.Common.{◌≤◌, length, ap, sym, subst, ◌∙◌, arith}
-use Rattle.noise_handshake.proofs.Common.{HandshakeValue, Remote}
-use Rattle.noise_handshake.proofs.Lacked.{due-within}
+use Rattle.std.proofs.Common.{ap, ◌∙◌, arith}
+use Rattle.noise_handshake.proofs.Common.{Remote}
 use Rattle.noise_handshake.proofs.LateParties.{holding, matches-filled, write-none, write-dh-result, write-before, write-before-not, write-psk}
 use Rattle.noise_handshake.proofs.late.LateHandshake.wants_to_write.Goals as goal
-
-pub psk_after-requires : goal.psk_after-requires
-psk_after-requires g c =
-    let a = c.self.inside in
-    let within : a.filled.passed ≤ length a.filled.pattern.messages =
-    subst (λ (z : HandshakeValue g.row.K.Denot). z.passed ≤ length z.pattern.messages) (sym c.self.view_is) c.given.ensures.within in
-    due-within a.filled within (sym c.speaks.ensures ∙ c.if-not-speaks.false)
 
 pub returns-in-Some-wants_to_write-clause-wants : goal.returns-in-Some-wants_to_write-clause-wants
 returns-in-Some-wants_to_write-clause-wants g c v later s =

@@ -1,4 +1,4 @@
-use Rattle.std.proofs.Common.{◌≤◌, ℕ, [], length, sym, subst, ◌∙◌, arith, suc}
+use Rattle.std.proofs.Common.{rules, ◌≤◌, ℕ, [], length, sym, subst, ◌∙◌, arith, suc}
 use Rattle.noise_handshake.proofs.Common.{Option, MatchOption, count_by, is_psk, IsAgreement, WantsLate, Matches, Party, tokens_at, tokens_now, LacksDhResult}
 use Rattle.noise_handshake.specs.declared.late_faults.Want.{Want}
 use Rattle.noise_handshake.proofs.LateParties.{holding, matches-filled, agrees, few-now, taken-within, left-after, advances-after, after-written, writes-partial, matches-same, fault-no-agreement, written-no-agreement, withholds-partial, lacks-partial, withheld-view}
@@ -19,17 +19,13 @@ returns-in-Some-clause-writes g c v later s =
 
 pub invariant_of-self-2 : goal.invariant_of-self-2
 invariant_of-self-2 g c =
-    let few : count_by is_psk (tokens_at c.self.inside.filled.pattern.messages c.self.inside.filled.passed) ≤ length c.args.self.now.psks =
-    taken-within c.self.inside.filled c.self.inside.lacking c.self.invariant c.args.self.now c.self.view_is (length c.args.payload.now)
-    (sym c.withheld.ensures.value ∙ c.in_default.is) c.wants_to_write.result c.in_default-wants_to_write.is c.wants_to_write.ensures.few in
+    let few : count_by is_psk (tokens_at c.self.inside.filled.pattern.messages c.self.inside.filled.passed) ≤ length c.args.self.now.psks = search rules in
     left-after c.self.inside.filled c.self.inside.lacking c.self.invariant c.args.self.now c.self.view_is
     few c.write.new.self c.in-Ok.ensures.state
 
 pub returns-clause-state : goal.returns-clause-state
 returns-clause-state g c =
-    let few : count_by is_psk (tokens_at c.self.inside.filled.pattern.messages c.self.inside.filled.passed) ≤ length c.args.self.now.psks =
-    taken-within c.self.inside.filled c.self.inside.lacking c.self.invariant c.args.self.now c.self.view_is (length c.args.payload.now)
-    (sym c.withheld.ensures.value ∙ c.in_default.is) c.wants_to_write.result c.in_default-wants_to_write.is c.wants_to_write.ensures.few in
+    let few : count_by is_psk (tokens_at c.self.inside.filled.pattern.messages c.self.inside.filled.passed) ≤ length c.args.self.now.psks = search rules in
     advances-after c.self.inside.filled c.self.inside.lacking c.self.invariant c.args.self.now c.self.view_is
     few c.write.new.self c.in-Ok.ensures.state
 
