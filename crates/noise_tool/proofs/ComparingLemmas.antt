@@ -1,10 +1,6 @@
 -- What is on the output of a log that is compared.
 use Rattle.std.proofs.Common.{◌≡◌, sym, subst, ℕ, List, Option}
-use Rattle.std.specs.Prelude.{IfSome}
-use Rattle.noise_lines.specs.Faults.{status_of}
-use Rattle.noise_lines.specs.Prefixes.{AppendsPrefix}
-use Rattle.noise_lines.specs.Reported.{LeavesOutput}
-use Rattle.noise_lines.specs.declared.faults.Fault.{Fault}
+use Rattle.noise_tool.proofs.Common.{IfSome, status_of, AppendsPrefix, LeavesOutput, Fault}
 use Rattle.noise_compare.specs.declared.comparison.LogReport.{LogReport}
 use Rattle.noise_tool.specs.Comparing.{Compares, ComparesPrefix}
 use Rattle.noise_tool.proofs.ExplainLemmas.{left-at-three}

@@ -1,17 +1,10 @@
 -- A conversion that is replayed meets what it expects.
-use Rattle.std.proofs.Common.{◌≡◌, ◌∙◌, ap, sym, refl, subst, ℕ, Vec, List, [], ◌∷◌, None, codes}
-use Rattle.std.specs.Global.{Global}
-use Rattle.std.specs.List.{All}
-use Rattle.noise_names.specs.Lists.{bytes_of}
-use Rattle.noise_vectors.specs.VectorFile.{IsExpected, IsVectorFile}
-use Rattle.noise_vectors.specs.VectorText.{expect_line, expect_words, line_then, lines_of, text_body, file_text}
-use Rattle.noise_vectors.specs.declared.vector.VectorFile.{VectorFile}
+use Rattle.std.proofs.Common.{rules, ◌≡◌, ◌∙◌, ap, sym, refl, subst, ℕ, Vec, List, [], ◌∷◌, None, codes}
+use Rattle.noise_tool.proofs.Common.{Global, All, bytes_of, IsExpected, IsVectorFile, expect_line, expect_words, line_then, lines_of, text_body, file_text, VectorFile, SaySame, VectorTextsAreUnique, expected_of, IsRunOf, expected_in}
 use Rattle.noise_vectors.specs.declared.vector.Version.{Version}
 use Rattle.noise_vectors.specs.declared.vector.Version.TheVariants.{One, Two}
-use Rattle.noise_vectors.specs.SameFile.{SaySame, VectorTextsAreUnique, version_datagrams, expected_of, held_datagrams}
 use Rattle.noise_tool.specs.Conversion.{ConversionsMeetThemselves}
 use Rattle.noise_tool.specs.OneRun.{OneRun, RunAlike}
-use Rattle.noise_tool.specs.Running.{IsRunOf, datagrams_of_version, expected_in}
 use Rattle.noise_lines.specs.Converted.{converted_text}
 use Rattle.noise_tool.proofs.OneRunLemmas.{run-moves}
 
@@ -21,17 +14,7 @@ converted file lines = record file { version = Two (record { datagrams = None; e
 
 converted-right : (file : VectorFile) (lines : Vec (Vec ℕ Global) Global) → IsVectorFile file → All (λ words. IsExpected words.items) lines.items
     → IsVectorFile (converted file lines)
-converted-right file lines right printed = record {
-  protocol = right.protocol;
-  own = right.own;
-  prologue = right.prologue;
-  interval = right.interval;
-  psks = right.psks;
-  initiator = right.initiator;
-  responder = right.responder;
-  events = right.events;
-  version = (tt, printed);
-}
+converted-right file lines right printed = search
 
 expect-lines : (lines : List (Vec ℕ Global)) → lines_of expect_words lines [] ≡ lines_of expect_line (bytes_of lines) []
 expect-lines [] = refl
@@ -46,30 +29,15 @@ expected-same : (v : Version) → expected_of v ≡ expected_in v
 expected-same One = refl
 expected-same (Two additions) = refl
 
-datagrams-same : (v : Version) → version_datagrams v ≡ held_datagrams (datagrams_of_version v)
-datagrams-same One = refl
-datagrams-same (Two additions) = refl
-
 -- ---- a file of the conversion's text
 
 run-alike : (file other : VectorFile) (lines : Vec (Vec ℕ Global) Global) → file.version ≡ One → SaySame (converted file lines) other → RunAlike file other
-run-alike file other lines one same = record {
-  protocol = same.protocol;
-  block = same.block;
-  prologue = same.prologue;
-  interval = same.interval;
-  psks = same.psks;
-  initiator = same.initiator;
-  responder = same.responder;
-  events = same.events;
-  datagrams = ap (λ (v : Version). held_datagrams (datagrams_of_version v)) one ∙ same.datagrams ∙ datagrams-same other.version;
-}
+run-alike file other lines one same = search rules
 
 says-same : VectorTextsAreUnique → (file other : VectorFile) (lines : Vec (Vec ℕ Global) Global) → IsVectorFile file
     → All (λ words. IsExpected words.items) lines.items → IsVectorFile other → converted_text file (bytes_of lines.items) ≡ file_text other
     → SaySame (converted file lines) other
-says-same unique file other lines right printed also e =
-    unique (converted file lines) other (converted-right file lines right printed) also (converted-text file lines ∙ e)
+says-same unique file other lines right printed also e = search converted-text
 
 pub conversions-meet : VectorTextsAreUnique → OneRun → ConversionsMeetThemselves
 conversions-meet unique once file lines right one printed run = record {

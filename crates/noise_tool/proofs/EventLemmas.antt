@@ -1,29 +1,11 @@
 -- What an event is, and the lines of it.
-use Rattle.std.proofs.Common.{◌≡◌, ◌≢◌, ◌∙◌, ◌⊎◌, inl, inr, refl, sym, ap, subst, ℕ, List, [], ◌∷◌, ◌++◌, length, Option, Some, None, slice_get, append_assoc, Result, OnOk}
-use Rattle.std.specs.Prelude.{unwrap_or}
-use Rattle.noise_names.specs.declared.token.Role.{Role}
-use Rattle.noise_names.specs.declared.token.Role.TheVariants.{Initiator, Responder}
-use Rattle.noise_names.specs.Tokens.{other}
-use Rattle.noise_events.specs.Events.{Event, Write, Say, Deliver, Raw}
-use Rattle.noise_session.specs.declared.faults.SendFault.{SendFault}
-use Rattle.noise_session.specs.Frames.{frame}
-use Rattle.noise_duel.specs.declared.entry.Entry.{Entry}
-use Rattle.noise_duel.specs.declared.entry.Entry.TheVariants as entry
-use Rattle.noise_duel.specs.Entries.{note_of, notes_of}
-use Rattle.noise_duel.specs.Notes.{Note, Wrote, WriteFault, held_note, noted_by}
-use Rattle.noise_duel.specs.Runs.{Happens, SideReceives, SideWrites}
+use Rattle.std.proofs.Common.{rules, ◌≡◌, ◌≢◌, ◌∙◌, ◌⊎◌, inl, inr, refl, sym, ap, subst, ℕ, List, [], ◌∷◌, ◌++◌, length, Option, Some, None, slice_get, append_assoc, Result, OnOk}
+use Rattle.noise_tool.proofs.Common.{unwrap_or, Role, Initiator, Responder, other, Event, Write, Say, Deliver, Raw, SendFault, frame, Entry, note_of, notes_of, Note, Wrote, WriteFault, held_note, noted_by, Happens, SideReceives, SideWrites, writes_nothing, writes_handshake, writes_transport, Side, Sides, side, with_side, frame_numbered, EndsTraced, entry_frame, came_traces, happened_traces, written_frame, written_trace, Selection, TracedEnds, get-last}
 use Rattle.noise_duel.specs.Runs.Happens.{writes, says_nothing, says, delivers, misses, injects}
-use Rattle.noise_duel.specs.Runs.SideWrites.{writes_nothing, writes_handshake, writes_transport}
-use Rattle.noise_duel.specs.Sides.{Side, Sides, side, with_side}
-use Rattle.noise_tool.specs.Printed.{frame_numbered}
-use Rattle.noise_tool.specs.TracedEnds.{EndsTraced, entry_frame}
-use Rattle.noise_tool.specs.Tracing.{came_traces, happened_traces, written_frame, written_trace}
-use Rattle.noise_tool.specs.declared.key_use_lines.Selection.{Selection}
-use Rattle.noise_tool.specs.declared.traced_ends.TracedEnds.{TracedEnds}
 use Rattle.noise_tool.proofs.ReceivedLemmas.{first-note}
 use Rattle.noise_tool.proofs.RunningLemmas.{on_ok}
 use Rattle.std.proofs.lemmas.Option.{same_Some}
-use Rattle.noise_names.specs.Lists.{get-last}
+use Rattle.noise_duel.specs.declared.entry.Entry.TheVariants as entry
 
 abbrev pub Traces : Type 0
 Traces = List (List (List ℕ))
@@ -59,10 +41,6 @@ of-write selection d next role payload notes (writes _ _ _ note after w) = recor
 pub frames-written : (d : Sides) (role : Role) (s : Side) → (side (with_side d role s) role).frames ≡ s.frames
 frames-written d Initiator s = refl
 frames-written d Responder s = refl
-
-pub frames-said : (d : Sides) (role : Role) (s reader : Side) → (side (with_side (with_side d role s) (other role) reader) role).frames ≡ s.frames
-frames-said d Initiator s reader = refl
-frames-said d Responder s reader = refl
 
 pub frames-kept : (d : Sides) (role : Role) (reader : Side) → (side (with_side d role reader) (other role)).frames ≡ (side d (other role)).frames
 frames-kept d Initiator reader = refl
@@ -220,9 +198,6 @@ say-fault selection d next role by payload notes more h given old one before bet
           subst (λ (z : Sides). EndsTraced between z) (sym s.next_is) done.1,
         )
 
-number-same : (m n : ℕ) → Wrote m ≡ Wrote n → m ≡ n
-number-same m n e = cc
-
 -- a frame was written, and came to the other role
 pub say-frame : {E : Type 0} (selection : Selection) (d next : Sides) (role by : Role) (payload : List ℕ) (notes more : List (Role × Note))
     (h : Happens d (Say role payload) notes next) (number : ℕ) (frame : List ℕ) (old one new : Traces) (before between after : TracedEnds)
@@ -244,12 +219,9 @@ say-frame {E = E} selection d next role by payload notes more h number frame old
     at (inl s) =
         let two = first-note by role (Wrote number) (Wrote s.number) more _ (reported ∙ s.notes_are) in
         let heads : Wrote number ≡ Wrote s.number = two.0 in
-        let written : (side next role).frames ≡ s.after.frames =
-        ap (λ (z : Sides). (side z role).frames) s.next_is ∙ frames-said d role s.after s.reader in
+        let written : (side next role).frames ≡ s.after.frames = search rules in
         let done = on s.after payload (Wrote s.number) s.w traced written heads in
-        let text : frame ≡ s.bytes =
-        framed ∙ ap (λ (k : ℕ). unwrap_or (slice_get (side next role).frames k) []) (number-same number s.number heads)
-        ∙ ap (λ (fs : List (List ℕ)). unwrap_or (slice_get fs s.number) []) written ∙ ap (λ (o : Option (List ℕ)). unwrap_or o []) s.got in
+        let text : frame ≡ s.bytes = search in
         let came = subst (λ (z : Role). (reader : Side) (heard : List Note) (x : SideReceives (side (with_side d role s.after) z) frame heard reader)
         → more ≡ noted_by z (heard ++ held_note (length reader.state.partial))
         → OnOk r ((new ≡ one ++ came_traces selection z (side (with_side d role s.after) z) reader frame heard x)

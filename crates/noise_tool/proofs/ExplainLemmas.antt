@@ -1,23 +1,11 @@
 -- What is said of files that are explained.
-use Rattle.std.proofs.Common.{◌≡◌, ◌∙◌, refl, sym, ap, subst, ◌⊎◌, inl, inr, arith, ◌≤◌, if◌then◌else◌, ℕ, Bool, true, false, nat_le, List, [], ◌∷◌, ◌++◌, Option, String, drop, length, string_bytes, take, append_assoc}
+use Rattle.std.proofs.Common.{rules, ◌≡◌, ◌∙◌, refl, sym, ap, subst, ◌⊎◌, inl, inr, arith, ◌≤◌, if◌then◌else◌, ℕ, Bool, true, false, nat_le, List, [], ◌∷◌, ◌++◌, Option, String, drop, length, string_bytes, take, append_assoc}
 use Rattle.std.specs.Prelude.{IfOk, IsTrue, Result, Ok, Err, map}
-use Rattle.std.specs.Global.{Global}
-use Rattle.std.specs.Io.KnownBytes.{Appends, Keeps}
-use Rattle.std.proofs.KnownBytes.{Appends-trans}
-use Rattle.std.proofs.lemmas.List.{flat_map_more, map-append, map_push, take_all, take-append-drop}
-use Rattle.std.specs.List.{Contains}
-use Rattle.std.proofs.lemmas.List.Elements.{All-push, Contains-append_right}
-use Rattle.std.proofs.lemmas.List.Sums.{fold-append}
+use Rattle.noise_tool.proofs.Common.{Global, Appends, Keeps, Appends-trans, flat_map_more, map-append, map_push, take_all, take-append-drop, Contains, All-push, Contains-append_right, fold-append, status_of, AppendsPrefix, IsReportedOf, LeavesOutput, error_text, Fault, AreSaid, ExplainsPrefix, HasExplained, IsExplainedFile, Said, StopsExplaining, said_text, worse, EndsTest}
 use Rattle.noise_explain.specs.declared.explanation.Explained.{Explained}
-use Rattle.noise_lines.specs.Faults.{status_of}
-use Rattle.noise_lines.specs.Prefixes.{AppendsPrefix}
-use Rattle.noise_lines.specs.Reported.{IsReportedOf, LeavesOutput, error_text}
-use Rattle.noise_lines.specs.declared.faults.Fault.{Fault}
-use Rattle.noise_lines.specs.declared.faults.Fault.TheVariants as fault
 use Rattle.noise_explain.specs.Shown.{unread_head}
-use Rattle.noise_tool.specs.Explaining.{AreSaid, ExplainsPrefix, HasExplained, IsExplainedFile, Said, StopsExplaining, said_text, worse}
-use Rattle.noise_tool.specs.Testing.{EndsTest}
 use Rattle.noise_tool.proofs.TestingLemmas.{after-prefix, kept-appends, reported-ends, reported-left, whole-prefix}
+use Rattle.noise_lines.specs.declared.faults.Fault.TheVariants as fault
 
 -- it is said of one file more
 said-of : (bytes_at : List ℕ → Option (List ℕ)) (names : List (List ℕ)) (name : List ℕ) (said : List Said) (x : Explained) → AreSaid bytes_at names said
@@ -43,25 +31,17 @@ said-more bytes_at names all name a m e status next x text all_is before right t
       said = before.said ++ this ∷ [];
       are = said-of bytes_at names name before.said x before.are right;
       printed = subst (λ (t : List ℕ). Appends a e t) (ap (λ (t : List ℕ). said_text before.said ++ t) text_is ∙ text-of before.said name x) printed;
-      status_is = next_is ∙ ap (λ (n : ℕ). worse n x.status) before.status_is
-          ∙ sym (fold-append (λ (n : ℕ) (s : Said). worse n s.explained.status) 0 before.said (this ∷ []));
+      status_is = search (rules, fold-append);
     })
 
 pub said-kept : (bytes_at : List ℕ → Option (List ℕ)) (names : List (List ℕ)) (a m e : Option (List ℕ)) (status : ℕ) → HasExplained bytes_at names a m status
     → Keeps m e → HasExplained bytes_at names a e status
-said-kept bytes_at names a m e status before kept = record {
-  said = before.said;
-  are = before.are;
-  printed = kept-appends a m e (said_text before.said) before.printed kept;
-  status_is = before.status_is;
-}
+said-kept bytes_at names a m e status before kept = search kept-appends
 
 -- all names are passed
 pub all-kept : (bytes_at : List ℕ → Option (List ℕ)) (names : List (String Global)) (i : ℕ) (a m e : Option (List ℕ)) (status : ℕ) → length names ≤ i
     → HasExplained bytes_at (map string_bytes (take i names)) a m status → Keeps m e → HasExplained bytes_at (map string_bytes names) a e status
-all-kept bytes_at names i a m e status past before kept =
-    subst (λ (ns : List (String Global)). HasExplained bytes_at (map string_bytes ns) a e status) (take_all i names past)
-    (said-kept bytes_at (map string_bytes (take i names)) a m e status before kept)
+all-kept bytes_at names i a m e status past before kept = search (rules, take_all)
 
 pub worse-few : (first second worst : ℕ) → first ≤ 2 → second ≤ 2 → worst ≡ worse first second → worst ≤ 2
 worse-few first second worst few few' is = at (nat_le first second) refl where
@@ -73,14 +53,7 @@ worse-few first second worst few few' is = at (nat_le first second) refl where
 
 said-begun : (bytes_at : List ℕ → Option (List ℕ)) (names others all : List (List ℕ)) (a e : Option (List ℕ)) (status : ℕ) → names ++ others ≡ all
     → HasExplained bytes_at names a e status → ExplainsPrefix bytes_at all a e
-said-begun bytes_at names others all a e status is before = record {
-  first = names;
-  others = others;
-  names_are = is;
-  said = before.said;
-  are = before.are;
-  grown = whole-prefix a e (said_text before.said) before.printed;
-}
+said-begun bytes_at names others all a e status is before = search whole-prefix
 
 -- what is said of the next file has begun
 pub next-begun : (bytes_at : List ℕ → Option (List ℕ)) (names others all : List (List ℕ)) (name : List ℕ) (a m e : Option (List ℕ)) (status : ℕ) (x : Explained)
@@ -94,8 +67,7 @@ next-begun bytes_at names others all name a m e status x text is before right te
       names_are = append_assoc names (name ∷ []) others ∙ is;
       said = before.said ++ this ∷ [];
       are = said-of bytes_at names name before.said x before.are right;
-      grown = subst (λ (t : List ℕ). AppendsPrefix a e t) (ap (λ (t : List ℕ). said_text before.said ++ t) text_is ∙ text-of before.said name x)
-          (after-prefix a m e (said_text before.said) text before.printed grown);
+      grown = search (rules, text-of, after-prefix);
     }
 
 -- what is said of the files before one of them

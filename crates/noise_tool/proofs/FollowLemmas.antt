@@ -1,40 +1,17 @@
 -- The key schedule of an end after a message.
-use Rattle.std.proofs.Common.{◌≡◌, ◌∙◌, refl, sym, ap, ap₂, subst, ℕ, Bool, true, false, List, [], Vec, Result, Err, IfOk, drop, length}
-use Rattle.std.specs.Global.{Global}
+use Rattle.std.proofs.Common.{rules, ◌≡◌, ◌∙◌, refl, sym, ap, subst, ℕ, Bool, true, false, List, [], Vec, Result, Err, IfOk, drop, length}
 use Rattle.std.specs.Prelude.{if◌then◌else◌}
-use Rattle.std.proofs.lemmas.Result.{IfOk-weaker}
-use Rattle.std.proofs.lemmas.List.{drop_at}
+use Rattle.noise_tool.proofs.Common.{Global, IfOk-weaker, drop_at, SendFault, EndState, ended_session, frame, StepValue, Judges, accepted, refused, opened, dropped, exhausted, Note, SideReads, SideWrites, writes_nothing, writes_handshake, writes_transport, accepts_handshake, accepts_transport, refuses_message, Side, bytes_of, agreement_of, public_of, FileKeys, HasLaterNonce, key_use_lines, ShowsEnd, TracedMatches, note_ends, Used, about, act_of, read_use, read_trace, written_frame, written_message, written_use, written_trace, Selection, TracedEnd}
 use Rattle.byteorder.specs.Endian.{big_bytes}
-use Rattle.noise_names.specs.Plan.{has_psk}
-use Rattle.noise_session.specs.declared.faults.SendFault.{SendFault}
-use Rattle.noise_session.specs.declared.faults.SendFault.TheVariants.{Agreement}
-use Rattle.noise_session.specs.Ends.{EndState, ended_session}
 use Rattle.noise_session.specs.Faults.{ends}
-use Rattle.noise_session.specs.Frames.{frame}
 use Rattle.noise_session.specs.Sending.{Sends}
 use Rattle.noise_session.specs.Sending.Sends.{refuses, lacks_dh_result, sends_handshake, sends_transport}
-use Rattle.noise_session.specs.Steps.{StepValue}
-use Rattle.noise_session.specs.Taking.{Judges}
-use Rattle.noise_session.specs.Taking.Judges.{accepted, refused, opened, dropped, exhausted}
 use Rattle.noise_trace.specs.declared.end_trace.EndTrace.{EndTrace}
 use Rattle.noise_trace.specs.EndFollowing.{EndFollows}
 use Rattle.noise_trace.specs.KeyUses.{KeyUseValue}
-use Rattle.noise_duel.specs.Notes.{Note}
-use Rattle.noise_duel.specs.Runs.{SideReads, SideWrites}
-use Rattle.noise_duel.specs.Runs.SideWrites.{writes_nothing, writes_handshake, writes_transport}
-use Rattle.noise_duel.specs.Runs.SideReads.{accepts_handshake, accepts_transport, refuses_message}
-use Rattle.noise_duel.specs.Sides.{Side}
-use Rattle.noise_names.specs.Lists.{bytes_of}
-use Rattle.noise_vectors.specs.FileKeys.{agreement_of, public_of}
-use Rattle.noise_vectors.specs.declared.file_keys.FileKeys.{FileKeys}
-use Rattle.noise_tool.specs.KeyUseLines.{HasLaterNonce, key_use_lines}
-use Rattle.noise_tool.specs.TracedEnds.{ShowsEnd, TracedMatches, note_ends, Used}
-use Rattle.noise_tool.specs.Tracing.{about, act_of, read_use, read_trace, written_frame, written_message, written_use, written_trace}
-use Rattle.noise_tool.specs.declared.key_use_lines.Selection.{Selection}
 use Rattle.noise_tool.specs.declared.trace_lines.About.{About}
 use Rattle.noise_tool.specs.declared.trace_lines.Act.{Act}
 use Rattle.noise_tool.specs.declared.trace_lines.Act.TheVariants.{Writes as Writing}
-use Rattle.noise_tool.specs.declared.traced_end.TracedEnd.{TracedEnd}
 
 -- ---- the pattern stays
 
@@ -65,17 +42,10 @@ written-pattern s next payload note (writes_transport _ message _ free opens is)
 
 -- ---- what is held
 
-over-partial : (ended : Bool) (v : EndState) (partial : List ℕ) → partial ≡ v.partial → (if ended then [] else partial) ≡ (if ended then ended_session v else v).partial
-over-partial true v partial e = refl
-over-partial false v partial e = e
-
 sent-partial : (v next : EndState) (payload : List ℕ) (reported : Result (List ℕ) SendFault) (sends : Sends v payload reported next) (why : SendFault)
     → reported ≡ Err why → (partial : List ℕ) → partial ≡ v.partial → (if ends why then [] else partial) ≡ next.partial
-sent-partial v next payload reported (refuses _ _ other refusal) why is partial e =
-    let same : other ≡ why = cc in
-    ap (λ (f : SendFault). if ends f then [] else partial) (sym same) ∙ over-partial (ends other) v partial e
-sent-partial v next payload reported (lacks_dh_result _ _ token free lacks) why is partial e =
-    let same : Agreement token ≡ why = cc in ap (λ (f : SendFault). if ends f then [] else partial) (sym same)
+sent-partial v next payload reported (refuses _ _ other refusal) why is partial e = search rules
+sent-partial v next payload reported (lacks_dh_result _ _ token free lacks) why is partial e = search
 sent-partial v next payload reported (sends_handshake _ _ message xs free w) why is partial e = absurd (cc is)
 sent-partial v next payload reported (sends_transport _ _ free opens) why is partial e = absurd (cc is)
 
@@ -103,16 +73,7 @@ pub read-lines : {E : Type 0} (selection : Selection) (t : TracedEnd) (end : End
     → act ≡ act_of step → given ≡ about t.role s.state act → Used m (read_use s next text step r) end next.state
     → IfOk result (λ lines. bytes_of lines.items ≡ key_use_lines selection given message m)
     → IfOk result (λ lines. (bytes_of lines.items ≡ read_trace selection t.role s next text step r) × ShowsEnd (record t { end = end }) next.state)
-read-lines selection t end given act message text m s next step r result shows is acts abouts seen made =
-    IfOk-weaker result _ _ (λ lines h. (
-      h
-          ∙ ap₂ (λ (a : About) (z : List ℕ). key_use_lines selection a z m) (abouts ∙ ap (λ (x : Act). about t.role s.state x) acts) is
-          ∙ ap (λ (x : KeyUseValue). key_use_lines selection (about t.role s.state (act_of step)) text x) seen.0,
-      record {
-        psks = shows.psks ∙ ap has_psk (sym (read-pattern s next text step r));
-        follows = seen.2;
-      },
-    )) made
+read-lines selection t end given act message text m s next step r result shows is acts abouts seen made = search (rules, read-pattern)
 
 pub write-lines : {E : Type 0} (selection : Selection) (t : TracedEnd) (end : EndTrace FileKeys) (given : About) (message : List ℕ) (m : KeyUseValue)
     (s next : Side) (payload : List ℕ) (note : Note) (w : SideWrites s payload note next) (result : Result (Vec (Vec ℕ Global) Global) E)
@@ -120,16 +81,7 @@ pub write-lines : {E : Type 0} (selection : Selection) (t : TracedEnd) (end : En
     → given ≡ about t.role s.state Writing → Used m (written_use s next payload note w) end next.state
     → IfOk result (λ lines. bytes_of lines.items ≡ key_use_lines selection given message m)
     → IfOk result (λ lines. (bytes_of lines.items ≡ written_trace selection t.role s next payload note w) × ShowsEnd (record t { end = end }) next.state)
-write-lines selection t end given message m s next payload note w result matches is abouts seen made =
-    IfOk-weaker result _ _ (λ lines h. (
-      h
-          ∙ ap₂ (λ (a : About) (z : List ℕ). key_use_lines selection a z m) abouts is
-          ∙ ap (λ (x : KeyUseValue). key_use_lines selection (about t.role s.state Writing) (written_message s next payload note w) x) seen.0,
-      record {
-        psks = matches.shows.psks ∙ ap has_psk (sym (written-pattern s next payload note w));
-        follows = seen.2;
-      },
-    )) made
+write-lines selection t end given message m s next payload note w result matches is abouts seen made = search (rules, written-pattern)
 
 pub wrote-whole : {E : Type 0} (selection : Selection) (t u : TracedEnd) (end : EndTrace FileKeys) (given : About) (message bytes : List ℕ) (m : KeyUseValue) (noted : Note)
     (s next : Side) (payload : List ℕ) (note : Note) (w : SideWrites s payload note next) (result : Result (Vec (Vec ℕ Global) Global) E)

@@ -1,48 +1,25 @@
 -- What is shown of a message, by what the note of it says.
-use Rattle.std.proofs.Common.{◌≡◌, ◌≢◌, ◌∙◌, ◌⊎◌, inl, inr, ◌+◌, ◌==◌, ◌&&◌, refl, sym, ap, subst, arith, ℕ, Bool, true, false, List, [], length, Option, Some, None, Result, Err, IsTrue, Vec, nat_lt, not}
+use Rattle.std.proofs.Common.{rules, ◌≡◌, ◌≢◌, ◌∙◌, ◌⊎◌, inl, inr, ◌+◌, ◌==◌, ◌&&◌, refl, sym, ap, subst, arith, ℕ, Bool, true, false, List, [], length, Option, Some, None, Result, Err, IsTrue, Vec, nat_lt}
 use Rattle.std.specs.Prelude.{if◌then◌else◌}
-use Rattle.noise_names.specs.declared.token.Role.{Role}
-use Rattle.noise_names.specs.declared.token.Role.TheVariants.{Responder}
-use Rattle.noise_names.specs.Plan.{Plan, is_one_way}
-use Rattle.noise_names.specs.Tokens.{same_role}
-use Rattle.noise_names.specs.Overhead.{overhead_of}
+use Rattle.noise_tool.proofs.Common.{Role, Responder, Plan, same_role, SendFault, EndState, ended_session, progress_of, is_open, refusal, StepValue, Judges, refused, dropped, exhausted, Global, Entry, note_of, Note, Wrote, WriteFault, SideReads, SideWrites, writes_nothing, writes_handshake, writes_transport, accepts_handshake, accepts_transport, refuses_message, Side, FileKeys, HasLaterNonce, Follow, Used, judged_use, read_use, unsent_use, written_message, written_use}
 use Rattle.noise_handshake.specs.declared.faults.Cause.{Cause}
-use Rattle.noise_handshake.specs.HandshakeValue.{is_turn}
 use Rattle.noise_handshake.specs.Matching.{after_message, after_own}
 use Rattle.noise_handshake.specs.Party.{Accepts, Refuses}
 use Rattle.noise_handshake.specs.Writing.{LacksDhResult, Writes}
-use Rattle.noise_session.specs.declared.faults.SendFault.{SendFault}
-use Rattle.noise_session.specs.declared.faults.SendFault.TheVariants as fault
-use Rattle.noise_session.specs.Ends.{EndState, ended_session, progress_of}
 use Rattle.noise_session.specs.Faults.{ends}
-use Rattle.noise_session.specs.Progress.{Progress, is_open, refusal}
 use Rattle.noise_session.specs.Progress.Progress.{Handshaking, Open, HasEnded}
 use Rattle.noise_session.specs.Sending.{Sends}
 use Rattle.noise_session.specs.Sending.Sends.{refuses, lacks_dh_result, sends_handshake, sends_transport}
-use Rattle.noise_session.specs.Steps.{StepValue}
 use Rattle.noise_session.specs.Steps.StepValue.{Payload, Dropped, Refused, Exhausted}
-use Rattle.noise_session.specs.Taking.{Judges}
-use Rattle.noise_session.specs.Taking.Judges.{refused, dropped, exhausted}
-use Rattle.noise_names.specs.Tokens.{other}
 use Rattle.noise_state.specs.History.{History}
 use Rattle.noise_session.specs.Transport.{last_nonce, transport_key}
 use Rattle.noise_trace.specs.declared.key_use.KeyUse.{KeyUse}
 use Rattle.noise_trace.specs.declared.end_trace.EndTrace.{EndTrace}
 use Rattle.noise_trace.specs.KeyUses.{message_use, opened_use, counted_use, renewed_after, sent_use, use_value, stopped_use, tried_use}
 use Rattle.noise_trace.specs.KeyUses.KeyUseValue.{Nothing, Transport}
-use Rattle.std.specs.Global.{Global}
-use Rattle.noise_duel.specs.declared.entry.Entry.{Entry}
+use Rattle.noise_duel.specs.Notes.{Judged}
+use Rattle.noise_session.specs.declared.faults.SendFault.TheVariants as fault
 use Rattle.noise_duel.specs.declared.entry.Entry.TheVariants as entry
-use Rattle.noise_duel.specs.Entries.{note_of}
-use Rattle.noise_duel.specs.Notes.{Note, Wrote, WriteFault, Judged}
-use Rattle.noise_duel.specs.Runs.{GivesNoPayload, SideReads, SideWrites}
-use Rattle.noise_duel.specs.Runs.SideWrites.{writes_nothing, writes_handshake, writes_transport}
-use Rattle.noise_duel.specs.Runs.SideReads.{accepts_handshake, accepts_transport, refuses_message}
-use Rattle.noise_duel.specs.Sides.{Side}
-use Rattle.noise_vectors.specs.declared.file_keys.FileKeys.{FileKeys}
-use Rattle.noise_tool.specs.KeyUseLines.{HasLaterNonce}
-use Rattle.noise_tool.specs.TracedEnds.{Follow, Used}
-use Rattle.noise_tool.specs.Tracing.{judged_use, read_use, unsent_use, written_message, written_use}
 
 abbrev Trace : Type 0
 Trace = EndTrace FileKeys
@@ -79,31 +56,7 @@ open-free false true plan role n sent received payload one_way free opens = λ l
     let bad : true ≡ false = sym test ∙ none in absurd (cc bad)
 
 sent-free : (v : EndState) (payload : ℕ) → refusal (progress_of v) payload ≡ None → IsTrue (is_open (progress_of v)) → v.sent ≢ last_nonce
-sent-free v payload free opens =
-    open-free v.party.ended (v.party.passed == length v.party.pattern.messages) v.party.pattern v.party.role v.party.passed v.sent v.received payload
-    (is_one_way v.party.pattern) free opens
-
--- no refusal is for want of a DH result
-two-faults : (a b : Bool) (x y z : SendFault) → (if a then Some x else if b then Some y else None) ≡ Some z → (x ≢ z) → (y ≢ z) → ⊥
-two-faults true b x y z e nx ny = let same : x ≡ z = cc in nx same
-two-faults false true x y z e nx ny = let same : y ≡ z = cc in ny same
-two-faults false false x y z e nx ny = cc e
-
-three-faults : (a b c : Bool) (w x y z : SendFault) → (if a then Some w else if b then Some x else if c then Some y else None) ≡ Some z
-    → (w ≢ z) → (x ≢ z) → (y ≢ z) → ⊥
-three-faults true b c w x y z e nw nx ny = let same : w ≡ z = cc in nw same
-three-faults false true c w x y z e nw nx ny = let same : x ≡ z = cc in nx same
-three-faults false false true w x y z e nw nx ny = let same : y ≡ z = cc in ny same
-three-faults false false false w x y z e nw nx ny = cc e
-
-refusal-other : (p : Progress) (n token : ℕ) → refusal p n ≡ Some (fault.Agreement token) → ⊥
-refusal-other (Handshaking plan role passed) n token e =
-    two-faults (not (is_turn role passed)) (nat_lt 65535 (overhead_of plan (passed + 1) + n)) fault.NotYourTurn fault.TooLong (fault.Agreement token) e
-    (λ s. cc s) (λ s. cc s)
-refusal-other (Open role one_way sent received) n token e =
-    three-faults (one_way && same_role role Responder) (nat_lt 65535 (n + 16)) (sent == last_nonce) fault.OneWay fault.TooLong fault.Exhausted
-    (fault.Agreement token) e (λ s. cc s) (λ s. cc s) (λ s. cc s)
-refusal-other (HasEnded role) n token e = cc e
+sent-free v payload free opens = search open-free
 
 -- ---- writing
 
@@ -151,9 +104,7 @@ module _ (t : Trace) (closes : Closes t) where
       → reported ≡ Err (fault.Agreement token) → Follow t v
       → ((w : EndState) → Follow t w → (lacks : LacksDhResult w.party token) → use_value m ≡ stopped_use w token lacks.lacks.before)
       → Used (use_value m) (unsent_use v next payload reported sends) t next
-  unsent-lacking m v next payload reported (refuses _ _ why declined) token is follows clause =
-      let same : why ≡ fault.Agreement token = cc in
-      absurd (refusal-other (progress_of v) (length payload) token (declined ∙ ap (λ (f : SendFault). Some f) same))
+  unsent-lacking m v next payload reported (refuses _ _ why declined) token is follows clause = search rules
   unsent-lacking m v next payload reported (lacks_dh_result _ _ actual free lacks) token is follows clause =
       let same : fault.Agreement token ≡ fault.Agreement actual = cc in
       let here : use_value m ≡ stopped_use v actual lacks.lacks.before =
@@ -166,8 +117,7 @@ module _ (t : Trace) (closes : Closes t) where
   unsent-refused : (v next : EndState) (payload : List ℕ) (reported : Result (List ℕ) SendFault) (sends : Sends v payload reported next) (why : SendFault)
       → reported ≡ Err why → ((token : ℕ) → why ≢ fault.Agreement token) → Follow t v → Used Nothing (unsent_use v next payload reported sends) t next
   unsent-refused v next payload reported (refuses _ _ given declined) why is not_lacking follows = (refl, tt, after-closes v (ends given) follows)
-  unsent-refused v next payload reported (lacks_dh_result _ _ token free lacks) why is not_lacking follows =
-      let same : why ≡ fault.Agreement token = cc in absurd (not_lacking token same)
+  unsent-refused v next payload reported (lacks_dh_result _ _ token free lacks) why is not_lacking follows = search rules
   unsent-refused v next payload reported (sends_handshake _ _ text xs free w) why is not_lacking follows = absurd (cc is)
   unsent-refused v next payload reported (sends_transport _ _ free opens) why is not_lacking follows = absurd (cc is)
 
@@ -206,19 +156,9 @@ module _ (old new : Trace) (m : KeyUse) where
       → (use_value m ≡ opened_use v) × Follow new (record v { received = v.received + 1; partial = [] }))
       → (s next : Side) (step : StepValue) (r : SideReads s message step next) → Follow old s.state → Judged (Payload bytes) ≡ Judged step
       → Used (use_value m) (read_use s next message step r) new next.state
-  took-shown given message bytes is handshake transport s next step (accepts_handshake _ _ payload xs accepts) follows reported =
-      let done = handshake s.state xs payload follows (subst (λ (z : List ℕ). Accepts s.state.party z xs payload) (sym is) accepts) in
-      (done.0, subst HasLaterNonce (sym done.0) tt, done.1)
-  took-shown given message bytes is handshake transport s next step (accepts_transport _ _ payload opens more spelled) follows reported =
-      let done = transport s.state follows opens more in (
-        done.0,
-        subst HasLaterNonce (sym done.0)
-            (counted-passed s.state.party.history (other s.state.party.role) s.state.interval s.state.received more),
-        done.1,
-      )
-  took-shown given message bytes is handshake transport s next step (refuses_message _ _ _ after gives judges) follows reported =
-      let same : Payload bytes ≡ step = cc in
-      absurd (subst (λ (z : StepValue). GivesNoPayload z) (sym same) gives)
+  took-shown given message bytes is handshake transport s next step (accepts_handshake _ _ payload xs accepts) follows reported = search rules
+  took-shown given message bytes is handshake transport s next step (accepts_transport _ _ payload opens more spelled) follows reported = search rules
+  took-shown given message bytes is handshake transport s next step (refuses_message _ _ _ after gives judges) follows reported = search rules
 
 refused-token : (a b : ℕ) (x y : Cause) → Refused a x ≡ Refused b y → a ≡ b
 refused-token a b x y e = cc
@@ -227,8 +167,7 @@ module _ (t : Trace) (closes : Closes t) (holds : Holds t) where
   judged-dropped : (m : KeyUse) (v next : EndState) (message : List ℕ) (step : StepValue) (j : Judges v message step next) (cause : Cause)
       → Dropped cause ≡ step → Follow t v → ((w : EndState) → Follow t w → IsTrue (is_open (progress_of w)) → use_value m ≡ tried_use w)
       → Used (use_value m) (judged_use v next message step j) t next
-  judged-dropped m v next message step (dropped _ _ opens more none) cause is follows clause =
-      let here = clause v follows opens in (here, subst HasLaterNonce (sym here) tt, holds v [] follows)
+  judged-dropped m v next message step (dropped _ _ opens more none) cause is follows clause = search rules
   judged-dropped m v next message step _ cause is follows clause = absurd (cc is)
 
   judged-refused : (m : KeyUse) (v next : EndState) (message : List ℕ) (step : StepValue) (j : Judges v message step next) (token : ℕ) (cause : Cause)
@@ -289,8 +228,7 @@ pub neither-written : (x : Entry) → ((n : ℕ) → x ≡ entry.Wrote n → ⊥
     → (s next : Side) (payload : List ℕ) (note : Note) → SideWrites s payload note next → note_of x ≡ note → ⊥
 neither-written (entry.Wrote n) p q s next payload note w reported = p n refl
 neither-written (entry.WriteFault why) p q s next payload note w reported = q why refl
-neither-written _ p q s next payload note w reported =
-    wrote-or-not s next payload note w (λ n e. let bad = reported ∙ sym e in cc bad) (λ why e. let bad = reported ∙ sym e in cc bad)
+neither-written _ p q s next payload note w reported = search (rules, wrote-or-not)
 
 -- another fault than that of a DH result
 pub six-others : (f : SendFault)

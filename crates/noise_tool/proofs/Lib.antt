@@ -1,3 +1,4 @@
+pub mod Common
 pub mod ConversionLemmas
 pub mod ComparingLemmas
 pub mod EndLemmas

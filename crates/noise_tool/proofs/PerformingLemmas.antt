@@ -1,37 +1,20 @@
 -- What `talk`, `replay` and `convert` have done, and why they haven't.
-use Rattle.std.proofs.Common.{◌≡◌, ◌∙◌, refl, sym, ap, subst, ◌⊎◌, inl, inr, ◌<◌, ◌≤◌, ℕ, List, [], ◌∷◌, Vec, Option, Some, None, Result, Ok, Err, OnOk, length}
-use Rattle.std.specs.Global.{Global}
-use Rattle.std.specs.Prelude.{IfErr, IfOk, IfSome}
-use Rattle.std.specs.Io.KnownBytes.{Appends}
-use Rattle.noise_lines.specs.Verdicts.{IsMet}
+use Rattle.std.proofs.Common.{rules, ◌≡◌, ◌∙◌, refl, sym, ap, subst, ◌⊎◌, inl, inr, ◌<◌, ◌≤◌, ℕ, List, [], ◌∷◌, Vec, Option, Some, None, Result, Ok, Err, OnOk, length}
+use Rattle.std.specs.Prelude.{IfOk}
+use Rattle.noise_tool.proofs.Common.{Global, IfErr, IfSome, Appends, IsMet, of_vector, status_of, AreMet, Converts, DifferAt, HasPrinted, IsFault, IsNotMet, IsOfLines, IsPlain, IsReadVector, IsRunFault, IsTooLongConverted, IsUnlike, IsUnmet, Printing, RunsFile, lines_text, IsRunOf, expected_in, Fault, AppendsPrefix, LeavesOther, ReportsRule, selection_of, IsTraceOf, bytes_of, IsAllowedFile, IsReadFault, IsVectorFile, file_text, AllowedEvents, VersionOne, VectorFile}
 use Rattle.noise_tool.specs.Conversion.{MeetsItself}
-use Rattle.noise_lines.specs.Faults.{of_vector, status_of}
-use Rattle.noise_tool.specs.Performing.{AreMet, Converts, DifferAt, HasPrinted, HasRun, IsFault, IsNotMet, IsOfLines, IsPlain, IsReadVector, IsRunFault, IsTooLongConverted, IsUnlike, IsUnmet, Printing, RunsFile}
 use Rattle.noise_words.specs.declared.orders.Chosen.{Chosen}
-use Rattle.noise_words.specs.declared.orders.Chosen.TheVariants as order
-use Rattle.noise_lines.specs.Lines.{lines_text}
-use Rattle.noise_tool.specs.Running.{IsRunOf, expected_in}
 use Rattle.noise_lines.specs.Converted.{converted_text}
-use Rattle.noise_lines.specs.declared.faults.Fault.{Fault}
-use Rattle.noise_lines.specs.declared.faults.Fault.TheVariants as fault
 use Rattle.noise_tool.specs.declared.run.Outcome.{Outcome}
-use Rattle.noise_lines.specs.Prefixes.{AppendsPrefix}
-use Rattle.noise_lines.specs.Reported.{LeavesOther, ReportsRule}
-use Rattle.noise_tool.specs.Selection.{selection_of}
-use Rattle.noise_tool.specs.Tracing.{IsTraceOf}
 use Rattle.noise_tool.specs.Prefixes.{PrintsRun, PrintsRunPrefix}
 use Rattle.noise_tool.proofs.MetLemmas.{met-or-unmet}
-use Rattle.noise_names.specs.Lists.{bytes_of}
 use Rattle.noise_vectors.specs.Expectations.{IsFirstUnmet}
-use Rattle.noise_vectors.specs.VectorFile.{IsAllowedFile, IsReadFault, IsVectorFile}
 use Rattle.noise_vectors.specs.WrongLine.{IsReported}
 use Rattle.noise_vectors.specs.declared.faults.VectorFault.{VectorFault}
-use Rattle.noise_vectors.specs.declared.faults.VectorFault.TheVariants as vector
-use Rattle.noise_vectors.specs.VectorText.{file_text}
-use Rattle.noise_vectors.specs.declared.vector.AllowedEvents.{AllowedEvents}
-use Rattle.noise_vectors.specs.declared.vector.AllowedEvents.TheVariants.{VersionOne}
-use Rattle.noise_vectors.specs.declared.vector.VectorFile.{VectorFile}
 use Rattle.noise_vectors.specs.declared.vector.Version.TheVariants.{One}
+use Rattle.noise_words.specs.declared.orders.Chosen.TheVariants as order
+use Rattle.noise_lines.specs.declared.faults.Fault.TheVariants as fault
+use Rattle.noise_vectors.specs.declared.faults.VectorFault.TheVariants as vector
 
 -- ---- of a file's bytes
 
@@ -88,9 +71,7 @@ module _ {allowed : AllowedEvents} {known : Option (List ℕ)} {text : List ℕ}
 
   pub has-run : (before after : Option (List ℕ)) (result : Result Unit Fault) → OnOk result (Appends before after (lines_text printed))
       → OnOk result (IsMet (bytes_of outcome.expected.items) (bytes_of outcome.lines.items)) → OnOk result (RunsFile Prints known before after)
-  has-run before after (Ok u) grown met =
-      at-known (λ (bytes : List ℕ). HasRun Prints bytes before after) known text read.bytes (printed-of AreMet before after grown
-      (subst (λ (es : List (List ℕ)). IsMet es (bytes_of outcome.lines.items)) expected met))
+  has-run before after (Ok u) grown met = search (rules, printed-of)
   has-run before after (Err fault) grown met = tt
 
   pub no-run : (before after : Option (List ℕ)) (result : Result Unit Fault)
@@ -98,9 +79,7 @@ module _ {allowed : AllowedEvents} {known : Option (List ℕ)} {text : List ℕ}
       → IfErr result (λ why. (status_of why ≡ 3) ⊎ IsNotMet Prints allowed known before after why)
   no-run before after (Ok u) h = tt
   no-run before after (Err why) (inl outside) = inl outside
-  no-run before after (Err why) (inr (grown, (n, is, some, unmet))) =
-      inr (at-known (λ (bytes : List ℕ). IsRunFault allowed bytes why ⊎ IsUnmet Prints bytes before after why) known text read.bytes
-      (inr (rw is (printed-of (DifferAt n) before after grown (λ none. some (expected ∙ none), rw (← expected) unmet)))))
+  no-run before after (Err why) (inr (grown, (n, is, some, unmet))) = search (rules, printed-of)
 
   -- all that is printed, whether its lines are those expected or not
   whole : (es : List (List ℕ)) → expected_in file.version ≡ es → PrintsRun Prints text (lines_text printed)
@@ -219,12 +198,6 @@ reported-fault {O = O} contents Reported chosen known old middle new err err_new
       reported,
     )
 
--- at status 2 the output is as it was
-left-at-two : {O E : Type 0} (why : Fault) (out after : O) (err err_after : E) → status_of why ≡ 2 → LeavesOther why out after err err_after → after ≡ out
-left-at-two (fault.Unmet n) out after err err_after two h = h
-left-at-two (fault.Rule f) out after err err_after two h = absurd (cc two)
-left-at-two _ out after err err_after two h = h
-
 no-lines-at-two : (why : Fault) → status_of why ≡ 2 → IsOfLines why → ⊥
 no-lines-at-two (fault.Unmet n) two lines = cc two
 no-lines-at-two _ two lines = lines
@@ -237,5 +210,4 @@ reported-at-two old middle new err err_new why result unwritten (inr three) othe
 reported-at-two old middle new err err_new why result unwritten (inl is) (inl three) two = let bad = sym three ∙ two in absurd (cc bad)
 reported-at-two old middle new err err_new why result (inl outside) (inl is) (inr leaves) two = let bad = sym outside ∙ sym is ∙ two in absurd (cc bad)
 reported-at-two old middle new err err_new why result (inr (inl lines)) (inl is) (inr leaves) two = absurd (no-lines-at-two why (sym is ∙ two) lines)
-reported-at-two old middle new err err_new why result (inr (inr same)) (inl is) (inr leaves) two =
-    left-at-two why middle new err err_new (sym is ∙ two) leaves ∙ same
+reported-at-two old middle new err err_new why result (inr (inr same)) (inl is) (inr leaves) two = search rules

@@ -1,23 +1,15 @@
 -- A prefix of what a command prints.
 use Rattle.std.proofs.Common.{◌≡◌, ◌∙◌, refl, sym, ap, subst, ◌⊎◌, inl, inr, ℕ, List, [], ◌∷◌, ◌++◌, Option, Some, None, String}
-use Rattle.std.specs.Global.{Global}
+use Rattle.noise_tool.proofs.Common.{Global, status_of, AppendsPrefix, IsReportedOf, LeavesOutput, error_text, fault_line, Fault, HasUnmet, IsDone, IsFault, IsNotMet, IsOfLines, Printing, RunsFile, IfSome, MatchBool, Plan, IsValid, AllowedEvents}
 use Rattle.noise_names.specs.declared.faults.RuleFault.{RuleFault}
-use Rattle.noise_lines.specs.Faults.{status_of}
-use Rattle.noise_lines.specs.Prefixes.{AppendsPrefix}
-use Rattle.noise_lines.specs.Reported.{IsReportedOf, LeavesOutput, error_text, fault_line}
-use Rattle.noise_lines.specs.declared.faults.Fault.{Fault}
-use Rattle.noise_lines.specs.declared.faults.Fault.TheVariants as fault
-use Rattle.noise_tool.specs.Performing.{HasUnmet, IsDone, IsFault, IsNotMet, IsOfLines, Printing, RunsFile}
 use Rattle.noise_tool.specs.Prefixes.{PrintsPrefix, PrintsRunPrefix}
 use Rattle.noise_tool.specs.Templating.{HasTemplate, HasTemplated}
-use Rattle.std.specs.Prelude.{Bool, false, IfSome, MatchBool, string_bytes}
+use Rattle.std.specs.Prelude.{Bool, false, string_bytes}
 use Rattle.noise_lines.specs.Output.{NamesPattern}
-use Rattle.noise_names.specs.Plan.{Plan}
 use Rattle.noise_names.specs.Text.{Spells}
-use Rattle.noise_names.specs.Validity.{IsValid}
 use Rattle.noise_template.specs.Template.{IsTemplateText, names_protocol}
-use Rattle.noise_vectors.specs.declared.vector.AllowedEvents.{AllowedEvents}
 use Rattle.noise_words.specs.declared.orders.Chosen.{Chosen}
+use Rattle.noise_lines.specs.declared.faults.Fault.TheVariants as fault
 use Rattle.noise_words.specs.declared.orders.Chosen.TheVariants as order
 
 -- ---- a run

@@ -1,21 +1,11 @@
 -- The lines of a run, as they are made and written.
-use Rattle.std.proofs.Common.{◌≡◌, ◌∙◌, ap, ap₂, sym, refl, ℕ, ◌+◌, ◌<◌, ◌≤◌, Vec, List, [], ◌∷◌, ◌++◌, Some, length, get_or, map, take, add-one, append_assoc}
-use Rattle.std.specs.Global.{Global}
+use Rattle.std.proofs.Common.{rules, ◌≡◌, ◌∙◌, ap, ap₂, sym, refl, ℕ, ◌+◌, ◌<◌, ◌≤◌, Vec, List, [], ◌∷◌, ◌++◌, Some, length, get_or, map, take, add-one, append_assoc}
 use Rattle.std.specs.Prelude.{slice_get}
 use Rattle.std.proofs.Math.Seq.{take-suc}
-use Rattle.std.proofs.lemmas.List.{take_all}
-use Rattle.std.proofs.lemmas.List.Elements.{All-push, All-same}
 use Rattle.std.proofs.lemmas.Option.{slice_get_read, slice_get_within, get_or_from_slice_get}
-use Rattle.noise_names.specs.declared.token.Role.{Role}
+use Rattle.noise_tool.proofs.Common.{Global, take_all, All-push, All-same, Role, Entry, note_of, notes_of, Sides, bytes_of, IsExpected, AreExpected, note_line}
 use Rattle.noise_duel.specs.declared.datagram_report.DatagramEntry.{DatagramEntry}
 use Rattle.noise_duel.specs.DatagramReports.{datagram_note_of, datagram_notes_of}
-use Rattle.noise_duel.specs.declared.entry.Entry.{Entry}
-use Rattle.noise_duel.specs.Entries.{note_of, notes_of}
-use Rattle.noise_duel.specs.Sides.{Sides}
-use Rattle.noise_names.specs.Lists.{bytes_of}
-use Rattle.noise_vectors.specs.VectorFile.{IsExpected}
-use Rattle.noise_lines.specs.PrintedWords.{AreExpected}
-use Rattle.noise_tool.specs.Printed.{note_line}
 use Rattle.noise_tool.specs.PrintedDatagrams.{datagram_line}
 
 -- ---- lists of lines
@@ -72,11 +62,7 @@ expected-push lines after v pushed here h =
 -- two lines more
 pub two-pushed : (lines one two : List (Vec ℕ Global)) (v w : Vec ℕ Global) (first second : List ℕ) → one ≡ lines ++ v ∷ [] → two ≡ one ++ w ∷ []
     → v.items ≡ first → w.items ≡ second → bytes_of two ≡ bytes_of lines ++ first ∷ second ∷ []
-two-pushed lines one two v w first second a b is also =
-    ap bytes_of b ∙ bytes-push one w ∙ ap (λ (ls : List (Vec ℕ Global)). bytes_of ls ++ w.items ∷ []) a
-    ∙ ap (λ (t : List (List ℕ)). t ++ w.items ∷ []) (bytes-push lines v)
-    ∙ append_assoc (bytes_of lines) (v.items ∷ []) (w.items ∷ [])
-    ∙ ap₂ (λ (x y : List ℕ). bytes_of lines ++ x ∷ y ∷ []) is also
+two-pushed lines one two v w first second a b is also = search (rules, bytes-push, append_assoc)
 
 -- ---- the lines of a report
 

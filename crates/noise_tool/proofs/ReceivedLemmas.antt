@@ -1,25 +1,8 @@
 -- Bytes that come to an end, entry by entry.
-use Rattle.std.proofs.Common.{◌≡◌, ◌∙◌, ◌+◌, ◌-◌, ◌≤◌, ◌⊎◌, inl, inr, refl, sym, ap, ap₂, subst, arith, ℕ, suc, List, [], ◌∷◌, ◌++◌, length, take, Vec, append_assoc, append-nil, length-append, Some}
-use Rattle.std.specs.Global.{Global}
-use Rattle.std.proofs.lemmas.List.{take_at}
-use Rattle.noise_names.specs.declared.token.Role.{Role}
-use Rattle.noise_session.specs.Ends.{EndState, progress_of}
-use Rattle.noise_session.specs.Frames.{frame}
-use Rattle.noise_session.specs.Progress.{idle_step}
-use Rattle.noise_session.specs.Steps.{StepValue}
-use Rattle.noise_session.specs.Taking.{Judges}
-use Rattle.noise_session.specs.Taking.Judges.{accepted, refused, opened, dropped, exhausted}
-use Rattle.noise_duel.specs.Notes.{Held, Judged, Left, Note, held_note, left_note, noted_by}
-use Rattle.noise_duel.specs.Runs.{SideReads, SideReceives}
-use Rattle.noise_duel.specs.Runs.SideReads.{accepts_handshake, accepts_transport, refuses_message}
+use Rattle.std.proofs.Common.{rules, ◌≡◌, ◌∙◌, ◌+◌, ◌-◌, ◌≤◌, ◌⊎◌, inl, inr, refl, sym, ap, ap₂, subst, arith, ℕ, suc, List, [], ◌∷◌, ◌++◌, length, take, Vec, append_assoc, append-nil, length-append, Some}
+use Rattle.noise_tool.proofs.Common.{Global, take_at, Role, EndState, progress_of, frame, idle_step, StepValue, Judges, accepted, refused, opened, dropped, exhausted, Held, Left, Note, held_note, left_note, noted_by, SideReads, SideReceives, accepts_handshake, accepts_transport, refuses_message, Side, bytes_of, traces_of, IsOfNoFrame, ShowsEnd, blanks, came_traces, read_trace, Selection, TracedEnd}
+use Rattle.noise_duel.specs.Notes.{Judged}
 use Rattle.noise_duel.specs.Runs.SideReceives.{is_idle, waits, reads_frame}
-use Rattle.noise_duel.specs.Sides.{Side}
-use Rattle.noise_names.specs.Lists.{bytes_of}
-use Rattle.noise_lines.specs.TracedLines.{traces_of}
-use Rattle.noise_tool.specs.TracedEnds.{IsOfNoFrame, ShowsEnd}
-use Rattle.noise_tool.specs.Tracing.{blanks, came_traces, read_trace}
-use Rattle.noise_tool.specs.declared.key_use_lines.Selection.{Selection}
-use Rattle.noise_tool.specs.declared.traced_end.TracedEnd.{TracedEnd}
 
 abbrev Traces : Type 0
 Traces = List (List (List ℕ))
@@ -183,8 +166,7 @@ module _ (selection : Selection) (own role : Role) (t : TracedEnd) (rest : List 
   idle-last : (reader s : Side) (bytes : List ℕ) (step : StepValue) → reader ≡ s → ShowsEnd t s.state → rest ≡ s.state.partial ++ bytes
       → [] ≡ noted_by role (left_note step (length bytes) ++ held_note (length s.state.partial))
       → so_far ++ (blanks (left_note step (length bytes)) ++ blanks (held_note (length s.state.partial))) ≡ whole → Finished reader t rest [] so_far whole
-  idle-last reader s [] step same shows rest_is left inv =
-      waits-last reader s s.state.partial shows (rest_is ∙ append-nil s.state.partial) (ap (λ (r : Side). r.state) same) left inv
+  idle-last reader s [] step same shows rest_is left inv = search rules
   idle-last reader s (b ∷ bs) step same shows rest_is left inv = absurd (cc left)
 
   read-last : (reader s : Side) (bytes : List ℕ) (heard : List Note) (x : SideReceives s bytes heard reader) → ShowsEnd t s.state

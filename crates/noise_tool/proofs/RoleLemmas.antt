@@ -1,18 +1,7 @@
 -- What comes of one role's part of an event, of both ends.
 use Rattle.std.proofs.Common.{◌≡◌, ◌∙◌, ap, ℕ, List, ◌++◌, Result, Vec}
-use Rattle.std.specs.Global.{Global}
-use Rattle.std.proofs.lemmas.Result.{IfOk-weaker}
-use Rattle.noise_names.specs.declared.token.Role.{Role}
-use Rattle.noise_names.specs.declared.token.Role.TheVariants.{Initiator, Responder}
-use Rattle.noise_duel.specs.Notes.{Note}
-use Rattle.noise_duel.specs.Sides.{Side, Sides, side, with_side}
-use Rattle.noise_lines.specs.TracedLines.{traces_of}
-use Rattle.noise_tool.specs.TracedEnds.{EndsTraced, TracedMatches}
+use Rattle.noise_tool.proofs.Common.{Global, IfOk-weaker, Role, Initiator, Responder, Note, Side, Sides, side, with_side, traces_of, EndsTraced, TracedMatches, came_traces, written_trace, Selection, TracedEnd, TracedEnds}
 use Rattle.noise_tool.specs.TracedEvents.{Entries, Traces, TracesBytes, TracesReceived, TracesWrite, TracesWriteOf}
-use Rattle.noise_tool.specs.Tracing.{came_traces, written_trace}
-use Rattle.noise_tool.specs.declared.key_use_lines.Selection.{Selection}
-use Rattle.noise_tool.specs.declared.traced_end.TracedEnd.{TracedEnd}
-use Rattle.noise_tool.specs.declared.traced_ends.TracedEnds.{TracedEnds}
 use Rattle.noise_tool.proofs.RunningLemmas.{on_ok}
 
 -- the end of a role, and both ends after its key schedule has gone on
@@ -35,10 +24,8 @@ module _ (ends : TracedEnds) (d : Sides) where
 
   matches-on : (role : Role) → EndsTraced ends d → (t : TracedEnd) (s : Side) → t.role ≡ (end-at ends role).role → TracedMatches t s.state
       → EndsTraced (end-on ends role t) (with_side d role s)
-  matches-on Initiator traced t s same matches =
-      record { initiator = matches; responder = traced.responder; first = same ∙ traced.first; second = traced.second }
-  matches-on Responder traced t s same matches =
-      record { initiator = traced.initiator; responder = matches; first = traced.first; second = same ∙ traced.second }
+  matches-on Initiator traced t s same matches = search
+  matches-on Responder traced t s same matches = search
 
 module _ {E : Type 0} (selection : Selection) (ends : TracedEnds) (t : TracedEnd) (role : Role) (bytes : List ℕ)
     (same : t.role ≡ (end-at ends role).role) where

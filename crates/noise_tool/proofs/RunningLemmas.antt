@@ -1,28 +1,15 @@
 -- The lines after those of the events.
-use Rattle.std.proofs.Common.{◌≡◌, ◌∙◌, ap, ap₂, sym, refl, subst, ◌&&◌, ◌==◌, Bool, true, false, ℕ, List, [], ◌∷◌, ◌++◌, Option, Some, None, Result, Ok, Err, OnOk, length, map, codes, append_assoc}
-use Rattle.noise_names.specs.Plan.{Plan}
-use Rattle.noise_names.specs.declared.token.Role.{Role}
+use Rattle.std.proofs.Common.{rules, ◌≡◌, ◌∙◌, ap₂, sym, refl, subst, ◌&&◌, ◌==◌, Bool, true, false, ℕ, List, [], ◌∷◌, ◌++◌, Option, Some, None, Result, Ok, Err, OnOk, length, map, codes, append_assoc}
+use Rattle.noise_tool.proofs.Common.{Plan, Role, EndState, EndValue, IsReportedBy, Progress, DuelValue, Sides, Event, events_of, window_words, FileKeys, FileDatagrams, VectorFile, IsPlanOf, sides_of_file, state_lines, AreLast, IsRunOf, LeavesLines, datagrams_of_version, are_ready, gone_over, is_ready}
 use Rattle.noise_session.specs.Datagrams.{DatagramState}
 use Rattle.noise_session.specs.EndDatagrams.{is_datagram_ready, is_untouched}
-use Rattle.noise_session.specs.Ends.{EndState, EndValue, IsReportedBy}
-use Rattle.noise_session.specs.Progress.{Progress}
 use Rattle.noise_duel.specs.DatagramNotes.{DatagramNote}
 use Rattle.noise_events.specs.DatagramEvents.{datagram_events_of}
 use Rattle.noise_duel.specs.DatagramRuns.{DatagramRun}
 use Rattle.noise_duel.specs.DatagramSides.{DatagramSides, datagram_sides}
-use Rattle.noise_duel.specs.DuelValue.{DuelValue}
-use Rattle.noise_duel.specs.Runs.{Run}
-use Rattle.noise_duel.specs.Sides.{Sides}
-use Rattle.noise_events.specs.Events.{Event, events_of}
-use Rattle.noise_vectors.specs.VectorText.{window_words}
-use Rattle.noise_vectors.specs.declared.file_keys.FileKeys.{FileKeys}
-use Rattle.noise_vectors.specs.declared.vector.FileDatagrams.{FileDatagrams}
-use Rattle.noise_vectors.specs.declared.vector.VectorFile.{VectorFile}
 use Rattle.noise_vectors.specs.declared.vector.Version.{Version}
-use Rattle.noise_tool.specs.Ends.{IsPlanOf, sides_of_file}
-use Rattle.noise_tool.specs.Printed.{state_lines}
 use Rattle.noise_tool.specs.PrintedDatagrams.{datagram_line, datagram_state_lines}
-use Rattle.noise_tool.specs.Running.{AreLast, IsRunOf, LeavesLines, datagrams_of_version, are_ready, gone_over, is_ready, ready, unready, without}
+use Rattle.noise_tool.specs.Running.{ready, unready, without}
 
 pub on_ok : {A E : Type 0} (r : Result A E) (P Q : Type 0) → (P → Q) → OnOk r P → OnOk r Q
 on_ok (Ok a) P Q f p = f p
@@ -35,10 +22,7 @@ ready-reported e v reported = ap₂ (λ (p : Progress) (h : List ℕ). is_untouc
 
 pub both-ready : (duel : DuelValue FileKeys FileKeys) (d : Sides) → IsReportedBy d.initiator.state duel.initiator → IsReportedBy d.responder.state duel.responder
     → (is_datagram_ready duel.initiator ≡ true) × (is_datagram_ready duel.responder ≡ true) → are_ready d ≡ true
-both-ready duel d one other h =
-    let a : is_ready d.initiator.state ≡ true = sym (ready-reported duel.initiator d.initiator.state one) ∙ h.0 in
-    let b : is_ready d.responder.state ≡ true = sym (ready-reported duel.responder d.responder.state other) ∙ h.1 in
-    rw (a, b) refl
+both-ready duel d one other h = search
 
 pub not-ready : (duel : DuelValue FileKeys FileKeys) (d : Sides) → IsReportedBy d.initiator.state duel.initiator → IsReportedBy d.responder.state duel.responder
     → ¬ ((is_datagram_ready duel.initiator ≡ true) × (is_datagram_ready duel.responder ≡ true)) → are_ready d ≡ false
@@ -83,21 +67,12 @@ pub after-window : {E : Type 0} (datagrams : FileDatagrams) (v w : DatagramState
     → one ≡ old ++ window_words datagrams.window ∷ [] → two ≡ one ++ map datagram_line notes → OnOk r (new ≡ two ++ datagram_state_lines last)
     → OnOk r ((notes : List (Role × DatagramNote)) × (last : DatagramSides) × DatagramRun (datagram_sides v w) (datagram_events_of datagrams.events.items) notes last
     × (new ≡ old ++ window_words datagrams.window ∷ (map datagram_line notes ++ datagram_state_lines last)))
-after-window datagrams v w notes last r old one two new run first more h =
-    on_ok r _ _ (λ e. (
-      notes,
-      last,
-      run,
-      e ∙ ap (λ (t : List (List ℕ)). t ++ datagram_state_lines last) (more ∙ ap (λ (t : List (List ℕ)). t ++ map datagram_line notes) first)
-          ∙ append_assoc (old ++ window_words datagrams.window ∷ []) (map datagram_line notes) (datagram_state_lines last)
-          ∙ append_assoc old (window_words datagrams.window ∷ []) (map datagram_line notes ++ datagram_state_lines last),
-    )) h
+after-window datagrams v w notes last r old one two new run first more h = search (rules, append_assoc)
 
 -- the line of ends that don't go over, and the states
 pub after-word : {E : Type 0} (d : Sides) (r : Result Unit E) (old one new : List (List ℕ)) → one ≡ old ++ codes "no-datagrams" ∷ []
     → OnOk r (new ≡ one ++ state_lines d) → OnOk r (new ≡ old ++ codes "no-datagrams" ∷ state_lines d)
-after-word d r old one new first h =
-    on_ok r _ _ (λ e. e ∙ ap (λ (t : List (List ℕ)). t ++ state_lines d) first ∙ append_assoc old (codes "no-datagrams" ∷ []) (state_lines d)) h
+after-word d r old one new first h = search (rules, append_assoc)
 
 -- ---- the lines of a run
 
@@ -106,13 +81,4 @@ pub is-run : (file : VectorFile) (plan : Plan) (events : List Event) (version : 
     (lines printed after : List (List ℕ)) → IsPlanOf file plan → events ≡ events_of file.events.items → version ≡ file.version
     → (ran : LeavesLines (sides_of_file file plan) events duel lines) → AreLast (datagrams_of_version version) ran.last after → printed ≡ lines ++ after
     → IsRunOf file printed
-is-run file plan events version duel lines printed after of_file same which ran last is = record {
-  plan = plan;
-  of_file = of_file;
-  notes = ran.notes;
-  last = ran.last;
-  run = subst (λ (es : List Event). Run (sides_of_file file plan) es ran.notes ran.last) same ran.run;
-  after = after;
-  are_last = subst (λ (o : Option FileDatagrams). AreLast o ran.last after) (ap datagrams_of_version which) last;
-  lines_are = is ∙ ap (λ (t : List (List ℕ)). t ++ after) ran.lines_are;
-}
+is-run file plan events version duel lines printed after of_file same which ran last is = search rules

@@ -1,11 +1,8 @@
 -- The lines that are kept.
 use Rattle.std.proofs.Common.{◌≡◌, ◌≢◌, ◌∙◌, ◌+◌, sym, ap, ap₂, ℕ, Bool, true, List, [], ◌∷◌, ◌++◌, Option, Some, None, codes, append_assoc}
+use Rattle.noise_tool.proofs.Common.{selects_transport, if_selected, HasLaterNonce, renewed_lines, transport_lines, act_word, transport_call_word, transport_line, Selection}
 use Rattle.noise_session.specs.Transport.{last_nonce}
 use Rattle.noise_trace.specs.KeyUses.KeyUseValue.{Transport}
-use Rattle.noise_tool.specs.Selection.{selects_transport, if_selected}
-use Rattle.noise_tool.specs.KeyUseLines.{HasLaterNonce, renewed_lines, transport_lines}
-use Rattle.noise_tool.specs.PrintedTrace.{act_word, transport_call_word, transport_line}
-use Rattle.noise_tool.specs.declared.key_use_lines.Selection.{Selection}
 use Rattle.noise_tool.specs.declared.trace_lines.About.{About}
 
 abbrev Lines : Type 0

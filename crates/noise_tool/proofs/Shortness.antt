@@ -1,12 +1,6 @@
 -- A file of more than 4194304 bytes is refused.
 use Rattle.std.proofs.Common.{◌≡◌, ◌≤◌, ◌<◌, ◌⊎◌, inl, inr, ℕ, List, length, Option, Result, Ok, Err, arith, ap}
-use Rattle.std.specs.Prelude.{IfSome}
-use Rattle.noise_lines.specs.Faults.{status_of}
-use Rattle.noise_lines.specs.declared.faults.Fault.{Fault}
-use Rattle.noise_lines.specs.declared.faults.Fault.TheVariants.{TooLong}
-use Rattle.noise_vectors.specs.declared.vector.AllowedEvents.{AllowedEvents}
-use Rattle.noise_vectors.specs.declared.vector.VectorFile.{VectorFile}
-use Rattle.noise_tool.specs.Performing.{IsReadVector, IsShortFile, UnlessTwo}
+use Rattle.noise_tool.proofs.Common.{IfSome, status_of, Fault, TooLong, AllowedEvents, VectorFile, IsReadVector, IsShortFile, UnlessTwo}
 use Rattle.noise_tool.proofs.PerformingLemmas.{at-known}
 
 -- what was read is short

@@ -1,49 +1,22 @@
 -- The ends of a template's file: nothing is wrong with their setups.
-use Rattle.std.proofs.Common.{◌≡◌, ◌∙◌, refl, sym, ap, ap₂, subst, ℕ, ◌+◌, ◌<◌, ◌≤◌, Bool, true, false, cond, eqb, leb, List, [], ◌∷◌, ◌++◌, Option, Some, None, length, map, arith}
-use Rattle.std.proofs.lemmas.List.{length-map}
-use Rattle.std.specs.Prelude.{◌&&◌, ◌||◌, not, IsTrue, count_by, is_none, is_some, nat_le, nat_lt, if◌then◌else◌}
-use Rattle.std.specs.List.{list_all, list_any}
+use Rattle.std.proofs.Common.{rules, ◌≡◌, ◌∙◌, refl, ap, ℕ, ◌+◌, ◌<◌, ◌≤◌, Bool, true, false, cond, eqb, leb, List, [], ◌∷◌, Some, None, length, map, arith}
+use Rattle.std.specs.Prelude.{◌&&◌, ◌||◌, not, IsTrue, is_some, nat_le, nat_lt, if◌then◌else◌}
 use Rattle.std.proofs.lemmas.Bool.Decides.{nat_tests}
 use Rattle.std.proofs.lemmas.Bool.{leb-true}
-use Rattle.std.proofs.lemmas.List.Sums.{sum_by-append}
-use Rattle.noise_names.specs.Fundamental.{fundamental_of}
+use Rattle.noise_tool.proofs.Common.{length-map, count_by, is_none, list_all, list_any, sum_by-append, Plan, places_of, is_psk, other, own_tokens, is_among, Role, Initiator, Responder, has_before, psks_of, setup_fault, public_of, VectorFile, shown_before, IsFilePattern, keys_of_role, setup_of}
 use Rattle.noise_names.specs.Limits.{HavePsksAt, IsPattern, psk_if, with_psk_tokens}
-use Rattle.noise_names.specs.Names.{Section, rises}
-use Rattle.noise_names.specs.Plan.{Plan, places_of, plain_of}
-use Rattle.noise_names.specs.Tokens.{is_psk, other, own_tokens}
-use Rattle.noise_names.specs.Validity.{is_among}
-use Rattle.noise_names.specs.declared.token.Role.{Role}
-use Rattle.noise_names.specs.declared.token.Role.TheVariants.{Initiator, Responder}
+use Rattle.noise_names.specs.Names.{rises}
 use Rattle.noise_names.specs.declared.token.Token.{Token}
 use Rattle.noise_names.specs.declared.token.Token.TheVariants.{E, S, Ee, Es, Se, Ss, Psk}
 use Rattle.noise_keys.specs.declared.keys.Own.TheVariants.{Ephemeral, Static}
-use Rattle.noise_handshake.specs.Setup.{has_before, psks_of, setup_fault}
-use Rattle.noise_vectors.specs.FileKeys.{public_of}
-use Rattle.noise_vectors.specs.declared.file_keys.FileKeys.{FileKeys}
 use Rattle.noise_vectors.specs.declared.file_keys.FileKeys.TheVariants.{Table}
-use Rattle.noise_vectors.specs.declared.vector.VectorFile.{VectorFile}
-use Rattle.noise_template.specs.Template.{IsTemplate, key_byte, name_of, placeholder, psk_key, unless_known}
+use Rattle.noise_template.specs.Template.{IsTemplate, key_byte, placeholder, psk_key}
 use Rattle.noise_template.specs.Template as template
-use Rattle.noise_handshake.specs.Counterparts.{shown_before}
-use Rattle.noise_tool.specs.Ends.{IsFilePattern, keys_of_role, setup_of}
 
 -- ---- the pattern
 
-pattern-by : (p : Plan) → IsPattern p → (o : Option Plan) → fundamental_of p.base ≡ o → IsFilePattern (unless_known o p) (name_of p) p
-pattern-by p h None e = refl
-pattern-by p h (Some f) e = record {
-  plain = f;
-  known = e;
-  placed = record { without = known-is p h f e; places_are = refl; psks = h.psks };
-}
-  where
-    known-is : (p : Plan) → IsPattern p → (f : Plan) → fundamental_of p.base ≡ Some f → plain_of p ≡ f
-    known-is p h f e = let k = h.known in rw e at k
-
 pub pattern-of : (p : Plan) (file : VectorFile) → IsPattern p → IsTemplate p file → IsFilePattern file.block file.protocol p
-pattern-of p file h t =
-    subst (λ (b : Option Plan). IsFilePattern b file.protocol p) (sym t.block)
-    (subst (λ (s : Section). IsFilePattern (unless_known (fundamental_of p.base) p) s p) (sym t.protocol) (pattern-by p h (fundamental_of p.base) refl))
+pattern-of p file h t = search rules
 
 -- ---- a psk for each place
 
@@ -114,8 +87,7 @@ one-step n m ms h later true e =
     let high : bit (leb n m) ≡ 1 = ap bit (at-it n m e) in
     omega (arith, here, none, later, low, high, from-cons (n + 1) m ms, from-cons n m ms)
 one-step n m ms h later false e =
-    let here : count_by is_psk (psk_if n (m ∷ ms)) ≡ count_by is_psk (psk_if n ms) =
-    ap (λ (b : Bool). count_by is_psk (cond (b || list_any (λ k. eqb k n) ms) (Psk ∷ []) [])) e in
+    let here : count_by is_psk (psk_if n (m ∷ ms)) ≡ count_by is_psk (psk_if n ms) = search in
     omega (arith, here, later, bit-same n m e (leb (n + 1) m) (leb n m) refl refl, from-cons (n + 1) m ms, from-cons n m ms)
 
 one-place : (n : ℕ) (places : List ℕ) → IsTrue (rises places) → count_by is_psk (psk_if n places) + from (n + 1) places ≡ from n places
@@ -135,25 +107,12 @@ no-psk-among (Psk ∷ ts) = no-psk-among ts
 -- the psk tokens of a message
 in-message : (places : List ℕ) (n : ℕ) (ts : List Token) → ts ≡ with_psk_tokens places n (own_tokens ts)
     → count_by is_psk ts ≡ count_by is_psk (cond (eqb n 1) (psk_if 0 places) []) + count_by is_psk (psk_if n places)
-in-message places n ts h =
-    let front : List Token = cond (eqb n 1) (psk_if 0 places) [] in
-    let sum : count_by is_psk ts ≡ (count_by is_psk front + count_by is_psk (own_tokens ts)) + count_by is_psk (psk_if n places) =
-    ap (count_by is_psk) h ∙ sum_by-append (λ t. cond (is_psk t) 1 0) (front ++ own_tokens ts) (psk_if n places)
-    ∙ ap (λ (k : ℕ). k + count_by is_psk (psk_if n places)) (sum_by-append (λ t. cond (is_psk t) 1 0) front (own_tokens ts)) in
-    omega (arith, sum, no-psk-among ts)
+in-message places n ts h = search (rules, sum_by-append, no-psk-among)
 
 later-psks : (places : List ℕ) (n : ℕ) (ms : List (List Token)) → 1 < n → IsTrue (rises places) → HavePsksAt places n ms
     → psks_of ms + from (n + length ms) places ≡ from n places
-later-psks places n [] low up h =
-    let end : from (n + 0) places ≡ from n places = ap (λ (k : ℕ). from k places) (omega arith) in
-    omega (arith, end)
-later-psks places n (ts ∷ ms) low up h =
-    let not_first : eqb n 1 ≡ false = grind (arith, nat_tests) in
-    let split : count_by is_psk ts ≡ count_by is_psk (cond (eqb n 1) (psk_if 0 places) []) + count_by is_psk (psk_if n places) = in-message places n ts h.0 in
-    let none : count_by is_psk (cond (eqb n 1) (psk_if 0 places) []) ≡ 0 = ap (λ (b : Bool). count_by is_psk (cond b (psk_if 0 places) [])) not_first in
-    let more : psks_of ms + from (n + 1 + length ms) places ≡ from (n + 1) places = later-psks places (n + 1) ms (omega arith) up h.1 in
-    let last : from (n + length (ts ∷ ms)) places ≡ from (n + 1 + length ms) places = ap (λ (k : ℕ). from k places) (omega arith) in
-    omega (arith, split, none, more, last, one-place n places up)
+later-psks places n [] low up h = search rules
+later-psks places n (ts ∷ ms) low up h = search (rules, in-message, one-place, (later-psks places (n + 1) ms (omega arith) up h.1))
 
 all-psks : (places : List ℕ) (ms : List (List Token)) → 1 ≤ length ms → IsTrue (rises places) → HavePsksAt places 1 ms
     → psks_of ms + from (1 + length ms) places ≡ from 0 places
@@ -234,7 +193,4 @@ whole-setup p matches role n count =
     simp (e, s, re, rs, ue, us, same)
 
 pub no-setup-fault : (p : Plan) (file : VectorFile) → IsPattern p → BeforeMatches p → IsTemplate p file → (role : Role) → setup_of file p role ≡ None
-no-setup-fault p file h matches t role =
-    ap₂ (λ (own theirs : FileKeys). setup_fault p role (public_of own) (shown_before p (other role) (public_of theirs)) (length file.psks.items))
-    (keys-are p file t role) (keys-are p file t (other role))
-    ∙ whole-setup p matches role (length file.psks.items) (ap length t.psks ∙ psk-count p h)
+no-setup-fault p file h matches t role = search (rules, keys-are, whole-setup, psk-count)

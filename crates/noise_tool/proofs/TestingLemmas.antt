@@ -1,43 +1,17 @@
 -- What comes of vector files that are tested.
-use Rattle.std.proofs.Common.{◌≡◌, ◌∙◌, refl, sym, ap, ap₂, subst, ◌⊎◌, inl, inr, ◌<◌, ◌≤◌, ◌+◌, ℕ, Bool, true, false, not, ◌&&◌, ◌||◌, List, [], ◌∷◌, ◌++◌, Option, Some, None, String, drop, get_or, length, string_bytes, take, append_assoc, append-nil, arith}
-use Rattle.std.specs.Prelude.{OnOk, IfErr, IfOk, IfSome, IsTrue, Result, Ok, Err, cond, count_by, map}
-use Rattle.std.specs.Global.{Global}
-use Rattle.std.specs.List.{sum_by}
-use Rattle.std.specs.Io.KnownBytes.{Appends, Keeps}
-use Rattle.std.proofs.KnownBytes.{Appends-nil, Appends-trans}
+use Rattle.std.proofs.Common.{rules, ◌≡◌, ◌∙◌, refl, sym, ap, ap₂, subst, ◌⊎◌, inl, inr, ◌<◌, ◌≤◌, ◌+◌, ℕ, Bool, true, false, not, ◌&&◌, ◌||◌, List, [], ◌∷◌, ◌++◌, Option, Some, None, String, drop, get_or, length, string_bytes, take, append_assoc, append-nil, arith}
+use Rattle.std.specs.Prelude.{OnOk, IfOk, IsTrue, Result, Ok, Err, cond, map}
 use Rattle.std.proofs.lemmas.Grind.{flat_map-append}
-use Rattle.std.proofs.lemmas.List.{flat_map_more, map-append, map_more, map_push, take-append-drop}
-use Rattle.std.proofs.lemmas.List.Elements.{All-push}
-use Rattle.std.proofs.lemmas.List.Sums.{sum_by-append}
+use Rattle.noise_tool.proofs.Common.{IfErr, IfSome, count_by, Global, sum_by, Appends, Keeps, Appends-nil, Appends-trans, flat_map_more, map-append, map_more, map_push, take-append-drop, All-push, sum_by-append, Plan, status_of, lines_text, AppendsPrefix, IsReportedOf, LeavesOutput, error_text, Fault, bytes_of, IsVectorFile, file_text, Any, VectorFile, IsJudged, is_met, verdict_text, traces_of, IsFilePatternFault, IsStartFault, IsRunFault, IsRunOf, expected_in, all_lines, TestedName, EndsTest, HasBegunTest, HasTested, HaveTested, IsBelowVerdict, IsOfFile, IsPatternOfText, IsPieceOf, IsTested, IsVerdictOn, RunsTo, TestsPrefix, tested_names, tested_names_after, asked_in, below_of, failed_in, is_input, passed_in, tally_line, tested_text, verdicts_text, HasTraces}
 use Rattle.noise_names.specs.Names.{Section}
-use Rattle.noise_names.specs.Plan.{Plan}
 use Rattle.noise_names.specs.Text.{line}
-use Rattle.noise_lines.specs.Faults.{status_of}
-use Rattle.noise_lines.specs.Lines.{lines_text}
-use Rattle.noise_lines.specs.Prefixes.{AppendsPrefix}
-use Rattle.noise_lines.specs.Reported.{IsReportedOf, LeavesOutput, error_text}
 use Rattle.noise_lines.specs.declared.verdict.Difference.{Difference}
-use Rattle.noise_lines.specs.declared.faults.Fault.{Fault}
-use Rattle.noise_lines.specs.declared.faults.Fault.TheVariants as fault
-use Rattle.noise_names.specs.Lists.{bytes_of}
-use Rattle.noise_vectors.specs.VectorFile.{IsVectorFile}
-use Rattle.noise_vectors.specs.VectorText.{file_text}
-use Rattle.noise_vectors.specs.declared.vector.AllowedEvents.TheVariants.{Any}
-use Rattle.noise_vectors.specs.declared.vector.VectorFile.{VectorFile}
-use Rattle.noise_lines.specs.Verdicts.{IsJudged, is_met, verdict_text}
-use Rattle.noise_lines.specs.TracedLines.{traces_of}
-use Rattle.noise_tool.specs.Ends.{IsFilePatternFault, IsStartFault}
-use Rattle.noise_tool.specs.Performing.{IsRunFault}
-use Rattle.noise_tool.specs.Running.{IsRunOf, expected_in}
-use Rattle.noise_tool.specs.Selection.{all_lines}
-use Rattle.noise_tool.specs.Testing.{TestedName, EndsTest, HasBegunTest, HasTested, HaveTested, IsBelowVerdict, IsTraceFront, IsOfFile, IsPatternOfText, IsPieceOf, IsTested, IsVerdictOn, Judged, RunsTo, TestsPrefix}
-use Rattle.noise_tool.specs.Testing.{tested_names, tested_names_after, asked_in, below_of, failed_in, is_input, passed_in, tally_line, tested_text, verdicts_text}
-use Rattle.noise_tool.specs.TracedText.{front_if}
-use Rattle.noise_tool.specs.Tracing.{HasTraces}
+use Rattle.noise_tool.specs.Testing.{Judged}
 use Rattle.noise_tool.specs.declared.testing.TestedRun.{TestedRun}
 use Rattle.noise_tool.specs.declared.tracing.Traced.{Traced}
 use Rattle.noise_lines.specs.declared.verdict.Verdict.{Verdict}
 use Rattle.noise_lines.specs.declared.verdict.Verdict.TheVariants.{Differs, CannotRun, NamedTwice}
+use Rattle.noise_lines.specs.declared.faults.Fault.TheVariants as fault
 
 -- ---- the verdict on a file
 
@@ -45,15 +19,7 @@ use Rattle.noise_lines.specs.declared.verdict.Verdict.TheVariants.{Differs, Cann
 pub runs-traced : (traces : Bool) (text : List ℕ) (file : VectorFile) (result : Result Traced Fault) → IsVectorFile file → text ≡ file_text file
     → IfOk result (λ t. HasTraces all_lines file (bytes_of t.outcome.lines.items) (bytes_of t.start.items) (traces_of t.traces.items))
     → IfOk result (λ t. bytes_of t.outcome.expected.items ≡ expected_in file.version) → length text ≤ 4194304 → IfOk result (RunsTo traces text)
-runs-traced traces text file (Ok t) right spelled shown expected short = record {
-  file = file;
-  right = right;
-  text_is = spelled;
-  short = short;
-  run = shown.run;
-  expected = expected;
-  shown = λ wanted. shown;
-}
+runs-traced traces text file (Ok t) right spelled shown expected short = search
 runs-traced traces text file (Err why) right spelled shown expected short = tt
 
 -- and without one
@@ -92,32 +58,12 @@ fails-known None text items (Err why) same bytes fails = inr tt
 fails-known (Some known) text items (Err why) same bytes fails =
     subst (λ (b : List ℕ). (status_of why ≡ 3) ⊎ IsRunFault Any b why) (same ∙ bytes) fails
 
--- the front of the trace of a run that differs
-front-is : (traces : Bool) (file : VectorFile) (t : Traced) (number : ℕ)
-    → (traces ≡ true → HasTraces all_lines file (bytes_of t.outcome.lines.items) (bytes_of t.start.items) (traces_of t.traces.items))
-    → IsTraceFront traces file (bytes_of t.outcome.lines.items) number (front_if traces t number)
-front-is true file t number shown = record {
-  start = bytes_of t.start.items;
-  traces = traces_of t.traces.items;
-  shown = shown refl;
-  front_is = refl;
-}
-front-is false file t number shown = refl
-
 -- the lines that follow the two that differ
 below-is : (traces : Bool) (text : List ℕ) (file : VectorFile) (t : Traced) (plan : Plan) (verdict : Verdict) (piece : List (List ℕ))
     → (traces ≡ true → HasTraces all_lines file (bytes_of t.outcome.lines.items) (bytes_of t.start.items) (traces_of t.traces.items))
     → IsPatternOfText text plan → IsPieceOf plan verdict piece
     → IsBelowVerdict traces text file (bytes_of t.outcome.lines.items) verdict (below_of traces verdict piece t)
-below-is traces text file t plan (Differs d) piece shown pattern is = record {
-  plan = plan;
-  pattern = pattern;
-  piece = piece;
-  piece_is = is;
-  front = front_if traces t d.number;
-  front_is = front-is traces file t d.number shown;
-  below_is = refl;
-}
+below-is traces text file t plan (Differs d) piece shown pattern is = search rules
 below-is traces text file t plan _ piece shown pattern is = tt
 
 -- a verdict on lines is of the file
@@ -168,21 +114,10 @@ fault-known traces known unreadable why other failed h = of-sort (sort-of why) k
     of-sort (inr (inr few)) None (inr h) = inr (few, tt)
     of-sort (inr (inr few)) (Some bytes) (inr h) = inr (few, inl h)
 
--- a verdict on a file that isn't run is written, and after it nothing
-unrun-text : (name : List ℕ) (verdict : Verdict) → verdict_text name verdict ≡ tested_text name verdict []
-unrun-text name (Differs d) = sym (append-nil (verdict_text name (Differs d)))
-unrun-text name _ = refl
-
 pub unrun-tested : (again traces : Bool) (known : Option (List ℕ)) (unreadable : Bool) (name : List ℕ) (a e : Option (List ℕ)) (verdict : Verdict)
     (result : Result Bool Fault) → is_met verdict ≡ false → IsVerdictOn again traces known unreadable verdict []
     → IfOk result (λ met. (met ≡ false) × Appends a e (verdict_text name verdict)) → IfOk result (HasTested again traces known unreadable name a e)
-unrun-tested again traces known unreadable name a e verdict (Ok met) unmet right h = record {
-  verdict = verdict;
-  below = [];
-  right = right;
-  printed = subst (λ (t : List ℕ). Appends a e t) (unrun-text name verdict) h.1;
-  met_is = h.0 ∙ sym unmet;
-}
+unrun-tested again traces known unreadable name a e verdict (Ok met) unmet right h = search rules
 unrun-tested again traces known unreadable name a e verdict (Err why) unmet right h = tt
 
 pub unrun-begun : {O : Type 0} (contents : O → Option (List ℕ)) (again traces : Bool) (known : Option (List ℕ)) (unreadable : Bool) (name : List ℕ) (old new : O)
@@ -190,12 +125,7 @@ pub unrun-begun : {O : Type 0} (contents : O → Option (List ℕ)) (again trace
     → IfErr result (λ _. AppendsPrefix (contents old) (contents new) (verdict_text name verdict))
     → IfErr result (λ _. (new ≡ old) ⊎ HasBegunTest again traces known unreadable name (contents old) (contents new))
 unrun-begun contents again traces known unreadable name old new verdict (Ok met) right h = tt
-unrun-begun contents again traces known unreadable name old new verdict (Err why) right h = inr (record {
-  verdict = verdict;
-  below = [];
-  right = right;
-  grown = subst (λ (t : List ℕ). AppendsPrefix (contents old) (contents new) t) (unrun-text name verdict) h;
-})
+unrun-begun contents again traces known unreadable name old new verdict (Err why) right h = search rules
 
 no-pattern-read : (block : Option Plan) (name : Section) → ¬ IsFilePatternFault block name fault.Unreadable
 no-pattern-read None name h = h
@@ -244,12 +174,9 @@ tested-more traces bytes_at unreadable names name again a m e passed failed met 
       verdicts = before.verdicts ++ this ∷ [];
       named = map_push asked_in before.verdicts this ∙ ap (λ (ns : List TestedName). ns ++ (name, again) ∷ []) before.named;
       right = All-push (λ (v : Judged). IsVerdictOn v.again traces (bytes_at v.name) (unreadable v.name) v.verdict v.below) before.verdicts this before.right one.right;
-      printed = subst (λ (t : List ℕ). Appends a e t) (flat_map_more (λ (v : Judged). tested_text v.name v.verdict v.below) [] before.verdicts this)
-          (Appends-trans a m e (verdicts_text before.verdicts) (tested_text name one.verdict one.below) before.printed one.printed);
-      passed_is = p_is ∙ ap₂ (λ (n : ℕ) (b : Bool). n + cond b 1 0) before.passed_is one.met_is
-          ∙ sym (counted (λ (v : Judged). is_met v.verdict) before.verdicts this);
-      failed_is = f_is ∙ ap₂ (λ (n : ℕ) (b : Bool). n + cond (not b) 1 0) before.failed_is one.met_is
-          ∙ sym (counted (λ (v : Judged). not (is_met v.verdict)) before.verdicts this);
+      printed = search (rules, flat_map_more);
+      passed_is = search (rules, counted);
+      failed_is = search (rules, counted);
     }
 
 -- one file more, which passed
@@ -282,20 +209,10 @@ pub whole-prefix : (a e : Option (List ℕ)) (text : List ℕ) → Appends a e t
 whole-prefix a e text h = record { prefix = text; rest = []; begins = sym (append-nil text); appended = h }
 
 more-prefix : (a e : Option (List ℕ)) (text more : List ℕ) → AppendsPrefix a e text → AppendsPrefix a e (text ++ more)
-more-prefix a e text more p = record {
-  prefix = p.prefix;
-  rest = p.rest ++ more;
-  begins = ap (λ (t : List ℕ). t ++ more) p.begins ∙ append_assoc p.prefix p.rest more;
-  appended = p.appended;
-}
+more-prefix a e text more p = search (rules, append_assoc)
 
 pub after-prefix : (a m e : Option (List ℕ)) (first next : List ℕ) → Appends a m first → AppendsPrefix m e next → AppendsPrefix a e (first ++ next)
-after-prefix a m e first next h p = record {
-  prefix = first ++ p.prefix;
-  rest = p.rest;
-  begins = ap (λ (t : List ℕ). first ++ t) p.begins ∙ sym (append_assoc first p.prefix p.rest);
-  appended = Appends-trans a m e first p.prefix h p.appended;
-}
+after-prefix a m e first next h p = search (rules, append_assoc)
 
 pub none-prefix : (a : Option (List ℕ)) (text : List ℕ) → AppendsPrefix a a text
 none-prefix a text = record { prefix = []; rest = text; begins = refl; appended = Appends-nil a }
@@ -358,27 +275,13 @@ pub judged-begun : (traces : Bool) (known : Option (List ℕ)) (unreadable : Boo
     → IfSome known (λ bytes. IsPatternOfText bytes run.pattern) → IsJudged (bytes_of run.traced.outcome.lines.items) (bytes_of run.traced.outcome.expected.items) verdict
     → IsPieceOf run.pattern verdict piece → AppendsPrefix a e (tested_text name verdict (below_of traces verdict piece run.traced))
     → HasBegunTest false traces known unreadable name a e
-judged-begun traces known unreadable name run verdict piece a e runs pattern judged is grown = record {
-  verdict = verdict;
-  below = below_of traces verdict piece run.traced;
-  right = judged-known traces known unreadable run verdict piece runs pattern judged is;
-  grown = grown;
-}
+judged-begun traces known unreadable name run verdict piece a e runs pattern judged is grown = search judged-known
 
 -- no file more than these
 pub none-begun : (traces : Bool) (bytes_at : List ℕ → Option (List ℕ)) (unreadable : List ℕ → Bool) (names others : List TestedName) (all : List (List ℕ))
     (a e : Option (List ℕ)) (passed failed : ℕ) → names ++ others ≡ tested_names all → HaveTested traces bytes_at unreadable names a e passed failed
     → TestsPrefix traces bytes_at unreadable all a e
-none-begun traces bytes_at unreadable names others all a e passed failed is before = record {
-  verdicts = before.verdicts;
-  others = others;
-  named = ap (λ (ns : List TestedName). ns ++ others) before.named ∙ is;
-  right = before.right;
-  last = [];
-  last_is = inl refl;
-  grown = subst (λ (t : List ℕ). AppendsPrefix a e t) (sym (append-nil (verdicts_text before.verdicts)))
-      (whole-prefix a e (verdicts_text before.verdicts) before.printed);
-}
+none-begun traces bytes_at unreadable names others all a e passed failed is before = search rules
 
 -- the next file has begun
 pub one-begun : {O : Type 0} (contents : O → Option (List ℕ)) (traces : Bool) (bytes_at : List ℕ → Option (List ℕ)) (unreadable : List ℕ → Bool)
@@ -392,8 +295,7 @@ one-begun {O = O} contents traces bytes_at unreadable names others all name agai
 one-begun contents traces bytes_at unreadable names others all name again a old new passed failed is before (inr one) =
     let this : Judged = record { name = name; again = again; verdict = one.verdict; below = one.below } in
     let text = tested_text name one.verdict one.below in
-    let named : map asked_in (before.verdicts ++ this ∷ []) ≡ names ++ (name, again) ∷ [] =
-    map_push asked_in before.verdicts this ∙ ap (λ (ns : List TestedName). ns ++ (name, again) ∷ []) before.named in
+    let named : map asked_in (before.verdicts ++ this ∷ []) ≡ names ++ (name, again) ∷ [] = search (rules, map_push) in
     let whole : verdicts_text before.verdicts ++ text ≡ verdicts_text (before.verdicts ++ this ∷ []) ++ [] =
     flat_map_more (λ (v : Judged). tested_text v.name v.verdict v.below) [] before.verdicts this
     ∙ sym (append-nil (verdicts_text (before.verdicts ++ this ∷ []))) in
@@ -404,8 +306,7 @@ one-begun contents traces bytes_at unreadable names others all name again a old 
       right = All-push (λ (v : Judged). IsVerdictOn v.again traces (bytes_at v.name) (unreadable v.name) v.verdict v.below) before.verdicts this before.right one.right;
       last = [];
       last_is = inl refl;
-      grown = subst (λ (t : List ℕ). AppendsPrefix a (contents new) t) whole
-          (after-prefix a (contents old) (contents new) (verdicts_text before.verdicts) text before.printed one.grown);
+      grown = search (rules, after-prefix);
     }
 
 -- all files are tested, and the last line has begun
@@ -426,9 +327,7 @@ last-begun traces bytes_at unreadable names a m e passed failed tally before tal
 pub kept-begun : (traces : Bool) (bytes_at : List ℕ → Option (List ℕ)) (unreadable : List ℕ → Bool) (names : List (List ℕ)) (a m n e : Option (List ℕ))
     (passed failed : ℕ) (tally : List ℕ) → HaveTested traces bytes_at unreadable (tested_names names) a m passed failed → tally ≡ tally_line passed failed
     → Appends m n tally → Keeps n e → TestsPrefix traces bytes_at unreadable names a e
-kept-begun traces bytes_at unreadable names a m n e passed failed tally before tally_is written kept =
-    last-begun traces bytes_at unreadable names a m e passed failed tally before tally_is
-    (whole-prefix m e tally (kept-appends m n e tally written kept))
+kept-begun traces bytes_at unreadable names a m n e passed failed tally before tally_is written kept = search (last-begun, whole-prefix, kept-appends)
 
 -- all of it is printed
 pub tested-begun : (traces : Bool) (bytes_at : List ℕ → Option (List ℕ)) (unreadable : List ℕ → Bool) (names : List (List ℕ)) (a e : Option (List ℕ))
@@ -472,22 +371,18 @@ named-more named (n ∷ names) name = named-more (named || is_input n) names nam
 asked-append : (named : Bool) (names more : List (List ℕ))
     → tested_names_after named (names ++ more) ≡ tested_names_after named names ++ tested_names_after (named-after named names) more
 asked-append named [] more = refl
-asked-append named (n ∷ names) more =
-    ap (λ (fs : List TestedName). (n, is_input n && named) ∷ fs) (asked-append (named || is_input n) names more)
+asked-append named (n ∷ names) more = search ((asked-append (named || is_input n) names more))
 
 -- one name more
 asked-more : (names all : List (List ℕ)) (name : List ℕ) (again : Bool) → all ≡ names ++ name ∷ [] → again ≡ (is_input name && named-after false names)
     → tested_names all ≡ tested_names names ++ (name, again) ∷ []
-asked-more names all name again all_is again_is =
-    ap tested_names all_is ∙ asked-append false names (name ∷ []) ∙ ap (λ (b : Bool). tested_names names ++ (name, b) ∷ []) (sym again_is)
+asked-more names all name again all_is again_is = search (rules, asked-append)
 
 -- the names up to one of them, by whether that is standard input again
 pub asked-here : (names : List (String Global)) (i : ℕ) (item : String Global) (name : List ℕ) (again named : Bool) → i < length names
     → item ≡ get_or names i item → name ≡ string_bytes item → named ≡ named-after false (map string_bytes (take i names)) → again ≡ (is_input name && named)
     → tested_names (map string_bytes (take (i + 1) names)) ≡ tested_names (map string_bytes (take i names)) ++ (name, again) ∷ []
-asked-here names i item name again named less item_is name_is named_is again_is =
-    asked-more (map string_bytes (take i names)) _ name again (name-more names i item name less item_is name_is)
-    (again_is ∙ ap (λ (b : Bool). is_input name && b) named_is)
+asked-here names i item name again named less item_is name_is named_is again_is = search (rules, asked-more, name-more)
 
 -- and by whether standard input is named among them
 pub named-here : (names : List (String Global)) (i : ℕ) (item : String Global) (name : List ℕ) (named next : Bool) → i < length names

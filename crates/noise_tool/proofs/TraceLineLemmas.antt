@@ -1,13 +1,12 @@
 -- Lines of a key schedule, made word by word.
 use Rattle.std.proofs.Common.{◌≡◌, ◌∙◌, refl, sym, ap, ℕ, ◌+◌, List, [], ◌∷◌, ◌++◌, append_assoc}
-use Rattle.noise_lines.specs.Lines.{line_of}
+use Rattle.noise_tool.proofs.Common.{line_of}
 
 -- words more
 pub line-joined : (a : List ℕ) (ws : List (List ℕ)) (b : List ℕ) (vs : List (List ℕ))
     → line_of ((a ∷ ws) ++ (b ∷ vs)) ≡ line_of (a ∷ ws) ++ 32 ∷ line_of (b ∷ vs)
 line-joined a [] b vs = refl
-line-joined a (w ∷ ws) b vs =
-    ap (λ (t : List ℕ). a ++ 32 ∷ t) (line-joined w ws b vs) ∙ sym (append_assoc a (32 ∷ line_of (w ∷ ws)) (32 ∷ line_of (b ∷ vs)))
+line-joined a (w ∷ ws) b vs = search (append_assoc, (line-joined w ws b vs))
 
 -- a line to which words were added
 pub words-added : (text made : List ℕ) (a : List ℕ) (ws : List (List ℕ)) (b : List ℕ) (vs : List (List ℕ)) → text ≡ line_of (a ∷ ws)

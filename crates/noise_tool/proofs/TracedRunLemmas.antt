@@ -1,23 +1,9 @@
 -- A run, event by event, with the lines of the key schedules.
-use Rattle.std.proofs.Common.{◌≡◌, ◌∙◌, sym, ap, subst, ℕ, List, [], ◌∷◌, ◌++◌, length, drop, append_assoc, append-nil}
-use Rattle.noise_names.specs.declared.token.Role.{Role}
-use Rattle.noise_events.specs.Events.{Event}
-use Rattle.noise_duel.specs.declared.entry.Entry.{Entry}
+use Rattle.std.proofs.Common.{rules, ◌≡◌, ◌∙◌, sym, ap, subst, ℕ, List, [], ◌∷◌, ◌++◌, length, drop, append_assoc, append-nil}
+use Rattle.noise_tool.proofs.Common.{Role, Event, Entry, notes_of, DuelMatches, DuelValue, Note, Run, Sides, agreement_of, public_of, FileKeys, EndsTraced, HasRunTraced, HasTracedTo, IsNewSides, happened_traces, run_traces, Selection, TracedEnds}
 use Rattle.noise_duel.specs.declared.report.Report.{Report}
-use Rattle.noise_names.specs.Lists.{bytes_of}
-use Rattle.noise_duel.specs.Entries.{notes_of}
-use Rattle.noise_duel.specs.DuelValue.{DuelMatches, DuelValue}
-use Rattle.noise_duel.specs.Notes.{Note}
 use Rattle.noise_duel.specs.OneEvent.{HasHappened}
-use Rattle.noise_duel.specs.Runs.{Run}
 use Rattle.noise_duel.specs.Runs.Run.{ends, begins}
-use Rattle.noise_duel.specs.Sides.{Sides}
-use Rattle.noise_vectors.specs.FileKeys.{agreement_of, public_of}
-use Rattle.noise_vectors.specs.declared.file_keys.FileKeys.{FileKeys}
-use Rattle.noise_tool.specs.TracedEnds.{EndsTraced, HasRunTraced, HasTracedTo, IsNewSides}
-use Rattle.noise_tool.specs.Tracing.{happened_traces, run_traces}
-use Rattle.noise_tool.specs.declared.key_use_lines.Selection.{Selection}
-use Rattle.noise_tool.specs.declared.traced_ends.TracedEnds.{TracedEnds}
 
 abbrev Traces : Type 0
 Traces = List (List (List ℕ))
@@ -41,8 +27,7 @@ notes-after (b ∷ bs) (a ∷ more) notes e = notes-after bs more notes (ap rest
 
 pub new-notes : (before after part : List (Role × Entry)) (notes : Noted) (n : ℕ) → n ≡ length before → part ≡ drop n after
     → notes_of after ≡ notes_of before ++ notes → notes_of part ≡ notes
-new-notes before after part notes n count is e =
-    ap notes_of is ∙ ap (λ (k : ℕ). notes_of (drop k after)) count ∙ notes-after before after notes e
+new-notes before after part notes n count is e = search (rules, notes-after)
 
 -- what comes of the events that are left
 abbrev GoesOn : Selection → Sides → List Event → Report → Traces → Sides → List Event → Type 0
@@ -64,10 +49,7 @@ none-traced selection d events duel report traced traces matches new follows non
     ap (λ (ts : Traces). ts ++ run_traces selection d last events notes run) (sym none),
   );
   matches = matches;
-  frames = record {
-    initiator = ap bytes_of first ∙ sym new.0;
-    responder = ap bytes_of second ∙ sym new.1;
-  };
+  frames = search;
   traced = follows;
 }
 

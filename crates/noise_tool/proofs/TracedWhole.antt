@@ -1,22 +1,8 @@
 -- The trace of a file, from its parts.
-use Rattle.std.proofs.Common.{◌≡◌, ◌∙◌, refl, sym, ap, ap₂, subst, ℕ, List, ◌++◌, map, Option}
-use Rattle.noise_names.specs.declared.token.Role.{Role}
-use Rattle.noise_events.specs.Events.{Event as Act, events_of}
+use Rattle.std.proofs.Common.{rules, ◌≡◌, ◌∙◌, refl, ap, subst, ℕ, List, ◌++◌, map, Option}
+use Rattle.noise_tool.proofs.Common.{events_of, notes_of, DuelValue, Sides, FileKeys, FileDatagrams, VectorFile, sides_of_file, note_line, AreLast, datagrams_of_version, AreTracedEnds, HasRunTraced, HasTraces, last_traces, start_traces, Selection, TracedEnds}
+use Rattle.noise_events.specs.Events.{Event as Act}
 use Rattle.noise_duel.specs.declared.report.Report.{Report}
-use Rattle.noise_duel.specs.Entries.{notes_of}
-use Rattle.noise_duel.specs.DuelValue.{DuelValue}
-use Rattle.noise_duel.specs.Notes.{Note}
-use Rattle.noise_duel.specs.Sides.{Sides}
-use Rattle.noise_vectors.specs.declared.file_keys.FileKeys.{FileKeys}
-use Rattle.noise_vectors.specs.declared.vector.FileDatagrams.{FileDatagrams}
-use Rattle.noise_vectors.specs.declared.vector.VectorFile.{VectorFile}
-use Rattle.noise_tool.specs.Ends.{sides_of_file}
-use Rattle.noise_tool.specs.Printed.{note_line}
-use Rattle.noise_tool.specs.Running.{AreLast, datagrams_of_version}
-use Rattle.noise_tool.specs.TracedEnds.{AreTracedEnds, HasRunTraced}
-use Rattle.noise_tool.specs.Tracing.{HasTraces, last_traces, start_traces}
-use Rattle.noise_tool.specs.declared.key_use_lines.Selection.{Selection}
-use Rattle.noise_tool.specs.declared.traced_ends.TracedEnds.{TracedEnds}
 use Rattle.noise_tool.specs.declared.traced_ends.TracedStart.{TracedStart}
 
 abbrev Traces : Type 0
@@ -62,8 +48,7 @@ traced-whole selection file made a events duel report ends traces pushed start l
         → (q : HasRunTraced selection (sides_of_file file a.plan) (events_of file.events.items) duel report ends traces) × (q.last ≡ r.last)
         → HasTraces selection file whole start pushed
     of-parts ended_session (q, last_is) =
-        let here : HasEnded selection (datagrams_of_version file.version) q.last lines whole traces pushed =
-        subst (λ (z : Sides). HasEnded selection (datagrams_of_version file.version) z lines whole traces pushed) (sym last_is) ended_session in
+        let here : HasEnded selection (datagrams_of_version file.version) q.last lines whole traces pushed = search rules in
         record {
           run = record {
             plan = a.plan;
@@ -73,8 +58,7 @@ traced-whole selection file made a events duel report ends traces pushed start l
             run = q.run;
             after = here.after;
             are_last = here.are_last;
-            lines_are = here.whole_is ∙ ap (λ (z : Lines). z ++ here.after)
-                (lines_is ∙ ap₂ (λ (d : Sides) (ns : List (Role × Note)). map (note_line d) ns) (sym last_is) q.notes_are);
+            lines_are = search;
           };
           start_is = start_is;
           traces_are = here.pushed_is ∙ ap (λ (z : Traces). z ++ last_traces selection (datagrams_of_version file.version) q.last here.after here.are_last) q.traces_are;

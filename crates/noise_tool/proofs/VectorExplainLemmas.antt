@@ -1,13 +1,9 @@
 -- What is said of vector files.
 use Rattle.std.proofs.Common.{◌≡◌, ◌∙◌, subst, true, inl, ℕ, List, Option, Some, None}
-use Rattle.std.specs.Prelude.{IfOk, IfSome, Result, Ok, Err}
+use Rattle.std.specs.Prelude.{IfOk, Result, Ok, Err}
+use Rattle.noise_tool.proofs.Common.{IfSome, Fault, IsVectorFile, file_text, VectorFile, IsExplainedFile, IsExplainedRun, IsExplainedText, IsExplainedVector}
 use Rattle.noise_explain_vectors.specs.VectorExplained.{is_vector_text}
 use Rattle.noise_explain.specs.declared.explanation.Explained.{Explained}
-use Rattle.noise_lines.specs.declared.faults.Fault.{Fault}
-use Rattle.noise_vectors.specs.VectorFile.{IsVectorFile}
-use Rattle.noise_vectors.specs.VectorText.{file_text}
-use Rattle.noise_vectors.specs.declared.vector.VectorFile.{VectorFile}
-use Rattle.noise_tool.specs.Explaining.{IsExplainedFile, IsExplainedRun, IsExplainedText, IsExplainedVector}
 
 -- a right file is reported
 pub file-said : (name text : List ℕ) (file : VectorFile) (r : Result Explained Fault) → IsVectorFile file → text ≡ file_text file

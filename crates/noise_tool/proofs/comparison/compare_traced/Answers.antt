@@ -1,6 +1,5 @@
 use Rattle.std.proofs.Common.{refl}
-use Rattle.noise_lines.specs.TracedLines.{traces_of}
-use Rattle.noise_names.specs.Lists.{bytes_of}
+use Rattle.noise_tool.proofs.Common.{traces_of, bytes_of}
 use Rattle.noise_tool.proofs.comparison.compare_traced.Goals as goal
 
 pub returns-in-Ok-clause-made : goal.returns-in-Ok-clause-made

@@ -1,7 +1,6 @@
 use Rattle.std.proofs.Common.{◌≡◌, map, take}
+use Rattle.noise_tool.proofs.Common.{traces_of, bytes_of}
 use Rattle.noise_compare.specs.Lines.{words_in, line_words}
-use Rattle.noise_lines.specs.TracedLines.{traces_of}
-use Rattle.noise_names.specs.Lists.{bytes_of}
 use Rattle.noise_tool.specs.Comparing.{schedule_of}
 use Rattle.noise_tool.proofs.comparison.schedule.Given as goal
 

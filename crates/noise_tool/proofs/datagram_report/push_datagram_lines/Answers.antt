@@ -1,5 +1,5 @@
 use Rattle.std.proofs.Common.{rules, ◌≡◌, ◌∙◌, ◌<◌, ◌≤◌, ◌++◌, ap, length}
-use Rattle.noise_names.specs.Lists.{bytes_of}
+use Rattle.noise_tool.proofs.Common.{bytes_of}
 use Rattle.noise_tool.proofs.PrintedLemmas.{datagram_entries-lines, datagram_line_of, line-pushed, lines-done, expected-push}
 use Rattle.noise_tool.proofs.datagram_report.push_datagram_lines.Goals as goal
 

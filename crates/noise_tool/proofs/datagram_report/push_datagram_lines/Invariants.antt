@@ -1,6 +1,5 @@
 use Rattle.std.proofs.Common.{◌≡◌, ◌++◌, map, take}
-use Rattle.noise_names.specs.Lists.{bytes_of}
-use Rattle.noise_lines.specs.PrintedWords.{AreExpected}
+use Rattle.noise_tool.proofs.Common.{bytes_of, AreExpected}
 use Rattle.noise_tool.proofs.PrintedLemmas.{datagram_line_of}
 use Rattle.noise_tool.proofs.datagram_report.push_datagram_lines.Given as goal
 

@@ -1,10 +1,7 @@
 use Rattle.std.proofs.Common.{rules, ◌≡◌, ◌∙◌, sym, refl, subst}
-use Rattle.std.proofs.lemmas.Result.{err_from_is_err_and}
-use Rattle.std.proofs.lemmas.List.Elements.{same_from_all_zip}
-use Rattle.noise_names.specs.declared.token.Role.TheVariants.{Initiator, Responder}
+use Rattle.noise_tool.proofs.Common.{err_from_is_err_and, same_from_all_zip, Initiator, Responder, public_of, agreement_of}
 use Rattle.noise_handshake.specs.Party.{Party}
 use Rattle.noise_handshake.specs.Matching.{Matches}
-use Rattle.noise_vectors.specs.FileKeys.{public_of, agreement_of}
 use Rattle.noise_tool.proofs.EndLemmas.{begun-same, both-set-up, setup-same, none-reported, reported-first, reported-second}
 use Rattle.noise_tool.proofs.ends.begin.Goals as goal
 

@@ -1,9 +1,7 @@
 use Rattle.std.proofs.Common.{◌≡◌, refl, Option, Some, None, Result, Ok, Err}
-use Rattle.std.specs.Prelude.{IsOk, MatchOption}
 use Rattle.std.specs.Option.{option_map}
-use Rattle.noise_names.specs.declared.token.Role.{Role}
+use Rattle.noise_tool.proofs.Common.{IsOk, MatchOption, Role, Setup}
 use Rattle.noise_keys.specs.declared.faults.SetupFault.{SetupFault}
-use Rattle.noise_lines.specs.declared.faults.Fault.TheVariants.{Setup}
 use Rattle.noise_tool.proofs.ends.handshake.Goals as goal
 
 module _ {T : Type 0} (role : Role) where

@@ -1,10 +1,6 @@
 use Rattle.std.proofs.Common.{ℕ, subst}
-use Rattle.noise_names.specs.declared.token.Role.TheVariants.{Initiator, Responder}
-use Rattle.noise_duel.specs.DuelValue.{DuelMatches, both_sides}
+use Rattle.noise_tool.proofs.Common.{Initiator, Responder, DuelMatches, both_sides, end_of, public_of, agreement_of, file_start}
 use Rattle.noise_duel.specs.Messages.{begun_as}
-use Rattle.noise_session.specs.Ends.{end_of}
-use Rattle.noise_vectors.specs.FileKeys.{public_of, agreement_of}
-use Rattle.noise_tool.specs.Ends.{file_start}
 use Rattle.noise_tool.proofs.ends.make_ends.Goals as goal
 
 pub returns-clause-ends : goal.returns-clause-ends

@@ -1,5 +1,5 @@
 use Rattle.std.proofs.Common.{◌≡◌, ◌≤◌, map, take, string_bytes}
-use Rattle.noise_tool.specs.Explaining.{HasExplained}
+use Rattle.noise_tool.proofs.Common.{HasExplained}
 use Rattle.noise_tool.proofs.explanation.explain_each.Given as goal
 
 -- so many files are explained, and nothing came to the error output

@@ -1,5 +1,5 @@
 use Rattle.std.proofs.Common.{◌≡◌, ◌+◌, arith}
-use Rattle.noise_names.specs.Lists.{bytes_of}
+use Rattle.noise_tool.proofs.Common.{bytes_of}
 use Rattle.noise_tool.proofs.SelectionLemmas.{counted-some, transport-renewed}
 use Rattle.noise_tool.proofs.RunningLemmas.{on_ok}
 use Rattle.noise_tool.proofs.key_use_lines.push_transport.Goals as goal

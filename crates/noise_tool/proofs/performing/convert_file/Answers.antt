@@ -1,8 +1,5 @@
 use Rattle.std.proofs.Common.{◌≡◌, ◌⊎◌, ℕ, List, Some, [], subst, ◌∙◌, inr, refl}
-use Rattle.std.proofs.lemmas.Result.{err_from_is_err_and}
-use Rattle.noise_lines.specs.Prefixes.{AppendsPrefix}
-use Rattle.noise_vectors.specs.declared.vector.AllowedEvents.TheVariants.{VersionOne}
-use Rattle.noise_tool.specs.Performing.{HasConverted, IsRunFault, IsTooLongConverted}
+use Rattle.noise_tool.proofs.Common.{err_from_is_err_and, AppendsPrefix, VersionOne, HasConverted, IsRunFault, IsTooLongConverted}
 use Rattle.noise_tool.proofs.PerformingLemmas.{at-known, or-other, stopped-known}
 use Rattle.noise_tool.proofs.RunningLemmas.{on_ok}
 use Rattle.noise_tool.proofs.Shortness.{stays-short}

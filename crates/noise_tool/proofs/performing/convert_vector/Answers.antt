@@ -1,5 +1,5 @@
 use Rattle.std.proofs.Common.{◌≡◌, inl, inr}
-use Rattle.std.proofs.lemmas.Result.{err_from_is_err_and}
+use Rattle.noise_tool.proofs.Common.{err_from_is_err_and}
 use Rattle.noise_tool.proofs.PerformingLemmas.{converts-of, no-converted}
 use Rattle.noise_tool.proofs.performing.convert_vector.Goals as goal
 

@@ -1,9 +1,6 @@
-use Rattle.noise_lines.specs.Prefixes.{AppendsPrefix}
-use Rattle.noise_lines.specs.Reported.{error_text}
-use Rattle.noise_lines.specs.declared.faults.Fault.{Fault}
+use Rattle.noise_tool.proofs.Common.{AppendsPrefix, error_text, Fault, ReadsShort}
 use Rattle.noise_tool.proofs.PerformingLemmas.{reported-at-two, reported-fault}
 use Rattle.noise_tool.proofs.PrefixLemmas.{reported-itself, reported-outside, reported-prefix}
-use Rattle.noise_tool.specs.Performing.{ReadsShort}
 use Rattle.noise_tool.proofs.Shortness.{reported-long}
 use Rattle.noise_tool.proofs.performing.perform_command.Goals as goal
 

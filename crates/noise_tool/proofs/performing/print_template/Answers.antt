@@ -1,5 +1,5 @@
 use Rattle.std.proofs.Common.{◌∙◌, sym, subst, inr, List, ℕ}
-use Rattle.noise_lines.specs.Prefixes.{AppendsPrefix}
+use Rattle.noise_tool.proofs.Common.{AppendsPrefix}
 use Rattle.noise_tool.proofs.PrefixLemmas.{spelled-template}
 use Rattle.noise_tool.proofs.performing.print_template.Goals as goal
 

@@ -1,5 +1,5 @@
 use Rattle.std.proofs.Common.{arith, inl, inr, ◌∙◌, sym}
-use Rattle.std.proofs.lemmas.Result.{err_from_is_err_and}
+use Rattle.noise_tool.proofs.Common.{err_from_is_err_and}
 use Rattle.noise_tool.proofs.PerformingLemmas.{unread}
 use Rattle.noise_tool.proofs.Shortness.{short-of, unread-at}
 use Rattle.noise_tool.proofs.performing.read_vector_file.Goals as goal

@@ -1,8 +1,5 @@
-use Rattle.noise_vectors.specs.declared.vector.AllowedEvents.TheVariants.{SayOnly, Any}
+use Rattle.noise_tool.proofs.Common.{SayOnly, Any, IsPlain, selection_of, IsTraceOf}
 use Rattle.noise_words.specs.declared.orders.Chosen.TheVariants.{Talk, Replay, Trace}
-use Rattle.noise_tool.specs.Performing.{IsPlain}
-use Rattle.noise_tool.specs.Selection.{selection_of}
-use Rattle.noise_tool.specs.Tracing.{IsTraceOf}
 use Rattle.noise_tool.proofs.PrefixLemmas.{ran-prefix, template-prefix, unmet-known}
 use Rattle.noise_tool.proofs.performing.run.Goals as goal
 

@@ -1,7 +1,5 @@
 use Rattle.std.proofs.Common.{ℕ, List, inr, refl}
-use Rattle.std.proofs.lemmas.Result.{err_from_is_err_and}
-use Rattle.noise_names.specs.Lists.{bytes_of}
-use Rattle.noise_tool.specs.Performing.{IsPlain, IsRunFault}
+use Rattle.noise_tool.proofs.Common.{err_from_is_err_and, bytes_of, IsPlain, IsRunFault}
 use Rattle.noise_tool.proofs.PerformingLemmas.{has-run, no-run, or-other, run-prefix, stopped-known}
 use Rattle.noise_tool.proofs.Shortness.{stays-short}
 use Rattle.noise_tool.proofs.performing.run_file.Goals as goal

@@ -1,8 +1,5 @@
 use Rattle.std.proofs.Common.{◌≡◌, map, take}
-use Rattle.noise_duel.specs.DuelValue.{HasFrames}
-use Rattle.noise_duel.specs.Sides.{Sides}
-use Rattle.noise_names.specs.Lists.{bytes_of}
-use Rattle.noise_lines.specs.PrintedWords.{AreExpected}
+use Rattle.noise_tool.proofs.Common.{HasFrames, Sides, bytes_of, AreExpected}
 use Rattle.noise_tool.proofs.PrintedLemmas.{entry_line_of}
 use Rattle.noise_tool.proofs.report.entry_lines.Given as goal
 

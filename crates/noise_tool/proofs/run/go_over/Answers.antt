@@ -1,6 +1,6 @@
 use Rattle.std.proofs.Common.{rules, ◌≡◌, true, Some, None}
+use Rattle.noise_tool.proofs.Common.{bytes_of}
 use Rattle.noise_session.specs.EndDatagrams.{is_datagram_ready}
-use Rattle.noise_names.specs.Lists.{bytes_of}
 use Rattle.noise_tool.proofs.RunningLemmas.{after-ready, after-unready, after-without, both-ready, not-ready}
 use Rattle.noise_tool.proofs.run.go_over.Goals as goal
 

@@ -1,6 +1,6 @@
 use Rattle.std.proofs.Common.{◌∙◌, ◌++◌, ◌∷◌, [], ap, ap₂, ℕ, List}
 use Rattle.std.specs.Prelude.{decimal}
-use Rattle.noise_names.specs.Lists.{bytes_of}
+use Rattle.noise_tool.proofs.Common.{bytes_of}
 use Rattle.noise_tool.proofs.PrintedLemmas.{bytes-push}
 use Rattle.noise_tool.proofs.run.push_window.Goals as goal
 

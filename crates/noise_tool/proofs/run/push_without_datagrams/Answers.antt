@@ -1,5 +1,5 @@
 use Rattle.std.proofs.Common.{◌∙◌, ◌++◌, ◌∷◌, [], ap, ℕ, List}
-use Rattle.noise_names.specs.Lists.{bytes_of}
+use Rattle.noise_tool.proofs.Common.{bytes_of}
 use Rattle.noise_tool.proofs.PrintedLemmas.{bytes-push, expected-push}
 use Rattle.noise_tool.proofs.RunningLemmas.{after-word}
 use Rattle.noise_tool.proofs.run.push_without_datagrams.Goals as goal

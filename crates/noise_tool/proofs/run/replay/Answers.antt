@@ -1,6 +1,5 @@
 use Rattle.std.proofs.Common.{◌∙◌, ap}
-use Rattle.noise_events.specs.Events.{events_of}
-use Rattle.noise_tool.specs.Ends.{sides_of_file}
+use Rattle.noise_tool.proofs.Common.{events_of, sides_of_file}
 use Rattle.noise_tool.proofs.RunningLemmas.{is-run}
 use Rattle.noise_tool.proofs.run.replay.Goals as goal
 

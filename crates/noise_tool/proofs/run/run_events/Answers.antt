@@ -1,4 +1,4 @@
-use Rattle.noise_duel.specs.Entries.{notes_of}
+use Rattle.noise_tool.proofs.Common.{notes_of}
 use Rattle.noise_tool.proofs.run.run_events.Goals as goal
 
 pub returns-clause-ran : goal.returns-clause-ran

@@ -1,6 +1,5 @@
 use Rattle.std.proofs.Common.{◌≡◌, Option, rules}
-use Rattle.noise_names.specs.Plan.{Plan}
-use Rattle.noise_tool.specs.Ends.{IsFilePattern}
+use Rattle.noise_tool.proofs.Common.{Plan, IsFilePattern}
 use Rattle.noise_tool.proofs.TestingLemmas.{pattern-starts, patterns-of}
 use Rattle.noise_tool.proofs.testing.file_pattern.Goals as goal
 

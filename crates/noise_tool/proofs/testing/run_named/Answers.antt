@@ -1,5 +1,5 @@
 use Rattle.std.proofs.Common.{arith, ◌≤◌, sym, subst, ℕ, List, length}
-use Rattle.noise_tool.specs.Testing.{IsPatternOfText, RunsTo}
+use Rattle.noise_tool.proofs.Common.{IsPatternOfText, RunsTo}
 use Rattle.noise_tool.specs.declared.testing.TestedRun.{TestedRun}
 use Rattle.noise_tool.proofs.TestingLemmas.{fails-known, ok-known}
 use Rattle.noise_tool.proofs.testing.run_named.Goals as goal

@@ -1,5 +1,5 @@
 use Rattle.std.proofs.Common.{rules, ◌≡◌, [], append-nil, map, string_bytes}
-use Rattle.noise_tool.specs.Testing.{tested_names, tally_line}
+use Rattle.noise_tool.proofs.Common.{tested_names, tally_line}
 use Rattle.noise_tool.proofs.TestingLemmas.{err-any, kept-begun, last-begun, none-begun}
 use Rattle.noise_tool.proofs.testing.test_all.Goals as goal
 

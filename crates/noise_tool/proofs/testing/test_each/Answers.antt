@@ -1,8 +1,8 @@
 use Rattle.std.proofs.Common.{arith, ◌+◌, ℕ, List, map, string_bytes, take}
-use Rattle.noise_tool.specs.Testing.{tested_names}
+use Rattle.noise_tool.proofs.Common.{tested_names}
 use Rattle.noise_tool.proofs.TestingLemmas.{asked-at, asked-here, err-any, failed-more, named-here, one-begun, others-at, passed-more}
-use Rattle.noise_tool.proofs.testing.test_each.Goals as goal
 use Rattle.noise_tool.proofs.testing.test_each.Goals.{then-branch, else-branch}
+use Rattle.noise_tool.proofs.testing.test_each.Goals as goal
 
 pub loop-name-preserved : goal.loop-name-preserved
 loop-name-preserved g c =

@@ -1,5 +1,5 @@
 use Rattle.std.proofs.Common.{◌≡◌, ◌+◌, false, map, take, string_bytes}
-use Rattle.noise_tool.specs.Testing.{HaveTested, tested_names}
+use Rattle.noise_tool.proofs.Common.{HaveTested, tested_names}
 use Rattle.noise_tool.proofs.TestingLemmas.{named-after}
 use Rattle.noise_tool.proofs.testing.test_each.Given as goal
 

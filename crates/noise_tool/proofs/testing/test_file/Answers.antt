@@ -1,14 +1,8 @@
 use Rattle.std.proofs.Common.{◌≡◌, ◌⊎◌, ℕ, Bool, true, false, List, [], Option, refl, sym, ap, subst}
-use Rattle.std.specs.Prelude.{IfSome, IsTrue}
-use Rattle.noise_lines.specs.Faults.{status_of}
-use Rattle.noise_lines.specs.Verdicts.{is_met}
-use Rattle.noise_lines.specs.declared.faults.Fault.{Fault}
-use Rattle.noise_lines.specs.declared.faults.Fault.TheVariants.{Unreadable}
+use Rattle.std.specs.Prelude.{IsTrue}
+use Rattle.noise_tool.proofs.Common.{IfSome, status_of, is_met, Fault, Unreadable, Any, IsRunFault, EndsTest, IsVerdictOn}
 use Rattle.noise_lines.specs.declared.verdict.Verdict.{Verdict}
 use Rattle.noise_lines.specs.declared.verdict.Verdict.TheVariants.{CannotRun, NamedTwice}
-use Rattle.noise_vectors.specs.declared.vector.AllowedEvents.TheVariants.{Any}
-use Rattle.noise_tool.specs.Performing.{IsRunFault}
-use Rattle.noise_tool.specs.Testing.{EndsTest, IsVerdictOn}
 use Rattle.noise_tool.proofs.TestingLemmas.{fault-known, unrun-begun, unrun-tested}
 use Rattle.noise_tool.proofs.testing.test_file.Goals as goal
 

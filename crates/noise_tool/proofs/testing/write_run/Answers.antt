@@ -1,7 +1,5 @@
 use Rattle.std.proofs.Common.{inl, inr, refl, ◌≡◌}
-use Rattle.noise_lines.specs.Verdicts.{IsJudged}
-use Rattle.noise_names.specs.Lists.{bytes_of}
-use Rattle.noise_tool.specs.Testing.{below_of}
+use Rattle.noise_tool.proofs.Common.{IsJudged, bytes_of, below_of}
 use Rattle.noise_tool.proofs.TestingLemmas.{err-any, judged-begun, judged-known}
 use Rattle.noise_tool.proofs.testing.write_run.Goals as goal
 

@@ -1,4 +1,4 @@
-use Rattle.std.proofs.KnownBytes.{Appends-nil}
+use Rattle.noise_tool.proofs.Common.{Appends-nil}
 use Rattle.noise_tool.proofs.TestingLemmas.{err-any}
 use Rattle.noise_tool.proofs.testing.write_trace.Goals as goal
 

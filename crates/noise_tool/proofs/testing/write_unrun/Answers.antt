@@ -1,5 +1,5 @@
 use Rattle.std.proofs.Common.{◌∙◌, subst}
-use Rattle.noise_lines.specs.Prefixes.{AppendsPrefix}
+use Rattle.noise_tool.proofs.Common.{AppendsPrefix}
 use Rattle.noise_tool.proofs.TestingLemmas.{err-any, none-prefix}
 use Rattle.noise_tool.proofs.testing.write_unrun.Goals as goal
 

@@ -1,7 +1,5 @@
 use Rattle.std.proofs.Common.{◌∙◌, ap}
-use Rattle.noise_lines.specs.Verdicts.{verdict_text}
-use Rattle.noise_names.specs.Lists.{bytes_of}
-use Rattle.noise_tool.specs.Testing.{below_of}
+use Rattle.noise_tool.proofs.Common.{verdict_text, bytes_of, below_of}
 use Rattle.noise_tool.specs.TracedText.{front_if}
 use Rattle.noise_tool.proofs.TestingLemmas.{err-any, front-prefix, front-written, if-err-map, none-prefix, on-ok-map, piece-prefix, verdict-prefix}
 use Rattle.noise_tool.proofs.testing.write_verdict.Goals as goal

@@ -1,14 +1,6 @@
 use Rattle.std.proofs.Common.{ℕ, List, inr, ◌∙◌, refl}
-use Rattle.std.proofs.lemmas.Result.{err_from_is_err_and}
-use Rattle.noise_names.specs.Lists.{bytes_of}
-use Rattle.noise_vectors.specs.declared.vector.AllowedEvents.TheVariants.{Any}
-use Rattle.noise_vectors.specs.declared.vector.VectorFile.{VectorFile}
-use Rattle.noise_lines.specs.TracedLines.{traces_of}
-use Rattle.noise_tool.specs.Performing.{IsRunFault}
-use Rattle.noise_tool.specs.Selection.{selection_of}
+use Rattle.noise_tool.proofs.Common.{err_from_is_err_and, bytes_of, Any, VectorFile, traces_of, IsRunFault, selection_of, HasTraces, IsTraceOf, Selection}
 use Rattle.noise_tool.specs.TracedText.{trace_lines}
-use Rattle.noise_tool.specs.Tracing.{HasTraces, IsTraceOf}
-use Rattle.noise_tool.specs.declared.key_use_lines.Selection.{Selection}
 use Rattle.noise_tool.specs.declared.tracing.Traced.{Traced}
 use Rattle.noise_tool.proofs.PerformingLemmas.{has-run, no-run, or-other, run-prefix, stopped-known}
 use Rattle.noise_tool.proofs.Shortness.{stays-short}

@@ -1,8 +1,5 @@
 use Rattle.std.proofs.Common.{◌∷◌, [], codes, decimal}
-use Rattle.std.proofs.lemmas.Result.{IfOk-weaker}
-use Rattle.noise_vectors.specs.HexWord.{hex_of}
-use Rattle.noise_vectors.specs.VectorText.{role_word}
-use Rattle.noise_tool.specs.PrintedTrace.{none_word}
+use Rattle.noise_tool.proofs.Common.{IfOk-weaker, hex_of, role_word, none_word}
 use Rattle.noise_tool.proofs.TraceLineLemmas.{said-added, words-added}
 use Rattle.noise_tool.proofs.trace_lines.opening_line.Goals as goal
 

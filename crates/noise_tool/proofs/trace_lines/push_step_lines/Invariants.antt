@@ -1,6 +1,5 @@
 use Rattle.std.proofs.Common.{◌≡◌, ◌++◌, drop}
-use Rattle.noise_names.specs.Lists.{bytes_of}
-use Rattle.noise_tool.specs.PrintedTrace.{step_lines_from}
+use Rattle.noise_tool.proofs.Common.{bytes_of, step_lines_from}
 use Rattle.noise_tool.proofs.trace_lines.push_step_lines.Given as goal
 
 -- the lines so far, and those that are left

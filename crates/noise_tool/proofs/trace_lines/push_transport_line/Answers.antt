@@ -1,8 +1,5 @@
 use Rattle.std.proofs.Common.{◌∷◌, [], ◌++◌, ◌∙◌, List, ℕ, ap, codes, decimal}
-use Rattle.noise_names.specs.Lists.{bytes_of}
-use Rattle.noise_vectors.specs.HexWord.{hex_of}
-use Rattle.noise_vectors.specs.VectorText.{role_word}
-use Rattle.noise_tool.specs.PrintedTrace.{none_word}
+use Rattle.noise_tool.proofs.Common.{bytes_of, hex_of, role_word, none_word}
 use Rattle.noise_tool.proofs.PrintedLemmas.{bytes-push}
 use Rattle.noise_tool.proofs.TraceLineLemmas.{words-added}
 use Rattle.noise_tool.proofs.trace_lines.push_transport_line.Goals as goal

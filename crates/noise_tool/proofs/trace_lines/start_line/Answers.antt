@@ -1,8 +1,5 @@
 use Rattle.std.proofs.Common.{◌∷◌, [], codes, decimal}
-use Rattle.std.proofs.lemmas.Result.{IfOk-weaker}
-use Rattle.noise_vectors.specs.HexWord.{hex_of}
-use Rattle.noise_vectors.specs.VectorText.{role_word}
-use Rattle.noise_tool.specs.PrintedTrace.{state_key_word, none_word, start_call_word, start_word}
+use Rattle.noise_tool.proofs.Common.{IfOk-weaker, hex_of, role_word, state_key_word, none_word, start_call_word, start_word}
 use Rattle.noise_tool.proofs.TraceLineLemmas.{said-added, words-added}
 use Rattle.noise_tool.proofs.trace_lines.start_line.Goals as goal
 

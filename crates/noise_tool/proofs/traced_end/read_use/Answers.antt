@@ -1,5 +1,5 @@
 use Rattle.std.proofs.Common.{◌∙◌, sym, ap, refl}
-use Rattle.noise_duel.specs.Entries.{note_of}
+use Rattle.noise_tool.proofs.Common.{note_of}
 use Rattle.noise_tool.proofs.KeyUseLemmas.{default-shown, dropped-shown, refused-shown, took-shown}
 use Rattle.noise_tool.proofs.traced_end.read_use.Goals as goal
 

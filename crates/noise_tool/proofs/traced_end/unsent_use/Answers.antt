@@ -1,6 +1,5 @@
 use Rattle.std.proofs.Common.{◌∙◌, sym, ap}
-use Rattle.noise_session.specs.declared.faults.SendFault.{SendFault}
-use Rattle.noise_duel.specs.Notes.{WriteFault}
+use Rattle.noise_tool.proofs.Common.{SendFault, WriteFault}
 use Rattle.noise_tool.proofs.KeyUseLemmas.{six-others, unwritten-shown, withheld-shown}
 use Rattle.noise_tool.proofs.traced_end.unsent_use.Goals as goal
 

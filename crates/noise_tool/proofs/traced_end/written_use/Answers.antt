@@ -1,5 +1,5 @@
 use Rattle.std.proofs.Common.{◌∙◌, sym, ap}
-use Rattle.noise_duel.specs.Entries.{note_of}
+use Rattle.noise_tool.proofs.Common.{note_of}
 use Rattle.noise_tool.proofs.KeyUseLemmas.{neither-written, wrote-shown}
 use Rattle.noise_tool.proofs.traced_end.written_use.Goals as goal
 

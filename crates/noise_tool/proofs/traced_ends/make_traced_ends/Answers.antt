@@ -1,14 +1,6 @@
 use Rattle.std.proofs.Common.{◌≡◌, ◌∙◌, ap, sym, subst, ℕ, None}
-use Rattle.noise_names.specs.declared.token.Role.TheVariants.{Initiator, Responder}
-use Rattle.noise_names.specs.Plan.{Plan}
-use Rattle.noise_duel.specs.DuelValue.{DuelMatches, both_sides}
+use Rattle.noise_tool.proofs.Common.{Initiator, Responder, Plan, DuelMatches, both_sides, end_of, bytes_of, public_of, agreement_of, setup_of, file_start, TracedMatches, start_traces}
 use Rattle.noise_duel.specs.Messages.{begun_as}
-use Rattle.noise_session.specs.Ends.{end_of}
-use Rattle.noise_names.specs.Lists.{bytes_of}
-use Rattle.noise_vectors.specs.FileKeys.{public_of, agreement_of}
-use Rattle.noise_tool.specs.Ends.{setup_of, file_start}
-use Rattle.noise_tool.specs.TracedEnds.{TracedMatches}
-use Rattle.noise_tool.specs.Tracing.{start_traces}
 use Rattle.noise_tool.proofs.EndLemmas.{same-setup, same-start}
 use Rattle.noise_tool.proofs.traced_ends.make_traced_ends.Goals as goal
 

@@ -1,10 +1,6 @@
 use Rattle.std.proofs.Common.{◌≡◌, ◌∙◌, ◌++◌, ap, ap₂, ℕ, List, length}
-use Rattle.noise_names.specs.declared.token.Role.TheVariants.{Initiator, Responder}
+use Rattle.noise_tool.proofs.Common.{Initiator, Responder, setup_fault, public_of, shown_before, start_lines_of}
 use Rattle.noise_handshake.specs.declared.remote.Remote.{Remote}
-use Rattle.noise_handshake.specs.Setup.{setup_fault}
-use Rattle.noise_vectors.specs.FileKeys.{public_of}
-use Rattle.noise_handshake.specs.Counterparts.{shown_before}
-use Rattle.noise_tool.specs.Tracing.{start_lines_of}
 use Rattle.noise_tool.proofs.traced_ends.start_lines.Goals as goal
 
 pub returns : goal.returns

@@ -1,4 +1,4 @@
-use Rattle.noise_names.specs.declared.token.Role.TheVariants.{Initiator, Responder}
+use Rattle.noise_tool.proofs.Common.{Initiator, Responder}
 use Rattle.noise_tool.proofs.RoleLemmas.{received}
 use Rattle.noise_tool.proofs.traced_event.trace_bytes.Goals as goal
 

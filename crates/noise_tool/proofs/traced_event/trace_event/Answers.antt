@@ -1,11 +1,5 @@
 use Rattle.std.proofs.Common.{◌≡◌, ◌++◌, ◌∷◌, ◌∙◌, [], List, ℕ, OnOk, ap, slice_get, subst, sym, Vec}
-use Rattle.std.specs.Global.{Global}
-use Rattle.noise_names.specs.Lists.{bytes_of}
-use Rattle.noise_duel.specs.Entries.{note_of, notes_of}
-use Rattle.noise_duel.specs.Sides.{Sides, side}
-use Rattle.noise_events.specs.Events.{Deliver, Raw, Say, Write, event_of}
-use Rattle.noise_lines.specs.TracedLines.{traces_of}
-use Rattle.noise_tool.specs.TracedEnds.{EndsTraced}
+use Rattle.noise_tool.proofs.Common.{Global, bytes_of, note_of, notes_of, Sides, side, Deliver, Raw, Say, Write, event_of, traces_of, EndsTraced}
 use Rattle.noise_tool.proofs.EventLemmas.{Traces, event-same, frames-written, no-entries, none-first, of-deliver, of-missing, of-raw, of-write}
 use Rattle.noise_tool.proofs.ReceivedLemmas.{first-note, traces-push}
 use Rattle.noise_tool.proofs.RunningLemmas.{on_ok}

@@ -1,7 +1,5 @@
 use Rattle.std.proofs.Common.{◌∙◌, ◌∷◌, sym, ap}
-use Rattle.noise_duel.specs.Entries.{note_of, notes_of}
-use Rattle.noise_duel.specs.Notes.{Note}
-use Rattle.noise_lines.specs.TracedLines.{traces_of}
+use Rattle.noise_tool.proofs.Common.{note_of, notes_of, Note, traces_of}
 use Rattle.noise_tool.proofs.EventLemmas.{no-entries, note-number, say-fault, say-frame, say-none}
 use Rattle.noise_tool.proofs.traced_event.trace_say.Goals as goal
 

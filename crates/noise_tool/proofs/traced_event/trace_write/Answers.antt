@@ -1,7 +1,5 @@
 use Rattle.std.proofs.Common.{◌++◌, ◌∷◌, ◌∙◌, [], ap, List, ℕ}
-use Rattle.noise_duel.specs.Sides.{side}
-use Rattle.noise_lines.specs.TracedLines.{traces_of}
-use Rattle.noise_tool.specs.TracedEnds.{entry_frame}
+use Rattle.noise_tool.proofs.Common.{side, traces_of, entry_frame}
 use Rattle.noise_tool.proofs.EventLemmas.{written-frame}
 use Rattle.noise_tool.proofs.ReceivedLemmas.{traces-push}
 use Rattle.noise_tool.proofs.traced_event.trace_write.Goals as goal

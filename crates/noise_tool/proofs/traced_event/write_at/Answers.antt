@@ -1,5 +1,4 @@
-use Rattle.noise_duel.specs.Entries.{note_of}
-use Rattle.noise_names.specs.declared.token.Role.TheVariants.{Initiator, Responder}
+use Rattle.noise_tool.proofs.Common.{note_of, Initiator, Responder}
 use Rattle.noise_tool.proofs.RoleLemmas.{wrote}
 use Rattle.noise_tool.proofs.traced_event.write_at.Goals as goal
 

@@ -1,6 +1,5 @@
 use Rattle.std.proofs.Common.{◌++◌, ◌∷◌, ◌∙◌, [], sym, ap, ℕ, List, append-nil}
-use Rattle.noise_lines.specs.TracedLines.{traces_of}
-use Rattle.noise_tool.specs.Running.{datagrams_of_version}
+use Rattle.noise_tool.proofs.Common.{traces_of, datagrams_of_version}
 use Rattle.noise_tool.proofs.LastTraceLemmas.{last-goes, last-stays, ready-over}
 use Rattle.noise_tool.proofs.ReceivedLemmas.{traces-push}
 use Rattle.noise_tool.proofs.tracing.push_datagram_trace.Goals as goal

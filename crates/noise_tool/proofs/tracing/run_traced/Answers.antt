@@ -1,7 +1,5 @@
 use Rattle.std.proofs.Common.{◌≡◌, ◌+◌, ◌≤◌, ◌∷◌, ◌∙◌, arith, length, drop, ap, sym}
-use Rattle.std.proofs.lemmas.List.{drop_all, drop_more}
-use Rattle.noise_events.specs.Events.{event_of, events_of}
-use Rattle.noise_lines.specs.TracedLines.{traces_of}
+use Rattle.noise_tool.proofs.Common.{drop_all, drop_more, event_of, events_of, traces_of}
 use Rattle.noise_tool.proofs.TracedRunLemmas.{all-traced, new-notes, none-traced, one-traced}
 use Rattle.noise_tool.proofs.tracing.run_traced.Goals as goal
 

@@ -1,10 +1,5 @@
 use Rattle.std.proofs.Common.{◌≡◌, [], drop}
-use Rattle.noise_duel.specs.DuelValue.{DuelMatches}
-use Rattle.noise_duel.specs.Sides.{Sides}
-use Rattle.noise_events.specs.Events.{events_of}
-use Rattle.noise_vectors.specs.FileKeys.{agreement_of, public_of}
-use Rattle.noise_lines.specs.TracedLines.{traces_of}
-use Rattle.noise_tool.specs.TracedEnds.{EndsTraced, HasTracedTo, IsNewSides}
+use Rattle.noise_tool.proofs.Common.{DuelMatches, Sides, events_of, agreement_of, public_of, traces_of, EndsTraced, HasTracedTo, IsNewSides}
 use Rattle.noise_tool.proofs.tracing.run_traced.Given as goal
 
 abbrev pub invariant-loop-event : goal.invariant-loop-event

@@ -1,8 +1,5 @@
 use Rattle.std.proofs.Common.{◌∙◌, ap, refl}
-use Rattle.noise_events.specs.Events.{events_of}
-use Rattle.noise_names.specs.Lists.{bytes_of}
-use Rattle.noise_lines.specs.TracedLines.{traces_of}
-use Rattle.noise_tool.specs.Ends.{sides_of_file}
+use Rattle.noise_tool.proofs.Common.{events_of, bytes_of, traces_of, sides_of_file}
 use Rattle.noise_tool.proofs.TracedWhole.{traced-whole}
 use Rattle.noise_tool.proofs.tracing.trace.Goals as goal
 

@@ -1,9 +1,5 @@
 use Rattle.std.proofs.Common.{◌≤◌, ◌+◌, ◌∙◌, ◌∷◌, ◌++◌, inl, refl, sym, ap, arith, length, drop}
-use Rattle.std.proofs.lemmas.List.{drop_all, drop_more}
-use Rattle.noise_duel.specs.Entries.{note_of, notes_of}
-use Rattle.noise_names.specs.Lists.{bytes_of}
-use Rattle.noise_lines.specs.TracedLines.{traces_of}
-use Rattle.noise_tool.specs.Tracing.{came_traces, read_trace}
+use Rattle.noise_tool.proofs.Common.{drop_all, drop_more, note_of, notes_of, bytes_of, traces_of, came_traces, read_trace}
 use Rattle.noise_tool.proofs.ReceivedLemmas.{all-read, entry-step, traces-push}
 use Rattle.noise_tool.proofs.traced_end.TracedEnd.read_all.Goals as goal
 

@@ -1,12 +1,5 @@
 use Rattle.std.proofs.Common.{◌≡◌, ◌++◌, ℕ, List, drop, length}
-use Rattle.noise_names.specs.declared.token.Role.{Role}
-use Rattle.noise_duel.specs.Entries.{notes_of}
-use Rattle.noise_duel.specs.Notes.{Note, held_note, noted_by}
-use Rattle.noise_duel.specs.Runs.{SideReceives}
-use Rattle.noise_duel.specs.Sides.{Side}
-use Rattle.noise_lines.specs.TracedLines.{traces_of}
-use Rattle.noise_tool.specs.TracedEnds.{ShowsEnd}
-use Rattle.noise_tool.specs.Tracing.{came_traces}
+use Rattle.noise_tool.proofs.Common.{Role, notes_of, Note, held_note, noted_by, SideReceives, Side, traces_of, ShowsEnd, came_traces}
 use Rattle.noise_tool.proofs.ReceivedLemmas.{Remains}
 use Rattle.noise_tool.proofs.traced_end.TracedEnd.read_all.Given as goal
 

@@ -1,4 +1,4 @@
-use Rattle.noise_duel.specs.Entries.{note_of}
+use Rattle.noise_tool.proofs.Common.{note_of}
 use Rattle.noise_tool.proofs.FollowLemmas.{wrote-whole}
 use Rattle.noise_tool.proofs.traced_end.TracedEnd.write.Goals as goal
 
