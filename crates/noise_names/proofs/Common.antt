@@ -4,7 +4,7 @@ pub use Rattle.std.proofs.lemmas.Bool.Decides.{Decides-eqb, nat_tests}
 pub use Rattle.std.proofs.lemmas.List.{append_cancel_left, at_drop_all, at_drop_more, drop-drop, drop_all, drop_at, get_or-map, get_or_default, length-map, length-replicate, length-take-le, map-append, map_more, nil_from_length, same_from_push, take_all, take_min, take_more}
 pub use Rattle.std.proofs.lemmas.List.Folds.{list_all-append, list_any-append}
 pub use Rattle.std.proofs.lemmas.List.Splits.{join_with_byte-slice_split, slice_split_at, slice_split_none}
-pub use Rattle.std.proofs.lemmas.Result.{IfOk-at_ok, err_from_is_err_and}
+pub use Rattle.std.proofs.lemmas.Result.{err_from_is_err_and}
 pub use Rattle.std.proofs.lemmas.Slice.Eq.{bytes_eq-Decides, slice_eq-Decides, strip_prefix_is}
 pub use Rattle.std.specs.List.{join_with_byte, list_all, list_any, prefix_len, slice_split}
 pub use Rattle.std.specs.Prelude.{IfErr, IfOk, IfSome, IsFalse, IsSome, MatchOption, MatchResult, bytes_eq, codes, find, nat_le, slice_get, ⊤, ◌==◌}

@@ -84,7 +84,3 @@ shorter text bytes after false whole some = let count : length after ≡ 0 = ap 
 pub dots-more : (text rest bytes after : List ℕ) (ended : Bool) → bytes ≡ first_line rest → IsLineBefore rest bytes ended after
     → has_dots text ≡ has_dots rest → bytes_eq bytes dots ≡ false → has_dots text ≡ has_dots after
 dots-more text rest bytes after ended is whole so none = so ∙ dots-first rest bytes after ended is whole ∙ ap (λ (b : Bool). b || has_dots after) none
-
-pub dots-found : (text rest bytes after : List ℕ) (ended : Bool) → bytes ≡ first_line rest → IsLineBefore rest bytes ended after
-    → has_dots text ≡ has_dots rest → bytes_eq bytes dots ≡ true → true ≡ has_dots text
-dots-found text rest bytes after ended is whole so here = sym (so ∙ dots-first rest bytes after ended is whole ∙ ap (λ (b : Bool). b || has_dots after) here)

@@ -93,10 +93,6 @@ left-word kept own left more l w = at l.first l.others l.spelled where
   at u [] s = w u 10 more refl s
   at u (v ∷ vs) s = w u 44 (32 ∷ (words (v ∷ vs) ++ 10 ∷ more)) refl (s ∙ word-first u (v ∷ vs) (10 ∷ more))
 
-pub left-start : (kept : List Token) (list : List ℕ) (t : Token) (ts : List Token) (more : List ℕ) → kept ≡ [] → list ≡ words (t ∷ ts) ++ 10 ∷ more
-    → IsLeft kept list (own_tokens (t ∷ ts)) more
-left-start kept list t ts more none e = record { first = t; others = ts; tokens = sym (ap (λ (k : List Token). k ++ own_tokens (t ∷ ts)) none); spelled = e }
-
 pub line-after : (beyond rest more : List ℕ) → beyond ≡ 10 ∷ more → beyond ≡ codes "\n" ++ rest → rest ≡ more
 line-after beyond rest more e f = let and_parts : 10 ∷ more ≡ 10 ∷ rest = sym e ∙ f in cc
 

@@ -1,4 +1,4 @@
-use Rattle.std.proofs.Common.{◌≡◌, ℕ, ◌+◌, List, [], ◌∷◌, ◌++◌, length, take, sym, ap, ◌∙◌, arith}
+use Rattle.std.proofs.Common.{rules, ◌≡◌, ℕ, ◌+◌, List, [], ◌∷◌, ◌++◌, length, take, sym, ap, ◌∙◌, arith}
 use Rattle.noise_names.proofs.Common.{take_more, length-take-le, Token, with_psk_tokens, with_psks_from}
 use Rattle.noise_names.proofs.PskTokens.{psks-push}
 use Rattle.noise_names.proofs.psks.with_psks.Goals as goal
@@ -11,9 +11,7 @@ loop-message-preserved c =
     let m : List Token = c.message-item.result in
     let count : length (take i messages) ≡ i = length-take-le i messages (omega arith) in
     let number : c.loop-message.number ≡ 1 + length (take i messages) = omega arith in
-    let here : c.message_with_psks.result ≡ with_psk_tokens places (1 + length (take i messages)) m =
-    c.message_with_psks.ensures ∙ ap (λ (n : ℕ). with_psk_tokens places n c.tokens.result.now) number
-    ∙ ap (λ (ts : List Token). with_psk_tokens places (1 + length (take i messages)) ts) c.tokens.ensures.value in
+    let here : c.message_with_psks.result ≡ with_psk_tokens places (1 + length (take i messages)) m = search rules in
     let taken : take (i + 1) messages ≡ take i messages ++ m ∷ [] =
     take_more messages i m c.loop-message-test.true ∙ ap (λ (x : List Token). take i messages ++ x ∷ []) (sym c.message-item.is) in (
       omega arith,

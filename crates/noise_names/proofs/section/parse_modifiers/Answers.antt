@@ -1,4 +1,4 @@
-use Rattle.std.proofs.Common.{◌≡◌, ◌↔◌, ℕ, List, [], ◌∷◌, ◌++◌, Bool, true, false, ◌&&◌, cond, length, map, take, drop, refl, sym, ap, ◌∙◌, subst, append_assoc, arith, Option, Some, None, Result, Err, Ok, eqb, inl, inr}
+use Rattle.std.proofs.Common.{rules, ◌≡◌, ◌↔◌, ℕ, List, [], ◌∷◌, ◌++◌, Bool, true, false, ◌&&◌, cond, length, map, take, drop, refl, sym, ap, ◌∙◌, subst, append_assoc, arith, Option, Some, None, Result, Err, Ok, eqb, inl, inr}
 use Rattle.std.specs.Prelude.{IsTrue}
 use Rattle.std.specs.Option.{ok_or}
 use Rattle.std.specs.Cmp.Lexicographic.{pointwise}
@@ -29,10 +29,7 @@ plus (b ∷ bs) more h e = let b_is : b ≡ 43 = eqb-true b 43 (first (eqb b 43)
 -- one modifier more is read
 read_more : (modifiers done rest beyond more : List ℕ) (n : ℕ) → modifiers ≡ fronts done ++ rest → rest ≡ modifier n ++ beyond → beyond ≡ 43 ∷ more
     → modifiers ≡ fronts (done ++ n ∷ []) ++ more
-read_more modifiers done rest beyond more n e f g =
-    let here : rest ≡ (modifier n ++ 43 ∷ []) ++ more = f ∙ ap (λ (bs : List ℕ). modifier n ++ bs) g in
-    e ∙ ap (λ (bs : List ℕ). fronts done ++ bs) here ∙ sym (append_assoc (fronts done) (modifier n ++ 43 ∷ []) more)
-    ∙ ap (λ (bs : List ℕ). bs ++ more) (sym (fronts-push done n))
+read_more modifiers done rest beyond more n e f g = search (rules, modifier, fronts, append_assoc, fronts-push)
 
 -- the last modifier is read
 read_last : (modifiers done rest beyond : List ℕ) (n : ℕ) → modifiers ≡ fronts done ++ rest → rest ≡ modifier n ++ beyond → beyond ≡ []
@@ -66,9 +63,7 @@ made None ns only same = at (are_places ns) refl where
   at false e = rw e refl
 
 pub returns-in_default : goal.returns-in_default
-returns-in_default c =
-    rw (refused_at c.args.modifiers.now c.loop-number.rest.now c.loop-number.invariant.0 c.loop-number.invariant.1
-    (not_empty c.args.modifiers.now (sym c.if-is_empty.ensures)) c.in_default.ensures.none) refl
+returns-in_default c = search (rules, refused_at, not_empty)
 
 pub returns-in_default-strip_prefix : goal.returns-in_default-strip_prefix
 returns-in_default-strip_prefix c =
@@ -95,9 +90,7 @@ returns c =
     read_last c.args.modifiers.now c.loop-number.invariant.0 c.loop-number.rest.now c.in-Some.after.now c.in-Some.number c.loop-number.invariant.1
     c.in-Some.ensures.some.1 (is_nil c.in-Some.after.now (sym c.if-is_empty-2.ensures)) in
     let numbers : are_numbers done ≡ true = are_numbers-push c.loop-number.invariant.0 c.in-Some.number c.loop-number.invariant.2 c.in-Some.ensures.some.0 in
-    let ten : c.push_number.new.numbers.items ≡ take 10 done =
-    ten_more c.loop-number.invariant.0 c.loop-number.numbers.items c.push_number.new.numbers.items c.in-Some.number c.loop-number.invariant.3
-    c.push_number.ensures in
+    let ten : c.push_number.new.numbers.items ≡ take 10 done = search rules in
     let seen : c.deref.result.now ≡ take 10 done = c.deref.ensures.0 ∙ ten in
     c.ok_or.ensures.value ∙ made c.new.result c.deref.result.now c.new.ensures.only c.new.ensures.value
     ∙ ap as_places seen ∙ ten_places done ∙ sym (ap modifiers_read read ∙ modifiers_read-all done numbers)

@@ -1,4 +1,4 @@
-use Rattle.std.proofs.Common.{◌≡◌, ◌≤◌, ◌++◌, ◌∷◌, List, [], map, length, get_or, sym, ap, ◌∙◌, subst, refl, arith, take}
+use Rattle.std.proofs.Common.{rules, ◌≡◌, ◌≤◌, ◌++◌, ◌∷◌, List, [], map, length, get_or, sym, ap, ◌∙◌, subst, arith, take}
 use Rattle.noise_names.proofs.Common.{length-map, get_or-map, take_all, map_more, Token, Plan}
 use Rattle.noise_names.specs.Fundamental.{plain}
 use Rattle.noise_names.proofs.Fundamentals.{known_is_pattern, known_is_short, known_is_few}
@@ -32,7 +32,4 @@ of-requires-2 c =
     rw (c.none.ensures, all) (known_is_pattern c.args.base.now plan c.requires)
 
 pub returns : goal.returns
-returns c =
-    let all : c.loop-tokens.list.items ≡ map (λ m. m.now) c.args.messages.now = c.loop-tokens.invariant.0
-    ∙ ap (λ ms. map (λ m. m.now) ms) (take_all c.loop-tokens.tokens-index c.args.messages.now c.loop-tokens-test.false) in
-    c.of-2.ensures ∙ rw (c.none.ensures, all) refl
+returns c = search (rules, take_all)

@@ -1,3 +1,4 @@
+use Rattle.std.proofs.Common.{rules}
 use Rattle.noise_names.proofs.FirstFaults.{right-start, next-right, line-fault, cut-fault, all-fault}
 use Rattle.noise_names.proofs.Reading.{differ_from_test, equal_from_test}
 use Rattle.noise_names.proofs.text.fault.fault_of_lines.Goals as goal
@@ -28,6 +29,4 @@ loop-rest-preserved c =
     c.if-not-line.false (c.in-Ok.ensures r.passed _ r.matches r.are)
 
 pub returns : goal.returns
-returns c = λ s h same.
-    all-fault c.args.places.now s c.args.lines.now c.loop-rest.rest.now c.loop-rest.number c.loop-rest.judged c.fault_of_whole.result h same
-    c.loop-rest.invariant (equal_from_test _ _ 0 c.is_empty.ensures c.loop-rest-test.false) c.fault_of_whole.ensures
+returns c = search (rules, all-fault, equal_from_test)

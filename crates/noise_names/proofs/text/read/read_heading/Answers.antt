@@ -1,4 +1,4 @@
-use Rattle.std.proofs.Common.{sym, ◌∙◌}
+use Rattle.std.proofs.Common.{rules}
 use Rattle.noise_names.proofs.Common.{codes, section_bytes, section_bytes-all}
 use Rattle.noise_names.proofs.Reading.{heading-spelled, heading-parts, heading-rest, section-of, stripped, not-stripped, ok-same, ok-not-err}
 use Rattle.noise_names.proofs.text.read.read_heading.Goals as goal
@@ -24,7 +24,4 @@ returns-in-Err-clause-every c = λ s after h e.
     absurd (ok-not-err c.parse_section.result c.in-Err.field-0 s c.in-Err.is (section-of s _ _ h parts.0 c.parse_section.ensures))
 
 pub returns-in-Ok-clause-some : goal.returns-in-Ok-clause-some
-returns-in-Ok-clause-some c =
-    heading-spelled c.args.text.now c.split_at.result.0.now c.split_at.result.1.now c.in_ok-after.after.now _ c.in-Ok.name c.split_at.ensures.front
-    c.split_at.ensures.back
-    (stripped _ (codes ":") c.in_ok-after.after c.in_ok-after.ensures.cases) (sym c.parse_section.ensures ∙ c.in-Ok.is)
+returns-in-Ok-clause-some c = search (rules, heading-spelled, stripped, codes)

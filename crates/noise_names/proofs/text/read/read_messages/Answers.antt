@@ -1,4 +1,4 @@
-use Rattle.std.proofs.Common.{length, arith, ap}
+use Rattle.std.proofs.Common.{rules, arith}
 use Rattle.noise_names.proofs.Reading.{next-line, last-line, plain-push, sizes-push, length-own, equal_from_test, differ_from_test}
 use Rattle.noise_names.proofs.text.read.read_messages.Goals.{then-is_empty-via-then-is_empty, then-is_empty-via-else-is_empty+then-is_full}
 use Rattle.noise_names.proofs.text.read.read_messages.Goals as goal
@@ -14,19 +14,8 @@ returns-then-is_empty-clause-every c = λ ms few sizes e.
 
 pub loop-tokens-preserved : goal.loop-tokens-preserved
 loop-tokens-preserved c = record {
-  plain = rw (
-    c.push.ensures.items,
-    c.of.ensures,
-    c.as_slice.ensures.value,
-  ) (plain-push c.loop-tokens.messages.items c.in-Some.tokens.items c.loop-tokens.invariant.plain c.in-Some.ensures.plain);
-  sizes = rw (
-    c.push.ensures.items,
-    c.of.ensures,
-    c.as_slice.ensures.value,
-  )
-      (sizes-push c.loop-tokens.messages.items c.in-Some.tokens.items c.loop-tokens.invariant.sizes c.in-Some.ensures.plain
-      (omega (arith, differ_from_test _ _ 0 c.is_empty.ensures c.if-is_empty.false))
-      (omega (arith, c.as_slice.ensures.fits, ap length c.as_slice.ensures.value)));
+  plain = search (rules, plain-push);
+  sizes = search (rules, sizes-push, differ_from_test);
   few = omega (arith, c.push.ensures.len, differ_from_test _ _ 8 c.is_full.ensures.value c.if-is_full.false, c.is_full.ensures.fits);
   every = λ ms few sizes e.
       let next = next-line _ _ _ _ _ _ (c.loop-tokens.invariant.every ms few sizes e) c.in-Some.ensures.shorter c.in-Some.ensures.every in

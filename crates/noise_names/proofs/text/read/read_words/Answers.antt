@@ -1,14 +1,7 @@
-use Rattle.std.proofs.Common.{refl, arith}
+use Rattle.std.proofs.Common.{arith}
 use Rattle.noise_names.proofs.Common.{codes}
-use Rattle.noise_names.proofs.Reading.{left-start, left-more, left-end, left-word, stripped, not-stripped}
+use Rattle.noise_names.proofs.Reading.{left-more, left-end, left-word, stripped, not-stripped}
 use Rattle.noise_names.proofs.text.read.read_words.Goals as goal
-
-pub loop-token-init : goal.loop-token-init
-loop-token-init c = record {
-  plain = rw c.new-tokens.ensures refl;
-  shorter = omega arith;
-  every = λ t ts more few e. left-start _ _ t ts more c.new-tokens.ensures e;
-}
 
 pub loop-token-preserved : goal.loop-token-preserved
 loop-token-preserved c = record {

@@ -1,5 +1,5 @@
-use Rattle.std.proofs.Common.{◌≡◌, ℕ, List, [], ◌++◌, length, take, ap, refl, ◌∙◌, arith, length-take}
-use Rattle.noise_names.proofs.Common.{Initiator, Responder, Token, turn_from, Plan, Place, first_places, token_places, message_places}
+use Rattle.std.proofs.Common.{◌≡◌, ℕ, List, [], ◌++◌, take, ap, refl, ◌∙◌}
+use Rattle.noise_names.proofs.Common.{Initiator, Responder, Token, Plan, Place, first_places, token_places, message_places}
 use Rattle.noise_names.specs.Checking.{seen_of}
 use Rattle.noise_names.proofs.valid.ValidPattern.seen_after.Goals as goal
 
@@ -18,9 +18,3 @@ returns-clause-seen c =
     third ∙ ap seen_of (places-are c.self.inside.pattern c.args.passed c.pre.result.now c.pre-2.result.now c.messages.result.now
     c.pre.ensures.value c.pre-2.ensures.value c.messages.ensures.value)
     ∙ ap (λ (p : Plan). seen_of (first_places p c.args.passed)) c.self.view_is
-
-pub returns-clause-turn : goal.returns-clause-turn
-returns-clause-turn c =
-    let count : length (take c.args.passed c.messages.result.now) ≡ c.args.passed =
-    omega (arith, length-take c.args.passed c.messages.result.now, c.requires, ap length c.messages.ensures.value, ap (λ (p : Plan). length p.messages) c.self.view_is) in
-    c.add_messages-party.ensures.turn ∙ ap (turn_from Initiator) count
