@@ -1,6 +1,6 @@
 -- The names that most of these proofs cite, passed on from one place. Declares nothing.
 pub use Rattle.byteorder.specs.Endian.{big_bytes}
-pub use Rattle.std.proofs.lemmas.Bool.{and_parts, cases_Bool, cases_eq, cases_lt, eqb-false, eqb-true, false≢true, le-leb, le-ltb, leb-false, leb-true, lt-leb, lt-ltb, ltb-false, ltb-true, ne_eqb, or_cases, or_left, or_right}
+pub use Rattle.std.proofs.lemmas.Bool.{and_parts, cases_Bool, cases_eq, cases_lt, eqb-false, eqb-true, false≢true, le-leb, le-ltb, leb-false, leb-true, lt-leb, ltb-false, ltb-true, ne_eqb, or_cases, or_left, or_right}
 pub use Rattle.std.proofs.lemmas.Bool.Decides.{nat_tests}
 pub use Rattle.std.proofs.lemmas.List.{drop-drop, drop-set-lt, drop-take, drop_at, length-take-le, nil_from_length, places, same_lists, take-append-drop, take-take, take_all, take_at, take_rest}
 pub use Rattle.std.proofs.lemmas.Result.{err_from_is_err_and}

@@ -1,5 +1,5 @@
 -- A datagram is a message of a half whose key is never renewed, after its nonce.
-use Rattle.std.proofs.Common.{rules, ◌≡◌, ◌≤◌, ℕ, ◌+◌, ◌-◌, List, [], ◌++◌, length, take, drop, Option, Some, None, Ok, Err, ◌∙◌, ap, subst, arith}
+use Rattle.std.proofs.Common.{rules, ◌≡◌, ◌≤◌, ℕ, ◌+◌, ◌-◌, List, [], ◌++◌, length, take, drop, Option, Some, None, Ok, ◌∙◌, ap, subst, arith}
 use Rattle.noise_session.proofs.Common.{nat_tests, w64, to_be_bytes, put_mid, ciphertext_under, SendFault, last_nonce, HalfValue, sender_fault, SenderSeals, SucceedsUnless, renewed_key, DatagramSenderValue, unsealed, datagram_sender_value}
 use Rattle.noise_session.specs.DatagramCalls.{DatagramSenderSeals, datagram_under}
 use Rattle.noise_session.proofs.Places.{after-front, rest-after}
@@ -7,10 +7,6 @@ use Rattle.noise_session.proofs.Places.{after-front, rest-after}
 -- what the half refuses, the half of datagrams refuses
 pub unsealed-same : (h : HalfValue) (n : ℕ) → h.nonce ≤ last_nonce → sender_fault h n ≡ unsealed h.role h.one_way h.nonce n
 unsealed-same h n most = grind (arith, nat_tests)
-
-pub not-sealed : (h : HalfValue) (d : DatagramSenderValue) (n : ℕ) (payload out : List ℕ) (why : SendFault) → datagram_sender_value h ≡ d → h.nonce ≤ last_nonce
-    → sender_fault h n ≡ Some why → DatagramSenderSeals d d n payload out out (Err why)
-not-sealed h d n payload out why is most fault = search rules
 
 pub datagram-sealed : (h next : HalfValue) (d : DatagramSenderValue) (n len k : ℕ) (text payload out written after : List ℕ) → datagram_sender_value h ≡ d
     → h.interval ≡ 0 → 8 ≤ length out → text ≡ payload → SenderSeals h next n text (take (length out - 8) (drop 8 out)) written (Ok len)

@@ -1,5 +1,5 @@
 -- What sealing and opening make of the bytes of a datagram, and of a state.
-use Rattle.std.proofs.Common.{rules, ◌≡◌, ◌≢◌, ℕ, ◌+◌, ◌-◌, ◌≤◌, ◌<◌, Bool, true, false, List, [], ◌∷◌, ◌++◌, take, Option, Some, None, refl, sym, ◌∙◌, ap, arith}
+use Rattle.std.proofs.Common.{rules, ◌≡◌, ◌≢◌, ℕ, ◌+◌, ◌-◌, ◌≤◌, Bool, true, false, List, [], ◌∷◌, ◌++◌, take, Option, Some, None, refl, sym, ◌∙◌, ap, arith}
 use Rattle.std.specs.Prelude.{◌&&◌, if◌then◌else◌}
 use Rattle.noise_session.proofs.Common.{HalfValue, receiver_fault, w64, to_be_bytes, Role, Initiator, same_role, History, ciphertext_under, Ring, split_key, transport_message, last_nonce, width_of, is_old, Recalls, DatagramState, nonce_named, accepting, datagram_fault, DatagramReceiverValue, DatagramReceiverMatches}
 
@@ -10,10 +10,6 @@ sealed-front p q message n m is made = search rules
 -- a datagram that is long enough has a nonce
 pub has-nonce : (n : ℕ) → 24 ≤ n → 8 ≤ n
 has-nonce n long = omega arith
-
--- a nonce that isn't the last is below it
-pub below-last : (n : ℕ) → n < last_nonce + 1 → n ≢ last_nonce → n < last_nonce
-below-last n most apart = omega arith
 
 -- so many bytes from the ninth on
 pub payload-there : (n : ℕ) → 8 + n - 8 ≡ n
@@ -28,10 +24,6 @@ piece-transport_message key n m r writer payload keyed same = search rules
 pub first-fault : {X : Type 0} (b : Bool) (x : X) (rest : Option X) → b ≡ true → Some x ≡ (if b then Some x else rest)
 first-fault true x rest e = refl
 first-fault false x rest e = cc
-
-pub later-fault : {X : Type 0} (b : Bool) (x : X) (reported rest : Option X) → b ≡ false → reported ≡ rest → reported ≡ (if b then Some x else rest)
-later-fault true x reported rest e same = cc
-later-fault false x reported rest e same = same
 
 -- the half that opens, at the nonce that a datagram names
 pub half-listens : (h : HalfValue) (d : DatagramReceiverValue) (v : DatagramState) (bytes : List ℕ) → h.role ≡ d.role → h.one_way ≡ d.one_way

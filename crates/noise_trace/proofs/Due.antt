@@ -1,24 +1,9 @@
 -- The message that is due, and what its tokens carry.
-use Rattle.std.proofs.Common.{◌≡◌, ℕ, zero, suc, ◌<◌, ◌≤◌, List, [], ◌∷◌, ◌++◌, length, get_or, drop, refl, ap, sym, subst, ◌∙◌, arith}
-use Rattle.std.specs.Prelude.{Bool, true, false, not, count_by}
-use Rattle.noise_names.specs.declared.token.Token.{Token}
-use Rattle.noise_names.specs.declared.token.Token.TheVariants.{E, S, Ee, Es, Se, Ss, Psk}
-use Rattle.noise_names.specs.declared.token.Role.{Role}
-use Rattle.noise_names.specs.declared.token.Role.TheVariants.{Initiator, Responder}
-use Rattle.noise_names.specs.Tokens.{is_psk, other, same_role, turn_from}
-use Rattle.noise_state.specs.History.{History}
-use Rattle.noise_handshake.specs.declared.remote.Remote.{Remote}
-use Rattle.noise_handshake.specs.HandshakeValue.{is_turn}
-use Rattle.noise_handshake.specs.Setup.{psks_of}
-use Rattle.noise_handshake.specs.Message.{before_payload, message_bytes, after_payload}
-use Rattle.noise_handshake.specs.Party.{Party, Accepts, Reader, Fits, Fit, Listens, Speaks, known_after, reader, psks_after, tokens_at, tokens_now}
-use Rattle.noise_handshake.specs.Writing.{Writer, Writes, Gives, Given, writer}
+use Rattle.std.proofs.Common.{◌≡◌, ℕ, zero, suc, ◌<◌, ◌≤◌, List, [], ◌∷◌, ◌++◌, length, get_or, drop, refl, arith}
+use Rattle.noise_trace.proofs.Common.{Bool, true, false, not, count_by, Token, E, S, Ee, Es, Se, Ss, Psk, Role, Initiator, Responder, is_psk, other, same_role, turn_from, History, Remote, is_turn, psks_of, before_payload, message_bytes, after_payload, Party, Accepts, Reader, Fits, Fit, Listens, Speaks, known_after, psks_after, tokens_at, Step, values_of, CarriesAll, IsNextMessage, token_steps, message_steps}
+use Rattle.noise_handshake.specs.Writing.{Writer, Writes, Gives, Given}
 use Rattle.noise_trace.specs.declared.values.StateValues.{StateValues}
 use Rattle.noise_trace.specs.declared.step.Part.TheVariants as part
-use Rattle.noise_trace.specs.declared.step.Step.{Step}
-use Rattle.noise_trace.specs.Values.{values_of}
-use Rattle.noise_trace.specs.inner.Carried.{CarriesAll, IsNextMessage}
-use Rattle.noise_trace.specs.Steps.{token_steps, message_steps}
 
 pub tokens_at-read : (ms : List (List Token)) (i : ℕ) (d : List Token) → i < length ms → get_or ms i d ≡ tokens_at ms i
 tokens_at-read [] i d h = absurd (omega arith)
@@ -64,8 +49,7 @@ pub given-carries : (w : Writer) (known : Remote) (psks : List (List ℕ)) (ts :
 given-carries w known psks [] [] f = tt
 given-carries w known psks [] (x ∷ xs) f = f
 given-carries w known psks (t ∷ ts) [] f = f
-given-carries w known psks (t ∷ ts) (x ∷ xs) f =
-    (gives-fits w known psks t x f.0, given-carries w known (psks_after psks t) ts xs f.1)
+given-carries w known psks (t ∷ ts) (x ∷ xs) f = search (gives-fits, (given-carries w known (psks_after psks t) ts xs f.1))
 
 listens : (a b : Role) → a ≡ other b → not (same_role a b) ≡ true
 listens Initiator Initiator e = absurd (cc)
@@ -89,21 +73,11 @@ writes v s = speaks (turn_from Initiator v.passed) v.role s.turn
 -- a message that is accepted, and one that is written, is the next one
 pub accepted-next : (v : Party) (message : List ℕ) (xs : List (List ℕ)) (payload : List ℕ) → Accepts v message xs payload
     → IsNextMessage v xs payload message
-accepted-next v message xs payload a = record {
-  more = a.listens.more;
-  carries = subst (λ (b : Bool). CarriesAll b (reader v) v.remote v.psks (tokens_now v) xs) (sym (reads v a.listens))
-      (fit-carries (reader v) v.remote v.psks (tokens_now v) xs a.reads.fit);
-  spelled = a.reads.spelled;
-}
+accepted-next v message xs payload a = search reads
 
 pub written-next : (v : Party) (message : List ℕ) (xs : List (List ℕ)) (payload : List ℕ) → Writes v payload xs message
     → IsNextMessage v xs payload message
-written-next v message xs payload w = record {
-  more = w.speaks.more;
-  carries = subst (λ (b : Bool). CarriesAll b (reader v) v.remote v.psks (tokens_now v) xs) (sym (writes v w.speaks))
-      (given-carries (writer v) v.remote v.psks (tokens_now v) xs w.given);
-  spelled = w.spelled;
-}
+written-next v message xs payload w = search (writes, given-carries)
 
 -- the steps of the tokens and that of the payload are those of the message
 pub message-done : (has_psks : Bool) (r : History) (ts : List Token) (xs : List (List ℕ)) (payload m : List ℕ) (from : ℕ) (values : StateValues)
@@ -111,9 +85,4 @@ pub message-done : (has_psks : Bool) (r : History) (ts : List Token) (xs : List 
     → before ≡ token_steps has_psks r 0 ts xs
     → after ≡ before ++ (record { part = part.Payload; from = from; to = length m; state = values }) ∷ []
     → after ≡ message_steps has_psks r ts xs payload
-message-done has_psks r ts xs payload m from values before after f s w b a =
-    a ∙ ap (λ (z : List Step). z ++ (record { part = part.Payload; from = from; to = length m; state = values }) ∷ []) b
-    ∙ ap (λ (n : ℕ). token_steps has_psks r 0 ts xs ++ (record { part = part.Payload; from = n; to = length m; state = values }) ∷ []) f
-    ∙ ap (λ (z : List ℕ). token_steps has_psks r 0 ts xs ++ (record { part = part.Payload; from = length (before_payload has_psks r ts xs); to = length z; state = values }) ∷ []) s
-    ∙ ap (λ (z : StateValues). token_steps has_psks r 0 ts xs
-    ++ (record { part = part.Payload; from = length (before_payload has_psks r ts xs); to = length (message_bytes has_psks r ts xs payload); state = z }) ∷ []) w
+message-done has_psks r ts xs payload m from values before after f s w b a = search

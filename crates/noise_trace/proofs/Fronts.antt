@@ -1,18 +1,8 @@
 -- Following the tokens of a message.
-use Rattle.std.proofs.Common.{◌≡◌, ℕ, ◌+◌, List, [], ◌∷◌, ◌++◌, length, refl, ap, sym, subst, ◌∙◌, arith, append_assoc, length-append}
-use Rattle.std.specs.Prelude.{Bool, Option, Some}
-use Rattle.noise_names.specs.declared.token.Token.{Token}
-use Rattle.noise_state.specs.declared.symmetric.SymmetricState.{SymmetricState}
-use Rattle.noise_state.specs.History.{History}
-use Rattle.noise_state.specs.Standing.{StateMatches}
-use Rattle.noise_handshake.specs.declared.remote.Remote.{Remote}
-use Rattle.noise_handshake.specs.Message.{token_bytes, after_token, before_payload, after_tokens}
-use Rattle.noise_handshake.specs.Party.{Reader, Fits, psks_after}
+use Rattle.std.proofs.Common.{rules, ◌≡◌, ℕ, ◌+◌, List, [], ◌∷◌, ◌++◌, length, refl, ap, ◌∙◌, append_assoc, length-append}
+use Rattle.std.specs.Prelude.{Some}
+use Rattle.noise_trace.proofs.Common.{Bool, Option, Token, SymmetricState, History, StateMatches, Remote, token_bytes, after_token, before_payload, after_tokens, Reader, Fits, psks_after, Step, known_next, known_through, CarriesAll, IsFollowed, step, token_steps}
 use Rattle.noise_trace.specs.declared.step.Part.TheVariants as part
-use Rattle.noise_trace.specs.declared.step.Step.{Step}
-use Rattle.noise_trace.specs.inner.Carried.{known_next, known_through, CarriesAll}
-use Rattle.noise_trace.specs.inner.Means.{IsFollowed}
-use Rattle.noise_trace.specs.Steps.{step, token_steps}
 
 -- The text of the first token, and those of the others.
 pub record Parted (reads : Bool) (v : Reader) (known : Remote) (psks : List (List ℕ)) (r : History) (t : Token) (ts : List Token)
@@ -40,10 +30,7 @@ parted-first reads v known psks r t ts (x ∷ xs) more rest c e = record {
 pub parted : (reads : Bool) (v : Reader) (known : Remote) (psks : List (List ℕ)) (r : History) (tokens : List Token) (t : Token) (ts : List Token)
     (xs : List (List ℕ)) (more rest : List ℕ) → tokens ≡ t ∷ ts
     → CarriesAll reads v known psks tokens xs → rest ≡ before_payload v.has_psks r tokens xs ++ more → Parted reads v known psks r t ts xs more rest
-parted reads v known psks r tokens t ts xs more rest split c e =
-    parted-first reads v known psks r t ts xs more rest
-    (subst (λ (us : List Token). CarriesAll reads v known psks us xs) split c)
-    (subst (λ (us : List Token). rest ≡ before_payload v.has_psks r us xs ++ more) split e)
+parted reads v known psks r tokens t ts xs more rest split c e = search (rules, parted-first)
 
 -- the step of the first token, and then those of the others
 pub steps-on : (has_psks : Bool) (r : History) (tokens ts : List Token) (t : Token) (xs ys : List (List ℕ)) (x : List ℕ) (from to : ℕ)
@@ -51,15 +38,7 @@ pub steps-on : (has_psks : Bool) (r : History) (tokens ts : List Token) (t : Tok
     → tokens ≡ t ∷ ts → xs ≡ x ∷ ys → to ≡ from + length (token_bytes r t x)
     → mid ≡ old ++ step (part.Token t) from (length (token_bytes r t x)) (after_token has_psks r t x) ∷ []
     → new ≡ mid ++ token_steps has_psks (after_token has_psks r t x) to ts ys → new ≡ old ++ token_steps has_psks r from tokens xs
-steps-on has_psks r tokens ts t xs ys x from to old mid new split parts place pushed later =
-    let after : History = after_token has_psks r t x in
-    let width : ℕ = length (token_bytes r t x) in
-    let whole : new ≡ old ++ token_steps has_psks r from (t ∷ ts) (x ∷ ys) =
-    later ∙ ap (λ (n : ℕ). mid ++ token_steps has_psks after n ts ys) place
-    ∙ ap (λ (z : List Step). z ++ token_steps has_psks after (from + width) ts ys) pushed
-    ∙ append_assoc old (step (part.Token t) from width after ∷ []) (token_steps has_psks after (from + width) ts ys) in
-    subst (λ (us : List Token). new ≡ old ++ token_steps has_psks r from us xs) (sym split)
-    (subst (λ (zs : List (List ℕ)). new ≡ old ++ token_steps has_psks r from (t ∷ ts) zs) (sym parts) whole)
+steps-on has_psks r tokens ts t xs ys x from to old mid new split parts place pushed later = search (rules, append_assoc)
 
 -- what following the others makes is what following all of them makes
 pub followed-on : (has_psks : Bool) (r : History) (reads : Bool) (known learned : Remote) (tokens ts : List Token) (t : Token) (xs ys : List (List ℕ)) (x : List ℕ)
@@ -72,7 +51,7 @@ followed-on has_psks r reads known learned tokens ts t xs ys x from to state res
     let after : History = after_token has_psks r t x in
     let piece : List ℕ = token_bytes r t x in
     let length-is : to + length (before_payload has_psks after ts ys) ≡ from + length (piece ++ before_payload has_psks after ts ys) =
-    omega (arith, place, length-append piece (before_payload has_psks after ts ys)) in
+    search (rules, length-append) in
     let Ends : List Token → List (List ℕ) → Type 0 =
     λ us zs. (result ≡ Some (from + length (before_payload has_psks r us zs), known_through reads known us zs)) × StateMatches state (after_tokens has_psks r us zs) in
     let ends : Ends (t ∷ ts) (x ∷ ys) = (
@@ -80,6 +59,5 @@ followed-on has_psks r reads known learned tokens ts t xs ys x from to state res
           ∙ ap (λ (z : Remote). Some (from + length (piece ++ before_payload has_psks after ts ys), known_through reads z ts ys)) knows,
       f.1,
     ) in
-    let whole : Ends tokens xs =
-    subst (λ (us : List Token). Ends us xs) (sym split) (subst (λ (zs : List (List ℕ)). Ends (t ∷ ts) zs) (sym parts) ends) in
+    let whole : Ends tokens xs = search rules in
     (whole.0, whole.1, steps-on has_psks r tokens ts t xs ys x from to old mid new split parts place pushed f.2)

@@ -1,18 +1,10 @@
 -- The bytes of steps, joined.
-use Rattle.std.proofs.Common.{◌≡◌, ℕ, ◌+◌, ◌-◌, List, [], ◌∷◌, ◌++◌, length, take}
-use Rattle.std.proofs.Common.{drop, drop-drop, refl, sym, ap, ◌∙◌, arith, append_assoc, append-nil, length-append}
-use Rattle.std.proofs.lemmas.List.{take_at, drop_at}
-use Rattle.std.specs.Prelude.{Bool, slice_range}
-use Rattle.noise_names.specs.declared.token.Token.{Token}
-use Rattle.noise_state.specs.History.{History, ciphertext}
-use Rattle.noise_handshake.specs.Message.{token_bytes, after_token, before_payload, after_tokens, message_bytes}
-use Rattle.noise_trace.specs.declared.step.Step.{Step}
-use Rattle.noise_trace.specs.Steps.{joined, token_steps, payload_step, message_steps}
+use Rattle.std.proofs.Common.{◌≡◌, ℕ, ◌+◌, ◌-◌, List, [], ◌∷◌, ◌++◌, length, take, drop, drop-drop, refl, sym, ap, ◌∙◌, arith, append_assoc, append-nil, length-append}
+use Rattle.noise_trace.proofs.Common.{take_at, drop_at, Bool, slice_range, Token, History, ciphertext, token_bytes, after_token, before_payload, after_tokens, message_bytes, Step, joined, token_steps, payload_step, message_steps}
 
 joined-append : (m : List ℕ) (a b : List Step) → joined m (a ++ b) ≡ joined m a ++ joined m b
 joined-append m [] b = refl
-joined-append m (s ∷ a) b =
-    ap (λ (z : List ℕ). slice_range m s.from s.to ++ z) (joined-append m a b) ∙ sym (append_assoc (slice_range m s.from s.to) (joined m a) (joined m b))
+joined-append m (s ∷ a) b = search (append_assoc, (joined-append m a b))
 
 -- the bytes from a place on, so many of them
 part-is : (m x more : List ℕ) (from n : ℕ) → drop from m ≡ x ++ more → n ≡ length x → slice_range m from (from + n) ≡ x
@@ -42,9 +34,7 @@ joined-message has_psks r ts xs payload =
     let first : List ℕ = before_payload has_psks r ts xs in
     let last : List ℕ = ciphertext (after_tokens has_psks r ts xs) payload in
     let here : drop (length first) m ≡ last ++ [] = drop_at first last (length first) refl ∙ sym (append-nil last) in
-    let ends : slice_range m (length first) (length m) ≡ last =
-    ap (λ (k : ℕ). slice_range m (length first) k) (length-append first last)
-    ∙ part-is m last [] (length first) (length last) here refl in
+    let ends : slice_range m (length first) (length m) ≡ last = search (length-append, part-is) in
     joined-append m (token_steps has_psks r 0 ts xs) (payload_step has_psks r ts xs payload ∷ [])
     ∙ ap (λ (z : List ℕ). z ++ (slice_range m (length first) (length m) ++ [])) (joined-tokens has_psks r ts xs 0 m last refl)
     ∙ ap (λ (z : List ℕ). first ++ z) (append-nil (slice_range m (length first) (length m)) ∙ ends)

@@ -1,9 +1,7 @@
 -- The public keys in a message.
 use Rattle.std.proofs.Common.{◌≡◌, ℕ, ◌≤◌, List, ◌++◌, length, take, ap, sym, ◌∙◌, arith, length-take}
-use Rattle.std.proofs.lemmas.List.{take_at}
-use Rattle.std.specs.Prelude.{Bool, true, false, is_some, if◌then◌else◌}
+use Rattle.noise_trace.proofs.Common.{take_at, Bool, true, false, is_some, if◌then◌else◌, History, cipher_key, ciphertext}
 use Rattle.noise_state.specs.Cipher.{sealed_len}
-use Rattle.noise_state.specs.History.{History, cipher_key, ciphertext}
 use Rattle.noise_state.specs.Ciphertexts.{length-ciphertext, ciphertext-same}
 
 -- the first 32 bytes are the key

@@ -1,15 +1,6 @@
 -- Going on to the next message.
 use Rattle.std.proofs.Common.{◌≡◌, ℕ, zero, suc, ◌+◌, List, [], ◌∷◌, drop, refl, add-one}
-use Rattle.std.specs.Prelude.{true, false, not, count_by}
-use Rattle.noise_names.specs.declared.token.Token.{Token}
-use Rattle.noise_names.specs.declared.token.Role.{Role}
-use Rattle.noise_names.specs.declared.token.Role.TheVariants.{Initiator, Responder}
-use Rattle.noise_names.specs.Tokens.{is_psk, other, same_role, turn_from}
-use Rattle.noise_handshake.specs.declared.remote.Remote.{Remote}
-use Rattle.noise_handshake.specs.HandshakeValue.{is_turn}
-use Rattle.noise_handshake.specs.Setup.{psks_of}
-use Rattle.noise_handshake.specs.Party.{known_after, remote_after, tokens_at}
-use Rattle.noise_trace.specs.inner.Carried.{known_through}
+use Rattle.noise_trace.proofs.Common.{true, false, not, count_by, Token, Role, Initiator, Responder, is_psk, other, same_role, turn_from, Remote, is_turn, psks_of, known_after, remote_after, tokens_at, known_through}
 
 psks-after : (ms : List (List Token)) (n : ℕ)
     → count_by is_psk (tokens_at ms n) + psks_of (drop (suc n) ms) ≡ psks_of (drop n ms)

@@ -1,3 +1,4 @@
+pub mod Common
 pub mod Due
 pub mod Fronts
 pub mod Joined

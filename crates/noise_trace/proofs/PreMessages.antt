@@ -1,30 +1,16 @@
 -- The steps of the start.
-use Rattle.std.proofs.Common.{◌≡◌, ℕ, List, [], ◌∷◌, ◌++◌, refl, sym, ap, subst, ◌∙◌, append_assoc}
-use Rattle.std.specs.Prelude.{Bool, true, false, not, ◌||◌, ◌↔◌, IsTrue, IsFalse, Option, Some, is_some, unwrap_or}
-use Rattle.noise_names.specs.declared.token.Token.{Token}
-use Rattle.noise_names.specs.declared.token.Token.TheVariants.{E, S, Ee, Es, Se, Ss, Psk}
-use Rattle.noise_names.specs.declared.token.Role.{Role}
-use Rattle.noise_names.specs.declared.token.Role.TheVariants.{Initiator, Responder}
-use Rattle.noise_names.specs.Tokens.{other, same_token}
-use Rattle.noise_names.specs.Plan.{Plan, pre_of, has_psk, places_of}
+use Rattle.std.proofs.Common.{rules, ◌≡◌, ℕ, List, [], ◌∷◌, ◌++◌, refl, sym, ◌∙◌, append_assoc}
+use Rattle.std.specs.Prelude.{Some}
+use Rattle.noise_trace.proofs.Common.{Bool, true, false, not, ◌↔◌, IsTrue, IsFalse, Option, is_some, unwrap_or, Token, E, S, Ee, Es, Se, Ss, Psk, Role, Initiator, Responder, other, same_token, Plan, pre_of, has_psk, places_of, SymmetricState, History, MixHash, and_then, StateMatches, Remote, has_before, has_token, keys_of, public_keys, start_of, token_of, with_premessage, with_ephemeral, values_of}
 use Rattle.noise_names.specs.Names.{name_bytes}
 use Rattle.noise_names.specs.Validity.{is_among}
-use Rattle.noise_state.specs.declared.symmetric.SymmetricState.{SymmetricState}
-use Rattle.noise_state.specs.History.{History, MixHash, and_then}
-use Rattle.noise_state.specs.Standing.{StateMatches}
 use Rattle.noise_keys.specs.declared.keys.Own.{Own}
 use Rattle.noise_keys.specs.declared.keys.Own.TheVariants.{Ephemeral, Static}
-use Rattle.noise_handshake.specs.declared.remote.Remote.{Remote}
-use Rattle.noise_handshake.specs.Setup.{has_before, has_token, keys_of, public_keys, start_of, token_of}
-use Rattle.noise_handshake.specs.Party.{with_premessage}
-use Rattle.noise_trace.specs.declared.start_step.StartPart.TheVariants as part
 use Rattle.noise_trace.specs.declared.start_step.StartStep.{StartStep}
-use Rattle.noise_handshake.specs.Message.{with_ephemeral}
 use Rattle.noise_trace.specs.declared.values.StateValues.{StateValues}
-use Rattle.noise_trace.specs.Values.{values_of}
 use Rattle.noise_trace.specs.inner.PreMessages.{Mixes}
 use Rattle.noise_trace.specs.Start.{start_step, key_steps, pre_steps, after_name, after_prologue, start_steps, values_after}
-use Rattle.std.proofs.lemmas.Bool.{or_right}
+use Rattle.noise_trace.specs.declared.start_step.StartPart.TheVariants as part
 
 pub flips : (b x : Bool) → (IsTrue b ↔ IsFalse x) → not b ≡ x
 flips true x e = sym (e.0 refl)
@@ -35,56 +21,20 @@ flips false false e = absurd (let h : false ≡ true = e.1 refl in cc)
 pub mixes-s : (has_psks : Bool) (party : Role) (keys : Remote) (t : Token) (r : History) (key : List ℕ) (state : SymmetricState) (old new : List StartStep)
     → t ≡ S → keys.s ≡ Some key → StateMatches state (and_then r (MixHash key))
     → new ≡ old ++ start_step (part.Key party t) (and_then r (MixHash key)) ∷ [] → Mixes has_psks party keys (t ∷ []) r state old new
-mixes-s has_psks party keys t r key state old new e k s n =
-    let q : key ≡ unwrap_or keys.s [] = sym (ap (λ (o : Option (List ℕ)). unwrap_or o []) k) in
-    let n1 : new ≡ old ++ start_step (part.Key party S) (and_then r (MixHash key)) ∷ [] =
-    subst (λ (u : Token). new ≡ old ++ start_step (part.Key party u) (and_then r (MixHash key)) ∷ []) e n in
-    subst (λ (u : Token). Mixes has_psks party keys (u ∷ []) r state old new) (sym e) (
-      subst (λ (z : List ℕ). StateMatches state (and_then r (MixHash z))) q s,
-      subst (λ (z : List ℕ). new ≡ old ++ start_step (part.Key party S) (and_then r (MixHash z)) ∷ []) q n1,
-    )
-
-pre-cons : (has_psks : Bool) (keys : Remote) (t : Token) (ts : List Token) (r : History)
-    → with_premessage has_psks keys ts (with_premessage has_psks keys (t ∷ []) r) ≡ with_premessage has_psks keys (t ∷ ts) r
-pre-cons has_psks keys E ts r = refl
-pre-cons has_psks keys S ts r = refl
-pre-cons has_psks keys Ee ts r = refl
-pre-cons has_psks keys Es ts r = refl
-pre-cons has_psks keys Se ts r = refl
-pre-cons has_psks keys Ss ts r = refl
-pre-cons has_psks keys Psk ts r = refl
-
-steps-cons : (has_psks : Bool) (party : Role) (keys : Remote) (t : Token) (ts : List Token) (r : History)
-    → key_steps has_psks party keys (t ∷ []) r ++ key_steps has_psks party keys ts (with_premessage has_psks keys (t ∷ []) r) ≡ key_steps has_psks party keys (t ∷ ts) r
-steps-cons has_psks party keys E ts r = refl
-steps-cons has_psks party keys S ts r = refl
-steps-cons has_psks party keys Ee ts r = refl
-steps-cons has_psks party keys Es ts r = refl
-steps-cons has_psks party keys Se ts r = refl
-steps-cons has_psks party keys Ss ts r = refl
-steps-cons has_psks party keys Psk ts r = refl
+mixes-s has_psks party keys t r key state old new e k s n = search rules
 
 -- the first token, and then the others
 pub mixes-on : (has_psks : Bool) (party : Role) (keys : Remote) (tokens : List Token) (t : Token) (ts : List Token) (r : History) (state : SymmetricState)
     (old mid new : List StartStep) → tokens ≡ t ∷ ts → mid ≡ old ++ key_steps has_psks party keys (t ∷ []) r
     → Mixes has_psks party keys ts (with_premessage has_psks keys (t ∷ []) r) state mid new → Mixes has_psks party keys tokens r state old new
-mixes-on has_psks party keys tokens t ts r state old mid new split first m =
-    let later : List StartStep = key_steps has_psks party keys ts (with_premessage has_psks keys (t ∷ []) r) in
-    subst (λ (us : List Token). Mixes has_psks party keys us r state old new) (sym split) (
-      subst (λ (z : History). StateMatches state z) (pre-cons has_psks keys t ts r) m.0,
-      m.1 ∙ ap (λ (z : List StartStep). z ++ later) first ∙ append_assoc old (key_steps has_psks party keys (t ∷ []) r) later
-          ∙ ap (λ (z : List StartStep). old ++ z) (steps-cons has_psks party keys t ts r),
-    )
+mixes-on has_psks party keys tokens t ts r state old mid new split first m = search (rules, append_assoc)
 
 -- the tokens of a list are among it
 pub has-here : (u t : Token) (tokens ts : List Token) → same_token u u ≡ true → tokens ≡ t ∷ ts → t ≡ u → has_token u tokens ≡ true
-has-here u t tokens ts same split e =
-    subst (λ (us : List Token). has_token u us ≡ true) (sym split)
-    (subst (λ (z : Token). has_token u (z ∷ ts) ≡ true) (sym e) (ap (λ (b : Bool). b || has_token u ts) same))
+has-here u t tokens ts same split e = search
 
 pub has-later : (u t : Token) (tokens ts : List Token) → tokens ≡ t ∷ ts → has_token u ts ≡ true → has_token u tokens ≡ true
-has-later u t tokens ts split h =
-    subst (λ (us : List Token). has_token u us ≡ true) (sym split) (or_right (same_token t u) (has_token u ts) h)
+has-later u t tokens ts split h = search rules
 
 -- A party's keys of its pre-message are there, in a setup without a fault.
 module _ (p : Plan) (own : Own → Option (List ℕ)) (known : Remote)
@@ -114,13 +64,7 @@ pub made-is : (p : Plan) (has_psks : Bool) (first second : List Token) (name pro
     → initiator ≡ i → responder ≡ r
     → made has_psks first second name prologue initiator responder
     ≡ start_step part.Name (after_name p) ∷ start_step part.Prologue (after_prologue p prologue) ∷ pre_steps p i r (after_prologue p prologue)
-made-is p has_psks first second name prologue initiator responder i r eb ef es en ei er =
-    ap (λ (z : Bool). made z first second name prologue initiator responder) eb
-    ∙ ap (λ (z : List Token). made (has_psk p) z second name prologue initiator responder) ef
-    ∙ ap (λ (z : List Token). made (has_psk p) (pre_of Initiator p) z name prologue initiator responder) es
-    ∙ ap (λ (z : List ℕ). made (has_psk p) (pre_of Initiator p) (pre_of Responder p) z prologue initiator responder) en
-    ∙ ap (λ (z : Remote). made (has_psk p) (pre_of Initiator p) (pre_of Responder p) (name_bytes (record { base = p.base; places = p.places })) prologue z responder) ei
-    ∙ ap (λ (z : Remote). made (has_psk p) (pre_of Initiator p) (pre_of Responder p) (name_bytes (record { base = p.base; places = p.places })) prologue i z) er
+made-is p has_psks first second name prologue initiator responder i r eb ef es en ei er = search
 
 -- one after another
 pub in-turn : (has_psks : Bool) (first second : List Token) (name prologue : List ℕ) (initiator responder : Remote) (none one two three four : List StartStep)
@@ -130,15 +74,7 @@ pub in-turn : (has_psks : Bool) (first second : List Token) (name prologue : Lis
     → four ≡ three ++ key_steps has_psks Responder responder second
     (with_premessage has_psks initiator first (and_then (record { name = name; entries = [] }) (MixHash prologue)))
     → four ≡ made has_psks first second name prologue initiator responder
-in-turn has_psks first second name prologue initiator responder none one two three four e0 e1 e2 e3 e4 =
-    let r0 : History = record { name = name; entries = [] } in
-    let r1 : History = and_then r0 (MixHash prologue) in
-    let last : List StartStep = key_steps has_psks Responder responder second (with_premessage has_psks initiator first r1) in
-    let keys : List StartStep = key_steps has_psks Initiator initiator first r1 in
-    e4 ∙ ap (λ (z : List StartStep). z ++ last) e3
-    ∙ ap (λ (z : List StartStep). (z ++ keys) ++ last) e2
-    ∙ ap (λ (z : List StartStep). ((z ++ start_step part.Prologue r1 ∷ []) ++ keys) ++ last) e1
-    ∙ ap (λ (z : List StartStep). (((z ++ start_step part.Name r0 ∷ []) ++ start_step part.Prologue r1 ∷ []) ++ keys) ++ last) e0
+in-turn has_psks first second name prologue initiator responder none one two three four e0 e1 e2 e3 e4 = search rules
 
 after-append : (before : StateValues) (a b : List StartStep) → values_after before (a ++ b) ≡ values_after (values_after before a) b
 after-append before [] b = refl
@@ -158,12 +94,4 @@ after-keys has_psks party keys (Psk ∷ ts) r = after-keys has_psks party keys t
 -- after the last step of the start the values are those of the start
 pub after-start : (p : Plan) (role : Role) (prologue : List ℕ) (own remote : Remote) (before : StateValues)
     → values_after before (start_steps p role prologue own remote) ≡ values_of (start_of p role prologue own remote)
-after-start p role prologue own remote before =
-    let i : Remote = keys_of Initiator role own remote in
-    let r : Remote = keys_of Responder role own remote in
-    let r1 : History = after_prologue p prologue in
-    let r2 : History = with_premessage (has_psk p) i (pre_of Initiator p) r1 in
-    after-append (values_of r1) (key_steps (has_psk p) Initiator i (pre_of Initiator p) r1) (key_steps (has_psk p) Responder r (pre_of Responder p) r2)
-    ∙ ap (λ (z : StateValues). values_after z (key_steps (has_psk p) Responder r (pre_of Responder p) r2))
-    (after-keys (has_psk p) Initiator i (pre_of Initiator p) r1)
-    ∙ after-keys (has_psk p) Responder r (pre_of Responder p) r2
+after-start p role prologue own remote before = search (after-append, after-keys)

@@ -1,13 +1,10 @@
 -- How often a key was renewed before a nonce, and before the next; and the keys at both.
-use Rattle.std.proofs.Common.{◌≡◌, ◌≢◌, ℕ, suc, ◌+◌, ◌%◌, List, inl, inr, ap, sym, arith}
+use Rattle.std.proofs.Common.{rules, ◌≡◌, ◌≢◌, ℕ, suc, ◌+◌, ◌%◌, List, inl, inr, arith}
 use Rattle.std.proofs.lemmas.Bool.{cases_lt}
-use Rattle.std.proofs.lemmas.Bool.Decides.{nat_tests}
-use Rattle.std.specs.Prelude.{◌⊎◌, true, false, nat_lt, Option, Some, None, unwrap_or, if◌then◌else◌}
-use Rattle.noise_names.specs.declared.token.Role.{Role}
+use Rattle.std.specs.Prelude.{Some, None}
+use Rattle.noise_trace.proofs.Common.{◌⊎◌, nat_lt, Option, unwrap_or, if◌then◌else◌, Role, History, rekeyed_times, renewed_after}
 use Rattle.noise_aead.specs.Sealing.{rekeyed}
-use Rattle.noise_state.specs.History.{History, rekeyed_times}
 use Rattle.noise_session.specs.Transport.{renewals, split_key, transport_key}
-use Rattle.noise_trace.specs.KeyUses.{renewed_after}
 use Rattle.noise_session.specs.Renewing.{renewals-turned, renewals-unchanged, renewals-never}
 
 -- one renewal more, or none
@@ -26,22 +23,11 @@ abbrev Grown : ℕ → ℕ → List ℕ → Option (List ℕ)
 Grown a b key = if nat_lt a b then Some (rekeyed_times b key) else None
 
 grown-more : (a b : ℕ) (key : List ℕ) → b ≡ suc a → Grown a b key ≡ Some (rekeyed (rekeyed_times a key))
-grown-more a b key e =
-    let more : nat_lt a b ≡ true = grind (arith, nat_tests) in
-    rw more (ap (λ (n : ℕ). Some (rekeyed_times n key)) e)
-
-grown-same : (a b : ℕ) (key : List ℕ) → b ≡ a → Grown a b key ≡ None
-grown-same a b key e =
-    let less : nat_lt a b ≡ false = grind (arith, nat_tests) in
-    rw less
+grown-more a b key e = search rules
 
 grown-next : (a b : ℕ) (key : List ℕ) → (b ≡ suc a) ⊎ (b ≡ a) → unwrap_or (Grown a b key) (rekeyed_times a key) ≡ rekeyed_times b key
-grown-next a b key (inl more) =
-    let e = grown-more a b key more in
-    rw e (ap (λ (n : ℕ). rekeyed_times n key) (sym more))
-grown-next a b key (inr same) =
-    let e = grown-same a b key same in
-    rw e (ap (λ (n : ℕ). rekeyed_times n key) (sym same))
+grown-next a b key (inl more) = search rules
+grown-next a b key (inr same) = search rules
 
 pub key-renewed : (r : History) (writer : Role) (i n : ℕ) → i ≢ 0 → (n + 1) % i ≡ 0
     → renewed_after r writer i n ≡ Some (rekeyed (transport_key r writer i n))

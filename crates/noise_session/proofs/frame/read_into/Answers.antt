@@ -1,4 +1,4 @@
-use Rattle.std.proofs.Common.{◌≡◌, ◌≤◌, ◌+◌, ◌-◌, ℕ, List, ◌++◌, length, take, ◌∙◌, ap, arith, length-append}
+use Rattle.std.proofs.Common.{rules, ◌≡◌, ◌≤◌, ◌+◌, ◌-◌, ℕ, List, ◌++◌, length, take, ap, arith, length-append}
 use Rattle.std.proofs.lemmas.List.{take-append-le}
 use Rattle.std.proofs.lemmas.Grind.{common_steps}
 use Rattle.noise_session.proofs.Common.{length-take-le, take-take}
@@ -8,11 +8,7 @@ use Rattle.noise_session.proofs.frame.read_into.Goals as goal
 -- the front of a buffer after a reading into a part of it
 front-of : (items old read post rest : List ℕ) (at n len : ℕ) → old ≡ items → at + n ≤ len → at ≤ length old → n ≤ length read
     → take (at + n) (take len ((take at old ++ (read ++ post)) ++ rest)) ≡ take at items ++ take n read
-front-of items old read post rest at n len is long within fits =
-    let front = length-take-le at old within in
-    take-take (at + n) len ((take at old ++ (read ++ post)) ++ rest) long
-    ∙ (take-append-le (at + n) (take at old ++ (read ++ post)) rest (omega (arith, length-append (take at old) (read ++ post), length-append read post))
-    ∙ (front-read old post read at n within fits ∙ ap (λ (xs : List ℕ). take at xs ++ take n read) is))
+front-of items old read post rest at n len is long within fits = search (rules, length-take-le, take-take, take-append-le, length-append, front-read)
 
 pub returns-clause-bytes : goal.returns-clause-bytes
 returns-clause-bytes g c =

@@ -1,7 +1,6 @@
 use Rattle.std.proofs.Common.{◌≡◌, ℕ, List, length, take, ap, subst, ◌∙◌, arith, length-take}
 use Rattle.std.specs.Prelude.{Some}
-use Rattle.noise_state.specs.Standing.{StateMatches}
-use Rattle.noise_state.specs.History.{Ciphertext, and_then, ciphertext}
+use Rattle.noise_trace.proofs.Common.{StateMatches, Ciphertext, and_then, ciphertext}
 use Rattle.noise_trace.proofs.own.send_s.Goals as goal
 
 pub returns-in-Ok-clause-sent : goal.returns-in-Ok-clause-sent

@@ -1,5 +1,5 @@
 use Rattle.std.proofs.Common.{◌≡◌, length, ap, ◌∙◌, arith}
-use Rattle.std.proofs.lemmas.List.{take_at}
+use Rattle.noise_trace.proofs.Common.{take_at}
 use Rattle.noise_trace.proofs.own.with_room.Goals as goal
 
 pub returns : goal.returns

@@ -1,6 +1,5 @@
 use Rattle.std.proofs.Common.{List, refl}
-use Rattle.noise_names.specs.declared.token.Token.{Token}
-use Rattle.noise_names.specs.declared.token.Token.TheVariants.{E, S}
+use Rattle.noise_trace.proofs.Common.{Token, E, S}
 use Rattle.noise_trace.proofs.PreMessages.{mixes-on, has-here, has-later}
 use Rattle.noise_trace.proofs.start.+mix_keys.Goals as goal
 

@@ -1,4 +1,4 @@
-use Rattle.noise_state.specs.History.{MixHash, and_then}
+use Rattle.noise_trace.proofs.Common.{MixHash, and_then}
 use Rattle.noise_trace.proofs.PreMessages.{mixes-s}
 use Rattle.noise_trace.proofs.start.mix_one.Goals as goal
 

@@ -1,13 +1,7 @@
 use Rattle.std.proofs.Common.{◌≡◌, ℕ, List, [], sym, ap, subst, ◌∙◌}
-use Rattle.std.specs.Prelude.{Bool, not, None}
-use Rattle.noise_names.specs.declared.token.Token.{Token}
-use Rattle.noise_names.specs.declared.token.Role.TheVariants.{Initiator, Responder}
+use Rattle.std.specs.Prelude.{None}
+use Rattle.noise_trace.proofs.Common.{Bool, not, Token, Initiator, Responder, Plan, has_psk, History, MixHash, and_then, Remote, keys_of, public_keys, setup_fault, with_premessage}
 use Rattle.noise_names.specs.Names.{name_bytes}
-use Rattle.noise_names.specs.Plan.{Plan, has_psk}
-use Rattle.noise_state.specs.History.{History, MixHash, and_then}
-use Rattle.noise_handshake.specs.declared.remote.Remote.{Remote}
-use Rattle.noise_handshake.specs.Setup.{keys_of, public_keys, setup_fault}
-use Rattle.noise_handshake.specs.Party.{with_premessage}
 use Rattle.noise_trace.specs.Start.{start_steps}
 use Rattle.noise_trace.specs.inner.PreMessages.{HasKeysFor}
 use Rattle.noise_trace.proofs.PreMessages.{flips, has-keys, made-is, in-turn}

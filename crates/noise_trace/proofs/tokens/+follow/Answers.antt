@@ -1,16 +1,7 @@
 use Rattle.std.proofs.Common.{◌≡◌, ℕ, ◌+◌, List, ◌++◌, length, drop, drop-drop, refl, sym, ap, subst, ◌∙◌}
-use Rattle.std.proofs.lemmas.List.{drop_at}
-use Rattle.std.specs.Prelude.{Bool}
-use Rattle.noise_names.specs.declared.token.Token.{Token}
-use Rattle.noise_state.specs.History.{History}
-use Rattle.noise_handshake.specs.declared.remote.Remote.{Remote}
-use Rattle.noise_handshake.specs.Message.{token_bytes, after_token, before_payload}
-use Rattle.noise_handshake.specs.Party.{Reader, psks_after}
-use Rattle.noise_trace.specs.inner.Carried.{known_next, CarriesAll}
-use Rattle.noise_trace.specs.inner.Means.{reader_in}
+use Rattle.noise_trace.proofs.Common.{drop_at, Bool, Token, History, Remote, token_bytes, after_token, before_payload, Reader, psks_after, known_next, CarriesAll, reader_in, same_Some}
 use Rattle.noise_trace.proofs.Fronts.{parted, followed-on}
 use Rattle.noise_trace.proofs.tokens.+follow.Goals as goal
-use Rattle.std.proofs.lemmas.Option.{same_Some}
 
 pub returns-clause-followed : goal.returns-clause-followed
 returns-clause-followed g t c r xs more s carries spelled =

@@ -1,13 +1,7 @@
 use Rattle.std.proofs.Common.{◌≡◌, ℕ, List, ◌++◌, length, sym, ap, subst, ◌∙◌}
-use Rattle.std.specs.Prelude.{Option, Some}
-use Rattle.noise_handshake.specs.declared.remote.Remote.{Remote}
-use Rattle.noise_names.specs.declared.token.Token.{Token}
-use Rattle.noise_state.specs.Standing.{StateMatches}
-use Rattle.noise_handshake.specs.Message.{token_bytes, after_token}
-use Rattle.noise_handshake.specs.Party.{Reader, Fits, known_after}
-use Rattle.noise_trace.specs.inner.Means.{reader_in}
+use Rattle.std.specs.Prelude.{Some}
+use Rattle.noise_trace.proofs.Common.{Option, Remote, Token, StateMatches, token_bytes, after_token, Reader, Fits, known_after, reader_in, same_Some}
 use Rattle.noise_trace.proofs.tokens.follow_token.Goals as goal
-use Rattle.std.proofs.lemmas.Option.{same_Some}
 
 pub returns-in_err-width-in-E-clause-followed : goal.returns-in_err-width-in-E-clause-followed
 returns-in_err-width-in-E-clause-followed g c r x more s f e =

@@ -1,7 +1,6 @@
 use Rattle.std.proofs.Common.{ℕ, ◌≤◌, List, length, ap, subst, ◌∙◌, arith}
 use Rattle.std.specs.Prelude.{Some}
-use Rattle.noise_state.specs.Standing.{StateMatches, keyed}
-use Rattle.noise_state.specs.History.{Ciphertext, and_then}
+use Rattle.noise_trace.proofs.Common.{StateMatches, keyed, Ciphertext, and_then}
 use Rattle.noise_trace.proofs.Keys.{opened-is, under}
 use Rattle.noise_trace.proofs.tokens.open_key.Goals as goal
 

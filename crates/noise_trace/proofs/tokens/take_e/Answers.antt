@@ -1,7 +1,6 @@
 use Rattle.std.proofs.Common.{◌≡◌, ℕ, List, length, sym, ap, subst, ◌∙◌}
 use Rattle.std.specs.Prelude.{Some}
-use Rattle.noise_state.specs.Standing.{StateMatches}
-use Rattle.noise_handshake.specs.Message.{with_ephemeral}
+use Rattle.noise_trace.proofs.Common.{StateMatches, with_ephemeral}
 use Rattle.noise_trace.proofs.Keys.{front_is}
 use Rattle.noise_trace.proofs.tokens.take_e.Goals as goal
 

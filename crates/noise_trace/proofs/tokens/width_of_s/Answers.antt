@@ -1,6 +1,6 @@
 use Rattle.std.proofs.Common.{◌∙◌, sym}
+use Rattle.noise_trace.proofs.Common.{true}
 use Rattle.noise_trace.proofs.Keys.{width-key}
-use Rattle.std.specs.Prelude.{true}
 use Rattle.noise_trace.proofs.tokens.width_of_s.Goals as goal
 
 pub returns-then-has_key-clause-width : goal.returns-then-has_key-clause-width

@@ -1,16 +1,5 @@
-use Rattle.noise_session.proofs.Common.{err_from_is_err_and}
 use Rattle.noise_session.proofs.DatagramStates.{payload-there}
 use Rattle.noise_session.proofs.datagram_receiver.DatagramReceiver.open.Goals as goal
-
-pub returns-in_err-len-clause-opens : goal.returns-in_err-len-clause-opens
-returns-in_err-len-clause-opens c =
-    let p = err_from_is_err_and c.from_residual.result c.from_residual.ensures.1 in
-    let o = c.in_err-len.ensures.opens in
-    rw (p.1, p.2) (record {
-      same = o.same;
-      unchanged = o.unchanged;
-      opens = o.opens;
-    })
 
 pub returns-clause-opens : goal.returns-clause-opens
 returns-clause-opens c =

@@ -1,23 +1,16 @@
-use Rattle.std.proofs.Common.{◌≡◌, ◌≢◌, ◌+◌, ◌-◌, ◌≤◌, ◌<◌, ℕ, List, length, take, drop, Option, Some, None, rules, refl, sym, ◌∙◌, ap, subst, arith}
+use Rattle.std.proofs.Common.{◌≡◌, ◌≢◌, ◌+◌, ◌-◌, ◌≤◌, ℕ, length, take, drop, Some, None, rules, refl, sym, ◌∙◌, ap, subst, arith}
 use Rattle.std.proofs.lemmas.Slice.{take-put_mid_below}
-use Rattle.noise_session.proofs.Common.{take_rest, put_mid, other, width_of, Ring, split_key, transport_message, last_nonce, renewed_key, HalfValue, nonce_named, datagram_fault, accepting, DatagramReceiverValue, DatagramReceiverMatches, datagram_receiver_value}
+use Rattle.noise_session.proofs.Common.{take_rest, put_mid, other, Ring, split_key, transport_message, last_nonce, renewed_key, HalfValue, nonce_named, datagram_fault, accepting, DatagramReceiverValue, DatagramReceiverMatches, datagram_receiver_value}
 use Rattle.noise_session.specs.contracts.datagram_receiver.DatagramReceiver.{the_view}
 use Rattle.noise_session.specs.Datagrams.Opens.{opened, refused, forged}
 use Rattle.noise_session.proofs.Places.{after-front, rest-after, unwritten}
-use Rattle.noise_session.proofs.DatagramStates.{has-nonce, below-last, piece-transport_message, young-here, half-opened, half-listens}
+use Rattle.noise_session.proofs.DatagramStates.{has-nonce, piece-transport_message, young-here, half-opened, half-listens}
 use Rattle.noise_session.proofs.datagram_receiver.DatagramReceiver.open_within.Goals as goal
 
 -- a message that is opened at a nonce leaves all of the half but its nonce, where the key is never renewed
 key-only : (h set next : HalfValue) (nonce : ℕ) (recent : Ring) → set ≡ record h { nonce = nonce } → next ≡ record set { key = next.key; nonce = set.nonce + 1 }
     → next.key ≡ renewed_key set.interval (set.nonce + 1) set.key → h.interval ≡ 0 → datagram_receiver_value next recent ≡ datagram_receiver_value h recent
-key-only h set next nonce recent is counted renewed never =
-    let key : next.key ≡ h.key =
-    renewed
-    ∙ ap (λ (z : HalfValue). renewed_key z.interval (z.nonce + 1) z.key) is
-    ∙ ap (λ (i : ℕ). renewed_key i (nonce + 1) h.key) never in
-    ap (λ (z : HalfValue). datagram_receiver_value z recent) counted
-    ∙ ap (λ (z : HalfValue). record (datagram_receiver_value z recent) { key = next.key }) is
-    ∙ ap (λ (k : Option (List ℕ)). record (datagram_receiver_value h recent) { key = k }) key
+key-only h set next nonce recent is counted renewed never = search rules
 
 pub returns-in-Some-clause-opens : goal.returns-in-Some-clause-opens
 returns-in-Some-clause-opens c = record {
@@ -103,22 +96,3 @@ returns-in-Err-clause-opens c =
 
 pub nonce_of-nonce-requires : goal.nonce_of-nonce-requires
 nonce_of-nonce-requires c = has-nonce (length c.args.datagram.now) c.in_default.ensures.bounds.0
-
-pub invariant_of-self : goal.invariant_of-self
-invariant_of-self c =
-    let d = c.args.datagram.now in
-    let o = c.in-Ok.ensures.opens in
-    let young : c.self.inside.recent.greatest < nonce_named d + width_of c.self.inside.recent.window =
-    subst (λ (h : DatagramReceiverValue). h.recent.greatest < nonce_named d + width_of h.recent.window) (sym c.self.view_is) c.in_default.ensures.young in
-    record {
-      interval = ap (λ (z : HalfValue). z.interval) o.counted ∙ ap (λ (z : HalfValue). z.interval) c.set_nonce.ensures ∙ c.self.invariant.interval;
-      ring = c.insert.ensures.ring c.self.invariant.ring
-          (subst (λ (n : ℕ). c.self.inside.recent.greatest < n + width_of c.self.inside.recent.window) (sym c.nonce_of-nonce.ensures) young)
-          (below-last c.nonce_of-nonce.result c.nonce_of-nonce.type_inv (λ same. c.in_default.ensures.bounds.2 (sym c.nonce_of-nonce.ensures ∙ same)));
-    }
-
-pub invariant_of-self-in-Err : goal.invariant_of-self-in-Err
-invariant_of-self-in-Err c = record {
-  interval = ap (λ (z : HalfValue). z.interval) (c.in-Err.ensures.opens.unchanged ∙ c.set_nonce.ensures) ∙ c.self.invariant.interval;
-  ring = c.self.invariant.ring;
-}

@@ -1,12 +1,7 @@
-use Rattle.std.proofs.Common.{◌≡◌, ◌≤◌, ◌+◌, ◌-◌, ◌++◌, ℕ, length, take, drop, None, refl, sym, ◌∙◌, ap, subst, arith}
-use Rattle.noise_session.proofs.Common.{take_rest, w64, to_be_bytes, put_mid, sender_fault, DatagramSenderValue, unsealed}
-use Rattle.noise_session.proofs.DatagramSealing.{datagram-sealed, not-sealed, unsealed-same}
+use Rattle.std.proofs.Common.{rules, ◌≡◌, ◌≤◌, ◌+◌, ◌-◌, ◌++◌, ℕ, length, take, drop, None, refl, ◌∙◌, ap, arith}
+use Rattle.noise_session.proofs.Common.{take_rest, w64, to_be_bytes, put_mid, sender_fault}
+use Rattle.noise_session.proofs.DatagramSealing.{datagram-sealed}
 use Rattle.noise_session.proofs.datagram_sender.DatagramSender.seal_in_place.Goals as goal
-
-pub returns-in-Some : goal.returns-in-Some
-returns-in-Some c =
-    not-sealed c.self.inside.sender c.args.self.now c.args.payload_len _ c.args.buffer.now c.in-Some.fault c.self.view_is
-    (omega (arith, c.nonce-nonce.type_inv, c.nonce-nonce.ensures)) (sym c.in-Some.ensures.fault)
 
 pub returns : goal.returns
 returns c =
@@ -17,9 +12,7 @@ returns c =
     let len = c.in-Ok.len in
     let none : sender_fault h n ≡ None = cc c.in_default.ensures.fault in
     let low = c.in_default.ensures.below refl in
-    let room : n + 24 ≤ length out =
-    c.requires (subst (λ (d : DatagramSenderValue). unsealed d.role d.one_way d.nonce n ≡ None) c.self.view_is
-    (sym (unsealed-same h n (omega (arith, low))) ∙ none)) in
+    let room : n + 24 ≤ length out = search rules in
     datagram-sealed h c.seal_in_place.new.self c.args.self.now n len c.put_nonce.result (take n (take (length out - 8) (drop 8 out))) (take n (drop 8 out)) out written c.put_nonce.new.out
     c.self.view_is c.self.invariant (omega arith) (ap (take n) (take_rest out 8)) c.in-Ok.ensures c.put_nonce.ensures.len
     (c.put_nonce.ensures.datagram

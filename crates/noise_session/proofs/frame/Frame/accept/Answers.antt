@@ -1,4 +1,4 @@
-use Rattle.std.proofs.Common.{◌≡◌, ℕ, ◌+◌, ◌-◌, ◌≤◌, List, ◌++◌, length, take, ◌∙◌, subst, arith}
+use Rattle.std.proofs.Common.{rules, ◌≡◌, ℕ, ◌+◌, ◌-◌, ◌≤◌, ◌++◌, length, take, ◌∙◌, subst, arith}
 use Rattle.noise_session.proofs.Common.{length-take-le, big_bytes, frame_length}
 use Rattle.noise_session.proofs.Growing.{grown-most, grown-within, grown-known, grown-spelled}
 use Rattle.noise_session.proofs.frame.Frame.accept.Goals as goal
@@ -17,9 +17,7 @@ invariant_of-self c =
     let all : length xs ≡ 65537 = self.room in
     let came : length p ≡ n = length-take-le n c.args.piece.now (omega arith) in
     let joined : take (h + n) ys ≡ take h xs ++ p = subst (λ (k : ℕ). take (h + k) ys ≡ take h xs ++ p) came c.put.ensures.front in
-    let read : h + n ≡ 2 → (u ≡ frame_length (take 2 ys)) × (u ≤ 65537) × (take 2 ys ≡ big_bytes 2 (u - 2)) =
-    subst (λ (b : List ℕ). h + n ≡ 2 → (u ≡ frame_length (take 2 b)) × (u ≤ 65537) × (take 2 b ≡ big_bytes 2 (u - 2))) c.deref.ensures.value
-    c.whole_after-self.ensures.read in
+    let read : h + n ≡ 2 → (u ≡ frame_length (take 2 ys)) × (u ≤ 65537) × (take 2 ys ≡ big_bytes 2 (u - 2)) = search rules in
     let fits : h + n ≤ self.whole = omega arith in
     let room : h + n ≤ length xs = omega arith in
     let same : length ys ≡ length xs = c.put.ensures.room in

@@ -1,4 +1,4 @@
-use Rattle.std.proofs.Common.{◌≡◌, ℕ, ◌+◌, ◌-◌, ◌≤◌, List, length, take, ◌∙◌, subst, arith}
+use Rattle.std.proofs.Common.{rules, ◌≡◌, ◌+◌, ◌-◌, ◌≤◌, length, take, ◌∙◌, arith}
 use Rattle.noise_session.proofs.Common.{big_bytes, frame_length}
 use Rattle.noise_session.proofs.Growing.{grown-most, grown-within, grown-known, grown-spelled}
 use Rattle.noise_session.proofs.frame.Frame.read_up.Goals as goal
@@ -16,9 +16,7 @@ invariant_of-self g c =
     let low : self.whole ≤ 65537 = self.most in
     let within : h ≤ self.whole = self.within in
     let all : length xs ≡ 65537 = self.room in
-    let read : h + n ≡ 2 → (u ≡ frame_length (take 2 ys)) × (u ≤ 65537) × (take 2 ys ≡ big_bytes 2 (u - 2)) =
-    subst (λ (b : List ℕ). h + n ≡ 2 → (u ≡ frame_length (take 2 b)) × (u ≤ 65537) × (take 2 b ≡ big_bytes 2 (u - 2))) c.deref.ensures.value
-    c.whole_after-self.ensures.read in
+    let read : h + n ≡ 2 → (u ≡ frame_length (take 2 ys)) × (u ≤ 65537) × (take 2 ys ≡ big_bytes 2 (u - 2)) = search rules in
     let came : n ≤ self.whole - h = c.read_into-count.ensures.within in
     let fits : h + n ≤ self.whole = omega arith in
     let room : h + n ≤ length xs = omega arith in

@@ -1,10 +1,5 @@
 use Rattle.std.proofs.Common.{◌≡◌, ℕ, List, ◌++◌, length, ap, ◌∙◌, arith}
-use Rattle.std.specs.Prelude.{count_by}
-use Rattle.noise_names.specs.declared.token.Token.{Token}
-use Rattle.noise_names.specs.Plan.{Plan}
-use Rattle.noise_names.specs.Tokens.{is_psk}
-use Rattle.noise_state.specs.Standing.{nonce_now}
-use Rattle.noise_handshake.specs.Party.{tokens_at}
+use Rattle.noise_trace.proofs.Common.{count_by, Token, Plan, is_psk, nonce_now, tokens_at}
 use Rattle.noise_trace.proofs.Due.{psks-due}
 use Rattle.noise_trace.proofs.NonceBounds.{nonce-most}
 use Rattle.noise_trace.proofs.before.BeforeMessage.of_handshake.Goals as goal

@@ -1,11 +1,5 @@
 use Rattle.std.proofs.Common.{◌≡◌, ℕ, List, ◌++◌, length, take, sym, ap, subst, ◌∙◌, arith}
-use Rattle.std.specs.Prelude.{Bool}
-use Rattle.noise_names.specs.declared.token.Token.{Token}
-use Rattle.noise_names.specs.Plan.{has_psk}
-use Rattle.noise_handshake.specs.Message.{before_payload}
-use Rattle.noise_handshake.specs.Party.{reader, tokens_now}
-use Rattle.noise_trace.specs.inner.Carried.{CarriesAll, CarriesNext}
-use Rattle.noise_trace.specs.Steps.{token_steps}
+use Rattle.noise_trace.proofs.Common.{Bool, Token, has_psk, before_payload, reader, tokens_now, CarriesAll, CarriesNext, token_steps}
 use Rattle.noise_trace.proofs.Due.{fit-carries, reads}
 use Rattle.noise_trace.proofs.before.BeforeMessage.refused_steps.Goals as goal
 

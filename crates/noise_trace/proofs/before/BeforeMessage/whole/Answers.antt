@@ -1,20 +1,9 @@
 use Rattle.std.proofs.Common.{◌≡◌, ℕ, List, ◌++◌, length, take, drop, sym, ap, subst, ◌∙◌, arith, take_all}
-use Rattle.std.proofs.lemmas.List.{drop_at}
-use Rattle.std.specs.Prelude.{Bool, not, Some}
-use Rattle.noise_names.specs.declared.token.Token.{Token}
-use Rattle.noise_names.specs.Plan.{has_psk}
-use Rattle.noise_state.specs.History.{History, Ciphertext, and_then, ciphertext}
-use Rattle.noise_state.specs.Standing.{StateMatches}
-use Rattle.noise_handshake.specs.declared.remote.Remote.{Remote}
-use Rattle.noise_handshake.specs.HandshakeValue.{is_turn}
-use Rattle.noise_handshake.specs.Message.{before_payload, after_tokens}
-use Rattle.noise_handshake.specs.Party.{tokens_now}
-use Rattle.noise_trace.specs.Values.{values_of}
-use Rattle.noise_trace.specs.inner.Carried.{known_through, CarriesNext}
+use Rattle.std.specs.Prelude.{Some}
+use Rattle.noise_trace.proofs.Common.{drop_at, Bool, not, Token, has_psk, History, Ciphertext, and_then, ciphertext, StateMatches, Remote, is_turn, before_payload, after_tokens, tokens_now, values_of, known_through, CarriesNext, same_Some}
 use Rattle.noise_trace.specs.inner.Front.{IsFront}
 use Rattle.noise_trace.proofs.Due.{message-done}
 use Rattle.noise_trace.proofs.before.BeforeMessage.whole.Goals as goal
-use Rattle.std.proofs.lemmas.Option.{same_Some}
 
 pub returns-clause-whole : goal.returns-clause-whole
 returns-clause-whole g c v xs payload sb ag is =

@@ -1,8 +1,7 @@
 use Rattle.std.proofs.Common.{◌≡◌, ℕ, ◌+◌, List, ◌∙◌, ap}
-use Rattle.std.specs.Prelude.{Option, unwrap_or}
+use Rattle.noise_trace.proofs.Common.{Option, unwrap_or, renewed_after}
 use Rattle.noise_session.specs.Transport.{transport_key}
 use Rattle.noise_trace.specs.declared.direction.Direction.{Direction}
-use Rattle.noise_trace.specs.KeyUses.{renewed_after}
 use Rattle.noise_trace.proofs.Renewals.{key-next}
 use Rattle.noise_trace.proofs.direction.Direction.pass.Goals as goal
 

@@ -1,6 +1,5 @@
 use Rattle.std.proofs.Common.{List, None, ap}
-use Rattle.noise_trace.specs.declared.step.Step.{Step}
-use Rattle.noise_trace.specs.KeyUses.KeyUseValue.{Message}
+use Rattle.noise_trace.proofs.Common.{Step, Message}
 use Rattle.noise_trace.proofs.end_trace.EndTrace.refused.Goals as goal
 
 pub returns : goal.returns

@@ -1,11 +1,5 @@
 use Rattle.std.proofs.Common.{◌≢◌, List, length, ◌∙◌, sym, subst, ap, arith}
-use Rattle.noise_handshake.specs.Party.{Party}
-use Rattle.noise_handshake.specs.Matching.{after_own}
-use Rattle.noise_trace.specs.Following.{Follows}
-use Rattle.noise_trace.specs.declared.step.Step.{Step}
-use Rattle.noise_session.specs.Ends.{EndState}
-use Rattle.noise_trace.specs.KeyUses.{opening_in}
-use Rattle.noise_trace.specs.KeyUses.KeyUseValue.{Message}
+use Rattle.noise_trace.proofs.Common.{Party, after_own, Follows, Step, EndState, opening_in, Message}
 use Rattle.noise_trace.proofs.Unopened.{unopened}
 use Rattle.noise_trace.proofs.end_trace.EndTrace.wrote.Goals as goal
 

@@ -1,11 +1,5 @@
 use Rattle.std.proofs.Common.{◌≡◌, ap, subst, ◌∙◌}
-use Rattle.std.specs.Prelude.{Bool, true, not}
-use Rattle.noise_handshake.specs.declared.remote.Remote.{Remote}
-use Rattle.noise_handshake.specs.HandshakeValue.{is_turn}
-use Rattle.noise_handshake.specs.Matching.{after_own}
-use Rattle.noise_handshake.specs.Party.{remote_after, tokens_now}
-use Rattle.noise_trace.specs.Following.{Follows}
-use Rattle.noise_trace.specs.inner.Carried.{known_through}
+use Rattle.noise_trace.proofs.Common.{Bool, true, not, Remote, is_turn, after_own, remote_after, tokens_now, Follows, known_through}
 use Rattle.noise_trace.proofs.Due.{accepted-next, reads}
 use Rattle.noise_trace.proofs.Later.{through-reads}
 use Rattle.noise_trace.proofs.schedule.Following.accepted.Goals as goal

@@ -1,20 +1,8 @@
 use Rattle.std.proofs.Common.{◌≡◌, ℕ, ◌+◌, ◌≤◌, List, length, drop, sym, ap, subst, ◌∙◌, arith, length-drop}
-use Rattle.std.specs.Prelude.{not, count_by}
-use Rattle.noise_names.specs.declared.token.Token.{Token}
-use Rattle.noise_names.specs.Plan.{Plan, has_psk}
-use Rattle.noise_names.specs.Tokens.{is_psk}
-use Rattle.noise_state.specs.declared.symmetric.SymmetricState.{SymmetricState}
-use Rattle.noise_state.specs.Standing.{StateMatches, nonce_now}
-use Rattle.noise_handshake.specs.declared.remote.Remote.{Remote}
-use Rattle.noise_handshake.specs.HandshakeValue.{is_turn}
-use Rattle.noise_handshake.specs.Message.{after_payload}
-use Rattle.noise_handshake.specs.Party.{tokens_at, tokens_now}
-use Rattle.noise_trace.specs.Following.{Followed, Follows}
-use Rattle.noise_trace.specs.inner.Carried.{known_through}
+use Rattle.noise_trace.proofs.Common.{not, count_by, Token, Plan, has_psk, is_psk, SymmetricState, StateMatches, nonce_now, Remote, is_turn, after_payload, tokens_at, tokens_now, Followed, Follows, known_through, same_Some}
 use Rattle.noise_trace.proofs.Due.{psks-due}
 use Rattle.noise_trace.proofs.Later.{psks-later, next-turn}
 use Rattle.noise_trace.proofs.schedule.Following.advance.Goals as goal
-use Rattle.std.proofs.lemmas.Option.{same_Some}
 
 pub next-next-requires-clause-psks : goal.next-next-requires-clause-psks
 next-next-requires-clause-psks g c =

@@ -1,5 +1,5 @@
 use Rattle.std.proofs.Common.{sym, subst}
-use Rattle.noise_trace.specs.Following.{Followed, Follows}
+use Rattle.noise_trace.proofs.Common.{Followed, Follows}
 use Rattle.noise_trace.proofs.schedule.Following.refused.Goals as goal
 
 pub returns : goal.returns

@@ -1,11 +1,5 @@
 use Rattle.std.proofs.Common.{◌≡◌, ap, subst, ◌∙◌}
-use Rattle.std.specs.Prelude.{Bool, false, not}
-use Rattle.noise_handshake.specs.declared.remote.Remote.{Remote}
-use Rattle.noise_handshake.specs.HandshakeValue.{is_turn}
-use Rattle.noise_handshake.specs.Matching.{after_own}
-use Rattle.noise_handshake.specs.Party.{tokens_now}
-use Rattle.noise_trace.specs.Following.{Follows}
-use Rattle.noise_trace.specs.inner.Carried.{known_through}
+use Rattle.noise_trace.proofs.Common.{Bool, false, not, Remote, is_turn, after_own, tokens_now, Follows, known_through}
 use Rattle.noise_trace.proofs.Due.{written-next, writes}
 use Rattle.noise_trace.proofs.Later.{through-writes}
 use Rattle.noise_trace.proofs.schedule.Following.written.Goals as goal
