@@ -106,10 +106,6 @@ after_events-no_answer rest (inr (inr begun)) = other-byte 101 97 rest (codes "x
 
 -- ---- what a version may have
 
--- what is expected begins otherwise than the datagrams
-pub expect-begun : (rest : List ℕ) → starts_with nat_eq rest (codes "expect ") ≡ true → starts_with nat_eq rest (codes "datagrams ") ≡ false
-expect-begun rest h = other-byte 101 100 rest (codes "xpect ") (codes "atagrams ") refl h
-
 -- where their first line comes next, there are datagrams
 pub over-stands : (over : Option FileDatagrams) (left rest : List ℕ) → starts_with nat_eq left (codes "datagrams ") ≡ true → AfterDatagrams rest
     → left ≡ datagrams_text over rest → (d : FileDatagrams) × (over ≡ Some d)

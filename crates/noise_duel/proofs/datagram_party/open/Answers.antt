@@ -1,4 +1,4 @@
-use Rattle.std.proofs.Common.{◌∙◌, refl}
+use Rattle.std.proofs.Common.{rules, ◌∙◌, refl}
 use Rattle.noise_duel.proofs.DatagramHappening.{opened-copy, rejected-copy}
 use Rattle.noise_duel.proofs.datagram_party.open.Goals as goal
 
@@ -8,6 +8,4 @@ returns-in-Ok c s p =
     c.in_ok-from_slice-in-Ok.ensures.items refl (c.in-Ok.ensures.opens.half.opens s.state p.receiver).0 (c.in-Ok.ensures.opens.matches s.state p)
 
 pub returns : goal.returns
-returns c s p =
-    rejected-copy s c.args.bytes.now _ _ _ c.open.new.self c.args.datagrams.now (c.as_mut_slice.ensures.value ∙ c.in_ok-datagram.ensures.items) refl
-    (c.in-Err.ensures.opens.half.opens s.state p.receiver) c.in-Err.ensures.opens.unchanged p
+returns c s p = search (rules, rejected-copy)

@@ -1,4 +1,4 @@
-use Rattle.std.proofs.Common.{rules, ◌≡◌, ◌∙◌, ap, inl, inr, subst, true, ℕ, []}
+use Rattle.std.proofs.Common.{rules, ◌≡◌, ◌∙◌, ap, inr, subst, true, ℕ, []}
 use Rattle.noise_vectors.proofs.Common.{IsAllowedVersion, IsVersion, expect_words, lines_of, version_text, ReportsAfter, expect_lines}
 use Rattle.noise_vectors.proofs.AdditionLemmas.{expected-after, no-datagrams, second-has}
 use Rattle.noise_vectors.proofs.Results.{err-is}
@@ -24,11 +24,6 @@ returns-in_err-expected-clause-every c =
     let read = c.in_ok-datagrams.ensures.every a.datagrams (lines_of expect_words a.expected.items []) h.0 none
     (expected-after a.expected.items) (e ∙ ap version_text is) in
     rw (err-is c.from_residual-in_err-expected.result c.from_residual-in_err-expected.ensures.1) (c.in_err-expected.ensures.every a.expected.items h.1 read)
-
-pub returns-in_err-datagrams-clause-reported : goal.returns-in_err-datagrams-clause-reported
-returns-in_err-datagrams-clause-reported c =
-    let second : c.args.second ≡ true = search rules in λ over.
-    rw (err-is c.from_residual-in_err-datagrams.result c.from_residual-in_err-datagrams.ensures.1) (inr (second, inl c.in_err-datagrams.ensures.reported))
 
 pub returns-in_err-expected-clause-reported : goal.returns-in_err-expected-clause-reported
 returns-in_err-expected-clause-reported c =

@@ -34,11 +34,6 @@ returns-in-Err-clause-every c = λ pattern rest h named e.
 pub returns-in_ok-end-in-Ok-clause-counted : goal.returns-in_ok-end-in-Ok-clause-counted
 returns-in_ok-end-in-Ok-clause-counted c = c.in_ok-text.ensures.counted (c.in_ok-end-in-Ok.ensures.ended.0 refl)
 
-pub returns-in_err-text-clause-reported : goal.returns-in_err-text-clause-reported
-returns-in_err-text-clause-reported c =
-    λ right.
-    rw (err-is c.from_residual.result c.from_residual.ensures.1) (inl (c.in_err-text.ensures.reported))
-
 pub returns-in_err-end-in-Ok-clause-reported : goal.returns-in_err-end-in-Ok-clause-reported
 returns-in_err-end-in-Ok-clause-reported c =
     λ right.

@@ -1,6 +1,5 @@
 use Rattle.std.proofs.Common.{rules, arith, ◌≡◌, ◌∙◌, ◌<◌, ◌≤◌, ap, sym, subst, ℕ, List, ◌∷◌, ◌++◌, length, []}
 use Rattle.noise_vectors.proofs.Common.{All, All-nil, All-push, lengths_word}
-use Rattle.arrayvec.specs.ArrayVec.{array_vec_len}
 use Rattle.noise_vectors.proofs.CutLemmas.{are_small, before, before-more, lengths_word-last, First-step, Last-done, Left, Left-first, Left-last, Left-room, Left-start}
 use Rattle.noise_vectors.proofs.cuts.read_lengths.Goals as goal
 
@@ -57,13 +56,7 @@ returns-in_err-ok-2-clause-every c =
     absurd (omega (arith, room))
 
 pub returns-clause-value : goal.returns-clause-value
-returns-clause-value c =
-    let pushed : c.try_push-2.new.self.items ≡ c.loop-first.lengths.items ++ c.in_ok-read_length-2.field-0 ∷ [] = search rules in
-    let some : 0 < array_vec_len c.try_push-2.new.self = search rules in (
-      some,
-      c.loop-first.invariant.0 ∙ ap (λ (t : List ℕ). before c.loop-first.lengths.items ++ t) c.in_ok-read_length-2.ensures.value
-          ∙ sym (lengths_word-last c.loop-first.lengths.items c.in_ok-read_length-2.field-0) ∙ ap lengths_word (sym pushed),
-    )
+returns-clause-value c = search (rules, before, lengths_word-last, lengths_word)
 
 pub returns-clause-every : goal.returns-clause-every
 returns-clause-every c =

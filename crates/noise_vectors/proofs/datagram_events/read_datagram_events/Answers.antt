@@ -1,5 +1,5 @@
 use Rattle.std.proofs.Common.{rules, refl, arith, ◌≡◌, ◌+◌, ◌∙◌, ap, sym, subst, List, ◌∷◌, ◌++◌, length, ◌<◌, ◌^◌, []}
-use Rattle.noise_vectors.proofs.Common.{false≢true, IsTrue, All, All-nil, All-push, DatagramEvent, IsDatagramEvent, AfterDatagrams, datagram_event_words, lines_of, datagram_lines}
+use Rattle.noise_vectors.proofs.Common.{false≢true, IsTrue, All, All-push, DatagramEvent, IsDatagramEvent, AfterDatagrams, datagram_event_words, lines_of, datagram_lines}
 use Rattle.noise_vectors.proofs.AdditionLemmas.{datagram_event-stands, datagram_event_words-line}
 use Rattle.noise_vectors.proofs.LineLemmas.{lines_of-more}
 use Rattle.noise_vectors.proofs.PartLemmas.{lines-over, next-of, reports-cut, reports-wrong}
@@ -7,13 +7,6 @@ use Rattle.noise_vectors.proofs.ReportedLemmas.{counted-ended}
 use Rattle.noise_vectors.proofs.HeldLemmas.{lines-long}
 use Rattle.noise_vectors.proofs.Results.{chosen_ok, err-is}
 use Rattle.noise_vectors.proofs.datagram_events.read_datagram_events.Goals as goal
-
-pub loop-alloc-init : goal.loop-alloc-init
-loop-alloc-init c = (
-  ap (λ (events : List DatagramEvent). lines_of datagram_event_words events c.args.lines.now.rest.now) (sym c.new-events.ensures.items),
-  subst (λ (events : List DatagramEvent). All IsDatagramEvent events) (sym c.new-events.ensures.items) (All-nil IsDatagramEvent),
-  refl,
-)
 
 pub returns-in_default-clause-every : goal.returns-in_default-clause-every
 returns-in_default-clause-every c = λ events rest right over e.

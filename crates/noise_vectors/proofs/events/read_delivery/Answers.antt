@@ -1,3 +1,4 @@
+use Rattle.std.proofs.Common.{rules}
 use Rattle.std.specs.Prelude.{decimal}
 use Rattle.noise_vectors.proofs.Common.{lengths_word}
 use Rattle.noise_vectors.proofs.EventLemmas.{number-word}
@@ -8,13 +9,7 @@ returns-in_err-number-clause-every c = λ number cuts small h e.
     absurd (c.in_err-number.ensures.every (decimal number) (lengths_word cuts) (number-word number small) e tt)
 
 pub returns-in_err-read_frame_number-clause-every : goal.returns-in_err-read_frame_number-clause-every
-returns-in_err-read_frame_number-clause-every c = λ number cuts small h e.
-    let words = c.in_ok-number.ensures.every (decimal number) (lengths_word cuts) (number-word number small) e in
-    let none = c.in_err-read_frame_number.ensures.every number small words.0 in
-    absurd (cc none)
+returns-in_err-read_frame_number-clause-every c = search (rules, lengths_word, number-word)
 
 pub returns-in_err-read_cuts-clause-every : goal.returns-in_err-read_cuts-clause-every
-returns-in_err-read_cuts-clause-every c = λ number cuts small h e.
-    let words = c.in_ok-number.ensures.every (decimal number) (lengths_word cuts) (number-word number small) e in
-    let none = c.in_err-read_cuts.ensures.every cuts h words.1 in
-    absurd (cc none)
+returns-in_err-read_cuts-clause-every c = search (rules, lengths_word, number-word)

@@ -1,5 +1,5 @@
 use Rattle.std.proofs.Common.{rules, refl, arith, ◌≡◌, ◌+◌, ◌∙◌, ap, sym, subst, List, ◌∷◌, ◌++◌, length, ◌<◌, ◌^◌, []}
-use Rattle.noise_vectors.proofs.Common.{false≢true, IsTrue, All, All-nil, All-push, Event, IsAllowed, IsEvent, AfterEvents, event_words, lines_of, event_lines}
+use Rattle.noise_vectors.proofs.Common.{false≢true, IsTrue, All, All-push, Event, IsAllowed, IsEvent, AfterEvents, event_words, lines_of, event_lines}
 use Rattle.noise_vectors.proofs.AdditionLemmas.{event-stands}
 use Rattle.noise_vectors.proofs.EventLemmas.{all-right, right-plain}
 use Rattle.noise_vectors.proofs.LineLemmas.{lines_of-more}
@@ -8,14 +8,6 @@ use Rattle.noise_vectors.proofs.ReportedLemmas.{counted-ended}
 use Rattle.noise_vectors.proofs.HeldLemmas.{lines-long}
 use Rattle.noise_vectors.proofs.Results.{chosen_ok, err-is}
 use Rattle.noise_vectors.proofs.events.read_events.Goals as goal
-
-pub loop-alloc-init : goal.loop-alloc-init
-loop-alloc-init c = (
-  ap (λ (events : List Event). lines_of event_words events c.args.lines.now.rest.now) (sym c.new-events.ensures.items),
-  subst (λ (events : List Event). All (IsAllowed c.args.allowed) events) (sym c.new-events.ensures.items) (All-nil (IsAllowed c.args.allowed)),
-  subst (λ (events : List Event). All IsEvent events) (sym c.new-events.ensures.items) (All-nil IsEvent),
-  refl,
-)
 
 pub returns-in_default-clause-every : goal.returns-in_default-clause-every
 returns-in_default-clause-every c = λ events rest right allowed over e.

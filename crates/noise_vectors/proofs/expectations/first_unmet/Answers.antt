@@ -1,15 +1,11 @@
-use Rattle.std.proofs.Common.{rules, arith, ◌≡◌, ◌∙◌, sym, length}
+use Rattle.std.proofs.Common.{rules, ◌≡◌, length}
 use Rattle.noise_vectors.proofs.Common.{bytes_of}
 use Rattle.noise_vectors.proofs.ExpectationLemmas.{all-same, lines-len, unmet-at}
 use Rattle.noise_vectors.proofs.expectations.first_unmet.Goals.{else-same-lines-via-then-same-lines+else-same-expected, else-same-lines-via-else-same-lines}
 use Rattle.noise_vectors.proofs.expectations.first_unmet.Goals as goal
 
 pub returns-then-same-expected : goal.returns-then-same-expected
-returns-then-same-expected c =
-    let a : c.same_lines-same.result ≡ length c.args.lines.now = search rules in
-    let b : c.same_lines-same.result ≡ length c.args.expected.now = search rules in
-    all-same (bytes_of c.args.lines.now) (bytes_of c.args.expected.now) (lines-len c.args.lines.now ∙ sym a ∙ b ∙ sym (lines-len c.args.expected.now))
-    (λ i less. c.same_lines-same.ensures.value i (let all = lines-len c.args.lines.now in omega (arith, less, a, all)))
+returns-then-same-expected c = search (rules, all-same, bytes_of, lines-len)
 
 pub returns-else-same-lines : goal.returns-else-same-lines
 returns-else-same-lines c =

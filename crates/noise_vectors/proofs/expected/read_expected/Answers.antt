@@ -1,6 +1,6 @@
 use Rattle.std.proofs.Common.{rules, refl, arith, ◌≡◌, ◌+◌, ◌∙◌, ap, sym, subst, ℕ, Vec, List, ◌∷◌, ◌++◌, length, ◌<◌, ◌^◌, codes, []}
 use Rattle.std.specs.Global.{Global}
-use Rattle.noise_vectors.proofs.Common.{IsTrue, All, All-nil, All-push, IsExpected, expect_line, expect_words, lines_of, expect_kind, expect_lines, LineKind, Line, bytes_of, length-append, false≢true}
+use Rattle.noise_vectors.proofs.Common.{IsTrue, All, All-push, IsExpected, expect_line, expect_words, lines_of, expect_kind, expect_lines, LineKind, Line, bytes_of, length-append, false≢true}
 use Rattle.noise_vectors.proofs.LineLemmas.{lines_of-more}
 use Rattle.noise_vectors.proofs.PartLemmas.{Next, next-of, reports-cut, reports-wrong}
 use Rattle.noise_vectors.proofs.ReportedLemmas.{counted-ended}
@@ -11,20 +11,11 @@ use Rattle.noise_vectors.proofs.expected.read_expected.Goals as goal
 abbrev IsRight : Vec ℕ Global → Type 0
 IsRight words = IsExpected words.items
 
-pub loop-alloc-init : goal.loop-alloc-init
-loop-alloc-init c = (
-  ap (λ (expected : List (Vec ℕ Global)). lines_of expect_words expected c.args.lines.now.rest.now) (sym c.new-expected.ensures.items),
-  subst (λ (expected : List (Vec ℕ Global)). All IsRight expected) (sym c.new-expected.ensures.items) (All-nil IsRight),
-  ap (λ (vs : List (Vec ℕ Global)). expect_kind (bytes_of vs)) (sym c.new-expected.ensures.items),
-  refl,
-)
-
 -- the lines that are expected and weren't read
 next-expected : (done expected : List (Vec ℕ Global)) (from left : List ℕ) → from ≡ lines_of expect_words done left → All IsRight done
     → from ≡ lines_of expect_words expected [] → All IsRight expected → ¬ (left ≡ []) → Next expect_lines (bytes_of done) (bytes_of expected) left
 next-expected done expected from left text are e right ahead =
-    next-of expect_lines good-plain good-stands (bytes_of done) (bytes_of expected) from left [] (text ∙ partial-lines done left) (partial-good done are)
-    (e ∙ partial-lines expected []) (partial-good expected right) refl ahead
+    search (rules, next-of, expect_lines, good-plain, good-stands, bytes_of, partial-lines, partial-good)
 
 pub returns-in_default-clause-every : goal.returns-in_default-clause-every
 returns-in_default-clause-every c = λ expected right e.

@@ -1,33 +1,17 @@
-use Rattle.std.proofs.Common.{◌∙◌, ap₂, lit<, List, ℕ, ◌∷◌, ◌++◌, Some}
+use Rattle.std.proofs.Common.{rules, ◌∙◌, ap₂, lit<, List, ℕ, ◌∷◌, ◌++◌, Some}
 use Rattle.noise_vectors.proofs.Common.{Decides-eqb, strip_prefix_is, encode_lower}
 use Rattle.noise_vectors.proofs.LackLemmas.{lacks-encode_lower}
 use Rattle.noise_vectors.proofs.PartyLemmas.{answer-keys}
 use Rattle.noise_vectors.proofs.parties.read_answer.Goals as goal
 
 pub returns-in_err-remote-clause-every : goal.returns-in_err-remote-clause-every
-returns-in_err-remote-clause-every c =
-    let split = strip_prefix_is Decides-eqb c.args.line.now c.as_slice.result.now (Some c.in_ok-strip_prefix.field-0) c.in_ok-strip_prefix.ensures.cases in
-    λ entry h is.
-    absurd (c.in_err-remote.ensures.every (encode_lower entry.remote) (encode_lower entry.answer)
-    (lacks-encode_lower 32 entry.remote (lit< tt) h.0.1) (answer-keys entry c.as_slice.ensures split c.in_ok-own.ensures.every is) tt)
+returns-in_err-remote-clause-every c = search (rules, strip_prefix_is, encode_lower, lacks-encode_lower, lit<, answer-keys)
 
 pub returns-in_err-read_key-clause-every : goal.returns-in_err-read_key-clause-every
-returns-in_err-read_key-clause-every c =
-    let split = strip_prefix_is Decides-eqb c.args.line.now c.as_slice.result.now (Some c.in_ok-strip_prefix.field-0) c.in_ok-strip_prefix.ensures.cases in
-    λ entry h is.
-    let keys = answer-keys entry c.as_slice.ensures split c.in_ok-own.ensures.every is in
-    let words = c.in_ok-remote.ensures.every (encode_lower entry.remote) (encode_lower entry.answer)
-    (lacks-encode_lower 32 entry.remote (lit< tt) h.0.1) keys in
-    cc (c.in_err-read_key.ensures.every entry.remote h.0 words.0)
+returns-in_err-read_key-clause-every c = search (rules, strip_prefix_is, answer-keys, encode_lower, lacks-encode_lower, lit<)
 
 pub returns-in_err-read_key-2-clause-every : goal.returns-in_err-read_key-2-clause-every
-returns-in_err-read_key-2-clause-every c =
-    let split = strip_prefix_is Decides-eqb c.args.line.now c.as_slice.result.now (Some c.in_ok-strip_prefix.field-0) c.in_ok-strip_prefix.ensures.cases in
-    λ entry h is.
-    let keys = answer-keys entry c.as_slice.ensures split c.in_ok-own.ensures.every is in
-    let words = c.in_ok-remote.ensures.every (encode_lower entry.remote) (encode_lower entry.answer)
-    (lacks-encode_lower 32 entry.remote (lit< tt) h.0.1) keys in
-    cc (c.in_err-read_key-2.ensures.every entry.answer h.1 words.1)
+returns-in_err-read_key-2-clause-every c = search (rules, strip_prefix_is, answer-keys, encode_lower, lacks-encode_lower, lit<)
 
 pub returns-clause-text : goal.returns-clause-text
 returns-clause-text c =

@@ -1,6 +1,6 @@
 use Rattle.std.proofs.Common.{rules, arith, ◌≡◌, ◌+◌, ◌≤◌, ◌∙◌, ap, subst, sym, refl, false, true≢false, List, ℕ, ◌∷◌, ◌++◌, codes, length, []}
 use Rattle.std.specs.Bool.{nat_eq}
-use Rattle.noise_vectors.proofs.Common.{false≢true, IsTrue, All, starts_with, length-append, All-nil, All-push, psk_lines, ArePsks, lines_of, psk_words, IsKey}
+use Rattle.noise_vectors.proofs.Common.{false≢true, IsTrue, All, starts_with, length-append, All-push, psk_lines, ArePsks, lines_of, psk_words, IsKey}
 use Rattle.noise_vectors.proofs.LineLemmas.{begun-by, lines_of-more}
 use Rattle.noise_vectors.proofs.PartLemmas.{Next, lines-over, next-of, reports-cut, reports-wrong}
 use Rattle.noise_vectors.proofs.ReadingLemmas.{psk-plain, psk-stands}
@@ -9,14 +9,6 @@ use Rattle.noise_vectors.proofs.ReportedLemmas.{counted-ended}
 use Rattle.noise_vectors.proofs.reader.read_psks.Goals.{After-read_psk}
 use Rattle.noise_vectors.proofs.reader.read_psks.Goals as goal
 
-pub loop-lines-init : goal.loop-lines-init
-loop-lines-init c =
-    let none : c.new-psks.result.items ≡ [] = c.new-psks.ensures in (
-      ap (λ (psks : List (List ℕ)). lines_of psk_words psks c.args.lines.now.rest.now) (sym none),
-      subst ArePsks (sym none) (omega arith, All-nil IsKey),
-      refl,
-    )
-
 -- a psk stands there
 stands : (c : After-read_psk) → ¬ (starts_with nat_eq c.loop-lines.lines.rest.now (codes "psk ") ≡ false)
 stands c over = true≢false (sym (begun-by c.loop-lines.lines.rest.now c.as_slice.ensures c.loop-lines-test.ensures.value) ∙ over)
@@ -24,9 +16,7 @@ stands c over = true≢false (sym (begun-by c.loop-lines.lines.rest.now c.as_sli
 -- so it is the next of these
 next-psk : (c : After-read_psk) (psks : List (List ℕ)) (rest : List ℕ) → ArePsks psks → starts_with nat_eq rest (codes "psk ") ≡ false
     → c.args.lines.now.rest.now ≡ lines_of psk_words psks rest → Next psk_lines c.loop-lines.psks.items psks c.loop-lines.lines.rest.now
-next-psk c psks rest h other e =
-    next-of psk_lines psk-plain psk-stands c.loop-lines.psks.items psks c.args.lines.now.rest.now c.loop-lines.lines.rest.now rest
-    c.loop-lines.invariant.0 c.loop-lines.invariant.1.1 e h.1 other (stands c)
+next-psk c psks rest h other e = search (rules, next-of, psk_lines, psk-plain, psk-stands, stands)
 
 pub returns-in_default-clause-every : goal.returns-in_default-clause-every
 returns-in_default-clause-every c =
@@ -80,12 +70,6 @@ returns-in_default-clause-reported c =
     reports-wrong psk_lines c.args.lines.now c.loop-lines.psks.items
     c.loop-lines.invariant.0 c.loop-lines.invariant.1.1 c.loop-lines.invariant.1.0 (stands (goal.at.returns-in_default-clause-reported c).After-read_psk) c.loop-lines.invariant.2 c.in_ok-line.ensures.read c.fault.ensures
     (λ psk key same. let some = c.in_default.ensures.every psk key same in absurd (false≢true some))
-
-pub returns-then-is_err-clause-reported : goal.returns-then-is_err-clause-reported
-returns-then-is_err-clause-reported c =
-    reports-wrong psk_lines c.args.lines.now c.loop-lines.psks.items
-    c.loop-lines.invariant.0 c.loop-lines.invariant.1.1 c.loop-lines.invariant.1.0 (stands (goal.at.returns-then-is_err-clause-reported c).After-read_psk) c.loop-lines.invariant.2 c.in_ok-line.ensures.read c.fault-then-is_err.ensures
-    (λ psk key same. (at_err c.try_push.result c.try_push.ensures.full (sym c.if-is_err.ensures.value)))
 
 pub returns-in_err-end-clause-reported : goal.returns-in_err-end-clause-reported
 returns-in_err-end-clause-reported c =

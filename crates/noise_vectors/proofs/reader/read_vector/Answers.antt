@@ -24,10 +24,7 @@ pattern-read c file h allowed e =
 -- the lines from there to the last psk are read
 psks-read : (c : After-read_party) (file : VectorFile) → IsVectorFile file → c.read_own_pattern.new.lines.rest.now ≡ after_block file
     → c.read_psks.new.lines.rest.now ≡ after_psks file
-psks-read c file h e =
-    let prologue = c.in_ok-prologue.ensures.every file.prologue.items (after_prologue file) h.prologue e in
-    let interval = c.in_ok-interval.ensures.every file.interval (after_interval file) h.interval prologue in
-    (c.in_ok-psks.ensures.every file.psks.items (after_psks file) h.psks (psks-end file) interval.1).1
+psks-read c file h e = search rules
 
 pub returns-in_err-protocol-clause-every : goal.returns-in_err-protocol-clause-every
 returns-in_err-protocol-clause-every c = λ file h allowed e.
@@ -122,9 +119,7 @@ returns-in_err-block-clause-reported c =
 -- the text as far as the prologue
 front-read : (c : After-read_prologue) → c.args.text.now ≡ line_then (header_words c.in_ok-second.second) (line_then (codes "protocol " ++ name_bytes c.in_ok-protocol.protocol)
     (block_text c.in_ok-block.block c.read_own_pattern.new.lines.rest.now))
-front-read c = sym c.new-lines.ensures.0 ∙ c.in_ok-second.ensures.text
-    ∙ ap (λ (t : List ℕ). line_then (header_words c.in_ok-second.second) t) (c.in_ok-protocol.ensures.text
-    ∙ ap (λ (t : List ℕ). line_then (codes "protocol " ++ name_bytes c.in_ok-protocol.protocol) t) c.in_ok-block.ensures.text)
+front-read c = search rules
 
 -- and how many line feeds are left there
 front-counted : (c : After-read_prologue) → last_number c.read_own_pattern.new.lines ≡ line_feeds c.args.text.now

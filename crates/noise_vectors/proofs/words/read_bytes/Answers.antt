@@ -7,9 +7,7 @@ use Rattle.noise_vectors.proofs.words.read_bytes.Goals as goal
 few : (word : List ℕ) (most : ℕ) → length word / 2 ≤ most → (found : Option (Vec ℕ Global)) → IfSome found (λ bytes. word ≡ hex_of bytes.items)
     → IfSome found (λ bytes. vec_len bytes ≤ most)
 few word most h None e = tt
-few word most h (Some bytes) e =
-    let long = length-hex_word word bytes.items e in
-    omega (arith, long, bytes.ok.0)
+few word most h (Some bytes) e = search (rules, length-hex_word)
 
 pub returns-in-Some-clause-bound : goal.returns-in-Some-clause-bound
 returns-in-Some-clause-bound c =

@@ -1,5 +1,5 @@
-use Rattle.std.proofs.Common.{rules, ◌≡◌, ap, length, Some, IsErr}
-use Rattle.noise_vectors.proofs.Common.{IsOk, decode_sized}
+use Rattle.std.proofs.Common.{rules}
+use Rattle.noise_vectors.proofs.Common.{decode_sized}
 use Rattle.noise_vectors.proofs.HexWordLemmas.{bytes_of-decoded, decoded_is, digits_of-decoded}
 use Rattle.noise_vectors.proofs.KeyLemmas.{IsDigits-key, decoded-key, written-key}
 use Rattle.noise_vectors.proofs.words.read_key.Goals as goal
@@ -10,30 +10,13 @@ returns-then-not-is_digits-clause-every c = λ key h e.
     cc (yes)
 
 pub returns-in_err-ok-clause-every : goal.returns-in_err-ok-clause-every
-returns-in_err-ok-clause-every c =
-    let bad : IsErr c.decode_to_slice.result = search rules in
-    λ key h e.
-    let good = written-key (decode_sized c.args.word.now 32) key c.decode_to_slice.result c.decode_to_slice.new.out
-    c.decode_to_slice.ensures.value (decoded-key key c.args.word.now h e) in
-    cc (rw good.0 at bad)
+returns-in_err-ok-clause-every c = search (rules, written-key, decode_sized, decoded-key)
 
 pub returns-clause-value : goal.returns-clause-value
-returns-clause-value c =
-    let ok : IsOk c.decode_to_slice.result = search rules in
-    digits_of-decoded c.args.word.now c.decode_to_slice.new.out 32 (c.is_digits.ensures.0 c.if-not-is_digits.false)
-    (decoded_is (decode_sized c.args.word.now 32) c.decode_to_slice.result c.decode_to_slice.new.out c.decode_to_slice.ensures.value ok)
+returns-clause-value c = search (rules, digits_of-decoded, decoded_is, decode_sized)
 
 pub returns-clause-every : goal.returns-clause-every
-returns-clause-every c = λ key h e.
-    let good = written-key (decode_sized c.args.word.now 32) key c.decode_to_slice.result c.decode_to_slice.new.out
-    c.decode_to_slice.ensures.value (decoded-key key c.args.word.now h e) in
-    ap Some good.1
+returns-clause-every c = search (rules, written-key, decode_sized, decoded-key)
 
 pub returns-clause-right : goal.returns-clause-right
-returns-clause-right c =
-    let ok : IsOk c.decode_to_slice.result = search rules in
-    let len : length c.decode_to_slice.new.out ≡ 32 = search rules in (
-      len,
-      bytes_of-decoded c.args.word.now c.decode_to_slice.new.out 32 (c.is_digits.ensures.0 c.if-not-is_digits.false)
-          (decoded_is (decode_sized c.args.word.now 32) c.decode_to_slice.result c.decode_to_slice.new.out c.decode_to_slice.ensures.value ok),
-    )
+returns-clause-right c = search (rules, bytes_of-decoded, decoded_is, decode_sized)

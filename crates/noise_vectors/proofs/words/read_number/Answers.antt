@@ -19,9 +19,7 @@ numeral word text n same low single some digits small value =
     (rw text_is at digits) (rw text_is at some) single (rw text_is at small))
 
 pub returns-then-not-is_led-clause-every : goal.returns-then-not-is_led-clause-every
-returns-then-not-is_led-clause-every c = λ n small e.
-    let yes = c.is_led.ensures.1 (rw e (led-decimal n small)) in
-    cc (yes)
+returns-then-not-is_led-clause-every c = search (rules, led-decimal)
 
 pub returns-in_err-ok-clause-every : goal.returns-in_err-ok-clause-every
 returns-in_err-ok-clause-every c =
@@ -36,11 +34,7 @@ returns-in-Err-clause-every c =
     cc (gives)
 
 pub returns-in-Ok-clause-value : goal.returns-in-Ok-clause-value
-returns-in-Ok-clause-value c =
-    let text : c.in_ok-ok.field-0.now ≡ c.args.word.now = search rules in
-    let led = c.is_led.ensures.0 c.if-not-is_led.false in
-    let read = c.in-Ok.ensures.value in
-    numeral c.args.word.now c.in_ok-ok.field-0.now c.in-Ok.number text led.0 led.2 read.0.0.0.0 read.0.0.0.1 read.0.0.1 read.0.1
+returns-in-Ok-clause-value c = search (rules, numeral)
 
 pub returns-in-Ok-clause-every : goal.returns-in-Ok-clause-every
 returns-in-Ok-clause-every c =

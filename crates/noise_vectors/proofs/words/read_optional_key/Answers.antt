@@ -12,6 +12,4 @@ hyphen word e (Some key) h is =
     absurd (omega (arith, long, same))
 
 pub returns-then-eq-clause-every : goal.returns-then-eq-clause-every
-returns-then-eq-clause-every c =
-    let is : c.args.word.now ≡ codes "-" = search rules in
-    λ key h e. ap Some (sym (hyphen c.args.word.now is key h e))
+returns-then-eq-clause-every c = search (rules, codes, hyphen)

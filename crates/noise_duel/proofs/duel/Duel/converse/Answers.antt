@@ -1,5 +1,5 @@
-use Rattle.std.proofs.Common.{◌+◌, ◌≤◌, ◌∷◌, ◌∙◌, arith, length, drop, ap, sym}
-use Rattle.noise_duel.proofs.Common.{drop_all, drop_more, Initiator, Responder, end_of, say_events, Say, both_sides, begun_as}
+use Rattle.std.proofs.Common.{rules, ◌+◌, ◌≤◌, ◌∷◌, ◌∙◌, arith, length, drop, ap, sym}
+use Rattle.noise_duel.proofs.Common.{drop_all, drop_more, end_of, say_events, Say, both_sides, begun_as}
 use Rattle.noise_duel.specs.Acts.{roles_and_payloads}
 use Rattle.noise_duel.proofs.Happening.{all-come, one-more}
 use Rattle.noise_duel.proofs.Reporting.{all-through}
@@ -26,7 +26,4 @@ returns-clause-reports g c v w st =
     (ap (λ xs. say_events (roles_and_payloads xs)) (drop_all c.loop-role.role-index c.args.lines.now none)) (c.loop-role.invariant v w st)
 
 pub returns-clause-comes_through : goal.returns-clause-comes_through
-returns-clause-comes_through g c w p prologue a b interval parts turns st =
-    all-through g.A.Keys.public_of g.A.Keys.agreement g.B.Keys.public_of g.B.Keys.agreement c.lines_come_through.ensures.come c.lines_come_through.ensures.leave c.ends_match.ensures.stand
-    c.end_is_reported.ensures c.end_is_reported-2.ensures w p prologue a b interval (roles_and_payloads c.args.lines.now) parts turns c.loop-role.self c.loop-role.report
-    (returns-clause-reports g c (end_of (begun_as p Initiator a) interval) (end_of (begun_as p Responder b) interval) st)
+returns-clause-comes_through g c w p prologue a b interval parts turns st = search (rules, all-through, returns-clause-reports, end_of, begun_as)
