@@ -1,4 +1,4 @@
-use Rattle.std.proofs.Common.{◌≡◌, ◌∙◌, refl, sym, ℕ, zero, suc, ◌≤◌, min, List, ◌∷◌, length, drop, arith, None, []}
+use Rattle.std.proofs.Common.{rules, ◌≡◌, refl, ℕ, zero, suc, ◌≤◌, min, List, ◌∷◌, length, drop, arith, None, []}
 use Rattle.noise_conversation.proofs.Common.{Global, Vec, first_clash, bytes_of}
 use Rattle.noise_conversation.proofs.clash.find_clash.Goals as goal
 
@@ -15,6 +15,4 @@ none-left n (suc i) (x ∷ xs) (y ∷ ys) h = none-left n i xs ys (omega (arith,
 none-left n _ _ _ h = refl
 
 pub returns : goal.returns
-returns c =
-    sym (c.loop-position.invariant
-    ∙ none-left c.loop-position.position c.loop-position.position c.args.left.now c.args.right.now (omega (arith, c.min-count.ensures)))
+returns c = search (rules, none-left)

@@ -1,4 +1,4 @@
-use Rattle.std.proofs.Common.{◌∙◌, reverse, arith}
+use Rattle.std.proofs.Common.{rules, ◌∙◌, reverse, arith}
 use Rattle.noise_conversation.proofs.Common.{History, bytes_of}
 use Rattle.noise_conversation.proofs.Mixed.{both-within, clash-at, has-mixed, is-hash-clash, mixing}
 use Rattle.noise_conversation.proofs.clash.find_mix_hash_clash.Goals as goal
@@ -47,9 +47,4 @@ returns-in-Some c = record {
 }
 
 pub returns : goal.returns
-returns c = record {
-  found = (λ r s h k.
-      clash-at r s c.in_ok-first.first.items c.in_ok-second.second.items c.deref.result.now c.deref-2.result.now c.find_clash.result
-      (c.in_ok-first.ensures r h) (c.in_ok-second.ensures s k) c.deref.ensures.value c.deref-2.ensures.value c.find_clash.ensures
-      ∙ c.in-None.is);
-}
+returns c = search (rules, clash-at)

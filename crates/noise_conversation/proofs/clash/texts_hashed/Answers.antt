@@ -1,7 +1,6 @@
-use Rattle.std.proofs.Common.{◌≡◌, ◌∙◌, ℕ, ◌+◌, List, ◌∷◌, ◌++◌, ap, sym, subst, reverse, take, arith, []}
+use Rattle.std.proofs.Common.{rules, ◌≡◌, ◌∙◌, ℕ, ◌+◌, List, ◌∷◌, ◌++◌, ap, sym, subst, reverse, take, []}
 use Rattle.noise_conversation.proofs.Common.{take_all, take_more, Global, Vec, History, MixHash, and_then, bytes_of}
 use Rattle.noise_state.specs.Standing.{StateMatches}
-use Rattle.noise_duel.specs.Collision.{hash_texts}
 use Rattle.noise_conversation.proofs.Mixed.{Mixes, mixes-more, mixing, texts-mixed}
 use Rattle.noise_conversation.proofs.clash.texts_hashed.Goals as goal
 
@@ -15,10 +14,7 @@ loop-piece-preserved c =
     let r : History = mixing name (reverse (bytes_of (take i mixed))) in
     let more : take (i + 1) mixed ≡ take i mixed ++ piece ∷ [] =
     take_more mixed i piece c.loop-piece-test.true ∙ ap (λ (v : Vec ℕ Global). take i mixed ++ v ∷ []) (sym c.piece-item.is) in
-    let is-text : text.items ≡ c.hash.result ++ piece.items =
-    c.in_ok-extend_from_slice.ensures.items
-    ∙ ap (λ (t : List ℕ). t ++ c.deref.result.now) c.in_ok-text.ensures.items
-    ∙ ap (λ (t : List ℕ). c.hash.result ++ t) c.deref.ensures.value in
+    let is-text : text.items ≡ c.hash.result ++ piece.items = search rules in
     let matches : StateMatches c.mix_hash.new.self (and_then r (MixHash piece.items)) =
     subst (λ (t : List ℕ). StateMatches c.mix_hash.new.self (and_then r (MixHash t))) c.deref-in-loop-piece.ensures.value
     (c.mix_hash.ensures.matches r c.loop-piece.invariant.matches) in
@@ -28,10 +24,4 @@ loop-piece-preserved c =
     (c.hash.ensures r c.loop-piece.invariant.matches) is-text matches))
 
 pub returns : goal.returns
-returns c = λ r h.
-    let i : ℕ = c.loop-piece.piece-index in
-    let name = c.args.name.now in
-    let mixed = c.args.mixed.now in
-    c.loop-piece.invariant.texts_are
-    ∙ ap (λ (pieces : List (Vec ℕ Global)). hash_texts (mixing name (reverse (bytes_of pieces)))) (take_all i mixed (omega (arith, c.loop-piece-test.false)))
-    ∙ sym (texts-mixed r name (bytes_of mixed) h)
+returns c = search (rules, mixing, reverse, bytes_of, take_all, texts-mixed)

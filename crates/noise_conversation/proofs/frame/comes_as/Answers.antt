@@ -9,15 +9,3 @@ returns-clause-exactly g c v message matches listens is short =
     (judged v t.0 c.args.bytes.now message c.take.result.0 (step_value c.take.result.1) t.1 listens is short) in
     let here = all.payload c.args.payload.now in
     (λ e. here.0 (c.is_payload.ensures.0 e), λ e. c.is_payload.ensures.1 (here.1 e))
-
-pub returns-clause-takes : goal.returns-clause-takes
-returns-clause-takes g c v matches =
-    let t = c.take.follows.holds-at-none v matches in
-    record {
-      taken = c.take.result.0;
-      step = step_value c.take.result.1;
-      next = t.0;
-      takes = t.1;
-      matches = t.2;
-      is = c.is_payload.ensures;
-    }

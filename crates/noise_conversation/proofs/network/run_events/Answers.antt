@@ -1,12 +1,7 @@
 use Rattle.std.proofs.Common.{refl, inr, ℕ}
-use Rattle.noise_conversation.proofs.Common.{err_from_is_err_and, Initiator, Responder, events_of, Start, HaveSamePsks, start_by}
+use Rattle.noise_conversation.proofs.Common.{Initiator, Responder, events_of, Start, HaveSamePsks, start_by}
 use Rattle.noise_duel.specs.Entries.{notes_of}
 use Rattle.noise_conversation.proofs.network.run_events.Goals as goal
-
-pub returns-in_err-duel : goal.returns-in_err-duel
-returns-in_err-duel g c =
-    let p = err_from_is_err_and c.from_residual.result c.from_residual.ensures.1 in
-    rw (p.1, p.2) c.in_err-duel.ensures
 
 pub returns : goal.returns
 returns g c =
