@@ -1,9 +1,7 @@
 -- The first half of block 0 is the one-time key, and the generator then stands at block 1.
 use Rattle.std.proofs.Common.{◌≡◌, ◌+◌, ◌*◌, ◌^◌, List, ℕ, take, ap, ◌∙◌, arith}
-use Rattle.rand_chacha.specs.ChaCha.{ChaCha}
-use Rattle.noise_poly.specs.Poly.{number, tag_of}
-use Rattle.noise_aead.specs.Sealing.{authenticated, byte_from, bytes_from, generator_at, keystream_xor, seal_tag, stream_bytes, xored}
-use Rattle.noise_aead.specs.Sealed.{tag_of-seal}
+use Rattle.noise_aead.proofs.Common.{ChaCha, number, tag_of, authenticated, byte_from, generator_at, keystream_xor, seal_tag, stream_bytes, xored, tag_of-seal}
+use Rattle.noise_aead.specs.Sealing.{bytes_from}
 
 key-first : (key nonce one_time_key : List ℕ) (words : ChaCha) → words ≡ generator_at key nonce 0 → one_time_key ≡ bytes_from words 32
     → one_time_key ≡ stream_bytes key nonce 0 32

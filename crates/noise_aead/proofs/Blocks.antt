@@ -1,11 +1,8 @@
 -- The keystream's words in order, and their bytes.
 use Rattle.std.proofs.Common.{◌≡◌, ℕ, suc, ◌+◌, ◌*◌, ◌/◌, ◌%◌, ◌^◌, ◌<◌, List, [], ◌∷◌, ◌++◌, length, get_or, map, refl, ap, ◌∙◌, arith}
-use Rattle.std.specs.Int.{w32, to_le_bytes, byte_at}
-use Rattle.std.specs.List.{flat_map, range_with_len}
-use Rattle.std.specs.Simd.Lanes.{Each1, digits_l, number_l}
 use Rattle.std.proofs.lemmas.List.FromFn.{get_or-map-range_with_len, length-map-range_with_len}
-use Rattle.rand_chacha.specs.ChaCha.{ChaCha, word_at, next_word}
-use Rattle.noise_aead.specs.Sealing.{byte_from, bytes_from}
+use Rattle.noise_aead.proofs.Common.{w32, to_le_bytes, byte_at, flat_map, range_with_len, Each1, digits_l, number_l, ChaCha, word_at, next_word, byte_from}
+use Rattle.noise_aead.specs.Sealing.{bytes_from}
 
 -- ---- bytes of words
 

@@ -1,3 +1,4 @@
+pub mod Common
 mod Beginning
 mod Blocks
 mod Masking

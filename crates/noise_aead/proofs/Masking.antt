@@ -1,15 +1,9 @@
 -- The text xor the keystream, byte by byte.
-use Rattle.std.proofs.Common.{◌≡◌, ℕ, zero, suc, ◌+◌, ◌<◌, ◌≤◌, List, [], ◌∷◌, ◌++◌, length, get_or, take, drop, replicate, map, refl, ap, sym}
-use Rattle.std.proofs.Common.{◌∙◌, arith, add-zero, add-one, append_assoc, append-nil, take_all, drop-drop, length-take-le}
-use Rattle.std.specs.Prelude.{bit_xor}
-use Rattle.std.specs.List.{range_with_len}
-use Rattle.std.specs.Simd.Lanes.{zip2}
+use Rattle.std.proofs.Common.{◌≡◌, ℕ, zero, suc, ◌+◌, ◌<◌, ◌≤◌, List, [], ◌∷◌, ◌++◌, length, get_or, take, drop, replicate, map, refl, ap, sym, ◌∙◌, arith, add-zero, add-one, append_assoc, append-nil, take_all, drop-drop, length-take-le}
 use Rattle.std.proofs.Math.ListN.{drop_of_length-le}
 use Rattle.std.proofs.Math.Seq.{take-add}
-use Rattle.std.proofs.lemmas.List.{ext_get_or, take_at, drop_at}
+use Rattle.noise_aead.proofs.Common.{bit_xor, range_with_len, zip2, ext_get_or, take_at, drop_at, xored, length-xored}
 use borrow.Rule.Slice.PartMut.{put_mid}
-use Rattle.noise_aead.specs.Sealing.{xored}
-use Rattle.noise_aead.specs.Sealed.{length-xored}
 
 pub get_or-xored : (f : ℕ → ℕ) (j : ℕ) (text : List ℕ) (k : ℕ) → k < length text
     → get_or (xored f j text) k 0 ≡ bit_xor (get_or text k 0) (f (j + k))

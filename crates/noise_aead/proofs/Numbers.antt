@@ -1,12 +1,9 @@
 -- Numbers that bytes spell.
 use Rattle.std.proofs.Common.{◌≡◌, ℕ, zero, suc, ◌+◌, ◌*◌, ◌^◌, ◌<◌, ◌≤◌, List, [], ◌∷◌, length, get_or, refl, ap, sym, ◌∙◌, arith, inl, inr}
 use Rattle.std.proofs.Math.Nat.{mul-le-mul_right, pow-suc}
-use Rattle.std.proofs.lemmas.Bool.{cases_lt}
-use Rattle.std.proofs.lemmas.List.{ext_get_or}
-use Rattle.std.specs.Int.{w128, byte_worth, sum_through, from_le_bytes}
+use Rattle.noise_aead.proofs.Common.{cases_lt, ext_get_or, w128, byte_worth, sum_through, from_le_bytes, number}
 use Rattle.byteorder.specs.Endian.{little_from}
 use Rattle.byteorder.specs.Numbers.{little_from-cons}
-use Rattle.noise_poly.specs.Poly.{number}
 
 pub little_from-whole : (n : ℕ) (bytes : List ℕ) → length bytes ≡ n → little_from 0 n bytes ≡ number bytes
 little_from-whole zero [] e = refl

@@ -1,23 +1,19 @@
 -- The text of a version 1 file, as one of version 2.
 use Rattle.std.proofs.Common.{◌≡◌, ◌∙◌, ap, sym, refl, ℕ, ◌+◌, ◌≤◌, Vec, List, [], ◌∷◌, ◌++◌, Option, Some, None, codes, length, take, append_assoc, decimal}
 use Rattle.std.specs.Global.{Global}
-use Rattle.std.specs.Prelude.{flat_map}
-use Rattle.std.proofs.lemmas.List.{take_all}
+use Rattle.noise_lines.proofs.Common.{flat_map, take_all, bytes_of, hex_of}
 use Rattle.noise_names.specs.declared.token.Role.{Role}
 use Rattle.noise_names.specs.declared.token.Role.TheVariants.{Initiator, Responder}
 use Rattle.noise_names.specs.Names.{name_bytes}
 use Rattle.noise_names.specs.Plan.{Plan}
-use Rattle.noise_names.specs.Text as PatternText
-use Rattle.noise_names.specs.Lists.{bytes_of}
-use Rattle.noise_vectors.specs.HexWord.{hex_of}
-use Rattle.noise_vectors.specs.VectorText.{answer_words, block_text, event_words, expect_line, header_words, is_second, line_then, lines_of, party_text}
-use Rattle.noise_vectors.specs.VectorText.{key_words, psk_words, role_word, text_body, file_text, version_text}
+use Rattle.noise_vectors.specs.VectorText.{answer_words, block_text, event_words, expect_line, header_words, is_second, line_then, lines_of, party_text, key_words, psk_words, role_word, text_body, file_text, version_text}
 use Rattle.noise_vectors.specs.declared.file_keys.FileKeys.{FileKeys}
 use Rattle.noise_vectors.specs.declared.file_keys.FileKeys.TheVariants.{Xor, Table}
 use Rattle.noise_vectors.specs.declared.vector.VectorFile.{VectorFile}
 use Rattle.noise_vectors.specs.declared.vector.Version.{Version}
 use Rattle.noise_vectors.specs.declared.vector.Version.TheVariants.{One}
 use Rattle.noise_lines.specs.Converted.{converted_text}
+use Rattle.noise_names.specs.Text as PatternText
 
 -- ---- what follows the lines of a text
 

@@ -1,8 +1,6 @@
 -- What is read of a file.
 use Rattle.std.proofs.Common.{arith, ◌≡◌, ◌<◌, ◌∙◌, ap, sym, ℕ, List, [], ◌++◌, Option, Some, None, length, take, append-nil}
-use Rattle.std.specs.Prelude.{IfSome}
-use Rattle.std.specs.Io.KnownBytes.{Consumes, IsAtEnd, Keeps}
-use Rattle.std.proofs.lemmas.List.{length-append}
+use Rattle.noise_lines.proofs.Common.{IfSome, Consumes, IsAtEnd, Keeps, length-append}
 
 pub unchanged-consumes : (a b c : Option (List ℕ)) (bs : List ℕ) → Keeps a b → Consumes b c bs → Consumes a c bs
 unchanged-consumes None b c bs p q = tt

@@ -1,3 +1,4 @@
+pub mod Common
 pub mod ConvertingLemmas
 pub mod InputLemmas
 pub mod OutputLemmas

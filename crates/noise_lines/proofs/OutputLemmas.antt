@@ -1,20 +1,13 @@
 -- Lines of the output, one after the other.
 use Rattle.std.proofs.Common.{◌≡◌, ℕ, zero, suc, ◌+◌, List, [], ◌∷◌, ◌++◌, ◌<◌, ◌≤◌, ◌∙◌, ap, ap₂, sym, refl, subst, Vec, Option, get_or, take, drop, length, append_assoc, add-one, arith}
-use Rattle.std.specs.Prelude.{flat_map, slice_get, Some, None}
+use Rattle.std.specs.Prelude.{slice_get, Some, None}
 use Rattle.std.specs.Global.{Global}
-use Rattle.std.specs.List.{range_with_len}
-use Rattle.std.specs.Io.KnownBytes.{Appends}
-use Rattle.std.proofs.KnownBytes.{Appends-trans}
 use Rattle.std.proofs.Math.Seq.{take-suc}
 use Rattle.std.proofs.lemmas.Grind.{flat_map-append}
-use Rattle.std.proofs.lemmas.List.{flat_map_more, take-append-drop, take_all}
 use Rattle.std.proofs.lemmas.List.Folds.{flat_map-map}
 use Rattle.std.proofs.lemmas.Option.{slice_get_read, slice_get_within, get_or_from_slice_get}
+use Rattle.noise_lines.proofs.Common.{flat_map, range_with_len, Appends, Appends-trans, flat_map_more, take-append-drop, take_all, line, bytes_of, lines_text, AppendsPrefix}
 use Rattle.noise_names.specs.Fundamental.{fundamentals}
-use Rattle.noise_names.specs.Text.{line}
-use Rattle.noise_names.specs.Lists.{bytes_of}
-use Rattle.noise_lines.specs.Lines.{lines_text}
-use Rattle.noise_lines.specs.Prefixes.{AppendsPrefix}
 use Rattle.noise_lines.proofs.PrefixLemmas.{prefix-after}
 
 pub fundamentals-count : length fundamentals ≡ 15

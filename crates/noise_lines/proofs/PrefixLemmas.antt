@@ -1,10 +1,7 @@
 -- Prefixes of a text that is written piece by piece.
 use Rattle.std.proofs.Common.{◌≡◌, ◌∙◌, ap, sym, ℕ, ◌+◌, ◌-◌, List, [], ◌++◌, Option, length, take, drop, append_assoc, append-nil}
-use Rattle.std.specs.Io.KnownBytes.{Appends}
-use Rattle.std.proofs.KnownBytes.{Appends-trans}
-use Rattle.std.proofs.lemmas.List.{take-append-drop, take_rest}
 use Rattle.std.proofs.Math.Seq.{take-add}
-use Rattle.noise_lines.specs.Prefixes.{AppendsPrefix}
+use Rattle.noise_lines.proofs.Common.{Appends, Appends-trans, take-append-drop, take_rest, AppendsPrefix}
 
 pub prefix-whole : (a b : Option (List ℕ)) (text : List ℕ) → Appends a b text → AppendsPrefix a b text
 prefix-whole a b text h = record { prefix = text; rest = []; begins = sym (append-nil text); appended = h }

@@ -1,14 +1,13 @@
 -- Words of printed bytes.
 use Rattle.std.proofs.Common.{◌≡◌, ◌∙◌, refl, ℕ, ◌+◌, ◌/◌, ◌%◌, ◌<◌, ◌^◌, true, List, [], ◌∷◌, ◌++◌, arith}
-use Rattle.std.specs.Prelude.{decimal, slice_index}
-use Rattle.std.specs.List.{All, list_all}
+use Rattle.std.specs.Prelude.{decimal}
 use Rattle.std.proofs.lemmas.Bool.Decides.{nat_tests}
 use Rattle.std.proofs.lemmas.Fmt.{decimal_by_steps}
 use Rattle.std.proofs.lemmas.List.Elements.{All-get_or, All-head, All-tail}
 use Rattle.std.proofs.lemmas.List.Folds.{list_all-append}
 use Rattle.std.proofs.lemmas.List.Sums.{AllPass-from_list_all}
+use Rattle.noise_lines.proofs.Common.{slice_index, All, list_all, hex_of}
 use Rattle.hex.specs.Hex.{encode_lower, encode_with, lower_digits}
-use Rattle.noise_vectors.specs.HexWord.{hex_of}
 use Rattle.noise_lines.specs.PrintedWords.{is_printed, is_printed_byte}
 
 abbrev passes : ℕ → Type 0

@@ -1,14 +1,7 @@
 -- The text of a trace, written line by line.
 use Rattle.std.proofs.Common.{◌≡◌, ◌∙◌, refl, sym, ap, ap₂, ℕ, zero, suc, ◌+◌, List, [], ◌∷◌, ◌++◌, Option, Vec, drop, take, slice_get, append_assoc, add-one}
 use Rattle.std.specs.Global.{Global}
-use Rattle.std.specs.Prelude.{unwrap_or}
-use Rattle.std.specs.Io.KnownBytes.{Appends}
-use Rattle.std.proofs.KnownBytes.{Appends-trans}
-use Rattle.std.proofs.lemmas.List.{take-map}
-use Rattle.noise_lines.specs.Lines.{lines_text}
-use Rattle.noise_lines.specs.Prefixes.{AppendsPrefix}
-use Rattle.noise_names.specs.Lists.{bytes_of}
-use Rattle.noise_lines.specs.TracedLines.{traces_of, with_traces, with_traces_to}
+use Rattle.noise_lines.proofs.Common.{unwrap_or, Appends, Appends-trans, take-map, lines_text, AppendsPrefix, bytes_of, traces_of, with_traces, with_traces_to}
 use Rattle.noise_lines.proofs.PrefixLemmas.{prefix-after}
 
 pub prefix-more : (a b : Option (List ℕ)) (next more whole : List ℕ) → AppendsPrefix a b next → whole ≡ next ++ more → AppendsPrefix a b whole

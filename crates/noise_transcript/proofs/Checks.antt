@@ -1,34 +1,15 @@
 -- What the calls of a test say of a file, in one: its lines fit.
 use Rattle.std.proofs.Common.{◌≡◌, ◌∙◌, refl, ap, ap₂, sym, subst, ℕ, Vec, List, [], ◌∷◌, length, map, Option, Some, None}
 use Rattle.std.specs.Global.{Global}
-use Rattle.std.specs.Prelude.{true}
-use Rattle.noise_names.specs.declared.token.Role.{Role}
-use Rattle.noise_names.specs.declared.token.Role.TheVariants.{Initiator, Responder}
+use Rattle.noise_transcript.proofs.Common.{true, Role, Initiator, Responder, Plan, other, IsValid, setup_fault, Event, Say, events_of, say_events, public_of, IsAllowedFile, IsAllowedVersion, IsVectorFile, say_of, FileKeys, SayOnly, VectorFile, Version, One, Two, shown_before, IsFilePattern, setup_of, datagrams_of_version, HasFittingLines, IsXor}
 use Rattle.noise_names.specs.Limits.{IsPattern}
-use Rattle.noise_names.specs.Plan.{Plan}
-use Rattle.noise_names.specs.Tokens.{other}
-use Rattle.noise_names.specs.Validity.{IsValid}
 use Rattle.noise_keys.specs.declared.faults.SetupFault.{SetupFault}
 use Rattle.noise_keys.specs.declared.xor_keys.XorKeys.{XorKeys}
 use Rattle.noise_keys.specs.Keys.{key_of, xor_dh_result}
-use Rattle.noise_handshake.specs.Setup.{setup_fault}
-use Rattle.noise_events.specs.Events.{Event, Say, events_of}
 use Rattle.noise_duel.specs.Acts.{roles_and_payloads}
-use Rattle.noise_duel.specs.Conversation.{say_events}
 use Rattle.noise_conversation.specs.Lines.{lines_fit_from}
 use Rattle.noise_conversation.specs.Setup.{BothStarts, fault_of, or_next, starts}
-use Rattle.noise_vectors.specs.FileKeys.{public_of}
-use Rattle.noise_vectors.specs.VectorFile.{IsAllowedFile, IsAllowedVersion, IsVectorFile, say_of}
-use Rattle.noise_vectors.specs.declared.file_keys.FileKeys.{FileKeys}
 use Rattle.noise_vectors.specs.declared.file_keys.FileKeys.TheVariants.{Xor}
-use Rattle.noise_vectors.specs.declared.vector.AllowedEvents.TheVariants.{SayOnly}
-use Rattle.noise_vectors.specs.declared.vector.VectorFile.{VectorFile}
-use Rattle.noise_vectors.specs.declared.vector.Version.{Version}
-use Rattle.noise_vectors.specs.declared.vector.Version.TheVariants.{One, Two}
-use Rattle.noise_handshake.specs.Counterparts.{shown_before}
-use Rattle.noise_tool.specs.Ends.{IsFilePattern, setup_of}
-use Rattle.noise_tool.specs.Running.{datagrams_of_version}
-use Rattle.noise_transcript.specs.Fitting.{HasFittingLines, IsXor}
 
 said-lines : (lines : List (Role × Vec ℕ Global × List ℕ)) → events_of (map say_of lines) ≡ say_events (roles_and_payloads lines)
 said-lines [] = refl

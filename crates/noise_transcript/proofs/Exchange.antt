@@ -1,18 +1,11 @@
 -- The lines of lines that come through are those of the transcript.
 use Rattle.std.proofs.Common.{◌≡◌, ◌∙◌, refl, ap, sym, subst, ℕ, zero, suc, ◌+◌, ◌<◌, List, [], ◌∷◌, ◌++◌, length, map, take, drop, arith, append_assoc}
-use Rattle.std.specs.Prelude.{⊤, Bool, true, false, nat_lt, MatchBool, slice_get, unwrap_or, Option, Some}
+use Rattle.std.specs.Prelude.{Option, Some}
 use Rattle.std.proofs.lemmas.Bool.Decides.{nat_tests}
 use Rattle.std.proofs.lemmas.List.{length-map, length_push, take-append-drop}
-use Rattle.noise_names.specs.declared.token.Role.{Role}
-use Rattle.noise_names.specs.declared.token.Role.TheVariants.{Initiator, Responder}
-use Rattle.noise_names.specs.Plan.{Plan}
+use Rattle.noise_transcript.proofs.Common.{⊤, Bool, true, false, nat_lt, MatchBool, slice_get, unwrap_or, Role, Initiator, Responder, Plan, KeyMaterial, InTurn, after_conversation, conversation, frames_by, in_turn, notes_of_lines, transport_messages_of, payloads_in, start_in, transcript, HandshakeMessage, messages_of, Sides, note_line, exchange_lines, payload_line, wrote_line}
 use Rattle.noise_state.specs.History.{History}
 use Rattle.noise_session.specs.Frames.{frame}
-use Rattle.noise_duel.specs.Conversation.{KeyMaterial, InTurn, after_conversation, conversation, frames_by, in_turn, notes_of_lines, transport_messages_of, payloads_in, start_in, transcript}
-use Rattle.noise_duel.specs.Messages.{HandshakeMessage, messages_of}
-use Rattle.noise_duel.specs.Sides.{Sides}
-use Rattle.noise_tool.specs.Printed.{note_line}
-use Rattle.noise_transcript.specs.Talked.{exchange_lines, payload_line, wrote_line}
 
 -- ---- each message has the writer of its line
 

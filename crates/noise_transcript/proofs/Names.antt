@@ -1,11 +1,10 @@
 -- The places of a name are those of its messages, and what is wrong with a pattern isn't wrong with a valid one.
 use Rattle.std.proofs.Common.{◌≡◌, ◌∙◌, ap, sym, ℕ, List, [], ◌∷◌, Option, Some, None}
+use Rattle.noise_transcript.proofs.Common.{Plan, IsFirstFault, IsValid}
 use Rattle.noise_names.specs.declared.faults.RuleFault.{RuleFault}
 use Rattle.noise_names.specs.Fundamental.{fundamental_of}
 use Rattle.noise_names.specs.Limits.{first_beyond}
 use Rattle.noise_names.specs.Names.{Section}
-use Rattle.noise_names.specs.Plan.{Plan}
-use Rattle.noise_names.specs.Validity.{IsFirstFault, IsValid}
 use Rattle.noise_lines.specs.Named.{IsNamed}
 use Rattle.std.proofs.lemmas.Option.{same_Some}
 use Rattle.noise_names.specs.Placing.{none-beyond}

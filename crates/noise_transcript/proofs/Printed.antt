@@ -1,31 +1,20 @@
 -- What is printed of the run of a file whose lines fit, and with which status it ends.
 use Rattle.std.proofs.Common.{◌≡◌, ◌∙◌, refl, ap, sym, subst, ◌⊎◌, inl, inr, ◌<◌, ◌≤◌, ℕ, zero, suc, List, [], length, Option, Some, String, arith}
-use Rattle.std.specs.Prelude.{◌↔◌, IfSome, slice_get}
 use Rattle.std.specs.Global.{Global}
 use Rattle.std.specs.Io.KnownBytes.{Appends}
-use Rattle.noise_names.specs.declared.token.Role.{Role}
-use Rattle.noise_names.specs.Plan.{Plan}
+use Rattle.noise_transcript.proofs.Common.{◌↔◌, IfSome, slice_get, Role, Plan, VectorTextsAreUnique, IsVectorFile, file_text, SayOnly, VectorFile, lines_text, IsRunOf, expected_in, HasFittingLines, FittingLinesRun, talked_lines}
 use Rattle.noise_vectors.specs.Expectations.{IsFirstUnmet}
-use Rattle.noise_vectors.specs.SameFile.{VectorTextsAreUnique}
-use Rattle.noise_vectors.specs.VectorFile.{IsVectorFile}
-use Rattle.noise_vectors.specs.VectorText.{file_text}
-use Rattle.noise_vectors.specs.declared.vector.AllowedEvents.TheVariants.{SayOnly}
-use Rattle.noise_vectors.specs.declared.vector.VectorFile.{VectorFile}
 use Rattle.noise_lines.specs.Faults.{status_of}
-use Rattle.noise_lines.specs.Lines.{lines_text}
 use Rattle.noise_lines.specs.Prefixes.{AppendsPrefix}
 use Rattle.noise_lines.specs.declared.faults.Fault.{Fault}
-use Rattle.noise_lines.specs.declared.faults.Fault.TheVariants as fault
 use Rattle.noise_lines.specs.Verdicts.{IsMet}
 use Rattle.noise_tool.specs.OneRun.{OneRun}
 use Rattle.noise_tool.specs.Performing.{HasRun, HasUnmet, IsPlain, IsRunFault, IsUnmet}
 use Rattle.noise_tool.specs.Prefixes.{PrintsFault, PrintsPrefix, PrintsWhole}
-use Rattle.noise_tool.specs.Running.{IsRunOf, expected_in}
 use Rattle.noise_words.specs.declared.orders.Chosen.TheVariants.{Talk}
-use Rattle.noise_transcript.specs.Fitting.{HasFittingLines}
-use Rattle.noise_transcript.specs.Talked.{FittingLinesRun, talked_lines}
 use Rattle.noise_transcript.proofs.Refusals.{IsLeft, left-why}
 use Rattle.noise_transcript.proofs.Same.{expected-are, run-alike}
+use Rattle.noise_lines.specs.declared.faults.Fault.TheVariants as fault
 
 -- a file has one text, and files of one text have one list of lines
 pub record Once : Type 0 where

@@ -1,22 +1,11 @@
 -- How far both ends have come after lines that come through.
 use Rattle.std.proofs.Common.{◌≡◌, ◌∙◌, refl, ap, ap₂, sym, ℕ, ◌==◌, min, List, [], ◌∷◌, codes, length, drop, arith}
-use Rattle.std.specs.Prelude.{Bool, true, false, not, nat_lt, decimal, if◌then◌else◌}
 use Rattle.std.proofs.lemmas.Bool.Decides.{nat_tests}
-use Rattle.noise_names.specs.declared.token.Role.{Role}
-use Rattle.noise_names.specs.declared.token.Role.TheVariants.{Initiator, Responder}
-use Rattle.noise_names.specs.Plan.{Plan, is_one_way}
-use Rattle.noise_names.specs.Tokens.{other}
+use Rattle.noise_transcript.proofs.Common.{Bool, true, false, not, nat_lt, decimal, if◌then◌else◌, Role, Initiator, Responder, Plan, is_one_way, other, end_after, lines_by, Start, Sides, role_word, line_of, progress_words, state_line, state_lines, reached_line}
 use Rattle.noise_state.specs.History.{History, hash}
 use Rattle.noise_session.specs.Ends.{EndState}
 use Rattle.noise_session.specs.Progress.Progress.{Handshaking, Open, HasEnded}
-use Rattle.noise_duel.specs.Conversation.{end_after, lines_by}
-use Rattle.noise_duel.specs.Messages.{Start}
-use Rattle.noise_duel.specs.Sides.{Sides}
 use Rattle.noise_vectors.specs.HexWord.{hex_of}
-use Rattle.noise_vectors.specs.VectorText.{role_word}
-use Rattle.noise_lines.specs.Lines.{line_of}
-use Rattle.noise_tool.specs.Printed.{progress_words, state_line, state_lines}
-use Rattle.noise_transcript.specs.Talked.{reached_line}
 
 -- ---- the line of an end
 

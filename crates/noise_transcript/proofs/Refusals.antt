@@ -2,42 +2,22 @@
 use Rattle.std.proofs.Common.{◌≡◌, ◌∙◌, refl, ap, ap₂, sym, subst, ◌⊎◌, inl, inr, ◌<◌, ℕ, List, [], ◌∷◌, length, Option, Some, None}
 use Rattle.std.specs.List.{All}
 use Rattle.std.proofs.lemmas.List.Elements.{All-cons, All-nil}
-use Rattle.noise_names.specs.declared.token.Role.{Role}
-use Rattle.noise_names.specs.declared.token.Role.TheVariants.{Initiator, Responder}
+use Rattle.noise_transcript.proofs.Common.{Role, Initiator, Responder, Plan, other, IsFirstFault, IsValid, setup_fault, Say, event_of, events_of, say_events, public_of, SaySame, VectorTextsAreUnique, held_datagrams, IsAllowed, IsAllowedFile, IsAllowedVersion, IsVectorFile, file_text, FileKeys, SayOnly, VectorFile, Version, One, Two, shown_before, HasSetupFault, IsFilePatternFault, IsFilePattern, IsStartFault, setup_of, datagrams_of_version, HasFittingLines, IsXor}
 use Rattle.noise_names.specs.Names.{Section}
-use Rattle.noise_names.specs.Plan.{Plan}
-use Rattle.noise_names.specs.Tokens.{other}
-use Rattle.noise_names.specs.Validity.{IsFirstFault, IsValid}
 use Rattle.noise_keys.specs.declared.faults.SetupFault.{SetupFault}
-use Rattle.noise_handshake.specs.Setup.{setup_fault}
 use Rattle.noise_events.specs.declared.event.Event.{Event as Given}
-use Rattle.noise_events.specs.declared.event.Event.TheVariants as given
-use Rattle.noise_events.specs.Events.{Say, event_of, events_of}
 use Rattle.noise_events.specs.DatagramEvents.{DatagramEvent, datagram_events_of}
 use Rattle.noise_events.specs.declared.window.Window.{Window}
-use Rattle.noise_duel.specs.Conversation.{say_events}
-use Rattle.noise_vectors.specs.FileKeys.{public_of}
-use Rattle.noise_vectors.specs.SameFile.{SaySame, VectorTextsAreUnique, held_datagrams}
-use Rattle.noise_vectors.specs.VectorFile.{IsAllowed, IsAllowedFile, IsAllowedVersion, IsVectorFile}
-use Rattle.noise_vectors.specs.VectorText.{file_text}
-use Rattle.noise_vectors.specs.declared.faults.VectorFault.TheVariants as vector
-use Rattle.noise_vectors.specs.declared.file_keys.FileKeys.{FileKeys}
-use Rattle.noise_vectors.specs.declared.vector.AllowedEvents.TheVariants.{SayOnly}
 use Rattle.noise_vectors.specs.declared.vector.FileDatagrams.{FileDatagrams}
-use Rattle.noise_vectors.specs.declared.vector.VectorFile.{VectorFile}
-use Rattle.noise_vectors.specs.declared.vector.Version.{Version}
-use Rattle.noise_vectors.specs.declared.vector.Version.TheVariants.{One, Two}
 use Rattle.noise_lines.specs.declared.faults.Fault.{Fault}
-use Rattle.noise_lines.specs.declared.faults.Fault.TheVariants as fault
-use Rattle.noise_handshake.specs.Counterparts.{shown_before}
-use Rattle.noise_tool.specs.Ends.{HasSetupFault, IsFilePatternFault, IsFilePattern, IsStartFault, setup_of}
 use Rattle.noise_tool.specs.Performing.{HasUnmet, IsPlain, IsRunFault, IsUnmet}
-use Rattle.noise_tool.specs.Running.{datagrams_of_version}
-use Rattle.noise_transcript.specs.Fitting.{HasFittingLines, IsXor}
 use Rattle.noise_transcript.proofs.Names.{no-name-without, no-place-beyond, no-rule-broken}
 use Rattle.noise_transcript.proofs.Same.{datagrams-are}
 use Rattle.noise_names.specs.Lists.{heads, tails}
 use Rattle.noise_tool.specs.OnePattern.{pattern-once}
+use Rattle.noise_events.specs.declared.event.Event.TheVariants as given
+use Rattle.noise_vectors.specs.declared.faults.VectorFault.TheVariants as vector
+use Rattle.noise_lines.specs.declared.faults.Fault.TheVariants as fault
 
 -- ---- the file is one that `talk` takes
 

@@ -1,33 +1,17 @@
 -- The run of a file whose lines fit.
 use Rattle.std.proofs.Common.{◌≡◌, ◌∙◌, refl, ap, sym, subst, ℕ, List, [], ◌++◌, length, map, Option, None}
-use Rattle.std.specs.Prelude.{true, is_some}
-use Rattle.noise_names.specs.declared.token.Role.{Role}
-use Rattle.noise_names.specs.declared.token.Role.TheVariants.{Initiator, Responder}
+use Rattle.noise_transcript.proofs.Common.{true, is_some, Role, Initiator, Responder, Plan, places_of, IsValid, is_among, occurs, is_dh, public_keys, setup_fault, token_of, Event, HaveParts, KeyMaterial, LinesComeThrough, LinesLeave, LinesRun, history_in, transcript, Start, Sides, VectorFile, sides_of_file, file_start, note_line, state_lines, AreLast, HasFittingLines, FittingLinesRun, exchange_lines}
 use Rattle.noise_names.specs.declared.token.Token.{Token}
-use Rattle.noise_names.specs.Plan.{Plan, places_of}
-use Rattle.noise_names.specs.Validity.{IsValid, is_among, occurs}
 use Rattle.noise_keys.specs.declared.keys.Own.{Own}
-use Rattle.noise_handshake.specs.Counterparts.{is_dh}
 use Rattle.noise_handshake.specs.RemoteKeys.{remote-own}
 use Rattle.noise_handshake.specs.declared.remote.Remote.{Remote}
-use Rattle.noise_handshake.specs.Setup.{public_keys, setup_fault, token_of}
 use Rattle.noise_handshake.specs.Party.{own_at, remote_at}
-use Rattle.noise_events.specs.Events.{Event}
-use Rattle.noise_duel.specs.Conversation.{HaveParts, KeyMaterial, LinesComeThrough, LinesLeave, LinesRun, history_in, transcript}
-use Rattle.noise_duel.specs.Messages.{Start}
 use Rattle.noise_duel.specs.Notes.{Note}
 use Rattle.noise_duel.specs.Runs.{Run}
 use Rattle.noise_duel.specs.SetUpAlike.{AlikeAreParts, HaveOneMaterial, AreSetUpAlike, HasDhResults, material_of}
-use Rattle.noise_duel.specs.Sides.{Sides}
 use Rattle.noise_conversation.specs.Turns.{LinesTakeTurns}
 use Rattle.noise_vectors.specs.declared.vector.FileDatagrams.{FileDatagrams}
-use Rattle.noise_vectors.specs.declared.vector.VectorFile.{VectorFile}
-use Rattle.noise_tool.specs.Ends.{sides_of_file, file_start}
-use Rattle.noise_tool.specs.Printed.{note_line, state_lines}
-use Rattle.noise_tool.specs.Running.{AreLast}
 use Rattle.noise_tool.specs.Running.AreLast.{without}
-use Rattle.noise_transcript.specs.Fitting.{HasFittingLines}
-use Rattle.noise_transcript.specs.Talked.{FittingLinesRun, exchange_lines}
 use Rattle.noise_transcript.proofs.Exchange.{noted-lines, same-writers}
 use Rattle.noise_transcript.proofs.Reached.{both-there}
 use Rattle.noise_transcript.proofs.Xor.{keys-agree, long-keys, xor-dh-results}

@@ -1,16 +1,12 @@
 -- Keys whose DH is the xor of bytes: those of two parties agree, and have a DH result wherever a setup without a fault needs one.
 use Rattle.std.proofs.Common.{◌≡◌, ◌∙◌, refl, ap, sym, ℕ, List, length, Option, Some, None}
-use Rattle.std.specs.Prelude.{true, is_some, IfSome}
+use Rattle.noise_transcript.proofs.Common.{true, is_some, IfSome, agreement_of, public_of, AreKeys, FileKeys, IsXor}
 use Rattle.noise_keys.specs.declared.keys.Own.{Own}
 use Rattle.noise_keys.specs.declared.keys.Own.TheVariants.{Ephemeral, Static}
 use Rattle.noise_keys.specs.Keys.{key_of, xor_dh_result, xor_dh_result-same}
 use Rattle.noise_handshake.specs.Party.{dh_result_of}
-use Rattle.noise_vectors.specs.FileKeys.{agreement_of, public_of}
-use Rattle.noise_vectors.specs.VectorFile.{AreKeys}
 use Rattle.noise_vectors.specs.Words.{IsKey}
-use Rattle.noise_vectors.specs.declared.file_keys.FileKeys.{FileKeys}
 use Rattle.noise_vectors.specs.declared.file_keys.FileKeys.TheVariants.{Xor, Table}
-use Rattle.noise_transcript.specs.Fitting.{IsXor}
 use Rattle.std.proofs.lemmas.Option.{same_Some}
 
 -- ---- the keys of a right file have 32 bytes

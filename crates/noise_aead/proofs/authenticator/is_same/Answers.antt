@@ -1,6 +1,5 @@
 use Rattle.std.proofs.Common.{sym, ap, ◌∙◌}
-use Rattle.std.specs.Int.{w128, from_le_bytes}
-use Rattle.std.proofs.lemmas.Bool.{eqb-true, eq-eqb}
+use Rattle.noise_aead.proofs.Common.{w128, from_le_bytes, eqb-true, eq-eqb}
 use Rattle.noise_aead.proofs.Numbers.{from_le_bytes-same}
 use Rattle.noise_aead.proofs.authenticator.is_same.Goals as goal
 

@@ -1,7 +1,6 @@
 use Rattle.std.proofs.Common.{◌≡◌, List, ℕ, ◌++◌, [], length, sym, subst, append_assoc}
-use Rattle.std.specs.Int.{w64, to_le_bytes}
+use Rattle.noise_aead.proofs.Common.{w64, to_le_bytes, padding, authenticated}
 use Rattle.noise_poly.specs.State.{Holds}
-use Rattle.noise_aead.specs.Sealing.{padding, authenticated}
 use Rattle.noise_aead.proofs.authenticator.tag.Goals as goal
 
 pub returns : goal.returns

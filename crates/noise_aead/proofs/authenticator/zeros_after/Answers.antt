@@ -1,5 +1,5 @@
 use Rattle.std.proofs.Common.{◌-◌, ◌%◌, length, arith}
-use Rattle.std.proofs.lemmas.List.{take-replicate}
+use Rattle.noise_aead.proofs.Common.{take-replicate}
 use Rattle.noise_aead.proofs.authenticator.zeros_after.Goals as goal
 
 pub returns : goal.returns

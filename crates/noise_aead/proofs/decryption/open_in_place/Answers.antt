@@ -1,8 +1,6 @@
 use Rattle.std.proofs.Common.{ap, sym, refl, ◌∙◌}
-use Rattle.std.proofs.lemmas.Bool.{false≢true}
-use Rattle.noise_aead.specs.Sealing.{keystream_xor, sealed}
+use Rattle.noise_aead.proofs.Common.{false≢true, keystream_xor, sealed, sealed-parts, sealed-masked}
 use Rattle.noise_aead.proofs.Beginning.{tag-first, text-next}
-use Rattle.noise_aead.specs.Sealed.{sealed-parts, sealed-masked}
 use Rattle.noise_aead.proofs.decryption.open_in_place.Goals as goal
 
 pub returns-else-is_same-clause-accepts : goal.returns-else-is_same-clause-accepts

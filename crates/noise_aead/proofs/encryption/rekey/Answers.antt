@@ -1,9 +1,7 @@
 use Rattle.std.proofs.Common.{◌≡◌, List, ℕ, [], replicate, refl, sym, ap, ◌∙◌}
-use Rattle.std.proofs.lemmas.List.{take_at}
-use Rattle.rand_chacha.specs.ChaCha.{ChaCha}
-use Rattle.noise_aead.specs.Sealing.{bytes_from, generator_at, stream_byte, keystream_xor, seal_tag, nonce_of, rekeyed}
+use Rattle.noise_aead.proofs.Common.{take_at, ChaCha, generator_at, stream_byte, keystream_xor, seal_tag, nonce_of, length-masked}
+use Rattle.noise_aead.specs.Sealing.{bytes_from, rekeyed}
 use Rattle.noise_aead.proofs.Masking.{xored-zeros}
-use Rattle.noise_aead.specs.Sealed.{length-masked}
 use Rattle.noise_aead.proofs.encryption.rekey.Goals as goal
 
 pub returns : goal.returns

@@ -1,5 +1,5 @@
 use Rattle.std.proofs.Common.{List, ℕ, ◌++◌, refl, ap, ◌∙◌}
-use Rattle.noise_aead.specs.Sealing.{seal_tag}
+use Rattle.noise_aead.proofs.Common.{seal_tag}
 use Rattle.noise_aead.proofs.Beginning.{tag-first, text-next}
 use Rattle.noise_aead.proofs.encryption.seal_in_place.Goals as goal
 

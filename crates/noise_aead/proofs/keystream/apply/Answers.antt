@@ -1,7 +1,6 @@
 use Rattle.std.proofs.Common.{◌≡◌, ◌+◌, ◌-◌, ◌*◌, ◌/◌, ◌++◌, ℕ, List, length, take, drop, ap, ◌∙◌, arith, take_all, append-nil}
 use Rattle.std.proofs.Math.ListN.{drop_of_length-le}
-use Rattle.rand_chacha.specs.ChaCha.{ChaCha}
-use Rattle.noise_aead.specs.Sealing.{byte_from, xored}
+use Rattle.noise_aead.proofs.Common.{ChaCha, byte_from, xored}
 use Rattle.noise_aead.proofs.Blocks.{byte_from-later}
 use Rattle.noise_aead.proofs.Masking.{xored_more}
 use Rattle.noise_aead.proofs.keystream.apply.Goals as goal

@@ -1,5 +1,5 @@
 use Rattle.std.proofs.Common.{◌≡◌, ◌+◌, ◌*◌, ◌++◌, take, drop}
-use Rattle.noise_aead.specs.Sealing.{byte_from, xored}
+use Rattle.noise_aead.proofs.Common.{byte_from, xored}
 use Rattle.noise_aead.proofs.keystream.apply.Given as goal
 
 abbrev pub invariant-loop-i : goal.invariant-loop-i

@@ -1,7 +1,6 @@
 use Rattle.std.proofs.Common.{List, ℕ, take, ap, ◌∙◌}
-use Rattle.std.specs.Prelude.{bit_xor}
-use Rattle.std.specs.Simd.Lanes.{zip2}
-use Rattle.noise_aead.specs.Sealing.{byte_from, bytes_from}
+use Rattle.noise_aead.proofs.Common.{bit_xor, zip2, byte_from}
+use Rattle.noise_aead.specs.Sealing.{bytes_from}
 use Rattle.noise_aead.proofs.Masking.{xored_block}
 use Rattle.noise_aead.proofs.keystream.apply_block.Goals as goal
 

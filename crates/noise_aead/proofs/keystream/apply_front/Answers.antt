@@ -1,7 +1,5 @@
 use Rattle.std.proofs.Common.{ℕ, List, get_or, ap, ◌∙◌, arith}
-use Rattle.std.specs.Prelude.{bit_xor}
-use Rattle.rand_chacha.specs.ChaCha.{ChaCha}
-use Rattle.noise_aead.specs.Sealing.{byte_from}
+use Rattle.noise_aead.proofs.Common.{bit_xor, ChaCha, byte_from}
 use Rattle.noise_aead.proofs.Blocks.{get_or-bytes_from}
 use Rattle.noise_aead.proofs.Masking.{is_xored}
 use Rattle.noise_aead.proofs.keystream.apply_front.Goals as goal

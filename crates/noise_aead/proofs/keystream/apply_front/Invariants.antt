@@ -1,5 +1,5 @@
 use Rattle.std.proofs.Common.{◌≡◌, ℕ, ◌<◌, ◌≤◌, List, get_or}
-use Rattle.std.specs.Prelude.{bit_xor}
+use Rattle.noise_aead.proofs.Common.{bit_xor}
 use Rattle.noise_aead.proofs.keystream.apply_front.Given as goal
 
 -- The bytes below j are done and those from j on are as they were.

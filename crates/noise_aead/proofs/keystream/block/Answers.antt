@@ -1,7 +1,5 @@
 use Rattle.std.proofs.Common.{◌≡◌, ℕ, ◌+◌, [], ◌∷◌, refl, ap, sym, ◌∙◌, arith, add-zero}
-use Rattle.std.specs.Int.{w32, to_le_bytes}
-use Rattle.std.specs.List.{flat_map}
-use Rattle.rand_chacha.specs.ChaCha.{ChaCha, word_at}
+use Rattle.noise_aead.proofs.Common.{w32, to_le_bytes, flat_map, ChaCha, word_at}
 use Rattle.noise_aead.specs.Sealing.{bytes_from}
 use Rattle.noise_aead.proofs.Blocks.{words_cut, next, sixteen_words}
 use Rattle.noise_aead.proofs.keystream.block.Goals as goal

@@ -1,7 +1,6 @@
 use Rattle.std.proofs.Common.{◌≡◌, ◌+◌, ◌*◌, ◌%◌, ◌^◌, List, ℕ, take, drop, ap, sym, ◌∙◌, arith, length-drop, length-take-le}
+use Rattle.noise_aead.proofs.Common.{ChaCha, key_of, number}
 use Rattle.byteorder.specs.Numbers.{little_from-take}
-use Rattle.rand_chacha.specs.ChaCha.{ChaCha, key_of}
-use Rattle.noise_poly.specs.Poly.{number}
 use Rattle.noise_aead.proofs.Numbers.{little_from-whole}
 use Rattle.noise_aead.proofs.keystream.generator.Goals as goal
 

@@ -1,6 +1,7 @@
 use Rattle.std.proofs.Common.{arith, length, ap, sym, ◌∙◌, take, length-take-le}
 use Rattle.std.proofs.lemmas.List.FromFn.{take-map-range_with_len}
-use Rattle.noise_aead.specs.Sealing.{byte_from, bytes_from}
+use Rattle.noise_aead.proofs.Common.{byte_from}
+use Rattle.noise_aead.specs.Sealing.{bytes_from}
 use Rattle.noise_aead.proofs.Blocks.{length_bytes_from}
 use Rattle.noise_aead.proofs.keystream.half_block.Goals as goal
 

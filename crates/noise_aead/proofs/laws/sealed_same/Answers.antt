@@ -1,4 +1,4 @@
-use Rattle.noise_aead.specs.Sealed.{sealed-same}
+use Rattle.noise_aead.proofs.Common.{sealed-same}
 use Rattle.noise_aead.proofs.laws.sealed_same.Goals as goal
 
 pub returns : goal.returns

@@ -1,5 +1,5 @@
 use Rattle.std.proofs.Common.{rules, ◌≡◌, ◌++◌, ◌<◌, refl, subst, inr, List, [], ℕ, length, codes}
-use Rattle.noise_names.specs.Lists.{bytes_of}
+use Rattle.noise_lines.proofs.Common.{bytes_of}
 use Rattle.noise_vectors.specs.VectorText.{expect_line, line_then, lines_of}
 use Rattle.noise_lines.proofs.ConvertingLemmas.{converted-is}
 use Rattle.noise_lines.proofs.conversion.convert.Goals as goal

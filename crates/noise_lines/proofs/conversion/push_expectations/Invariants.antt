@@ -1,5 +1,5 @@
 use Rattle.std.proofs.Common.{◌≡◌, ◌++◌, take}
-use Rattle.std.specs.Prelude.{flat_map}
+use Rattle.noise_lines.proofs.Common.{flat_map}
 use Rattle.noise_lines.proofs.ConvertingLemmas.{expectation}
 use Rattle.noise_lines.proofs.conversion.push_expectations.Given as goal
 

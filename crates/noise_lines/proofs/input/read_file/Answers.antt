@@ -1,7 +1,5 @@
 use Rattle.std.proofs.Common.{rules, arith, ◌≡◌, ◌+◌, ◌<◌, ◌≤◌, inr, refl, sym, subst, ℕ, List, ◌++◌, Option, length, take}
-use Rattle.std.specs.Io.KnownBytes.{Consumes}
-use Rattle.std.proofs.KnownBytes.{Consumes-kept, Consumes-nil, Consumes-trans}
-use Rattle.std.proofs.lemmas.List.{length-append, length-take}
+use Rattle.noise_lines.proofs.Common.{Consumes, Consumes-kept, Consumes-nil, Consumes-trans, length-append, length-take}
 use Rattle.noise_lines.proofs.InputLemmas.{all-read, long-read}
 use Rattle.noise_lines.proofs.input.read_file.Goals as goal
 

@@ -1,5 +1,5 @@
 use Rattle.std.proofs.Common.{◌≡◌, ◌≤◌, vec_len}
-use Rattle.std.specs.Io.KnownBytes.{Consumes}
+use Rattle.noise_lines.proofs.Common.{Consumes}
 use Rattle.noise_lines.proofs.input.read_file.Given as goal
 
 abbrev pub invariant-loop : goal.invariant-loop

@@ -1,4 +1,4 @@
-use Rattle.std.proofs.KnownBytes.{Keeps-refl, Keeps-trans}
+use Rattle.noise_lines.proofs.Common.{Keeps-refl, Keeps-trans}
 use Rattle.noise_lines.proofs.InputLemmas.{unchanged-consumes}
 use Rattle.noise_lines.proofs.input.read_some.Goals as goal
 

@@ -1,4 +1,4 @@
-use Rattle.std.specs.Io.KnownBytes.{Keeps}
+use Rattle.noise_lines.proofs.Common.{Keeps}
 use Rattle.noise_lines.proofs.input.read_some.Given as goal
 
 abbrev pub invariant-loop : goal.invariant-loop

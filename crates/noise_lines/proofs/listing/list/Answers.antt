@@ -1,12 +1,10 @@
 use Rattle.std.proofs.Common.{◌∙◌, ℕ, ◌≤◌, List, [], ◌∷◌, ◌++◌, Vec, Global, ap, sym, length, append_assoc, arith}
-use Rattle.std.specs.Prelude.{flat_map}
-use Rattle.std.proofs.lemmas.List.{take_all}
+use Rattle.noise_lines.proofs.Common.{flat_map, take_all, line}
 use Rattle.noise_names.specs.Plan.{Plan}
-use Rattle.noise_names.specs.Text.{line}
 use Rattle.noise_names.specs.Fundamental.{fundamentals}
 use Rattle.noise_lines.proofs.OutputLemmas.{elements-more, fundamentals-count, none-past}
-use Rattle.noise_lines.proofs.listing.list.Goals as goal
 use Rattle.noise_lines.proofs.listing.list.Goals.{in-Some+in_ok-extend_from_slice+in_ok-push, in_default}
+use Rattle.noise_lines.proofs.listing.list.Goals as goal
 
 pub loop-place-preserved : goal.loop-place-preserved
 loop-place-preserved c =

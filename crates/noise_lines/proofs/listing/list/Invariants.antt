@@ -1,6 +1,5 @@
 use Rattle.std.proofs.Common.{◌≡◌, take}
-use Rattle.std.specs.Prelude.{flat_map}
-use Rattle.noise_names.specs.Text.{line}
+use Rattle.noise_lines.proofs.Common.{flat_map, line}
 use Rattle.noise_names.specs.Fundamental.{fundamentals}
 use Rattle.noise_lines.proofs.listing.list.Given as goal
 

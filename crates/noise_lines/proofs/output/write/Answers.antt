@@ -1,6 +1,5 @@
 use Rattle.std.proofs.Common.{rules, subst}
-use Rattle.std.specs.Io.KnownBytes.{Appends}
-use Rattle.std.proofs.KnownBytes.{Appends-kept, Appends-trans}
+use Rattle.noise_lines.proofs.Common.{Appends, Appends-kept, Appends-trans}
 use Rattle.noise_lines.proofs.PrefixLemmas.{prefix-taken, taken-more}
 use Rattle.noise_lines.proofs.output.write.Goals as goal
 

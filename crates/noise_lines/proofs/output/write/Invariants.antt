@@ -1,5 +1,5 @@
 use Rattle.std.proofs.Common.{◌-◌, ◌≤◌, length, take}
-use Rattle.std.specs.Io.KnownBytes.{Appends}
+use Rattle.noise_lines.proofs.Common.{Appends}
 use Rattle.noise_lines.proofs.output.write.Given as goal
 
 -- so many bytes are written

@@ -1,6 +1,5 @@
 use Rattle.std.proofs.Common.{take}
-use Rattle.std.specs.Prelude.{flat_map}
-use Rattle.std.specs.Io.KnownBytes.{Appends}
+use Rattle.noise_lines.proofs.Common.{flat_map, Appends}
 use Rattle.noise_lines.proofs.OutputLemmas.{written_line}
 use Rattle.noise_lines.proofs.output.write_lines.Given as goal
 

@@ -1,4 +1,4 @@
-use Rattle.std.specs.Io.KnownBytes.{Keeps}
+use Rattle.noise_lines.proofs.Common.{Keeps}
 use Rattle.noise_lines.proofs.output.write_some.Given as goal
 
 -- nothing is written

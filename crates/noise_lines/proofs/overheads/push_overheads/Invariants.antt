@@ -1,6 +1,5 @@
 use Rattle.std.proofs.Common.{◌≡◌, ◌++◌}
-use Rattle.std.specs.Prelude.{flat_map}
-use Rattle.std.specs.List.{range_with_len}
+use Rattle.noise_lines.proofs.Common.{flat_map, range_with_len}
 use Rattle.noise_lines.specs.Output.{overhead_line}
 use Rattle.noise_lines.proofs.overheads.push_overheads.Given as goal
 

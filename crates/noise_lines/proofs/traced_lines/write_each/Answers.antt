@@ -1,7 +1,5 @@
 use Rattle.std.proofs.Common.{◌∙◌, ◌+◌, ◌∷◌, ap, drop, sym}
-use Rattle.std.proofs.lemmas.List.{drop_more}
-use Rattle.noise_names.specs.Lists.{bytes_of}
-use Rattle.noise_lines.specs.TracedLines.{traces_of}
+use Rattle.noise_lines.proofs.Common.{drop_more, bytes_of, traces_of}
 use Rattle.noise_lines.proofs.TracedLinesLemmas.{line-here, written-cut, written-more}
 use Rattle.noise_lines.proofs.traced_lines.write_each.Goals as goal
 

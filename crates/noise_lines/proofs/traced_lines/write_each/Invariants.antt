@@ -1,5 +1,4 @@
-use Rattle.noise_names.specs.Lists.{bytes_of}
-use Rattle.noise_lines.specs.TracedLines.{traces_of}
+use Rattle.noise_lines.proofs.Common.{bytes_of, traces_of}
 use Rattle.noise_lines.proofs.TracedLinesLemmas.{Written}
 use Rattle.noise_lines.proofs.traced_lines.write_each.Given as goal
 

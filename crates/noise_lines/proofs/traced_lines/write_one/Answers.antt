@@ -1,8 +1,5 @@
 use Rattle.std.proofs.Common.{rules, ◌≡◌, ◌∙◌, ◌∷◌, ◌++◌, [], ap, append-nil, subst, sym, List, ℕ}
-use Rattle.std.proofs.KnownBytes.{Appends-trans}
-use Rattle.noise_lines.specs.Lines.{lines_text}
-use Rattle.noise_lines.specs.Prefixes.{AppendsPrefix}
-use Rattle.noise_names.specs.Lists.{bytes_of}
+use Rattle.noise_lines.proofs.Common.{Appends-trans, lines_text, AppendsPrefix, bytes_of}
 use Rattle.noise_lines.proofs.PrefixLemmas.{prefix-after}
 use Rattle.noise_lines.proofs.TracedLinesLemmas.{line-apart, prefix-more}
 use Rattle.noise_lines.proofs.traced_lines.write_one.Goals as goal

@@ -1,7 +1,5 @@
 use Rattle.std.proofs.Common.{◌∙◌, ◌++◌, [], ap, append-nil, sym, List, ℕ}
-use Rattle.noise_lines.specs.Lines.{lines_text}
-use Rattle.noise_lines.specs.TracedLines.{traces_of, with_traces}
-use Rattle.noise_names.specs.Lists.{bytes_of}
+use Rattle.noise_lines.proofs.Common.{lines_text, traces_of, with_traces, bytes_of}
 use Rattle.noise_lines.proofs.PrefixLemmas.{prefix-after}
 use Rattle.noise_lines.proofs.TracedLinesLemmas.{lines-apart}
 use Rattle.noise_lines.proofs.traced_lines.write_traced.Goals as goal

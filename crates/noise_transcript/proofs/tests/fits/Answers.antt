@@ -1,10 +1,8 @@
-use Rattle.std.proofs.Common.{rules, ◌≡◌, arith, map, None}
-use Rattle.std.specs.Prelude.{true}
-use Rattle.noise_names.specs.Plan.{Plan}
+use Rattle.std.proofs.Common.{rules, ◌≡◌, map, None}
+use Rattle.noise_transcript.proofs.Common.{true, Plan, say_of}
 use Rattle.noise_duel.specs.Acts.{roles_and_payloads}
 use Rattle.noise_conversation.specs.Lines.{lines_fit_from}
 use Rattle.noise_conversation.specs.Setup.{fault_of}
-use Rattle.noise_vectors.specs.VectorFile.{say_of}
 use Rattle.noise_transcript.proofs.Checks.{fit-file, xor_starts}
 use Rattle.noise_transcript.proofs.tests.fits.Goals as goal
 

@@ -1,6 +1,5 @@
-use Rattle.std.proofs.Common.{rules, ◌≡◌, ◌∙◌, ◌++◌, ◌≤◌, ap, arith, ℕ, List, Some}
-use Rattle.noise_lines.specs.Lines.{lines_text}
-use Rattle.noise_transcript.specs.Talked.{talked_lines}
+use Rattle.std.proofs.Common.{◌∙◌, ◌++◌, ◌≤◌, ap, arith, ℕ, List, Some}
+use Rattle.noise_transcript.proofs.Common.{lines_text, talked_lines}
 use Rattle.noise_transcript.proofs.tests.printed.Goals as goal
 
 pub returns : goal.returns

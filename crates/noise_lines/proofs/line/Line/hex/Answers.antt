@@ -1,7 +1,6 @@
 use Rattle.std.proofs.Common.{arith, ◌≡◌, ◌∙◌, ◌++◌, ◌∷◌, ap, [], ◌<◌, List, ℕ, append_assoc}
 use Rattle.std.proofs.lemmas.List.Elements.{All-from_get_or}
-use Rattle.std.specs.List.{All}
-use Rattle.noise_vectors.specs.HexWord.{hex_of}
+use Rattle.noise_lines.proofs.Common.{All, hex_of}
 use Rattle.noise_lines.proofs.PrintedWordLemmas.{printed-hex_of, printed-more}
 use Rattle.noise_lines.proofs.line.Line.hex.Goals as goal
 
