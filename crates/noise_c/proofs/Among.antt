@@ -1,22 +1,9 @@
 -- What a party with the first DH results reads, refuses and writes it does with all of them too.
-use Rattle.std.proofs.Common.{◌≡◌, ℕ, zero, suc, ◌+◌, ◌<◌, List, [], ◌∷◌, ◌++◌, length, take, refl, ap, sym, subst, ◌∙◌, arith}
-use Rattle.std.proofs.Common.{append_assoc, take_all}
-use Rattle.std.specs.Prelude.{Bool, Option, Some, None, is_some, if◌then◌else◌}
-use Rattle.noise_names.specs.declared.token.Token.{Token}
-use Rattle.noise_names.specs.declared.token.Token.TheVariants.{E, S, Psk}
-use Rattle.noise_names.specs.declared.token.Role.{Role}
-use Rattle.noise_state.specs.History.{History, cipher_key, ciphertext}
+use Rattle.std.proofs.Common.{◌≡◌, ℕ, zero, suc, ◌+◌, ◌<◌, List, [], ◌∷◌, ◌++◌, length, take, refl, ap, sym, subst, ◌∙◌, arith, append_assoc, take_all}
+use Rattle.noise_c.proofs.Common.{Bool, Option, Some, None, is_some, if◌then◌else◌, Token, E, S, Role, History, cipher_key, ciphertext, Own, Remote, Cause, Agreement, Reader, Fits, Fit, known_after, psks_after, BeginsAs, CanBegin, Reads, Stops, Accepts, Refuses, dh_result_of, cause_at, Party, tokens_now, Writer, Gives, Given, Writes, has_psk, DhResults, AreAmong, ActsAsAll, with_dh_results}
+use Rattle.noise_names.specs.declared.token.Token.TheVariants.{Psk}
 use Rattle.noise_state.specs.Ciphertexts.{length-ciphertext, ciphertext-same}
-use Rattle.noise_keys.specs.declared.keys.Own.{Own}
-use Rattle.noise_handshake.specs.declared.remote.Remote.{Remote}
-use Rattle.noise_handshake.specs.declared.faults.Cause.{Cause}
-use Rattle.noise_handshake.specs.declared.faults.Cause.TheVariants.{Agreement}
 use Rattle.noise_handshake.specs.Message.{token_bytes, after_token, before_payload, after_tokens}
-use Rattle.noise_handshake.specs.Party.{Reader, Fits, Fit, known_after, psks_after, BeginsAs, CanBegin, Reads, Stops, Accepts, Refuses, dh_result_of, cause_at}
-use Rattle.noise_handshake.specs.Party.{Party, tokens_now}
-use Rattle.noise_handshake.specs.Writing.{Writer, Gives, Given, Writes}
-use Rattle.noise_names.specs.Plan.{has_psk}
-use Rattle.noise_c.specs.DhResults.{DhResults, AreAmong, ActsAsAll, with_dh_results}
 use Rattle.noise_names.specs.Lists.{split-apart, cons-same}
 
 -- ---- lists

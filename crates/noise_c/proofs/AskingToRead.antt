@@ -1,22 +1,11 @@
 -- Each DH result that a message asks for is that of a later DH token than the one before.
-use Rattle.std.proofs.Common.{◌≡◌, inl, inr, ℕ, zero, suc, ◌+◌, ◌<◌, ◌≤◌, List, [], ◌∷◌, ◌++◌, length, take, drop, refl, ap, sym, subst, ◌∙◌, arith}
-use Rattle.std.proofs.Common.{append_assoc, take-take}
-use Rattle.std.proofs.Math.Seq.{take-append_seam}
+use Rattle.std.proofs.Common.{◌≡◌, inl, inr, ℕ, zero, suc, ◌+◌, ◌<◌, ◌≤◌, List, [], ◌∷◌, ◌++◌, length, take, drop, refl, ap, sym, subst, ◌∙◌, arith, append_assoc, take-take}
 use Rattle.std.proofs.lemmas.List.Sums.{sum_by-cons}
-use Rattle.std.specs.Prelude.{Bool, true, false, cond, Option, Some, None, is_some, if◌then◌else◌, nat_lt, count_by}
-use Rattle.noise_names.specs.declared.token.Token.{Token}
-use Rattle.noise_names.specs.declared.token.Token.TheVariants.{E, S, Ee, Psk}
-use Rattle.noise_state.specs.History.{History, cipher_key}
-use Rattle.noise_keys.specs.declared.keys.Own.{Own}
-use Rattle.noise_handshake.specs.declared.remote.Remote.{Remote}
-use Rattle.noise_handshake.specs.declared.faults.Cause.TheVariants.{Short, Tag, Agreement}
-use Rattle.noise_handshake.specs.Counterparts.{is_dh}
+use Rattle.std.specs.Prelude.{true, false}
+use Rattle.noise_c.proofs.Common.{take-append_seam, Bool, cond, Option, Some, None, is_some, if◌then◌else◌, nat_lt, count_by, Token, E, S, Ee, History, cipher_key, Own, Remote, Short, Tag, Agreement, is_dh, Party, Reader, reader, Fits, known_after, psks_after, BeginsAs, CanBegin, Stops, dh_result_of, cause_of, cause_at, remote_after, own_at, remote_at, first_psk, tokens_now, StopsFor, WantsToRead, DhResults, AreAmong, AskedToRead, IsHandedIn, with_dh_results}
+use Rattle.noise_names.specs.declared.token.Token.TheVariants.{Psk}
 use Rattle.noise_handshake.specs.Message.{token_bytes, after_token, before_payload, after_tokens}
-use Rattle.noise_handshake.specs.Party.{Party, Reader, reader, Fits, known_after, psks_after, BeginsAs, CanBegin, Stops, dh_result_of, cause_of, cause_at, remote_after}
-use Rattle.noise_handshake.specs.Party.{own_at, remote_at, first_psk, tokens_now}
-use Rattle.noise_handshake.specs.Wanting.{StopsFor, WantsToRead}
 use Rattle.noise_c.proofs.Among.{fit-all}
-use Rattle.noise_c.specs.DhResults.{DhResults, AreAmong, AskedToRead, IsHandedIn, with_dh_results}
 use Rattle.noise_c.specs.DhResults.AskedToRead.{ready, asked}
 
 -- ---- the tokens

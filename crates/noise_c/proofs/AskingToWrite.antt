@@ -1,17 +1,8 @@
 -- The same of DH results that the party's own message asks for.
-use Rattle.std.proofs.Common.{◌≡◌, ℕ, zero, suc, ◌<◌, ◌≤◌, List, [], ◌∷◌, ◌++◌, length, take, drop, refl, ap, sym, subst, ◌∙◌, arith}
-use Rattle.std.proofs.Common.{take-take}
-use Rattle.std.proofs.Math.Seq.{take-append_seam}
-use Rattle.std.specs.Prelude.{true, Option, Some, None, count_by}
-use Rattle.noise_names.specs.declared.token.Token.{Token}
-use Rattle.noise_names.specs.declared.token.Token.TheVariants.{E, S, Ee, Psk}
-use Rattle.noise_keys.specs.declared.keys.Own.{Own}
-use Rattle.noise_handshake.specs.declared.remote.Remote.{Remote}
-use Rattle.noise_handshake.specs.Counterparts.{is_dh}
-use Rattle.noise_handshake.specs.Party.{Party, dh_result_of, own_at, remote_at, first_psk, psks_after, tokens_now}
-use Rattle.noise_handshake.specs.Wanting.{LacksDhResultFor, WantsToWrite}
-use Rattle.noise_handshake.specs.Writing.{Writer, writer, Gives, Given, LacksDhResultAt}
-use Rattle.noise_c.specs.DhResults.{DhResults, AreAmong, AskedToWrite, HasKeys, IsHandedIn, Shows, with_dh_results}
+use Rattle.std.proofs.Common.{◌≡◌, ℕ, zero, suc, ◌<◌, ◌≤◌, List, [], ◌∷◌, ◌++◌, length, take, drop, refl, ap, sym, subst, ◌∙◌, arith, take-take}
+use Rattle.std.specs.Prelude.{true}
+use Rattle.noise_c.proofs.Common.{take-append_seam, Option, Some, None, count_by, Token, E, S, Ee, Own, Remote, is_dh, Party, dh_result_of, own_at, remote_at, first_psk, psks_after, tokens_now, LacksDhResultFor, WantsToWrite, Writer, writer, Gives, Given, LacksDhResultAt, DhResults, AreAmong, AskedToWrite, HasKeys, IsHandedIn, Shows, with_dh_results}
+use Rattle.noise_names.specs.declared.token.Token.TheVariants.{Psk}
 use Rattle.noise_c.specs.DhResults.AskedToWrite.{ready, asked}
 use Rattle.noise_c.proofs.Among.{given-all}
 use Rattle.noise_c.proofs.AskingToRead.{among-next, at-most, counts, drop-through, psks_left, take-through}

@@ -1,15 +1,15 @@
 -- A message whose tag is wrong is no text's.
 use Rattle.std.proofs.Common.{◌≡◌, ◌≤◌, ℕ, List, length, false, true, ap, sym, ◌∙◌, refl}
+use Rattle.noise_c.proofs.Common.{ciphertext_under}
 use Rattle.noise_state.specs.declared.cipher.CipherState.{CipherState}
 use Rattle.noise_state.specs.declared.cipher.CipherFault.{CipherFault}
-use Rattle.noise_state.specs.declared.cipher.CipherFault.TheVariants as cipher
 use Rattle.noise_state.specs.Cipher.{key_in, keyed_in, nonce_in, HasNonce, DecryptRefused}
-use Rattle.noise_state.specs.History.{ciphertext_under}
 use Rattle.noise_c.specs.declared.structs.NoiseCipher.{NoiseCipher}
 use Rattle.noise_c.specs.CipherStructs.{cipher_from_c, encrypted}
 use Rattle.noise_c.specs.TransportCodes.{cipher_code}
 use Rattle.noise_c.proofs.Numbers.{other}
 use Rattle.noise_c.proofs.Finished.{contrary}
+use Rattle.noise_state.specs.declared.cipher.CipherFault.TheVariants as cipher
 
 -- the bytes are those of some text, and nothing else stands in the way
 abbrev Accepted : CipherState → List ℕ → List ℕ → Type 0

@@ -1,11 +1,6 @@
 -- The number that finishing reports.
 use Rattle.std.proofs.Common.{◌≡◌, length, true, false, ap, sym, ◌∙◌, arith}
-use Rattle.std.proofs.lemmas.Bool.Decides.{nat_tests}
-use Rattle.noise_names.specs.Plan.{Plan}
-use Rattle.noise_handshake.specs.HandshakeValue.{HandshakeValue}
-use Rattle.noise_keys.specs.Table.{Table}
-use Rattle.noise_c.specs.declared.structs.NoiseHandshake.{NoiseHandshake}
-use Rattle.noise_c.specs.HandshakeStructs.{handshake_from_c}
+use Rattle.noise_c.proofs.Common.{nat_tests, Plan, HandshakeValue, Table, NoiseHandshake, handshake_from_c}
 use Rattle.noise_c.specs.Finishing.{finish_code}
 
 pub finish-done : (h : HandshakeValue Table) → h.ended ≡ false → h.passed ≡ length h.pattern.messages → finish_code h ≡ 0

@@ -2,19 +2,13 @@
 use Rattle.std.proofs.Common.{◌≡◌, inl, inr, ℕ, zero, suc, ◌+◌, ◌<◌, ◌≤◌, List, [], ◌∷◌, ◌++◌, length, take, drop, refl, ap, sym, ◌∙◌, arith, append_assoc}
 use Rattle.std.proofs.lemmas.List.Sums.{sum_by-cons}
 use Rattle.std.proofs.lemmas.List.Folds.{list_any-append}
-use Rattle.std.specs.Prelude.{Bool, true, false, ◌||◌, cond, count_by}
+use Rattle.std.specs.Prelude.{true, false}
 use Rattle.std.specs.List.{list_any}
-use Rattle.noise_names.specs.declared.token.Token.{Token}
-use Rattle.noise_names.specs.declared.token.Token.TheVariants.{E, S, Ee, Es, Se, Ss, Psk}
-use Rattle.noise_names.specs.declared.token.Role.{Role}
+use Rattle.noise_c.proofs.Common.{Bool, ◌||◌, cond, count_by, Token, E, S, Ee, Es, Se, Ss, Role, Plan, Place, does, place, message_places, places_before, token_places, IsValid, KeepsRules, dh_is_first, is_at, occurs, is_dh, tokens_at, cases_lt, or_right, or_left, not-true, or_parts}
+use Rattle.noise_names.specs.declared.token.Token.TheVariants.{Psk}
 use Rattle.noise_names.specs.declared.token.Role.TheVariants.{Initiator, Responder}
 use Rattle.noise_names.specs.Tokens.{same_token, turn_from}
-use Rattle.noise_names.specs.Plan.{Plan, Place, does, place, message_places, places_before, token_places}
 use Rattle.noise_names.specs.Rules.{tokens-keep-rules}
-use Rattle.noise_names.specs.Validity.{IsValid, KeepsRules, dh_is_first, is_at, occurs}
-use Rattle.noise_handshake.specs.Counterparts.{is_dh}
-use Rattle.noise_handshake.specs.Party.{tokens_at}
-use Rattle.std.proofs.lemmas.Bool.{cases_lt, or_right, or_left, not-true, or_parts}
 
 -- whether a token is among others
 abbrev has : Token → List Token → Bool

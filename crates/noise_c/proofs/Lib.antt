@@ -1,3 +1,4 @@
+pub mod Common
 pub mod Among
 pub mod AskingToRead
 pub mod AskingToWrite

@@ -3,17 +3,8 @@ use Rattle.std.proofs.Common.{◌≡◌, ◌≤◌, ◌<◌, ◌+◌, ◌-◌, �
 use Rattle.std.proofs.lemmas.List.{append_assoc, append_cancel_left, drop-append-le, set-append_right}
 use Rattle.std.proofs.lemmas.List.Edits.{paste_all}
 use Rattle.std.specs.List.{copy_within}
-use Rattle.noise_names.specs.Plan.{Plan}
-use Rattle.noise_handshake.specs.HandshakeValue.{HandshakeValue}
-use Rattle.noise_handshake.specs.Late.{with_later, IsLateWhole}
-use Rattle.noise_handshake.specs.Party.{Party}
-use Rattle.noise_keys.specs.Table.{Table}
-use Rattle.noise_c.specs.declared.structs.NoiseHandshake.{NoiseHandshake}
+use Rattle.noise_c.proofs.Common.{Plan, HandshakeValue, with_later, IsLateWhole, Party, Table, NoiseHandshake, psks_of, Matches, IsValid, public_in, agreement_in, text_from_c, handshake_from_c, IsGiven, IsPatternOf, IsUsable, KeepsParty}
 use Rattle.noise_handshake.specs.Parts.{IsWholeValue}
-use Rattle.noise_handshake.specs.Setup.{psks_of}
-use Rattle.noise_handshake.specs.Matching.{Matches}
-use Rattle.noise_names.specs.Validity.{IsValid}
-use Rattle.noise_c.specs.HandshakeStructs.{public_in, agreement_in, text_from_c, handshake_from_c, IsGiven, IsPatternOf, IsUsable, KeepsParty}
 
 set-first : (ws : List (List ℕ)) (y : List ℕ) → length ws ≡ 1 → slice_set ws 0 y ≡ y ∷ []
 set-first [] y e = absurd (omega (arith, e))

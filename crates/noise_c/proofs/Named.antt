@@ -1,15 +1,13 @@
 -- A name is of one pattern.
 use Rattle.std.proofs.Common.{◌≡◌, ℕ, suc, List, [], ◌∷◌, length, ap, refl, sym, subst, ◌∙◌, arith}
-use Rattle.std.specs.Prelude.{Result, Ok, true, ◌==◌, Some}
-use Rattle.std.proofs.lemmas.Bool.Decides.{nat_tests}
+use Rattle.std.specs.Prelude.{Ok, true}
 use Rattle.std.proofs.lemmas.Option.{same_Some}
+use Rattle.noise_c.proofs.Common.{Result, ◌==◌, Some, nat_tests, Plan, IsPatternOfName}
 use Rattle.noise_names.specs.declared.faults.NameFault.{NameFault}
 use Rattle.noise_names.specs.Names.{Section, Names}
 use Rattle.noise_names.specs.Placing.{none-beyond, placed-once}
-use Rattle.noise_names.specs.Plan.{Plan}
 use Rattle.noise_names.specs.Fundamental.{fundamental_of}
 use Rattle.noise_names.specs.Limits.{Placed, first_beyond}
-use Rattle.noise_c.specs.HandshakeStructs.{IsPatternOfName}
 
 ok-same : {A : Type 0} {B : Type 0} (a b : A) → ◌≡◌ {A = Result A B} (Ok a) (Ok b) → a ≡ b
 ok-same a b e = cc

@@ -1,19 +1,11 @@
 -- A number that an export returns is none of those that another clause is about.
 use Rattle.std.proofs.Common.{◌≡◌, ◌≤◌, ◌<◌, ◌⊎◌, inl, inr, ℕ, true, false, eqb, ltb, sym, subst, refl, arith}
-use Rattle.std.proofs.lemmas.Bool.{eqb-false}
+use Rattle.noise_c.proofs.Common.{eqb-false, Cause, Agreement, ReadFault, Want, IsAgreement, NoiseResult, cause_code, read_code, write_code, ReportsWant}
 use borrow.Author.Tests.{ltb-true}
-use Rattle.noise_handshake.specs.declared.faults.Cause.{Cause}
-use Rattle.noise_handshake.specs.declared.faults.Cause.TheVariants.{Agreement}
-use Rattle.noise_handshake.specs.declared.faults.ReadFault.{ReadFault}
-use Rattle.noise_handshake.specs.declared.faults.ReadFault.TheVariants as read
 use Rattle.noise_handshake.specs.declared.faults.WriteFault.{WriteFault}
-use Rattle.noise_handshake.specs.declared.faults.WriteFault.TheVariants as write
-use Rattle.noise_handshake.specs.declared.late_faults.Want.{Want}
-use Rattle.noise_handshake.specs.HandshakeValue.{IsAgreement}
-use Rattle.noise_c.specs.declared.structs.NoiseResult.{NoiseResult}
-use Rattle.noise_c.specs.Codes.{cause_code, read_code, write_code}
-use Rattle.noise_c.specs.HandshakeStructs.{ReportsWant}
 use Rattle.noise_c.proofs.Wants.{want-code}
+use Rattle.noise_handshake.specs.declared.faults.ReadFault.TheVariants as read
+use Rattle.noise_handshake.specs.declared.faults.WriteFault.TheVariants as write
 
 -- it is another one
 pub other : {A : Type 0} (code wanted : ℕ) → eqb code wanted ≡ false → code ≡ wanted → A

@@ -1,16 +1,13 @@
 -- What opening a datagram returns by number.
 use Rattle.std.proofs.Common.{◌≡◌, ◌≤◌, inl, inr, ℕ, ◌+◌, List, drop, take, ap, sym, subst, ◌∙◌, refl, arith}
 use Rattle.std.specs.Prelude.{slice_range, Err, true}
-use Rattle.std.proofs.lemmas.Bool.{false≢true}
+use Rattle.noise_c.proofs.Common.{false≢true, DatagramReceiverValue, DatagramReceiverMatches, NoiseResult, IsDatagramCode, OpensDatagramInPlace, datagram_receiver_from_c, is_datagram_receiver}
 use Rattle.noise_session.specs.declared.datagram_fault.DatagramFault.{DatagramFault}
-use Rattle.noise_session.specs.declared.datagram_fault.DatagramFault.TheVariants as declined
 use Rattle.noise_c.specs.TransportCodes.{datagram_code}
-use Rattle.noise_session.specs.Datagrams.{DatagramReceiverValue, DatagramReceiverMatches}
 use Rattle.noise_session.specs.DatagramCalls.{DatagramReceiverOpens, OpensAfterNonce}
 use Rattle.noise_c.specs.declared.structs.NoiseDatagramReceiver.{NoiseDatagramReceiver}
-use Rattle.noise_c.specs.declared.structs.NoiseResult.{NoiseResult}
-use Rattle.noise_c.specs.DatagramStructs.{IsDatagramCode, OpensDatagramInPlace, datagram_receiver_from_c, is_datagram_receiver}
 use Rattle.noise_c.proofs.Numbers.{other, not-before}
+use Rattle.noise_session.specs.declared.datagram_fault.DatagramFault.TheVariants as declined
 
 datagram-codes : (fault : DatagramFault) → (11 ≤ datagram_code fault)
 datagram-codes declined.TooLong = omega arith

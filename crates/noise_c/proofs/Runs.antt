@@ -1,29 +1,17 @@
 -- A handshake that is handed each DH result when it asks is as the library's.
 use Rattle.std.proofs.Common.{◌≡◌, ◌⊎◌, inl, inr, ℕ, List, [], ◌∷◌, ◌++◌, refl, ap, sym, subst, ◌∙◌}
-use Rattle.std.specs.Prelude.{Bool, true, false, cond, Option, Some, None, find, nat_eq}
+use Rattle.std.specs.Prelude.{true, false}
 use Rattle.std.specs.Option.{option_map, option_or}
 use Rattle.std.specs.Cmp.Lexicographic.{pointwise, same_text}
 use Rattle.std.proofs.lemmas.Cmp.{nat_list_eq_equiv}
 use Rattle.std.proofs.lemmas.List.Folds.{find-append}
-use Rattle.noise_names.specs.Plan.{Plan}
-use Rattle.noise_names.specs.Validity.{IsValid}
-use Rattle.noise_keys.specs.declared.keys.Own.{Own}
+use Rattle.noise_c.proofs.Common.{Bool, cond, Option, Some, None, find, nat_eq, Plan, IsValid, Own, Table, TableEntry, dh_result_in, is_for, same_own, HandshakeValue, with_later, Matches, Party, DhResults, FirstActAsAll, AskedIsLacking, AskedToRead, AskedToWrite, FourSuffice, FourSufficeToWrite, HasKeys, IsHandedIn, with_dh_results, NoiseHandshake, IsAdded, IsPatternOf, KeepsParty, agreement_in, public_in, table_in, and_parts, and_from}
 use Rattle.noise_keys.specs.declared.keys.Own.TheVariants.{Ephemeral, Static}
-use Rattle.noise_keys.specs.Table.{Table, TableEntry, dh_result_in, is_for, same_own}
-use Rattle.noise_handshake.specs.HandshakeValue.{HandshakeValue}
-use Rattle.noise_handshake.specs.Late.{with_later}
-use Rattle.noise_handshake.specs.Matching.{Matches}
-use Rattle.noise_handshake.specs.Party.{Party}
-use Rattle.noise_c.specs.DhResults.{DhResults, FirstActAsAll, AskedIsLacking, AskedToRead, AskedToWrite, FourSuffice, FourSufficeToWrite, HasKeys}
-use Rattle.noise_c.specs.DhResults.{IsHandedIn, with_dh_results}
 use Rattle.noise_c.specs.DhResults.AskedToRead.{ready as none_to_read, asked as one_to_read}
 use Rattle.noise_c.specs.DhResults.AskedToWrite.{ready as none_to_write, asked as one_to_write}
-use Rattle.noise_c.specs.declared.structs.NoiseHandshake.{NoiseHandshake}
-use Rattle.noise_c.specs.HandshakeStructs.{IsAdded, IsPatternOf, KeepsParty, agreement_in, public_in, table_in}
 use Rattle.noise_c.specs.HandedIn.{ReadsByDhResults, WritesByDhResults, ReadsAsLibrary, WritesAsLibrary, dh_results_in}
 use Rattle.noise_c.specs.HandedIn.ReadsByDhResults.{ready as reads_now, handed_in as reads_later}
 use Rattle.noise_c.specs.HandedIn.WritesByDhResults.{ready as writes_now, handed_in as writes_later}
-use Rattle.std.proofs.lemmas.Bool.{and_parts, and_from}
 
 -- ---- a DH result more
 

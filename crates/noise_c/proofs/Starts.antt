@@ -1,20 +1,7 @@
 -- The start of a handshake.
 use Rattle.std.proofs.Common.{◌≡◌, ◌≤◌, ◌⊎◌, ◌↔◌, inl, inr, ℕ, List, true, false, sym, subst, ◌∙◌, ap, refl, arith}
-use Rattle.std.specs.Prelude.{Result, Ok, Err, Option, Some, None, MatchOption, IsOk, IfOk, nat_lt, length, ◌++◌}
-use Rattle.std.proofs.lemmas.Bool.Decides.{nat_tests}
-use Rattle.noise_names.specs.Plan.{Plan}
-use Rattle.noise_names.specs.Validity.{IsValid}
-use Rattle.noise_handshake.specs.HandshakeValue.{HandshakeValue}
-use Rattle.noise_keys.specs.Table.{Table}
-use Rattle.noise_handshake.specs.Party.{Party}
-use Rattle.noise_handshake.specs.Matching.{Matches}
-use Rattle.noise_handshake.specs.Late.{with_later}
-use Rattle.noise_c.specs.declared.structs.NoiseHandshake.{NoiseHandshake}
-use Rattle.noise_c.specs.HandshakeStructs.{public_in, agreement_in, text_from_c, handshake_from_c, KeepsParty, IsPatternOf, IsPatternFault, IsNoName, IsNoText, IsNotValid, is_text, IsStartCode, fault_in, code_of, start_code}
-use Rattle.noise_handshake.specs.declared.remote.Remote.{Remote}
-use Rattle.noise_handshake.specs.Setup.{party_at_start, setup_fault}
-use Rattle.noise_names.specs.declared.token.Role.{Role}
-use Rattle.noise_c.specs.Codes.{setup_code}
+use Rattle.std.specs.Prelude.{Ok, Err, length, ◌++◌}
+use Rattle.noise_c.proofs.Common.{Result, Option, Some, None, MatchOption, IsOk, IfOk, nat_lt, nat_tests, Plan, IsValid, HandshakeValue, Table, Party, Matches, with_later, NoiseHandshake, public_in, agreement_in, text_from_c, handshake_from_c, KeepsParty, IsPatternOf, IsPatternFault, IsNoName, IsNoText, IsNotValid, is_text, IsStartCode, fault_in, code_of, start_code, Remote, party_at_start, setup_fault, Role, setup_code}
 use Rattle.noise_c.specs.declared.structs.NoiseSetup.{NoiseSetup}
 use Rattle.noise_keys.specs.declared.faults.SetupFault.{SetupFault}
 use Rattle.noise_keys.specs.declared.faults.SetupFault.TheVariants as setup

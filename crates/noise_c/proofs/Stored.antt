@@ -1,24 +1,11 @@
 -- The struct matches what the handshake stood for.
 use Rattle.std.proofs.Common.{◌≡◌, ℕ, ◌+◌, ◌-◌, ◌++◌, ◌≤◌, List, length, drop, length-append, drop-drop, ap, sym, subst, ◌∙◌, refl, arith, slice_range}
-use Rattle.std.proofs.Math.Seq.{drop-append_seam}
-use Rattle.noise_names.specs.Plan.{Plan}
-use Rattle.noise_names.specs.Validity.{IsValid}
-use Rattle.noise_handshake.specs.declared.faults.Cause.{Cause}
-use Rattle.noise_handshake.specs.declared.faults.ReadFault.{ReadFault}
-use Rattle.noise_handshake.specs.declared.faults.ReadFault.TheVariants as read
+use Rattle.noise_c.proofs.Common.{drop-append_seam, Plan, IsValid, Cause, ReadFault, HandshakeValue, ended_as, message_len_of, with_later, after_late_unread, IsLateWhole, Table, Party, Accepts, Matches, after_message, after_own, after_not_read, DoesNotRead, Writes, NoiseHandshake, public_in, agreement_in, text_from_c, handshake_from_c, IsPatternOf, IsUsable, KeepsParty, WasRead, WasWritten, WasDeclined, read_code, token_in}
 use Rattle.noise_handshake.specs.declared.late_faults.LateUnread.{LateUnread}
-use Rattle.noise_handshake.specs.declared.late_faults.LateUnread.TheVariants as unread
-use Rattle.noise_handshake.specs.HandshakeValue.{HandshakeValue, ended_as, message_len_of}
-use Rattle.noise_handshake.specs.Late.{with_later, after_late_unread, IsLateWhole}
-use Rattle.noise_keys.specs.Table.{Table}
-use Rattle.noise_handshake.specs.Party.{Party, Accepts}
-use Rattle.noise_handshake.specs.Matching.{Matches, after_message, after_own, after_not_read, DoesNotRead}
-use Rattle.noise_handshake.specs.Writing.{Writes}
-use Rattle.noise_c.specs.declared.structs.NoiseHandshake.{NoiseHandshake}
-use Rattle.noise_c.specs.HandshakeStructs.{public_in, agreement_in, text_from_c, handshake_from_c, IsPatternOf, IsUsable, KeepsParty, WasRead, WasWritten, WasDeclined}
 use Rattle.noise_c.specs.declared.codes.numbers.TheConstants.{HANDSHAKE}
-use Rattle.noise_c.specs.Codes.{read_code, token_in}
 use Rattle.noise_c.proofs.Numbers.{IsPlain}
+use Rattle.noise_handshake.specs.declared.faults.ReadFault.TheVariants as read
+use Rattle.noise_handshake.specs.declared.late_faults.LateUnread.TheVariants as unread
 
 module _ (old new : NoiseHandshake) (h h2 : HandshakeValue Table) (p : Plan) (v : Party) (one : (q : Plan) → IsPatternOf (text_from_c old) q → q ≡ h.pattern) (same : h ≡ handshake_from_c h.pattern old)
     (stays : h2.pattern ≡ h.pattern) (name : text_from_c new ≡ text_from_c old) (stored : handshake_from_c h2.pattern new ≡ h2) (k : KeepsParty old p v) where

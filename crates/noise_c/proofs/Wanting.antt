@@ -1,20 +1,12 @@
 -- What it comes to where a DH result or a secret is wanted.
 use Rattle.std.proofs.Common.{◌≡◌, ℕ, List, sym, subst}
-use Rattle.noise_names.specs.Plan.{Plan}
-use Rattle.noise_keys.specs.declared.keys.Own.{Own}
-use Rattle.noise_handshake.specs.declared.late_faults.Want.{Want}
+use Rattle.noise_c.proofs.Common.{Plan, Own, Want, Party, WantsToRead, WantsToWrite, LeavesLateUnread, WantsLate, WantsPskToRead, WantsPskToWrite, NoiseHandshake, NoiseResult, own_in, remote_reported, KeepsParty, ReportsDhResult, ReportsRemote, ReportsWant}
 use Rattle.noise_handshake.specs.declared.late_faults.Want.TheVariants.{DhResult, Psk}
-use Rattle.noise_handshake.specs.declared.late_faults.LateUnread.TheVariants as unread
-use Rattle.noise_handshake.specs.Party.{Party}
-use Rattle.noise_handshake.specs.Wanting.{WantsToRead, WantsToWrite}
-use Rattle.noise_handshake.specs.Late.{LeavesLateUnread, WantsLate, WantsPskToRead, WantsPskToWrite}
-use Rattle.noise_c.specs.declared.structs.NoiseHandshake.{NoiseHandshake}
-use Rattle.noise_c.specs.declared.structs.NoiseResult.{NoiseResult}
-use Rattle.noise_c.specs.HandshakeStructs.{own_in, remote_reported, KeepsParty, ReportsDhResult, ReportsRemote, ReportsWant}
 use Rattle.noise_c.specs.Outcomes.{ReadOutcome, WriteOutcome}
 use Rattle.noise_c.specs.Outcomes.ReadOutcome.{wants_dh_result as read_wants_dh_result, wants_psk as read_wants_psk}
 use Rattle.noise_c.specs.Outcomes.WriteOutcome.{wants_dh_result as write_wants_dh_result, wants_psk as write_wants_psk}
 use Rattle.noise_c.proofs.Wants.{reads-psk, writes-psk}
+use Rattle.noise_handshake.specs.declared.late_faults.LateUnread.TheVariants as unread
 
 reads-dh-result : (v : Party) (m : List ℕ) (own : Own) (key : List ℕ) (results : NoiseResult) → own_in results.of_static ≡ own → results.remote ≡ key
     → WantsToRead v m own key → WantsToRead v m (own_in results.of_static) results.remote

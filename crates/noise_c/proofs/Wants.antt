@@ -1,13 +1,8 @@
 -- What is reported where a DH result or a psk is wanted.
 use Rattle.std.proofs.Common.{◌≡◌, ℕ, List, sym, subst, ◌∙◌, arith}
-use Rattle.std.specs.Prelude.{Option}
-use Rattle.noise_handshake.specs.declared.late_faults.Want.{Want}
+use Rattle.noise_c.proofs.Common.{Option, Want, Party, LeavesLateUnread, WantsLate, WantsPskToRead, WantsPskToWrite, NoiseResult, remote_reported, ReportsWant}
 use Rattle.noise_handshake.specs.declared.late_faults.Want.TheVariants.{DhResult, Psk}
 use Rattle.noise_handshake.specs.declared.late_faults.LateUnread.TheVariants as unread
-use Rattle.noise_handshake.specs.Party.{Party}
-use Rattle.noise_handshake.specs.Late.{LeavesLateUnread, WantsLate, WantsPskToRead, WantsPskToWrite}
-use Rattle.noise_c.specs.declared.structs.NoiseResult.{NoiseResult}
-use Rattle.noise_c.specs.HandshakeStructs.{remote_reported, ReportsWant}
 
 pub reads-psk : (v : Party) (n : ℕ) (m : List ℕ) (want : Want) (results : NoiseResult) (code : ℕ) → ReportsWant want results code → code ≡ 40
     → LeavesLateUnread v n m (unread.Wants want) → WantsPskToRead v n m (remote_reported results)

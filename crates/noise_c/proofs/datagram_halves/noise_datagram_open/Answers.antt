@@ -1,11 +1,8 @@
 use Rattle.std.proofs.Common.{◌≡◌, ℕ, List, inl, inr, refl, ap, sym, subst, ◌∙◌}
 use Rattle.std.specs.Prelude.{Ok}
-use Rattle.std.proofs.lemmas.Bool.{false≢true}
-use Rattle.noise_session.specs.Datagrams.{Opens, accepting, nonce_named}
-use Rattle.noise_session.specs.Datagrams.{DatagramReceiverValue, DatagramReceiverMatches}
-use Rattle.noise_c.specs.DatagramStructs.{datagram_receiver_from_c}
-use Rattle.noise_c.proofs.Numbers.{other, above, not-before}
-use Rattle.noise_c.proofs.Opening.{declined-from, declined-not-struct, declined-among, from-ninth}
+use Rattle.noise_c.proofs.Common.{false≢true, Opens, accepting, nonce_named, DatagramReceiverValue, DatagramReceiverMatches, datagram_receiver_from_c}
+use Rattle.noise_c.proofs.Numbers.{other, above}
+use Rattle.noise_c.proofs.Opening.{from-ninth}
 use Rattle.noise_c.proofs.datagram_halves.noise_datagram_open.Goals as goal
 
 pub returns-in-None : goal.returns-in-None

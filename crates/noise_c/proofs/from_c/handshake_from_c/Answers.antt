@@ -1,11 +1,5 @@
 use Rattle.std.proofs.Common.{◌≡◌, List, ℕ, sym, ap, ◌∙◌, subst, arith}
-use Rattle.std.specs.Prelude.{Option, Some, None, IfSome}
-use Rattle.noise_names.specs.Plan.{Plan}
-use Rattle.noise_handshake.specs.HandshakeValue.{HandshakeValue}
-use Rattle.noise_handshake.specs.Late.{IsLateWhole}
-use Rattle.noise_c.specs.declared.structs.NoiseHandshake.{NoiseHandshake}
-use Rattle.noise_keys.specs.Table.{Table}
-use Rattle.noise_c.specs.HandshakeStructs.{public_in, text_from_c, handshake_from_c, IsPatternOf}
+use Rattle.noise_c.proofs.Common.{Option, Some, None, IfSome, Plan, HandshakeValue, IsLateWhole, NoiseHandshake, Table, public_in, text_from_c, handshake_from_c, IsPatternOf}
 use Rattle.noise_c.proofs.from_c.handshake_from_c.Goals as goal
 
 one-of : (o : Option (HandshakeValue Table)) (name : List ℕ) (k : NoiseHandshake) (p : Plan) → ((q : Plan) → IsPatternOf name q → q ≡ p)

@@ -1,11 +1,7 @@
 use Rattle.std.proofs.Common.{◌≡◌, ◌-◌, List, ℕ, length, take, drop, length-drop, sym, ap, ◌∙◌, subst, arith, rules}
 use Rattle.std.proofs.lemmas.List.{take_rest}
-use Rattle.std.specs.Prelude.{Option, Some, None, IfSome}
-use Rattle.noise_handshake.specs.HandshakeValue.{HandshakeValue}
+use Rattle.noise_c.proofs.Common.{Option, Some, None, IfSome, HandshakeValue, IsLateWhole, Table, public_in, handshake_from_c}
 use Rattle.noise_handshake.specs.Parts.{held_of}
-use Rattle.noise_handshake.specs.Late.{IsLateWhole}
-use Rattle.noise_keys.specs.Table.{Table}
-use Rattle.noise_c.specs.HandshakeStructs.{public_in, handshake_from_c}
 use Rattle.noise_c.proofs.from_c.restored.Goals as goal
 
 same-as : (o : Option (HandshakeValue Table)) (h h2 : HandshakeValue Table) → h ≡ h2 → IfSome o (λ z. z ≡ h) → IfSome o (λ z. z ≡ h2)

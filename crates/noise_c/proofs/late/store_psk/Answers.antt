@@ -1,5 +1,5 @@
 use Rattle.std.proofs.Common.{arith, rules, ◌≡◌, ◌+◌, ◌-◌, ◌∙◌, ℕ, List, length, drop, ap, refl}
-use Rattle.noise_c.specs.HandshakeStructs.{handshake_from_c}
+use Rattle.noise_c.proofs.Common.{handshake_from_c}
 use Rattle.noise_c.proofs.Moved.{moved-last}
 use Rattle.noise_c.proofs.late.store_psk.Goals as goal
 

@@ -1,26 +1,15 @@
-use Rattle.std.specs.Prelude.{Result, Ok, Err, drop, ◌+◌, ◌-◌}
+use Rattle.std.specs.Prelude.{Ok, Err, drop, ◌+◌, ◌-◌}
 use Rattle.std.proofs.Common.{◌≡◌, ◌≤◌, ◌⊎◌, ℕ, List, inr, length, refl, ap, sym, subst, ◌∙◌, arith}
-use Rattle.std.proofs.lemmas.Bool.{false≢true}
-use Rattle.noise_keys.specs.Table.{Table}
-use Rattle.noise_handshake.specs.declared.faults.Cause.TheVariants.{Short, Tag, Agreement}
-use Rattle.noise_handshake.specs.declared.faults.ReadFault.{ReadFault}
-use Rattle.noise_handshake.specs.declared.faults.ReadFault.TheVariants as read
+use Rattle.noise_c.proofs.Common.{Result, false≢true, Table, Short, Tag, Agreement, ReadFault, Want, HandshakeValue, ended_as, with_later, LeavesLateUnread, after_late_declined, WantsPskToRead, Matches, DoesNotRead, Party, Refuses, read_code, token_in, NoiseResult, public_in, agreement_in, handshake_from_c, IsUsable, ReportsWant}
 use Rattle.noise_handshake.specs.declared.late_faults.LateUnread.{LateUnread}
-use Rattle.noise_handshake.specs.declared.late_faults.LateUnread.TheVariants as unread
-use Rattle.noise_handshake.specs.declared.late_faults.Want.{Want}
 use Rattle.noise_handshake.specs.declared.late_faults.Want.TheVariants.{Psk}
-use Rattle.noise_handshake.specs.HandshakeValue.{HandshakeValue, ended_as}
-use Rattle.noise_handshake.specs.Late.{with_later, LeavesLateUnread, after_late_declined, WantsPskToRead}
-use Rattle.noise_handshake.specs.Matching.{Matches, DoesNotRead}
-use Rattle.noise_handshake.specs.Party.{Party, Refuses}
-use Rattle.noise_c.specs.Codes.{read_code, token_in}
-use Rattle.noise_c.specs.declared.structs.NoiseResult.{NoiseResult}
 use Rattle.noise_c.specs.HalfStructs.{IsAround}
 use Rattle.noise_c.specs.Outcomes.ReadOutcome.{accepted, declined, too_long, unusable}
-use Rattle.noise_c.specs.HandshakeStructs.{public_in, agreement_in, handshake_from_c, IsUsable, ReportsWant}
 use Rattle.noise_c.proofs.Stored.{psks-left, ended-stored, plain-leaves, refused-leaves, usable-after, usable-ended, was-declined, opened, was-read, matches-for}
 use Rattle.noise_c.proofs.Numbers.{IsPlain, other, above, not-after, too-long, wants-other, plain-among, plain-within, plain-sort, refused-within, refused-between, refused-among}
 use Rattle.noise_c.proofs.Wanting.{reads-outcome}
+use Rattle.noise_handshake.specs.declared.faults.ReadFault.TheVariants as read
+use Rattle.noise_handshake.specs.declared.late_faults.LateUnread.TheVariants as unread
 use Rattle.noise_c.proofs.messages.noise_read.Goals as goal
 
 pub returns-in-None : goal.returns-in-None

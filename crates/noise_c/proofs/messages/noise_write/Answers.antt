@@ -1,27 +1,18 @@
-use Rattle.std.specs.Prelude.{Result, Ok, Err, Option, Some, None, MatchOption}
+use Rattle.std.specs.Prelude.{Ok, Err}
 use Rattle.std.proofs.Common.{◌≡◌, ◌≤◌, ℕ, inl, inr, refl, ap, sym, subst, ◌∙◌, arith, length, take}
-use Rattle.std.proofs.lemmas.Bool.{false≢true}
 use Rattle.std.proofs.lemmas.Option.{same_Some}
-use Rattle.noise_names.specs.Plan.{Plan}
-use Rattle.noise_keys.specs.Table.{Table}
+use Rattle.noise_c.proofs.Common.{Result, Option, Some, None, MatchOption, false≢true, Plan, Table, Want, HandshakeValue, length_unless, message_len_of, write_fault, LeavesLateUnwritten, IsLateOfTurn, IsLateWant, WantsPskToWrite, Party, write_code, handshake_from_c, text_from_c, IsPatternOf, IsUsable, KeepsParty, ReportsWant}
 use Rattle.noise_handshake.specs.declared.faults.WriteFault.{WriteFault}
-use Rattle.noise_handshake.specs.declared.faults.WriteFault.TheVariants as write
 use Rattle.noise_handshake.specs.declared.late_faults.LateUnwritten.{LateUnwritten}
-use Rattle.noise_handshake.specs.declared.late_faults.LateUnwritten.TheVariants as unwritten
-use Rattle.noise_handshake.specs.declared.late_faults.Want.{Want}
 use Rattle.noise_handshake.specs.declared.late_faults.Want.TheVariants.{Psk}
-use Rattle.noise_handshake.specs.HandshakeValue.{HandshakeValue, length_unless, message_len_of, write_fault}
-use Rattle.noise_handshake.specs.Late.{LeavesLateUnwritten, IsLateOfTurn, IsLateWant, WantsPskToWrite}
-use Rattle.noise_handshake.specs.Party.{Party}
-use Rattle.noise_c.specs.Codes.{write_code}
-use Rattle.noise_c.specs.HandshakeStructs.{handshake_from_c, text_from_c, IsPatternOf, IsUsable, KeepsParty, ReportsWant}
 use Rattle.noise_c.proofs.Stored.{psks-left, opened, usable-after, was-written, matches-for, length-for}
 use Rattle.noise_c.specs.Outcomes.WriteOutcome.{written, withheld, no_room, unusable}
-use Rattle.noise_c.proofs.Numbers.{other, not-after, too-long, under, wants-other}
-use Rattle.noise_c.proofs.Numbers.{withheld-within, withheld-agreement}
+use Rattle.noise_c.proofs.Numbers.{other, not-after, too-long, under, wants-other, withheld-within, withheld-agreement}
 use Rattle.noise_c.proofs.Wanting.{writes-outcome}
-use Rattle.noise_c.proofs.messages.noise_write.Goals as goal
 use goal.{in-Some-message_len+else-needed-out, in_default}
+use Rattle.noise_handshake.specs.declared.faults.WriteFault.TheVariants as write
+use Rattle.noise_handshake.specs.declared.late_faults.LateUnwritten.TheVariants as unwritten
+use Rattle.noise_c.proofs.messages.noise_write.Goals as goal
 
 pub returns-in-None : goal.returns-in-None
 returns-in-None c =

@@ -1,6 +1,5 @@
 use Rattle.std.proofs.Common.{rules, ◌≡◌, [], inl, refl, subst, sym, ◌∙◌}
-use Rattle.noise_names.specs.Plan.{Plan}
-use Rattle.noise_names.specs.Validity.{IsValid}
+use Rattle.noise_c.proofs.Common.{Plan, IsValid}
 use Rattle.noise_c.proofs.Named.{no-places, pattern-one, pattern-fits}
 use Rattle.noise_c.proofs.patterns.named.Goals as goal
 

@@ -1,8 +1,6 @@
 use Rattle.std.proofs.Common.{sym, subst}
+use Rattle.noise_c.proofs.Common.{DatagramsMatch, datagrams_of, DatagramSenderValue, DatagramReceiverValue, DatagramSenderMatches, DatagramReceiverMatches, window_in}
 use Rattle.noise_events.specs.declared.window.Window.{Window}
-use Rattle.noise_session.specs.Datagrams.{DatagramsMatch, datagrams_of}
-use Rattle.noise_session.specs.Datagrams.{DatagramSenderValue, DatagramReceiverValue, DatagramSenderMatches, DatagramReceiverMatches}
-use Rattle.noise_c.specs.DatagramStructs.{window_in}
 use Rattle.noise_c.proofs.split.noise_finish_datagrams.Goals as goal
 
 pub returns-clause-made : goal.returns-clause-made

@@ -1,10 +1,6 @@
 use Rattle.std.proofs.Common.{◌≡◌, true, false, inl, inr, refl, ap, sym, ◌∙◌, arith}
-use Rattle.std.proofs.lemmas.Bool.{false≢true}
-use Rattle.std.proofs.lemmas.Bool.Decides.{nat_tests}
-use Rattle.noise_handshake.specs.HandshakeValue.{HandshakeValue}
-use Rattle.noise_keys.specs.Table.{Table}
+use Rattle.noise_c.proofs.Common.{false≢true, nat_tests, HandshakeValue, Table, IsUsable}
 use Rattle.noise_c.specs.Finishing.{finish_code}
-use Rattle.noise_c.specs.HandshakeStructs.{IsUsable}
 use Rattle.noise_c.proofs.Stored.{matches-for}
 use Rattle.noise_c.proofs.Finished.{finish-done, finish-early, finish-ended, stored-by, contrary}
 use Rattle.noise_c.proofs.Numbers.{other}

@@ -1,7 +1,5 @@
 use Rattle.std.proofs.Common.{length, refl}
-use Rattle.std.specs.Prelude.{max}
-use Rattle.noise_handshake.specs.Setup.{psks_of}
-use Rattle.noise_c.specs.HandshakeStructs.{role_in, table_of, remote_of, psks_in, key_from_c}
+use Rattle.noise_c.proofs.Common.{max, psks_of, role_in, table_of, remote_of, psks_in, key_from_c}
 use Rattle.noise_c.proofs.Starts.{fault-moved, matches-moved, remote-of}
 use Rattle.noise_c.proofs.start.begin.Goals as goal
 

@@ -1,6 +1,5 @@
 use Rattle.std.proofs.Common.{◌≡◌, ◌∙◌, List, ℕ, inl, inr, sym, ap, subst, refl, Ok, Err, arith}
-use Rattle.noise_names.specs.Plan.{Plan}
-use Rattle.noise_c.specs.HandshakeStructs.{IsPatternOf, KeepsParty, begun_in, handshake_from_c, role_in, start_code}
+use Rattle.noise_c.proofs.Common.{Plan, IsPatternOf, KeepsParty, begun_in, handshake_from_c, role_in, start_code}
 use Rattle.noise_c.proofs.Stored.{usable-stored}
 use Rattle.noise_c.proofs.Numbers.{other}
 use Rattle.noise_c.proofs.Starts.{fault-name, fault-pattern, fault-code, fault-start, keeps-start, setup-within, start-err, start-ok, valid-name, valid-pattern}
