@@ -1,7 +1,6 @@
 -- What the definitions by the token come to at a DH token.
 use Rattle.std.proofs.Common.{◌≡◌, ℕ, ◌≤◌, List, arith}
-use Rattle.noise_handshake.proofs.Common.{Some, None, Option, Token, E, S}
-use Rattle.noise_names.specs.declared.token.Token.TheVariants.{Psk}
+use Rattle.noise_handshake.proofs.Common.{Some, None, Option}
 
 none-some : (o p : Option (List ℕ)) (x : List ℕ) → o ≡ None → o ≡ p → p ≡ Some x → ⊥
 none-some o p x e f g = cc

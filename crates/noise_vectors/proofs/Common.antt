@@ -9,7 +9,7 @@ pub use Rattle.std.proofs.lemmas.List.{append-nil, append_assoc, append_cancel_l
 pub use Rattle.std.proofs.lemmas.List.Elements.{All-append, All-cons, All-head, All-nil, All-push, All-tail}
 pub use Rattle.std.proofs.lemmas.Slice.Eq.{bytes_eq-Decides, starts_is, strip_prefix_is}
 pub use Rattle.std.specs.List.{All, AllPass, join_with_byte, list_all, prefix_len, starts_with}
-pub use Rattle.std.specs.Prelude.{IfSome, IsOk, IsSome, IsTrue, MatchResult, bytes_eq, nat_le, nat_lt, position, slice_index_or, vec_capacity}
+pub use Rattle.std.specs.Prelude.{IfSome, IsOk, IsSome, IsTrue, MatchResult, bytes_eq, nat_le, nat_lt, position, slice_index_or}
 pub use Rattle.noise_events.specs.Windows.{width_of}
 pub use Rattle.noise_events.specs.declared.datagram_event.DatagramEvent.{DatagramEvent}
 pub use Rattle.noise_events.specs.declared.event.Event.{Event}

@@ -24,4 +24,4 @@ loop-piece-preserved c =
     (c.hash.ensures r c.loop-piece.invariant.matches) is-text matches))
 
 pub returns : goal.returns
-returns c = search (rules, mixing, reverse, bytes_of, take_all, texts-mixed)
+returns c = search (rules, mixing, reverse, take_all, texts-mixed)

@@ -1,5 +1,5 @@
 use Rattle.std.proofs.Common.{rules, ◌∙◌}
-use Rattle.noise_conversation.proofs.Common.{Initiator, Responder, roles_and_payloads, HaveParts, end_after, bytes_not_taken, history_of}
+use Rattle.noise_conversation.proofs.Common.{Initiator, Responder, roles_and_payloads, HaveParts, end_after, history_of}
 use Rattle.noise_duel.specs.SetUpAlike.{material_of}
 use Rattle.noise_conversation.proofs.Fit.{in-turn, none-left-ended_party}
 use Rattle.noise_conversation.proofs.HashReported.{hash-reported}
@@ -26,7 +26,7 @@ returns g c p s interval new fits dh_results =
       initiator_frames = come.initiator_frames;
       responder_frames = come.responder_frames;
       payloads = come.entries;
-      taken = search (rules, bytes_not_taken, none-left-ended_party);
+      taken = search (rules, none-left-ended_party);
       ends = record { initiator = come.initiator; responder = come.responder };
       hash = (says.hash ∙ hash-reported p Initiator a b interval r lines, says-there.hash ∙ hash-reported p Responder b a interval r lines);
       keys_there = come.keys_there;

@@ -1,6 +1,6 @@
 use Rattle.std.proofs.Common.{rules, ◌≡◌, suc, ap, ℕ, ◌+◌, List, ◌∷◌, ◌++◌, length, drop, sym, subst, arith, drop-drop}
 use Rattle.std.specs.Prelude.{Bool, is_some}
-use Rattle.noise_handshake.proofs.Common.{reader_of, Token, StateMatches, keyed, nonce_now, cipher_key, PlacedToken, token_bytes, after_token, after_tokens, Reader, BeginsAs, cause_of, tokens_of, Fails, Keying, keying_of, keying_after_tokens, nil_from_length}
+use Rattle.noise_handshake.proofs.Common.{reader_of, Token, StateMatches, keyed, nonce_now, cipher_key, PlacedToken, token_bytes, after_token, after_tokens, Reader, BeginsAs, cause_of, tokens_of, Fails, Keying, nil_from_length}
 use Rattle.noise_handshake.proofs.DhTokens.{none_taken}
 use Rattle.noise_handshake.proofs.Layouts.{later-placed, rest-first}
 use Rattle.noise_handshake.proofs.Stepwise.{some-token, one-later, nonce-left, psk-due, none-after, psks-later, nonces-later}
@@ -109,7 +109,7 @@ pub returns-in_default-clause-range : goal.returns-in_default-clause-range
 returns-in_default-clause-range g t c place within are = none-after place (length c.args.message.now) within
 
 pub returns-in_default-clause-keying : goal.returns-in_default-clause-keying
-returns-in_default-clause-keying g t c = search (rules, keying_after_tokens, keying_of, tokens_of, nil_from_length)
+returns-in_default-clause-keying g t c = search (rules, nil_from_length)
 
 pub returns-in-Err-clause-stop : goal.returns-in-Err-clause-stop
 returns-in-Err-clause-stop g t c = some-token (tokens_of c.args.placed.now) (tokens_of c.in-Some.later.now) c.in-Some.first.now.token (ap tokens_of c.in-Some.ensures.cases.0)

@@ -1,5 +1,5 @@
 use Rattle.std.proofs.Common.{rules, ◌<◌, List, length, take, sym, ap, subst, refl, arith, length-take}
-use Rattle.noise_handshake.proofs.Common.{reader_of, count_by, Token, is_psk, StateMatches, keyed, nonce_now, SymmetricState, Reader, remote_after, tokens_of, ArePlaced, StopsKnowing}
+use Rattle.noise_handshake.proofs.Common.{reader_of, count_by, Token, is_psk, StateMatches, keyed, SymmetricState, Reader, tokens_of, ArePlaced, StopsKnowing}
 use Rattle.noise_handshake.proofs.Fronts.{tokens-take, placed-take, stops-all}
 use Rattle.noise_handshake.proofs.Later.{count-take}
 use Rattle.noise_handshake.proofs.Layouts.{length-tokens_of}
@@ -18,20 +18,20 @@ read_tokens-requires-clause-psks g c =
     omega (arith, c.requires.psks, ap (count_by is_psk) (tokens-take c.args.placed.now c.args.k), count-take (tokens_of c.args.placed.now) c.args.k)
 
 pub read_tokens-requires-clause-nonces : goal.read_tokens-requires-clause-nonces
-read_tokens-requires-clause-nonces g c = search (rules, nonce_now, tokens-take, length-take, tokens_of)
+read_tokens-requires-clause-nonces g c = search (rules, tokens-take, length-take)
 
 pub overflow_cast-result : goal.overflow_cast-result
-overflow_cast-result g c = search (rules, tokens-take, length-take, tokens_of, length-tokens_of)
+overflow_cast-result g c = search (rules, tokens-take, length-take, length-tokens_of)
 
 pub returns-in-Ok : goal.returns-in-Ok
-returns-in-Ok g c r s = search (rules, reader_of, keyed, placed-take, tokens-take, remote_after)
+returns-in-Ok g c r s = search (rules, placed-take, tokens-take)
 
 pub returns-in-Err : goal.returns-in-Err
 returns-in-Err g c r s =
     let v : Reader = reader_of g.K.Keys.agreement c.args.means.now in
     let trial : StateMatches c.for_trial-trial.result r = subst (λ (z : SymmetricState). StateMatches z r) (sym c.for_trial-trial.ensures) s in
     let placed : ArePlaced c.args.means.now.has_psks (keyed c.for_trial-trial.result) 0 (take c.args.k c.args.placed.now) =
-    search (rules, keyed, placed-take) in
+    search (rules, placed-take) in
     let i = c.in-Err.ensures.read r 0 trial (omega arith) placed in
     let ts : List Token = tokens_of c.args.placed.now in
     let e = tokens-take c.args.placed.now c.args.k in

@@ -1,6 +1,6 @@
 use Rattle.std.proofs.Common.{◌≡◌, ◌<◌, ◌≤◌, ◌^◌, ℕ, ◌+◌, ◌-◌, List, length, take, drop, slice_range, ap, sym, subst, ◌∙◌, arith, length-drop, rules, length-take, take_all, nat_lt, if◌then◌else◌}
 use Rattle.std.proofs.lemmas.Slice.{take-put_mid_below}
-use Rattle.noise_handshake.proofs.Common.{reader_of, take_rest, StateMatches, keyed, nonce_now, History, Ciphertext, and_then, ciphertext, nonce, after_tokens, Token, Reader, BeginsAs, StopsKnowing, tokens_of}
+use Rattle.noise_handshake.proofs.Common.{reader_of, take_rest, StateMatches, keyed, History, Ciphertext, and_then, ciphertext, nonce, after_tokens, Token, Reader, BeginsAs, StopsKnowing, tokens_of}
 use borrow.Rule.Slice.PartMut.{put_mid}
 use Rattle.noise_handshake.specs.declared.faults.Cause.TheVariants.{Short, Tag}
 use Rattle.noise_handshake.proofs.Counting.{nonces-most}
@@ -14,7 +14,7 @@ pub read_tokens-requires-clause-placed : goal.read_tokens-requires-clause-placed
 read_tokens-requires-clause-placed g c = (0, omega arith, c.requires.placed)
 
 pub unreachable-requires : goal.unreachable-requires
-unreachable-requires g c = search (rules, nonce_now, nonces-most, keyed, tokens_of)
+unreachable-requires g c = search (rules, nonces-most)
 
 pub returns-in-Ok-decrypt_and_hash-clause-beyond : goal.returns-in-Ok-decrypt_and_hash-clause-beyond
 returns-in-Ok-decrypt_and_hash-clause-beyond g c = search (rules, take-put_mid_below, rest-at, take_rest)

@@ -6,7 +6,7 @@ use Rattle.noise_handshake.proofs.Lacked.{asked-later, asked-first}
 use Rattle.noise_handshake.proofs.writer.+write_lacking.Goals as goal
 
 pub returns-in-Some : goal.returns-in-Some
-returns-in-Some g t c = search (rules, writer_of, asked-later, tokens_of)
+returns-in-Some g t c = search (rules, asked-later)
 
 pub returns-in-None : goal.returns-in-None
 returns-in-None g t c =
@@ -27,4 +27,4 @@ pub psks_after-others-requires : goal.psks_after-others-requires
 psks_after-others-requires g t c = psk-due (tokens_of c.args.placed.now) (tokens_of c.in_ok-first.later.now) c.in_ok-first.first.now.token (ap tokens_of c.in_ok-first.ensures.cases.0) (length c.args.psks.now) c.requires.psks
 
 pub write_lacking-requires : goal.write_lacking-requires
-write_lacking-requires g t c κs k = search (rules, psks-later, tokens_of, all-later, has_own, is_known)
+write_lacking-requires g t c κs k = search (rules, psks-later, all-later)

@@ -7,7 +7,7 @@ use Rattle.noise_handshake.proofs.Written.{joined, rest-after}
 use Rattle.noise_handshake.proofs.writer.+write_tokens.Goals as goal
 
 pub returns-in-Ok-clause-beyond : goal.returns-in-Ok-clause-beyond
-returns-in-Ok-clause-beyond g t c = search (rules, tokens_of, keyed, widths, length-take, length-drop, rest-after)
+returns-in-Ok-clause-beyond g t c = search (rules, widths, length-take, length-drop, rest-after)
 
 pub returns-in-Ok-clause-written : goal.returns-in-Ok-clause-written
 returns-in-Ok-clause-written g t c r s =

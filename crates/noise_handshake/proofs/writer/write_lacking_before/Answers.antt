@@ -1,5 +1,5 @@
 use Rattle.std.proofs.Common.{rules, ℕ, List, ap, subst, arith}
-use Rattle.noise_handshake.proofs.Common.{writer_of, MatchOption, count_by, list_all, Token, is_psk, LacksDhResultFor, Writer, LacksDhResultAt, is_known, tokens_of, has_own}
+use Rattle.noise_handshake.proofs.Common.{writer_of, MatchOption, count_by, Token, is_psk, LacksDhResultFor, Writer, LacksDhResultAt, tokens_of}
 use Rattle.noise_handshake.proofs.Fronts.{tokens-take, all-take}
 use Rattle.noise_handshake.proofs.Later.{count-take}
 use Rattle.noise_handshake.proofs.writer.write_lacking_before.Goals as goal
@@ -9,10 +9,10 @@ write_lacking-requires-clause-psks g c =
     omega (arith, c.requires.psks, ap (count_by is_psk) (tokens-take c.args.placed.now c.args.k), count-take (tokens_of c.args.placed.now) c.args.k)
 
 pub write_lacking-requires-clause-own : goal.write_lacking-requires-clause-own
-write_lacking-requires-clause-own g c = search (rules, list_all, has_own, tokens-take, all-take, tokens_of)
+write_lacking-requires-clause-own g c = search (rules, tokens-take, all-take)
 
 pub write_lacking-requires-clause-known : goal.write_lacking-requires-clause-known
-write_lacking-requires-clause-known g c = search (rules, list_all, is_known, tokens-take, all-take, tokens_of)
+write_lacking-requires-clause-known g c = search (rules, tokens-take, all-take)
 
 pub returns : goal.returns
 returns g c =

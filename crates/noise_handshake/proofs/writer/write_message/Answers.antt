@@ -1,15 +1,15 @@
 use Rattle.std.proofs.Common.{rules, ℕ, ◌+◌, ◌-◌, ◌≤◌, List, ◌++◌, length, take, drop, ap, ◌∙◌, arith, length-take, length-drop}
-use Rattle.noise_handshake.proofs.Common.{keyed, nonce_now, before_payload, after_tokens, tokens_of}
+use Rattle.noise_handshake.proofs.Common.{before_payload, after_tokens, tokens_of}
 use Rattle.noise_handshake.proofs.Counting.{nonces-most}
 use Rattle.noise_handshake.proofs.Giving.{widths-last}
 use Rattle.noise_handshake.proofs.Written.{joined, rest-after}
 use Rattle.noise_handshake.proofs.writer.write_message.Goals as goal
 
 pub write_part-requires-clause-nonces : goal.write_part-requires-clause-nonces
-write_part-requires-clause-nonces g c = search (rules, nonces-most, keyed, nonce_now, tokens_of)
+write_part-requires-clause-nonces g c = search (rules, nonces-most)
 
 pub returns-clause-beyond : goal.returns-clause-beyond
-returns-clause-beyond g c = search (rules, widths-last, keyed, tokens_of, length-take, length-drop, rest-after)
+returns-clause-beyond g c = search (rules, widths-last, length-take, length-drop, rest-after)
 
 pub returns-clause-written : goal.returns-clause-written
 returns-clause-written g c r s =

@@ -29,7 +29,7 @@ plus (b ∷ bs) more h e = let b_is : b ≡ 43 = eqb-true b 43 (first (eqb b 43)
 -- one modifier more is read
 read_more : (modifiers done rest beyond more : List ℕ) (n : ℕ) → modifiers ≡ fronts done ++ rest → rest ≡ modifier n ++ beyond → beyond ≡ 43 ∷ more
     → modifiers ≡ fronts (done ++ n ∷ []) ++ more
-read_more modifiers done rest beyond more n e f g = search (rules, modifier, fronts, append_assoc, fronts-push)
+read_more modifiers done rest beyond more n e f g = search (rules, fronts, append_assoc, fronts-push)
 
 -- the last modifier is read
 read_last : (modifiers done rest beyond : List ℕ) (n : ℕ) → modifiers ≡ fronts done ++ rest → rest ≡ modifier n ++ beyond → beyond ≡ []

@@ -1,5 +1,5 @@
 use Rattle.std.proofs.Common.{rules, arith, ◌≡◌, ◌∙◌, ◌<◌, ◌≤◌, ap, sym, subst, ℕ, List, ◌∷◌, ◌++◌, length, []}
-use Rattle.noise_vectors.proofs.Common.{All, All-nil, All-push, lengths_word}
+use Rattle.noise_vectors.proofs.Common.{All, All-nil, All-push}
 use Rattle.noise_vectors.proofs.CutLemmas.{are_small, before, before-more, lengths_word-last, First-step, Last-done, Left, Left-first, Left-last, Left-room, Left-start}
 use Rattle.noise_vectors.proofs.cuts.read_lengths.Goals as goal
 
@@ -56,7 +56,7 @@ returns-in_err-ok-2-clause-every c =
     absurd (omega (arith, room))
 
 pub returns-clause-value : goal.returns-clause-value
-returns-clause-value c = search (rules, before, lengths_word-last, lengths_word)
+returns-clause-value c = search (rules, before, lengths_word-last)
 
 pub returns-clause-every : goal.returns-clause-every
 returns-clause-every c =

@@ -9,7 +9,7 @@ returns-in_err-number-clause-every c = λ number cuts small h e.
     absurd (c.in_err-number.ensures.every (decimal number) (lengths_word cuts) (number-word number small) e tt)
 
 pub returns-in_err-read_frame_number-clause-every : goal.returns-in_err-read_frame_number-clause-every
-returns-in_err-read_frame_number-clause-every c = search (rules, lengths_word, number-word)
+returns-in_err-read_frame_number-clause-every c = search (rules, number-word)
 
 pub returns-in_err-read_cuts-clause-every : goal.returns-in_err-read_cuts-clause-every
-returns-in_err-read_cuts-clause-every c = search (rules, lengths_word, number-word)
+returns-in_err-read_cuts-clause-every c = search (rules, number-word)

@@ -8,7 +8,7 @@ returns-in_default-clause-every c = λ payload cuts short h e.
     absurd (c.in_default.ensures.every (hex_of payload) (lengths_word cuts) (payload-word payload short) e tt)
 
 pub returns-in_default-read_cuts-clause-every : goal.returns-in_default-read_cuts-clause-every
-returns-in_default-read_cuts-clause-every c = search (rules, hex_of, lengths_word, payload-word)
+returns-in_default-read_cuts-clause-every c = search (rules, payload-word)
 
 pub returns-in_default-2-clause-every : goal.returns-in_default-2-clause-every
-returns-in_default-2-clause-every c = search (rules, hex_of, lengths_word, payload-word)
+returns-in_default-2-clause-every c = search (rules, payload-word)

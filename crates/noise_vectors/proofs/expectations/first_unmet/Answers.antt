@@ -1,11 +1,10 @@
 use Rattle.std.proofs.Common.{rules, ◌≡◌, length}
-use Rattle.noise_vectors.proofs.Common.{bytes_of}
 use Rattle.noise_vectors.proofs.ExpectationLemmas.{all-same, lines-len, unmet-at}
 use Rattle.noise_vectors.proofs.expectations.first_unmet.Goals.{else-same-lines-via-then-same-lines+else-same-expected, else-same-lines-via-else-same-lines}
 use Rattle.noise_vectors.proofs.expectations.first_unmet.Goals as goal
 
 pub returns-then-same-expected : goal.returns-then-same-expected
-returns-then-same-expected c = search (rules, all-same, bytes_of, lines-len)
+returns-then-same-expected c = search (rules, all-same, lines-len)
 
 pub returns-else-same-lines : goal.returns-else-same-lines
 returns-else-same-lines c =

@@ -15,7 +15,7 @@ IsRight words = IsExpected words.items
 next-expected : (done expected : List (Vec ℕ Global)) (from left : List ℕ) → from ≡ lines_of expect_words done left → All IsRight done
     → from ≡ lines_of expect_words expected [] → All IsRight expected → ¬ (left ≡ []) → Next expect_lines (bytes_of done) (bytes_of expected) left
 next-expected done expected from left text are e right ahead =
-    search (rules, next-of, expect_lines, good-plain, good-stands, bytes_of, partial-lines, partial-good)
+    search (rules, next-of, good-plain, good-stands, partial-lines, partial-good)
 
 pub returns-in_default-clause-every : goal.returns-in_default-clause-every
 returns-in_default-clause-every c = λ expected right e.

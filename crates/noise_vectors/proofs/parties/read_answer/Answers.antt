@@ -1,17 +1,17 @@
 use Rattle.std.proofs.Common.{rules, ◌∙◌, ap₂, lit<, List, ℕ, ◌∷◌, ◌++◌, Some}
-use Rattle.noise_vectors.proofs.Common.{Decides-eqb, strip_prefix_is, encode_lower}
+use Rattle.noise_vectors.proofs.Common.{Decides-eqb, strip_prefix_is}
 use Rattle.noise_vectors.proofs.LackLemmas.{lacks-encode_lower}
 use Rattle.noise_vectors.proofs.PartyLemmas.{answer-keys}
 use Rattle.noise_vectors.proofs.parties.read_answer.Goals as goal
 
 pub returns-in_err-remote-clause-every : goal.returns-in_err-remote-clause-every
-returns-in_err-remote-clause-every c = search (rules, strip_prefix_is, encode_lower, lacks-encode_lower, lit<, answer-keys)
+returns-in_err-remote-clause-every c = search (rules, strip_prefix_is, lacks-encode_lower, lit<, answer-keys)
 
 pub returns-in_err-read_key-clause-every : goal.returns-in_err-read_key-clause-every
-returns-in_err-read_key-clause-every c = search (rules, strip_prefix_is, answer-keys, encode_lower, lacks-encode_lower, lit<)
+returns-in_err-read_key-clause-every c = search (rules, strip_prefix_is, answer-keys, lacks-encode_lower, lit<)
 
 pub returns-in_err-read_key-2-clause-every : goal.returns-in_err-read_key-2-clause-every
-returns-in_err-read_key-2-clause-every c = search (rules, strip_prefix_is, answer-keys, encode_lower, lacks-encode_lower, lit<)
+returns-in_err-read_key-2-clause-every c = search (rules, strip_prefix_is, answer-keys, lacks-encode_lower, lit<)
 
 pub returns-clause-text : goal.returns-clause-text
 returns-clause-text c =

@@ -16,7 +16,7 @@ stands c over = true≢false (sym (begun-by c.loop-lines.lines.rest.now c.as_sli
 -- so it is the next of these
 next-answer : (c : After-read_answer) (entries : List TableEntry) (rest : List ℕ) → All IsEntry entries → begins rest ≡ false
     → c.args.lines.now.rest.now ≡ lines_of answer_words entries rest → Next answer_lines c.loop-lines.table.entries entries c.loop-lines.lines.rest.now
-next-answer c entries rest are other is = search (rules, next-of, answer_lines, lacks-answer_words, answer-stands, stands)
+next-answer c entries rest are other is = search (rules, next-of, lacks-answer_words, answer-stands, stands)
 
 pub returns-in_default-clause-every : goal.returns-in_default-clause-every
 returns-in_default-clause-every c =

@@ -16,7 +16,7 @@ stands c over = true≢false (sym (begun-by c.loop-lines.lines.rest.now c.as_sli
 -- so it is the next of these
 next-psk : (c : After-read_psk) (psks : List (List ℕ)) (rest : List ℕ) → ArePsks psks → starts_with nat_eq rest (codes "psk ") ≡ false
     → c.args.lines.now.rest.now ≡ lines_of psk_words psks rest → Next psk_lines c.loop-lines.psks.items psks c.loop-lines.lines.rest.now
-next-psk c psks rest h other e = search (rules, next-of, psk_lines, psk-plain, psk-stands, stands)
+next-psk c psks rest h other e = search (rules, next-of, psk-plain, psk-stands, stands)
 
 pub returns-in_default-clause-every : goal.returns-in_default-clause-every
 returns-in_default-clause-every c =

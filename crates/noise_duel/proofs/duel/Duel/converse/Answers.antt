@@ -1,5 +1,5 @@
 use Rattle.std.proofs.Common.{rules, ◌+◌, ◌≤◌, ◌∷◌, ◌∙◌, arith, length, drop, ap, sym}
-use Rattle.noise_duel.proofs.Common.{drop_all, drop_more, end_of, say_events, Say, both_sides, begun_as}
+use Rattle.noise_duel.proofs.Common.{drop_all, drop_more, say_events, Say, both_sides}
 use Rattle.noise_duel.specs.Acts.{roles_and_payloads}
 use Rattle.noise_duel.proofs.Happening.{all-come, one-more}
 use Rattle.noise_duel.proofs.Reporting.{all-through}
@@ -26,4 +26,4 @@ returns-clause-reports g c v w st =
     (ap (λ xs. say_events (roles_and_payloads xs)) (drop_all c.loop-role.role-index c.args.lines.now none)) (c.loop-role.invariant v w st)
 
 pub returns-clause-comes_through : goal.returns-clause-comes_through
-returns-clause-comes_through g c w p prologue a b interval parts turns st = search (rules, all-through, returns-clause-reports, end_of, begun_as)
+returns-clause-comes_through g c w p prologue a b interval parts turns st = search (rules, all-through, returns-clause-reports)

@@ -1,7 +1,6 @@
 use Rattle.std.proofs.Common.{rules}
-use Rattle.noise_handshake.proofs.Common.{is_psk, tokens_at}
 use Rattle.noise_handshake.proofs.Next.{tokens-next}
 use Rattle.noise_handshake.proofs.handshake.Handshake.psk_after.Goals as goal
 
 pub returns : goal.returns
-returns g c = search (rules, is_psk, tokens_at, tokens-next)
+returns g c = search (rules, tokens-next)

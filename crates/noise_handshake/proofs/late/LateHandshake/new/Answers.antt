@@ -5,10 +5,10 @@ use Rattle.noise_handshake.proofs.Standing.{with-psks}
 use Rattle.noise_handshake.proofs.late.LateHandshake.new.Goals as goal
 
 pub overflow_sub-lacking : goal.overflow_sub-lacking
-overflow_sub-lacking g c = search (rules, setup_fault, psks_of, counted)
+overflow_sub-lacking g c = search (rules, counted)
 
 pub filled-psks-requires-clause-fits : goal.filled-psks-requires-clause-fits
-filled-psks-requires-clause-fits g c = search (rules, setup_fault, psks_of, counted)
+filled-psks-requires-clause-fits g c = search (rules, counted)
 
 pub returns-clause-matches : goal.returns-clause-matches
 returns-clause-matches g c later =

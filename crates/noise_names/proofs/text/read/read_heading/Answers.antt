@@ -24,4 +24,4 @@ returns-in-Err-clause-every c = λ s after h e.
     absurd (ok-not-err c.parse_section.result c.in-Err.field-0 s c.in-Err.is (section-of s _ _ h parts.0 c.parse_section.ensures))
 
 pub returns-in-Ok-clause-some : goal.returns-in-Ok-clause-some
-returns-in-Ok-clause-some c = search (rules, heading-spelled, stripped, codes)
+returns-in-Ok-clause-some c = search (rules, heading-spelled, stripped)

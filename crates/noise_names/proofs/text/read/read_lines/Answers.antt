@@ -18,4 +18,4 @@ of-requires c =
 
 pub returns-then-is_empty-clause-every : goal.returns-then-is_empty-clause-every
 returns-then-is_empty-clause-every c =
-    search (rules, counted, then-is_empty-via-then-is_empty, equal_from_test, length-own, then-is_empty-via-else-is_empty+then-not-are_pre_messages, true-not-false, is_pre_message)
+    search (rules, counted, then-is_empty-via-then-is_empty, equal_from_test, length-own, then-is_empty-via-else-is_empty+then-not-are_pre_messages, true-not-false)

@@ -1,7 +1,6 @@
 use Rattle.std.proofs.Common.{rules}
-use Rattle.noise_names.proofs.Common.{key_by, has_psk, first_places}
 use Rattle.noise_names.proofs.Lengths.{key_by-seen_of}
 use Rattle.noise_names.proofs.valid.ValidPattern.has_key.Goals as goal
 
 pub returns : goal.returns
-returns c = search (rules, key_by, has_psk, first_places, key_by-seen_of)
+returns c = search (rules, key_by-seen_of)
