@@ -164,6 +164,14 @@ static void write_with(const snapshot *s, size_t room) {
         MUST(!memcmp(h, &s->h, sizeof *h));
 }
 
+// After OK no second pair can be made; after another code the struct is as it was.
+static void must_be_used_up(noise_handshake *x, const noise_handshake *old, uint32_t code) {
+    if (code == NOISE_OK)
+        MUST(noise_finish(x, 0, ts, tr) == NOISE_ENDED);
+    else
+        MUST(!memcmp(x, old, sizeof *x));
+}
+
 static void use_handshake(const snapshot *s) {
     read_with(s);
     write_with(s, MOST);
@@ -173,28 +181,36 @@ static void use_handshake(const snapshot *s) {
     must_be(noise_hash(h, hash), CODE(NOISE_STRUCT));
     must_be(noise_remote_static(h, key), CODE(NOISE_STRUCT));
     must_be(noise_stage(h, stage), CODE(NOISE_STRUCT));
+    MUST(!memcmp(h, &s->h, sizeof *h));
+    must_be(noise_answer(h, 1, public_key(0, false), public_key(0, true)), CODE(NOISE_STRUCT) | CODE(NOISE_FULL));
     uint64_t not_yet = CODE(NOISE_STRUCT) | CODE(NOISE_NOT_DONE) | CODE(NOISE_ENDED);
+    *h = s->h;
     uint32_t code = noise_finish(h, 2, ts, tr);
     must_be(code, not_yet);
+    must_be_used_up(h, &s->h, code);
     noise_sender sender = *ts;
     noise_receiver receiver = *tr;
     if (code == NOISE_OK) use_halves(&sender, &receiver, s->message);
+    *h = s->h;
     code = noise_finish_datagrams(h, 256, ds, dr);
     must_be(code, not_yet);
+    must_be_used_up(h, &s->h, code);
     noise_datagram_sender datagram_sender = *ds;
     noise_datagram_receiver datagram_receiver = *dr;
     if (code == NOISE_OK) use_datagram_halves(&datagram_sender, &datagram_receiver, s->message);
+    *h = s->h;
     code = noise_finish_ciphers(h, cs, cr);
     must_be(code, not_yet);
+    must_be_used_up(h, &s->h, code);
     noise_cipher send = *cs, receive = *cr;
     if (code == NOISE_OK) use_ciphers(&send, &receive, s->message);
+    *h = s->h;
     code = noise_finish_stream(h, 2, xs, xr);
     must_be(code, not_yet);
+    must_be_used_up(h, &s->h, code);
     noise_stream_sender writer = *xs;
     noise_stream_receiver reader = *xr;
     if (code == NOISE_OK) use_stream(&writer, &reader, s->message);
-    MUST(!memcmp(h, &s->h, sizeof *h));
-    must_be(noise_answer(h, 1, public_key(0, false), public_key(0, true)), CODE(NOISE_FULL));
 }
 
 static const uint8_t values[] = {0, 1, 2, 9, 200, 255};
@@ -308,7 +324,7 @@ static void try_opened(const plan *p) {
     pass_all(p, ends);
     MUST(finish(&ends[taker].h, 3, &right.t) == NOISE_OK && finish(&ends[!taker].h, 3, &other) == NOISE_OK);
     MUST(finish_datagrams(&ends[taker].h, 256, &right.d) == NOISE_OK && finish_datagrams(&ends[!taker].h, 256, &others) == NOISE_OK);
-    MUST(noise_finish_ciphers(&ends[taker].h, &right.send, &right.receive) == NOISE_OK && finish_stream(&ends[taker].h, 3, &right.x) == NOISE_OK);
+    MUST(finish_cipher_states(&ends[taker].h, &right.send, &right.receive) == NOISE_OK && finish_stream(&ends[taker].h, 3, &right.x) == NOISE_OK);
     MUST(noise_seal(&other.s, public_key(1, true), 24, message, 40, result) == NOISE_OK);
     for (unsigned i = 0; i < 5; i++) MUST(noise_datagram_seal(&others.s, public_key(1, true), 24, datagram, 48, result) == NOISE_OK);
     for (size_t i = 0; i < sizeof right; i++)

@@ -29,6 +29,7 @@ int main(int count, char **words) {
     check_streams();
     check_changed_structs();
     check_late_psks();
+    check_once();
     puts("c-library: all codes, bytes and places were right");
     return 0;
 }

@@ -11,7 +11,7 @@ static void open_pair(const char *pattern, uint64_t interval, noise_cipher send[
     pass_all(&p, ends);
     for (unsigned role = 0; role < 2; role++) {
         noise_handshake old = ends[role].h;
-        MUST(noise_finish_ciphers(&ends[role].h, &send[role], &receive[role]) == NOISE_OK);
+        MUST(finish_cipher_states(&ends[role].h, &send[role], &receive[role]) == NOISE_OK);
         MUST(!memcmp(&old, &ends[role].h, sizeof old));
         MUST(finish(&ends[role].h, interval, &t[role]) == NOISE_OK);
     }

@@ -139,15 +139,23 @@ void pass_all(const plan *p, end ends[2]) {
 }
 
 uint32_t finish(const noise_handshake *h, uint64_t interval, transport *t) {
-    return noise_finish(h, interval, &t->s, &t->r);
+    noise_handshake copy = *h;
+    return noise_finish(&copy, interval, &t->s, &t->r);
 }
 
 uint32_t finish_datagrams(const noise_handshake *h, uint32_t window, datagrams *d) {
-    return noise_finish_datagrams(h, window, &d->s, &d->r);
+    noise_handshake copy = *h;
+    return noise_finish_datagrams(&copy, window, &d->s, &d->r);
 }
 
 uint32_t finish_stream(const noise_handshake *h, uint64_t interval, stream *x) {
-    return noise_finish_stream(h, interval, &x->s, &x->r);
+    noise_handshake copy = *h;
+    return noise_finish_stream(&copy, interval, &x->s, &x->r);
+}
+
+uint32_t finish_cipher_states(const noise_handshake *h, noise_cipher *send, noise_cipher *receive) {
+    noise_handshake copy = *h;
+    return noise_finish_ciphers(&copy, send, receive);
 }
 
 uint8_t *place_at_edge(size_t size) {

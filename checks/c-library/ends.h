@@ -77,9 +77,11 @@ void fill(uint8_t *payload, size_t len, unsigned number);
 size_t length_of(unsigned number);
 // Passes all messages between the two ends.
 void pass_all(const plan *p, end ends[2]);
+// Each finishes a copy, so that a test can have several pairs of one handshake.
 uint32_t finish(const noise_handshake *h, uint64_t interval, transport *t);
 uint32_t finish_datagrams(const noise_handshake *h, uint32_t window, datagrams *d);
 uint32_t finish_stream(const noise_handshake *h, uint64_t interval, stream *x);
+uint32_t finish_cipher_states(const noise_handshake *h, noise_cipher *send, noise_cipher *receive);
 
 // A place for `size` bytes; no byte after it may be touched.
 uint8_t *place_at_edge(size_t size);
@@ -96,5 +98,6 @@ void check_ciphers(void);
 void check_streams(void);
 void check_changed_structs(void);
 void check_late_psks(void);
+void check_once(void);
 
 #endif

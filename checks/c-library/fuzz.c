@@ -287,7 +287,7 @@ static void ask_handshake(const noise_handshake *h) {
     ASK(h, noise_handshake, sizeof(transport), ends_codes, finish(k, random_number(), o));
     ASK(h, noise_handshake, sizeof(datagrams), ends_codes | CODE(NOISE_WINDOW), finish_datagrams(k, window, o));
     ASK(h, noise_handshake, sizeof(stream), ends_codes, finish_stream(k, random_number(), o));
-    ASK(h, noise_handshake, 2 * sizeof(noise_cipher), ends_codes, noise_finish_ciphers(k, o, (noise_cipher *)o + 1));
+    ASK(h, noise_handshake, 2 * sizeof(noise_cipher), ends_codes, finish_cipher_states(k, o, (noise_cipher *)o + 1));
 }
 
 static void ask_halves(const transport *t, const datagrams *d, const stream *x, const noise_cipher *c) {
@@ -572,7 +572,7 @@ static void try_round(void) {
     uint32_t window = (uint32_t[]){64, 256, 1024}[below(3)];
     for (unsigned role = 0; role < 2; role++) {
         MUST(finish(&h[role], interval, &parties[role].t) == NOISE_OK && finish_datagrams(&h[role], window, &parties[role].d) == NOISE_OK);
-        MUST(noise_finish_ciphers(&h[role], &parties[role].send, &parties[role].receive) == NOISE_OK);
+        MUST(finish_cipher_states(&h[role], &parties[role].send, &parties[role].receive) == NOISE_OK);
         MUST(finish_stream(&h[role], interval, &parties[role].x) == NOISE_OK);
     }
     use_halves(&p, parties);

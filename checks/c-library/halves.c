@@ -25,7 +25,7 @@ static void check_kinds(void) {
     uint64_t nonce;
     pass_all(&p, ends);
     MUST(finish(&ends[0].h, 0, &t) == NOISE_OK && finish_datagrams(&ends[0].h, 64, &d) == NOISE_OK);
-    MUST(noise_finish_ciphers(&ends[0].h, &send, &receive) == NOISE_OK && finish_stream(&ends[0].h, 0, &x) == NOISE_OK);
+    MUST(finish_cipher_states(&ends[0].h, &send, &receive) == NOISE_OK && finish_stream(&ends[0].h, 0, &x) == NOISE_OK);
     const void *const kinds[] = {&t.s, &t.r, &d.s, &d.r, &send, &receive, &ends[0].h, &x.s, &x.r};
     const size_t sizes[] = {sizeof t.s, sizeof t.r, sizeof d.s, sizeof d.r, sizeof send, sizeof receive, sizeof ends[0].h, sizeof x.s, sizeof x.r};
     for (unsigned i = 0; i < sizeof kinds / sizeof *kinds; i++) {

@@ -123,7 +123,7 @@ static void check_stream_calls(end ends[2]) {
 static void check_cipher_calls(end ends[2]) {
     static uint8_t empty, some[16], other[16];
     noise_cipher send, receive;
-    MUST(noise_finish_ciphers(&ends[0].h, &send, &receive) == NOISE_OK);
+    MUST(finish_cipher_states(&ends[0].h, &send, &receive) == NOISE_OK);
     left a = {.object.c = send}, b = a;
     a.code = noise_cipher_encrypt(&a.object.c, NULL, 0, NULL, 0, 0, &a.result);
     b.code = noise_cipher_encrypt(&b.object.c, &empty, 0, &empty, 0, 0, &b.result);

@@ -15,6 +15,7 @@ static const char *most_of;
 
 static plan p;
 static end ends[2];
+static noise_handshake used; // a copy, which a call uses up
 static transport t[2];
 static datagrams d[2];
 static stream x[2];
@@ -33,10 +34,10 @@ static void do_start(void) { code = noise_start(&ends[role].h, pattern, pattern_
 static void do_write(void) { code = noise_write(&ends[role].h, payload, len, message, room, &result); }
 static void do_read(void) { code = noise_read(&ends[role].h, message, len, &result); }
 static void do_answer(void) { hand_in(&ends[role], &result); }
-static void do_finish(void) { code = finish(&ends[role].h, 1, &t[role]); }
-static void do_finish_datagrams(void) { code = finish_datagrams(&ends[role].h, 1024, &d[role]); }
-static void do_finish_stream(void) { code = finish_stream(&ends[role].h, 1, &x[role]); }
-static void do_finish_ciphers(void) { code = noise_finish_ciphers(&ends[role].h, &send[role], &receive[role]); }
+static void do_finish(void) { used = ends[role].h, code = noise_finish(&used, 1, &t[role].s, &t[role].r); }
+static void do_finish_datagrams(void) { used = ends[role].h, code = noise_finish_datagrams(&used, 1024, &d[role].s, &d[role].r); }
+static void do_finish_stream(void) { used = ends[role].h, code = noise_finish_stream(&used, 1, &x[role].s, &x[role].r); }
+static void do_finish_ciphers(void) { used = ends[role].h, code = noise_finish_ciphers(&used, &send[role], &receive[role]); }
 static void do_seal(void) { code = noise_seal(&t[role].s, payload, len, message, room, &result); }
 static void do_seal_in_place(void) { code = noise_seal_in_place(&t[role].s, message, room, len, &result); }
 static void do_open(void) { code = noise_open(&t[role].r, message, len, &result); }

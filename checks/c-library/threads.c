@@ -109,7 +109,7 @@ static void *ask_all(void *of) {
         MUST(noise_hash(&a->h, hash) == NOISE_OK && noise_remote_static(&a->h, &key) == NOISE_OK && noise_stage(&a->h, &stage) == NOISE_OK);
         MUST(noise_message_len(&a->h, 3, &len) == NOISE_NOT_DUE);
         MUST(finish(&a->h, 7, &t) == NOISE_OK && finish_datagrams(&a->h, 64, &d) == NOISE_OK);
-        MUST(noise_finish_ciphers(&a->h, &send, &receive) == NOISE_OK && finish_stream(&a->h, 7, &x) == NOISE_OK);
+        MUST(finish_cipher_states(&a->h, &send, &receive) == NOISE_OK && finish_stream(&a->h, 7, &x) == NOISE_OK);
         MUST(noise_stream_is_cut(&a->x.r, 0) == NOISE_CUT);
         MUST(noise_sender_nonce(&a->t.s, &nonce) == NOISE_OK && noise_receiver_nonce(&a->t.r, &nonce) == NOISE_OK);
         MUST(noise_datagram_sender_nonce(&a->d.s, &nonce) == NOISE_OK && noise_cipher_nonce(&a->c, &nonce) == NOISE_OK);
@@ -125,7 +125,7 @@ static void ask_at_once(const end *x) {
     MUST(a != MAP_FAILED);
     a->h = x->h;
     MUST(finish(&x->h, 7, &a->t) == NOISE_OK && finish_datagrams(&x->h, 64, &a->d) == NOISE_OK);
-    MUST(noise_finish_ciphers(&x->h, &a->c, &receive) == NOISE_OK && finish_stream(&x->h, 7, &a->x) == NOISE_OK);
+    MUST(finish_cipher_states(&x->h, &a->c, &receive) == NOISE_OK && finish_stream(&x->h, 7, &a->x) == NOISE_OK);
     MUST(mprotect(a, room, PROT_READ) == 0);
     for (unsigned i = 0; i < 2; i++) MUST(pthread_create(&threads[i], NULL, ask_all, a) == 0);
     for (unsigned i = 0; i < 2; i++) MUST(pthread_join(threads[i], NULL) == 0);

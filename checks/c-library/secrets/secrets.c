@@ -174,7 +174,8 @@ typedef struct {
 _Static_assert(sizeof(noise_datagram_receiver) == LARGEST, "the largest half");
 
 static uint32_t finish_messages(const noise_handshake *h, void *sender, void *receiver) {
-    return noise_finish(h, INTERVAL, sender, receiver);
+    noise_handshake copy = *h;
+    return noise_finish(&copy, INTERVAL, sender, receiver);
 }
 
 static uint32_t seal_message(void *sender, const uint8_t *payload, size_t len, uint8_t *out, noise_result *result) {
@@ -191,15 +192,18 @@ static uint32_t open_message(void *receiver, uint8_t *message, size_t len, noise
 }
 
 static uint32_t finish_window_64(const noise_handshake *h, void *sender, void *receiver) {
-    return noise_finish_datagrams(h, 64, sender, receiver);
+    noise_handshake copy = *h;
+    return noise_finish_datagrams(&copy, 64, sender, receiver);
 }
 
 static uint32_t finish_window_256(const noise_handshake *h, void *sender, void *receiver) {
-    return noise_finish_datagrams(h, 256, sender, receiver);
+    noise_handshake copy = *h;
+    return noise_finish_datagrams(&copy, 256, sender, receiver);
 }
 
 static uint32_t finish_window_1024(const noise_handshake *h, void *sender, void *receiver) {
-    return noise_finish_datagrams(h, 1024, sender, receiver);
+    noise_handshake copy = *h;
+    return noise_finish_datagrams(&copy, 1024, sender, receiver);
 }
 
 static uint32_t seal_datagram(void *sender, const uint8_t *payload, size_t len, uint8_t *out, noise_result *result) {
@@ -216,7 +220,8 @@ static uint32_t open_datagram(void *receiver, uint8_t *message, size_t len, nois
 }
 
 static uint32_t finish_streams(const noise_handshake *h, void *sender, void *receiver) {
-    return noise_finish_stream(h, INTERVAL, sender, receiver);
+    noise_handshake copy = *h;
+    return noise_finish_stream(&copy, INTERVAL, sender, receiver);
 }
 
 static uint32_t write_frame(void *sender, const uint8_t *payload, size_t len, uint8_t *out, noise_result *result) {
@@ -235,7 +240,8 @@ static uint32_t read_frame(void *receiver, uint8_t *message, size_t len, noise_r
 }
 
 static uint32_t finish_ciphers(const noise_handshake *h, void *sender, void *receiver) {
-    return noise_finish_ciphers(h, sender, receiver);
+    noise_handshake copy = *h;
+    return noise_finish_ciphers(&copy, sender, receiver);
 }
 
 static uint32_t encrypt(void *sender, const uint8_t *payload, size_t len, uint8_t *out, noise_result *result) {

@@ -3,7 +3,8 @@ pub mod Among
 pub mod AskingToRead
 pub mod AskingToWrite
 pub mod Four
-pub mod Runs
+pub mod Refused
+mod Runs
 pub mod Finished
 pub mod Stored
 pub mod Named

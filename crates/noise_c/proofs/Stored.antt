@@ -1,6 +1,6 @@
 -- The struct matches what the handshake stood for.
 use Rattle.std.proofs.Common.{◌≡◌, ℕ, ◌+◌, ◌-◌, ◌++◌, ◌≤◌, List, length, drop, length-append, drop-drop, ap, sym, subst, ◌∙◌, refl, arith, slice_range}
-use Rattle.noise_c.proofs.Common.{drop-append_seam, Plan, IsValid, Cause, ReadFault, HandshakeValue, ended_as, message_len_of, with_later, after_late_unread, IsLateWhole, Table, Party, Accepts, Matches, after_message, after_own, after_not_read, DoesNotRead, Writes, NoiseHandshake, public_in, agreement_in, text_from_c, handshake_from_c, IsPatternOf, IsUsable, KeepsParty, WasRead, WasWritten, WasDeclined, read_code, token_in}
+use Rattle.noise_c.proofs.Common.{drop-append_seam, Plan, IsValid, Cause, ReadFault, HandshakeValue, ended_as, message_len_of, with_later, after_late_unread, IsLateWhole, Table, Party, Accepts, Matches, after_message, after_own, after_not_read, DoesNotRead, Writes, NoiseHandshake, public_in, agreement_in, text_from_c, handshake_from_c, IsPatternOf, IsUsable, KeepsParty, WasRead, WasWritten}
 use Rattle.noise_handshake.specs.declared.late_faults.LateUnread.{LateUnread}
 use Rattle.noise_c.specs.declared.codes.numbers.TheConstants.{HANDSHAKE}
 use Rattle.noise_c.proofs.Numbers.{IsPlain}
@@ -28,10 +28,6 @@ module _ (old new : NoiseHandshake) (h h2 : HandshakeValue Table) (p : Plan) (v 
       let n : end ≡ start + (end - start) = omega (arith, r) in
       subst (λ (z : ℕ). WasRead p v message (slice_range new_message start z) new) n
       (record { carried = xs; accepts = a; keeps = keeps (after_message v xs (slice_range new_message start end)) s })
-
-  pub was-declined : (message : List ℕ) (fault : ReadFault) (code token : ℕ) → code ≡ read_code fault → token ≡ token_in fault → DoesNotRead v message fault → Matches public_in agreement_in (with_later h2 k.later) (after_not_read v fault)
-      → WasDeclined p v message code token new
-  was-declined message fault code token e t d s = record { fault = fault; code_is = e; token_is = t; declines = d; keeps = keeps (after_not_read v fault) s }
 
   pub was-written : (payload message : List ℕ) (xs : List (List ℕ)) → Writes v payload xs message → Matches public_in agreement_in (with_later h2 k.later) (after_own v xs payload) → WasWritten p v payload message new
   was-written payload message xs w s = record { carried = xs; writes = w; keeps = keeps (after_own v xs payload) s }

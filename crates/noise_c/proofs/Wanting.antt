@@ -1,6 +1,6 @@
 -- What it comes to where a DH result or a secret is wanted.
 use Rattle.std.proofs.Common.{◌≡◌, ℕ, List, sym, subst}
-use Rattle.noise_c.proofs.Common.{Plan, Own, Want, Party, WantsToRead, WantsToWrite, LeavesLateUnread, WantsLate, WantsPskToRead, WantsPskToWrite, NoiseHandshake, NoiseResult, own_in, remote_reported, KeepsParty, ReportsDhResult, ReportsRemote, ReportsWant}
+use Rattle.noise_c.proofs.Common.{Bool, Plan, Own, Want, Party, WantsToRead, WantsToWrite, LeavesLateUnread, WantsLate, WantsPskToRead, WantsPskToWrite, NoiseHandshake, NoiseResult, own_in, remote_reported, KeepsParty, ReportsDhResult, ReportsRemote, ReportsWant}
 use Rattle.noise_handshake.specs.declared.late_faults.Want.TheVariants.{DhResult, Psk}
 use Rattle.noise_c.specs.Outcomes.{ReadOutcome, WriteOutcome}
 use Rattle.noise_c.specs.Outcomes.ReadOutcome.{wants_dh_result as read_wants_dh_result, wants_psk as read_wants_psk}
@@ -31,16 +31,16 @@ module _ (old new : NoiseHandshake) (payload out after : List ℕ) (results : No
       let s = writes-psk v n (Psk remote) next code t t.0 (leaves p v k) in
       (subst (λ (i : ℕ). WantsPskToWrite v i) count s.0, s.1)))
 
-module _ (old new : NoiseHandshake) (message after : List ℕ) (results : NoiseResult) (n : ℕ) where
+module _ (ends : Bool) (old new : NoiseHandshake) (message after : List ℕ) (results : NoiseResult) (n : ℕ) where
   pub reads-outcome : (want : Want) (next : NoiseResult) (code : ℕ) → ReportsWant want next code
       → (code ≡ 20 → ReportsDhResult results next) → (code ≡ 40 → ReportsRemote results next) → n ≡ old.psk_count → after ≡ message
       → ((p : Plan) (v : Party) → KeepsParty old p v → LeavesLateUnread v n message (unread.Wants want))
-      → ReadOutcome old message results new after next code
+      → ReadOutcome ends old message results new after next code
   reads-outcome (DhResult own key) next code t answer static count bytes leaves =
-      subst (λ (c : ℕ). ReadOutcome old message results new after next c) (sym t.0)
+      subst (λ (c : ℕ). ReadOutcome ends old message results new after next c) (sym t.0)
       (read_wants_dh_result (answer t.0) bytes (λ p v k. reads-dh-result v message own key next t.1 t.2 (leaves p v k)))
   reads-outcome (Psk remote) next code t answer static count bytes leaves =
-      subst (λ (c : ℕ). ReadOutcome old message results new after next c) (sym t.0)
+      subst (λ (c : ℕ). ReadOutcome ends old message results new after next c) (sym t.0)
       (read_wants_psk (static t.0) bytes (λ p v k.
       subst (λ (i : ℕ). WantsPskToRead v i message (remote_reported next)) count
       (reads-psk v n message (Psk remote) next code t t.0 (leaves p v k))))

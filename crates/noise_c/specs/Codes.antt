@@ -29,11 +29,6 @@ read_code read.Done = 12
 read_code read.Ended = 13
 read_code (read.Refused token cause) = cause_code cause
 
--- the token of a refusal, else 0
-abbrev pub token_in : ReadFault → ℕ
-token_in (read.Refused token cause) = token
-token_in _ = 0
-
 abbrev pub write_code : WriteFault → ℕ
 write_code write.NotYourTurn = 10
 write_code write.TooLong = 11

@@ -1,5 +1,5 @@
 -- What finishing a handshake returns, and what its halves match.
-use Rattle.std.specs.Prelude.{◌≡◌, ◌↔◌, ◌⊎◌, ◌==◌, ℕ, true, length, if◌then◌else◌}
+use Rattle.std.specs.Prelude.{◌≡◌, ◌<◌, ◌↔◌, ◌⊎◌, ◌==◌, ℕ, true, length, replicate, if◌then◌else◌}
 use Rattle.noise_handshake.specs.HandshakeValue.{HandshakeValue}
 use Rattle.noise_keys.specs.Table.{Table}
 use Rattle.noise_session.specs.TransportValue.{TransportState, SenderMatches, ReceiverMatches, transport_of}
@@ -12,7 +12,7 @@ use Rattle.noise_c.specs.declared.structs.NoiseDatagramReceiver.{NoiseDatagramRe
 use Rattle.noise_c.specs.declared.structs.NoiseStreamSender.{NoiseStreamSender}
 use Rattle.noise_c.specs.declared.structs.NoiseStreamReceiver.{NoiseStreamReceiver}
 use Rattle.noise_c.specs.declared.structs.NoiseCipher.{NoiseCipher}
-use Rattle.noise_c.specs.HandshakeStructs.{handshake_from_c, ForParty, IsUsable}
+use Rattle.noise_c.specs.HandshakeStructs.{handshake_from_c, no_dh_result, ForParty, IsUsable}
 use Rattle.noise_c.specs.HalfStructs.{half_from_c, is_half}
 use Rattle.noise_c.specs.DatagramStructs.{datagram_sender_from_c, datagram_receiver_from_c, is_datagram_sender, is_datagram_receiver, window_in}
 use Rattle.noise_c.specs.StreamStructs.{is_stream_sender, is_stream_receiver, BeginsToRead, BeginsToWrite}
@@ -28,6 +28,27 @@ pub record Finishes (k : NoiseHandshake) (code : ℕ) : Type 0 where
   pub unusable : code ≡ STRUCT ↔ (IsUsable k → ⊥)
   pub same : (u : IsUsable k) → code ≡ finish_code (handshake_from_c u.pattern k)
   pub codes : (code ≡ OK) ⊎ (code ≡ ENDED) ⊎ (code ≡ NOT_DONE) ⊎ (code ≡ STRUCT)
+
+-- The handshake is used up: it has ended, and its keys, psks and DH results are zeros. The rest stays.
+abbrev pub used_up : NoiseHandshake → NoiseHandshake
+used_up k = record k {
+  ended = 1;
+  psk_count = 0;
+  psks = replicate 9 (replicate 32 0);
+  answer_count = 0;
+  answers = replicate 8 no_dh_result;
+  chaining_key = replicate 32 0;
+  cipher = record { present = k.cipher.present; bytes = replicate 32 0 };
+}
+
+-- Finishing returns this number. At OK the handshake is used up, so that a second call returns ENDED; else it is as it
+-- was.
+pub record UsesUp (old new : NoiseHandshake) (code : ℕ) : Type 0 where
+  pub code_is : Finishes old code
+  pub used : code ≡ OK → new ≡ used_up old
+  pub usable : code ≡ OK → IsUsable new
+  pub once : code ≡ OK → (again : ℕ) → Finishes new again → again ≡ ENDED
+  pub unchanged : OK < code → new ≡ old
 
 -- the two halves match the transport
 abbrev pub HalvesMatch : NoiseHalf → NoiseHalf → TransportState → Type 0

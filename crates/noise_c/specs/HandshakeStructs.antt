@@ -12,6 +12,7 @@ use Rattle.noise_names.specs.Validity.{IsValid}
 use Rattle.noise_state.specs.Standing.{state_of}
 use Rattle.noise_keys.specs.declared.keys.Own.{Own}
 use Rattle.noise_keys.specs.declared.keys.Own.TheVariants.{Ephemeral, Static}
+use Rattle.noise_handshake.specs.declared.faults.Cause.{Cause}
 use Rattle.noise_handshake.specs.declared.faults.ReadFault.{ReadFault}
 use Rattle.noise_keys.specs.declared.faults.SetupFault.{SetupFault}
 use Rattle.noise_handshake.specs.declared.faults.WriteFault.{WriteFault}
@@ -25,9 +26,9 @@ use Rattle.noise_handshake.specs.Parts.{HasProgress}
 use Rattle.noise_handshake.specs.declared.parts.Progress.{Progress}
 use Rattle.noise_handshake.specs.Late.{with_later, late_fault, IsLateWhole}
 use Rattle.noise_handshake.specs.Setup.{party_at_start, psks_of}
-use Rattle.noise_handshake.specs.Party.{Party, Accepts}
+use Rattle.noise_handshake.specs.Party.{Party, Accepts, Refuses}
 use Rattle.noise_handshake.specs.Writing.{Writes}
-use Rattle.noise_handshake.specs.Matching.{Matches, after_message, after_own, DoesNotRead, after_not_read, DoesNotWrite}
+use Rattle.noise_handshake.specs.Matching.{Matches, after_message, after_own, DoesNotRead, ended_party, DoesNotWrite}
 use Rattle.noise_c.specs.declared.structs.NoiseKey.{NoiseKey}
 use Rattle.noise_c.specs.declared.structs.NoiseAnswer.{NoiseAnswer}
 use Rattle.noise_c.specs.declared.structs.NoiseHandshake.{NoiseHandshake}
@@ -35,7 +36,7 @@ use Rattle.noise_c.specs.declared.structs.NoiseSetup.{NoiseSetup}
 use Rattle.noise_c.specs.declared.codes.numbers.TheConstants.{EPHEMERAL_MISSING, FULL, HANDSHAKE, LENGTH, NAME, NOT_DUE, OK, PATTERN, PSK_COUNT, STRUCT, WANTED, WANTED_PSK}
 use Rattle.noise_c.specs.declared.structs.NoiseStageResult.{NoiseStageResult}
 use Rattle.noise_c.specs.declared.structs.NoiseResult.{NoiseResult}
-use Rattle.noise_c.specs.Codes.{read_code, token_in, write_code, setup_code}
+use Rattle.noise_c.specs.Codes.{cause_code, read_code, write_code, setup_code}
 
 -- a key, if there is one
 abbrev pub key_from_c : NoiseKey → Option (List ℕ)
@@ -49,6 +50,10 @@ zero_key = record { present = 0; bytes = replicate 32 0 }
 abbrev pub key_to_c : Option (List ℕ) → NoiseKey
 key_to_c None = zero_key
 key_to_c (Some bytes) = record { present = 1; bytes = bytes }
+
+-- an entry without a DH result
+abbrev pub no_dh_result : NoiseAnswer
+no_dh_result = record { of_static = 0; remote = replicate 32 0; answer = replicate 32 0 }
 
 abbrev pub own_in : ℕ → Own
 own_in of_static = if of_static == 0 then Ephemeral else Static
@@ -195,6 +200,7 @@ pub record StoresProgress (progress : Progress) (left : ℕ) (old new : NoiseHan
   pub text_len : new.text_len ≡ old.text_len
   pub answers : new.answer_count ≡ old.answer_count
   pub psks : new.psk_count ≡ left
+  pub rest : (new.psks ≡ old.psks) × (new.answers ≡ old.answers)
 
 -- The payload was accepted, and the struct matches the state after the message.
 pub record WasRead (p : Plan) (v : Party) (message payload : List ℕ) (k : NoiseHandshake) : Type 0 where
@@ -202,13 +208,28 @@ pub record WasRead (p : Plan) (v : Party) (message payload : List ℕ) (k : Nois
   pub accepts : Accepts v message carried payload
   pub keeps : KeepsParty k p (after_message v carried payload)
 
--- The message was declined for a fault of this number and token, and the struct matches the state after that.
-pub record WasDeclined (p : Plan) (v : Party) (message : List ℕ) (code token : ℕ) (k : NoiseHandshake) : Type 0 where
+-- The party doesn't read a message now, for a fault of this number.
+pub record WasDeclined (v : Party) (message : List ℕ) (code : ℕ) : Type 0 where
   pub fault : ReadFault
   pub code_is : code ≡ read_code fault
-  pub token_is : token ≡ token_in fault
   pub declines : DoesNotRead v message fault
-  pub keeps : KeepsParty k p (after_not_read v fault)
+
+-- what a refused message leaves of the struct, where it ends the handshake and where it doesn't, and of the party
+abbrev pub struct_left : Bool → NoiseHandshake → NoiseHandshake
+struct_left true k = record k { ended = 1 }
+struct_left false k = k
+
+abbrev pub party_left : Bool → Party → Party
+party_left true v = ended_party v
+party_left false v = v
+
+-- The message was refused at this token, for the cause of this number, and the struct matches the state after that.
+pub record WasRefused (ends : Bool) (p : Plan) (v : Party) (message : List ℕ) (code token : ℕ) (k : NoiseHandshake)
+    : Type 0 where
+  pub cause : Cause
+  pub code_is : code ≡ cause_code cause
+  pub refuses : Refuses v message token cause
+  pub keeps : KeepsParty k p (party_left ends v)
 
 -- A payload of this length was withheld for a fault of this number.
 pub record WasWithheld (v : Party) (payload code : ℕ) : Type 0 where
@@ -235,13 +256,16 @@ pub record IsGiven (old new : NoiseHandshake) (psk : List ℕ) : Type 0 where
   pub text : text_from_c new ≡ text_from_c old
   pub handshake : (p : Plan) → handshake_from_c p new ≡ with_later (handshake_from_c p old) (psk ∷ [])
 
--- a DH result is supplied where there is room, and a struct that a call has left remains one
+-- a DH result is supplied where there is room in a struct with the mark of a handshake, and a struct that a call has
+-- left remains one
 pub record Supplies (old new : NoiseHandshake) (entry : TableEntry) (code : ℕ) : Type 0 where
-  pub full : code ≡ FULL → (8 ≤ old.answer_count) × (new ≡ old)
+  pub other : code ≡ STRUCT ↔ (old.mark ≡ HANDSHAKE → ⊥)
+  pub full : code ≡ FULL ↔ ((old.mark ≡ HANDSHAKE) × (8 ≤ old.answer_count))
   pub added : code ≡ OK → IsAdded old new entry
-  pub room : old.answer_count < 8 → code ≡ OK
+  pub mark : new.mark ≡ old.mark
+  pub unchanged : OK < code → new ≡ old
   pub stays : IsUsable old → IsUsable new
-  pub codes : (code ≡ OK) ⊎ (code ≡ FULL)
+  pub codes : (code ≡ OK) ⊎ (code ≡ FULL) ⊎ (code ≡ STRUCT)
 
 -- the psk is stored after the others
 pub record StoresPsk (old new : NoiseHandshake) (psk : List ℕ) : Type 0 where
@@ -319,6 +343,11 @@ start_code p prologue setup =
     else if nat_lt 9 setup.psk_count then PSK_COUNT
     else code_of (fault_in p setup)
 
+-- nothing of another handshake is left: zeros in front of the psks, and no DH result
+pub record IsBlank (setup : NoiseSetup) (new : NoiseHandshake) : Type 0 where
+  pub psks : take (9 - setup.psk_count) new.psks ≡ replicate (9 - setup.psk_count) (replicate 32 0)
+  pub dh_results : new.answers ≡ replicate 8 no_dh_result
+
 -- the struct holds what a handshake doesn't change: the text, the role, the public keys, no DH result yet, and the psks
 pub record StoresStart (text : List ℕ) (setup : NoiseSetup) (new : NoiseHandshake) : Type 0 where
   pub mark : new.mark ≡ HANDSHAKE
@@ -335,6 +364,7 @@ pub record IsStarted (text prologue : List ℕ) (setup : NoiseSetup) (new : Nois
       → KeepsParty new p (begun_in p prologue setup later)
   pub usable : IsUsable new
   pub text_is : text_from_c new ≡ text
+  pub blank : IsBlank setup new
 
 -- one of the numbers of a start
 abbrev pub IsStartCode : ℕ → Type 0

@@ -1,15 +1,15 @@
 -- What writing and reading a message come to.
-use Rattle.std.specs.Prelude.{◌≡◌, ℕ, ◌+◌, ◌<◌, ◌≤◌, ◌⊎◌, List, Option, length, take, drop, slice_range, Some}
+use Rattle.std.specs.Prelude.{◌≡◌, Bool, ℕ, ◌+◌, ◌<◌, ◌≤◌, ◌⊎◌, List, Option, length, take, drop, slice_range, Some}
 use Rattle.noise_names.specs.Plan.{Plan}
 use Rattle.noise_handshake.specs.HandshakeValue.{message_len_of}
 use Rattle.noise_handshake.specs.Late.{WantsPskToRead, WantsPskToWrite}
 use Rattle.noise_handshake.specs.Party.{Party}
 use Rattle.noise_handshake.specs.Wanting.{WantsToRead, WantsToWrite}
-use Rattle.noise_c.specs.declared.codes.numbers.TheConstants.{AGREEMENT, DONE, LENGTH, NOT_YOUR_TURN, OK, ROOM, STRUCT, TAG, WANTED, WANTED_PSK}
+use Rattle.noise_c.specs.declared.codes.numbers.TheConstants.{AGREEMENT, DONE, ENDED, LENGTH, NOT_YOUR_TURN, OK, ROOM, STRUCT, TAG, WANTED, WANTED_PSK}
 use Rattle.noise_c.specs.declared.structs.NoiseHandshake.{NoiseHandshake}
 use Rattle.noise_c.specs.declared.structs.NoiseResult.{NoiseResult}
 use Rattle.noise_c.specs.HalfStructs.{IsAround}
-use Rattle.noise_c.specs.HandshakeStructs.{handshake_from_c, own_in, remote_reported, text_from_c, ForParty, HasMessageLen, IsPatternOf, IsUsable, KeepsParty, ReportsDhResult, ReportsRemote, WasDeclined, WasRead, WasWithheld, WasWritten}
+use Rattle.noise_c.specs.HandshakeStructs.{handshake_from_c, own_in, remote_reported, text_from_c, ForParty, HasMessageLen, IsPatternOf, IsUsable, KeepsParty, ReportsDhResult, ReportsRemote, WasDeclined, WasRead, WasRefused, WasWithheld, WasWritten, struct_left}
 
 -- What `noise_write` leaves of the struct, the buffer and the struct of results, by what they were before and by the
 -- payload, and the number that it returns.
@@ -36,27 +36,31 @@ pub data WriteOutcome (old : NoiseHandshake) (payload out : List ℕ) (results :
   unusable : (IsUsable old → ⊥) → next ≡ results → new ≡ old → after ≡ out
       → WriteOutcome old payload out results new after next STRUCT
 
--- The same of `noise_read` and a message. A refusal ends the handshake.
-pub data ReadOutcome (old : NoiseHandshake) (message : List ℕ) (results : NoiseResult)
+-- The same of `noise_read`, where a refusal ends the handshake, and of `noise_try_read`, where it doesn't.
+pub data ReadOutcome (ends : Bool) (old : NoiseHandshake) (message : List ℕ) (results : NoiseResult)
     (new : NoiseHandshake) (after : List ℕ) (next : NoiseResult) : ℕ → Type 0 where
   accepted : IsUsable new → next ≡ record results { from = next.from; len = next.len }
       → next.from + next.len ≤ length after → IsAround message after next.from (next.from + next.len)
       → ForParty old (λ p v. WasRead p v message (slice_range after next.from (next.from + next.len)) new)
-      → ReadOutcome old message results new after next OK
+      → ReadOutcome ends old message results new after next OK
   wants_dh_result : ReportsDhResult results next → after ≡ message
       → ForParty old (λ _ v. WantsToRead v message (own_in next.of_static) next.remote)
-      → ReadOutcome old message results new after next WANTED
+      → ReadOutcome ends old message results new after next WANTED
   wants_psk : ReportsRemote results next → after ≡ message
       → ForParty old (λ _ v. WantsPskToRead v old.psk_count message (remote_reported next))
-      → ReadOutcome old message results new after next WANTED_PSK
-  declined : (code : ℕ) → (code ≡ NOT_YOUR_TURN) ⊎ ((DONE ≤ code) × (code ≤ TAG))
-      → next ≡ record results { token = next.token } → (IsUsable old → IsUsable new) → after ≡ message
-      → ForParty old (λ p v. (code ≡ AGREEMENT → ⊥) × WasDeclined p v message code next.token new)
-      → ReadOutcome old message results new after next code
+      → ReadOutcome ends old message results new after next WANTED_PSK
+  declined : (code : ℕ) → (code ≡ NOT_YOUR_TURN) ⊎ ((DONE ≤ code) × (code ≤ ENDED))
+      → next ≡ results → new ≡ old → after ≡ message → ForParty old (λ _ v. WasDeclined v message code)
+      → ReadOutcome ends old message results new after next code
+  refused : (code : ℕ) → AGREEMENT ≤ code → code ≤ TAG
+      → next ≡ record results { token = next.token } → new ≡ struct_left ends old → (IsUsable old → IsUsable new)
+      → after ≡ message
+      → ForParty old (λ p v. (code ≡ AGREEMENT → ⊥) × WasRefused ends p v message code next.token new)
+      → ReadOutcome ends old message results new after next code
   too_long : 65535 < length message → IsUsable old → next ≡ results → after ≡ message
-      → ReadOutcome old message results new after next LENGTH
+      → ReadOutcome ends old message results new after next LENGTH
   unusable : (IsUsable old → ⊥) → next ≡ results → after ≡ message
-      → ReadOutcome old message results new after next STRUCT
+      → ReadOutcome ends old message results new after next STRUCT
 
 -- what there is too little room for isn't written
 abbrev pub RefusesRoom : NoiseHandshake → ℕ → ℕ → ℕ → Type 0

@@ -1,7 +1,7 @@
 //! The numbers of the interface, and the codes of faults.
 
 ghost use Rattle.std.specs.Prelude.{◌≡◌};
-ghost use Rattle.noise_c.specs.Codes.{read_code, write_code, setup_code, text_code, token_in};
+ghost use Rattle.noise_c.specs.Codes.{read_code, write_code, setup_code, text_code};
 ghost use Rattle.noise_c.specs.TransportCodes.{cipher_code, datagram_code, open_code, seal_code, stream_code};
 
 use crate::codes::numbers::*;
@@ -118,27 +118,19 @@ pub(crate) fn setup_code(fault: SetupFault) -> u32
     }
 }
 
-// The number of a fault of reading, and the token of a refusal.
-pub(crate) fn read_code(fault: ReadFault) -> (u32, u8)
-    ensures code { result.0 ≡ read_code fault }
-    ensures token { result.1 ≡ token_in fault }
+// The number of a fault of reading.
+pub(crate) fn read_code(fault: ReadFault) -> u32
+    ensures { result ≡ read_code fault }
 {
     match fault {
-        ReadFault::NotYourTurn => (NOT_YOUR_TURN, 0),
-        ReadFault::Done => (DONE, 0),
-        ReadFault::Ended => (ENDED, 0),
-        ReadFault::Refused {
-            token,
-            cause: Cause::Short,
-        } => (SHORT, token),
-        ReadFault::Refused {
-            token,
-            cause: Cause::Tag,
-        } => (TAG, token),
-        ReadFault::Refused {
-            token,
-            cause: Cause::Agreement,
-        } => (AGREEMENT, token),
+        ReadFault::NotYourTurn => NOT_YOUR_TURN,
+        ReadFault::Done => DONE,
+        ReadFault::Ended => ENDED,
+        ReadFault::Refused { cause, .. } => match cause {
+            Cause::Short => SHORT,
+            Cause::Tag => TAG,
+            Cause::Agreement => AGREEMENT,
+        },
     }
 }
 

@@ -4,13 +4,13 @@ ghost use Rattle.std.specs.Prelude.{◌≡◌, ◌<◌, ◌∷◌, ◌++◌, [],
 ghost use Rattle.noise_c.specs.HandshakeStructs.{own_in, GoesOn, IsUsable, SetsPsk, StoresPsk, Supplies};
 ghost use Rattle.noise_c.specs.declared.codes.numbers.TheConstants.{OK};
 
-use crate::codes::numbers::{FULL, OK, PSK_COUNT, STRUCT};
+use crate::codes::numbers::{FULL, HANDSHAKE, OK, PSK_COUNT, STRUCT};
 use crate::codes::some_or;
 use crate::from_c::handshake_from_c;
 use crate::structs::{NoiseAnswer, NoiseHandshake};
 
 /// Hands in the DH result of a key pair of this party and a public key of the other: that of X25519, 32 bytes. There is
-/// room for 8.
+/// room for 8. STRUCT where the struct isn't that of a handshake.
 #[unsafe(no_mangle)]
 pub extern "C" fn noise_answer(
     handshake: &mut NoiseHandshake,
@@ -21,6 +21,9 @@ pub extern "C" fn noise_answer(
     ensures { Supplies handshake.old handshake.new
         (record { own = own_in of_static; remote = remote.now; answer = answer.now }) result }
 {
+    if handshake.mark != HANDSHAKE {
+        return STRUCT;
+    }
     let count = handshake.answer_count as usize;
     if count >= 8 {
         return FULL;

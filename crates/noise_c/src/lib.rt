@@ -19,4 +19,5 @@ mod start;
 mod streams;
 mod structs;
 mod supplied_keys;
+mod texts;
 mod version;

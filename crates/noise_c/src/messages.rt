@@ -1,11 +1,11 @@
 //! Exports: writing and reading the messages of a handshake.
 
-ghost use Rattle.std.specs.Prelude.{◌≡◌, ◌≤◌, ◌<◌, ◌⊎◌, ◌↔◌, length};
+ghost use Rattle.std.specs.Prelude.{◌≡◌, ◌≤◌, ◌<◌, ◌⊎◌, ◌↔◌, length, true, false};
 ghost use Rattle.noise_c.specs.HandshakeStructs.{IsUsable, ReportsDhResult, ReportsRemote, ReportsWant};
 ghost use Rattle.noise_c.specs.Outcomes.{AsksToRead, AsksToWrite, ReadOutcome, RefusesRoom, WriteOutcome};
 ghost use Rattle.noise_c.specs.declared.codes.numbers.TheConstants.{ENDED, LENGTH, OK, STRUCT, WANTED, WANTED_PSK};
 
-use crate::codes::numbers::{LENGTH, OK, ROOM, STRUCT, WANTED, WANTED_PSK};
+use crate::codes::numbers::{AGREEMENT, LENGTH, OK, ROOM, STRUCT, TAG, WANTED, WANTED_PSK};
 use crate::codes::{read_code, some_or, write_code};
 use crate::from_c::{handshake_from_c, store_progress};
 use crate::structs::{NoiseHandshake, NoiseResult};
@@ -72,7 +72,8 @@ pub extern "C" fn noise_write(
 }
 
 /// Reads a message in place, and reports where its payload is. WANTED, WANTED_PSK and AGREEMENT are as for
-/// `noise_write`; the static key is reported as it is known before the psk token, also from this message.
+/// `noise_write`; the static key is reported as it is known before the psk token, also from this message. A refusal
+/// ends the handshake.
 #[unsafe(no_mangle)]
 pub extern "C" fn noise_read(
     handshake: &mut NoiseHandshake,
@@ -81,8 +82,43 @@ pub extern "C" fn noise_read(
 ) -> u32
     ensures unusable { result ≡ STRUCT ↔ (IsUsable handshake.old → ⊥) }
     ensures length { result ≡ LENGTH ↔ ((65535 < length message.old) × IsUsable handshake.old) }
-    ensures outcome { ReadOutcome handshake.old message.old results.old handshake.new message.new results.new result }
+    ensures outcome { ReadOutcome true handshake.old message.old results.old
+        handshake.new message.new results.new result }
     ensures left { (result ≤ ENDED) ⊎ (WANTED ≤ result) → OK < result → handshake.new ≡ handshake.old }
+    ensures asked { AsksToRead handshake.old message.old results.new result }
+{
+    let code = read_next(handshake, message, results);
+    if AGREEMENT <= code && code <= TAG {
+        handshake.ended = 1;
+    }
+    code
+}
+
+/// Reads a message as `noise_read` does, but a refusal leaves the handshake and the message as they were: for messages
+/// that a stranger can send.
+#[unsafe(no_mangle)]
+pub extern "C" fn noise_try_read(
+    handshake: &mut NoiseHandshake,
+    message: &mut [u8],
+    results: &mut NoiseResult,
+) -> u32
+    ensures unusable { result ≡ STRUCT ↔ (IsUsable handshake.old → ⊥) }
+    ensures length { result ≡ LENGTH ↔ ((65535 < length message.old) × IsUsable handshake.old) }
+    ensures outcome { ReadOutcome false handshake.old message.old results.old
+        handshake.new message.new results.new result }
+    ensures unchanged { OK < result → (handshake.new ≡ handshake.old) × (message.new ≡ message.old) }
+    ensures asked { AsksToRead handshake.old message.old results.new result }
+{
+    read_next(handshake, message, results)
+}
+
+// Reads a message. What isn't accepted leaves the handshake and the message as they were.
+fn read_next(handshake: &mut NoiseHandshake, message: &mut [u8], results: &mut NoiseResult) -> u32
+    ensures unusable { result ≡ STRUCT ↔ (IsUsable handshake.old → ⊥) }
+    ensures length { result ≡ LENGTH ↔ ((65535 < length message.old) × IsUsable handshake.old) }
+    ensures outcome { ReadOutcome false handshake.old message.old results.old
+        handshake.new message.new results.new result }
+    ensures unchanged { OK < result → (handshake.new ≡ handshake.old) × (message.new ≡ message.old) }
     ensures asked { AsksToRead handshake.old message.old results.new result }
 {
     let mut state = some_or!(handshake_from_c(handshake), STRUCT);
@@ -99,10 +135,9 @@ pub extern "C" fn noise_read(
         }
         Err(LateUnread::Wants(want)) => report_want(want, results),
         Err(LateUnread::Declined(fault)) => {
-            let (code, token) = read_code(fault);
-            results.token = token;
-            if let ReadFault::Refused { .. } = fault {
-                handshake.ended = 1;
+            let code = read_code(fault);
+            if let ReadFault::Refused { token, .. } = fault {
+                results.token = token;
             }
             code
         }

@@ -29,10 +29,13 @@ pub extern "C" fn noise_message_len(
 #[unsafe(no_mangle)]
 pub extern "C" fn noise_hash(handshake: &NoiseHandshake, out: &mut [u8; 32]) -> u32
     ensures code { IsQuery (IsUsable handshake.now) result (out.new ≡ out.old) }
+    ensures value { result ≡ OK → out.new ≡ handshake.now.hash }
     ensures hash { result ≡ OK → ForParty handshake.now (λ _ v. out.new ≡ hash v.history) }
 {
-    let state = some_or!(handshake_from_c(handshake), STRUCT);
-    *out = state.hash();
+    if handshake_from_c(handshake).is_none() {
+        return STRUCT;
+    }
+    *out = handshake.hash;
     OK
 }
 

@@ -1,12 +1,11 @@
 //! Exports: the end of a handshake whose messages have all passed (Split: Noise, 5.2), as two halves or two cipher
-//! states, at nonces 0. The handshake is only read: of one handshake make one pair, of whatever kind, since a second
-//! one would encrypt at the nonces of the first.
+//! states, at nonces 0. That uses the handshake up: a second pair would encrypt at the nonces of the first.
 
 ghost use Rattle.std.specs.Prelude.{◌≡◌, ◌↔◌, ◌<◌, IfOk, IfErr, MatchResult, true, false};
 ghost use Rattle.noise_handshake.specs.Party.{Party};
 ghost use Rattle.noise_handshake.specs.Opening.{IsOpeningOf};
-ghost use Rattle.noise_c.specs.HandshakeStructs.{ForParty};
-ghost use Rattle.noise_c.specs.Finishing.{AreCiphersOf, AreDatagramHalvesOf, AreHalvesOf, AreStreamHalvesOf, Finishes};
+ghost use Rattle.noise_c.specs.HandshakeStructs.{ForParty, IsUsable};
+ghost use Rattle.noise_c.specs.Finishing.{AreCiphersOf, AreDatagramHalvesOf, AreHalvesOf, AreStreamHalvesOf, Finishes, UsesUp, used_up};
 ghost use Rattle.noise_c.specs.DatagramStructs.{is_window};
 ghost use Rattle.noise_c.specs.CipherStructs.{sending_cipher, receiving_cipher};
 ghost use Rattle.noise_c.specs.declared.codes.numbers.TheConstants.{OK, RECEIVING_CIPHER, SENDING_CIPHER, WINDOW};
@@ -16,6 +15,7 @@ use crate::codes::{ok_or, some_or};
 use crate::from_c::handshake_from_c;
 use crate::halves_from_c::*;
 use crate::structs::*;
+use crate::supplied_keys::NO_DH_RESULT;
 use noise_channel::{StreamReceiver, StreamSender};
 use noise_handshake::Opened;
 use noise_names::Role;
@@ -25,6 +25,7 @@ use noise_session::{Datagrams, Transport};
 fn opened_of(handshake: &NoiseHandshake) -> Result<Opened, u32>
     ensures code { MatchResult result (λ _. Finishes handshake.now OK) (λ code. Finishes handshake.now code) }
     ensures fault { IfErr result (λ code. OK < code) }
+    ensures usable { IfOk result (λ _. IsUsable handshake.now) }
     ensures opens { IfOk result (λ opened. ForParty handshake.now (λ _ v. IsOpeningOf opened v)) }
 {
     let state = some_or!(handshake_from_c(handshake), Err(STRUCT));
@@ -35,19 +36,44 @@ fn opened_of(handshake: &NoiseHandshake) -> Result<Opened, u32>
     }
 }
 
+// Uses the handshake up.
+fn use_up(handshake: &mut NoiseHandshake)
+    ensures { handshake.new ≡ used_up handshake.old }
+{
+    handshake.ended = 1;
+    handshake.psk_count = 0;
+    handshake.psks = [[0; 32]; 9];
+    handshake.answer_count = 0;
+    handshake.answers = [NO_DH_RESULT; 8];
+    handshake.chaining_key = [0; 32];
+    handshake.cipher.bytes = [0; 32];
+}
+
+// What the handshake leaves, which is used up, else the number of the fault.
+fn finished(handshake: &mut NoiseHandshake) -> Result<Opened, u32>
+    ensures uses { MatchResult result (λ _. UsesUp handshake.old handshake.new OK)
+        (λ code. UsesUp handshake.old handshake.new code) }
+    ensures fault { IfErr result (λ code. OK < code) }
+    ensures opens { IfOk result (λ opened. ForParty handshake.old (λ _ v. IsOpeningOf opened v)) }
+{
+    let opened = opened_of(handshake)?;
+    use_up(handshake);
+    Ok(opened)
+}
+
 /// Makes the two halves for messages in order, whose keys are renewed after each `interval` messages (Noise, 11.3).
 #[unsafe(no_mangle)]
 pub extern "C" fn noise_finish(
-    handshake: &NoiseHandshake,
+    handshake: &mut NoiseHandshake,
     interval: u64,
     sender: &mut NoiseHalf,
     receiver: &mut NoiseHalf,
 ) -> u32
-    ensures code { Finishes handshake.now result }
-    ensures made { result ≡ OK → AreHalvesOf handshake.now interval sender.new receiver.new }
+    ensures uses { UsesUp handshake.old handshake.new result }
+    ensures made { result ≡ OK → AreHalvesOf handshake.old interval sender.new receiver.new }
     ensures unchanged { OK < result → (sender.new ≡ sender.old) × (receiver.new ≡ receiver.old) }
 {
-    let opened = ok_or!(opened_of(handshake));
+    let opened = ok_or!(finished(handshake));
     let (sending, receiving) = Transport::new(opened, interval).split();
     *sender = half_to_c(sending.into_parts(), SENDER);
     *receiver = half_to_c(receiving.into_parts(), RECEIVER);
@@ -57,18 +83,19 @@ pub extern "C" fn noise_finish(
 /// Makes the two halves for datagrams (Noise, 11.4), with a window of 64, 256 or 1024 nonces.
 #[unsafe(no_mangle)]
 pub extern "C" fn noise_finish_datagrams(
-    handshake: &NoiseHandshake,
+    handshake: &mut NoiseHandshake,
     window: u32,
     sender: &mut NoiseDatagramSender,
     receiver: &mut NoiseDatagramReceiver,
 ) -> u32
     ensures window { result ≡ WINDOW ↔ is_window window ≡ false }
-    ensures code { is_window window ≡ true → Finishes handshake.now result }
-    ensures made { result ≡ OK → AreDatagramHalvesOf handshake.now window sender.new receiver.new }
+    ensures uses { is_window window ≡ true → UsesUp handshake.old handshake.new result }
+    ensures kept { result ≡ WINDOW → handshake.new ≡ handshake.old }
+    ensures made { result ≡ OK → AreDatagramHalvesOf handshake.old window sender.new receiver.new }
     ensures unchanged { OK < result → (sender.new ≡ sender.old) × (receiver.new ≡ receiver.old) }
 {
     let window = some_or!(window_from_c(window), WINDOW);
-    let opened = ok_or!(opened_of(handshake));
+    let opened = ok_or!(finished(handshake));
     let (sending, receiving) = Datagrams::with_window(opened, window).split();
     *sender = datagram_sender_to_c(sending);
     *receiver = datagram_receiver_to_c(receiving);
@@ -78,16 +105,16 @@ pub extern "C" fn noise_finish_datagrams(
 /// Makes the two halves of a stream, whose keys are renewed after each `interval` frames (Noise, 11.3).
 #[unsafe(no_mangle)]
 pub extern "C" fn noise_finish_stream(
-    handshake: &NoiseHandshake,
+    handshake: &mut NoiseHandshake,
     interval: u64,
     sender: &mut NoiseStreamSender,
     receiver: &mut NoiseStreamReceiver,
 ) -> u32
-    ensures code { Finishes handshake.now result }
-    ensures made { result ≡ OK → AreStreamHalvesOf handshake.now interval sender.new receiver.new }
+    ensures uses { UsesUp handshake.old handshake.new result }
+    ensures made { result ≡ OK → AreStreamHalvesOf handshake.old interval sender.new receiver.new }
     ensures unchanged { OK < result → (sender.new ≡ sender.old) × (receiver.new ≡ receiver.old) }
 {
-    let opened = ok_or!(opened_of(handshake));
+    let opened = ok_or!(finished(handshake));
     let (sending, receiving) = Transport::new(opened, interval).split();
     *sender = stream_sender_to_c(StreamSender::new(sending));
     *receiver = stream_receiver_to_c(StreamReceiver::new(receiving));
@@ -98,15 +125,15 @@ pub extern "C" fn noise_finish_stream(
 /// pattern that of the responder's messages is discarded (Noise, 7.4): its calls return ONE_WAY.
 #[unsafe(no_mangle)]
 pub extern "C" fn noise_finish_ciphers(
-    handshake: &NoiseHandshake,
+    handshake: &mut NoiseHandshake,
     send: &mut NoiseCipher,
     receive: &mut NoiseCipher,
 ) -> u32
-    ensures code { Finishes handshake.now result }
-    ensures made { result ≡ OK → AreCiphersOf handshake.now send.new receive.new }
+    ensures uses { UsesUp handshake.old handshake.new result }
+    ensures made { result ≡ OK → AreCiphersOf handshake.old send.new receive.new }
     ensures unchanged { OK < result → (send.new ≡ send.old) × (receive.new ≡ receive.old) }
 {
-    let opened = ok_or!(opened_of(handshake));
+    let opened = ok_or!(finished(handshake));
     (*send, *receive) = ciphers_to_c(opened);
     OK
 }

@@ -5,7 +5,7 @@ ghost use Rattle.noise_names.specs.Plan.{Plan};
 ghost use Rattle.noise_names.specs.Validity.{IsValid};
 ghost use Rattle.noise_handshake.specs.Matching.{Matches};
 ghost use Rattle.noise_handshake.specs.Late.{with_later};
-ghost use Rattle.noise_c.specs.HandshakeStructs.{role_in, public_in, agreement_in, table_of, psks_in, begun_in, fault_in, start_code, IsNoName, IsNoText, IsNotValid, IsPatternOf, IsStartCode, IsStarted, StoresStart};
+ghost use Rattle.noise_c.specs.HandshakeStructs.{role_in, public_in, agreement_in, table_of, psks_in, begun_in, fault_in, start_code, IsBlank, IsNoName, IsNoText, IsNotValid, IsPatternOf, IsStartCode, IsStarted, StoresStart};
 ghost use Rattle.noise_c.specs.declared.codes.numbers.TheConstants.{NAME, OK, PATTERN};
 
 use crate::codes::numbers::{HANDSHAKE, LENGTH, OK, PSK_COUNT};
@@ -13,7 +13,7 @@ use crate::codes::{ok_or, setup_code};
 use crate::from_c::{role_of, store_progress};
 use crate::patterns::pattern_of;
 use crate::structs::{NoiseHandshake, NoiseSetup};
-use crate::supplied_keys::{SuppliedKeys, key_of};
+use crate::supplied_keys::{NO_DH_RESULT, SuppliedKeys, key_of};
 use noise_handshake::{LateHandshake, Remote, SetupFault};
 use noise_names::ValidPattern;
 use noise_state::limits::MAX_LEN;
@@ -52,10 +52,12 @@ fn begin<'a>(
 fn store_start(handshake: &mut NoiseHandshake, text: &[u8], setup: &NoiseSetup)
     requires short { length text.now ≤ 413 }
     requires count { setup.now.psk_count ≤ 9 }
-    ensures { StoresStart text.now setup.now handshake.new }
+    ensures stores { StoresStart text.now setup.now handshake.new }
+    ensures blank { IsBlank setup.now handshake.new }
 {
     let count = setup.psk_count as usize;
     handshake.mark = HANDSHAKE;
+    handshake.psks = [[0; 32]; 9];
     handshake.psks[9 - count..].copy_from_slice(&setup.psks[..count]);
     handshake.text[..text.len()].copy_from_slice(text);
     handshake.text_len = text.len() as u16;
@@ -63,6 +65,7 @@ fn store_start(handshake: &mut NoiseHandshake, text: &[u8], setup: &NoiseSetup)
     handshake.e = setup.e;
     handshake.s = setup.s;
     handshake.answer_count = 0;
+    handshake.answers = [NO_DH_RESULT; 8];
 }
 
 /// Starts the handshake of one party, in a struct that may hold anything before. The pattern is a protocol name, or a

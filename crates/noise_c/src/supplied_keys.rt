@@ -9,6 +9,13 @@ use crate::structs::{NoiseAnswer, NoiseKey};
 use noise_handshake::{Keys, Own};
 use std::marker::Model;
 
+// An entry without a DH result.
+pub(crate) const NO_DH_RESULT: NoiseAnswer = NoiseAnswer {
+    of_static: 0,
+    remote: [0; 32],
+    answer: [0; 32],
+};
+
 // Public keys, and the DH results that were handed in.
 #[derive(Drop)]
 pub(crate) struct SuppliedKeys<'a> {

@@ -21,41 +21,57 @@ pub extern "C" fn noise_version() -> u32
 }
 
 #[unsafe(no_mangle)]
-pub extern "C" fn noise_handshake_size() -> usize {
+pub extern "C" fn noise_handshake_size() -> usize
+    ensures { result ≡ 1472 }
+{
     size_of::<NoiseHandshake>()
 }
 
 #[unsafe(no_mangle)]
-pub extern "C" fn noise_sender_size() -> usize {
+pub extern "C" fn noise_sender_size() -> usize
+    ensures { result ≡ 56 }
+{
     size_of::<NoiseHalf>()
 }
 
 #[unsafe(no_mangle)]
-pub extern "C" fn noise_receiver_size() -> usize {
+pub extern "C" fn noise_receiver_size() -> usize
+    ensures { result ≡ 56 }
+{
     size_of::<NoiseHalf>()
 }
 
 #[unsafe(no_mangle)]
-pub extern "C" fn noise_datagram_sender_size() -> usize {
+pub extern "C" fn noise_datagram_sender_size() -> usize
+    ensures { result ≡ 48 }
+{
     size_of::<NoiseDatagramSender>()
 }
 
 #[unsafe(no_mangle)]
-pub extern "C" fn noise_datagram_receiver_size() -> usize {
+pub extern "C" fn noise_datagram_receiver_size() -> usize
+    ensures { result ≡ 192 }
+{
     size_of::<NoiseDatagramReceiver>()
 }
 
 #[unsafe(no_mangle)]
-pub extern "C" fn noise_stream_sender_size() -> usize {
+pub extern "C" fn noise_stream_sender_size() -> usize
+    ensures { result ≡ 64 }
+{
     size_of::<NoiseStreamSender>()
 }
 
 #[unsafe(no_mangle)]
-pub extern "C" fn noise_stream_receiver_size() -> usize {
+pub extern "C" fn noise_stream_receiver_size() -> usize
+    ensures { result ≡ 64 }
+{
     size_of::<NoiseStreamReceiver>()
 }
 
 #[unsafe(no_mangle)]
-pub extern "C" fn noise_cipher_size() -> usize {
+pub extern "C" fn noise_cipher_size() -> usize
+    ensures { result ≡ 48 }
+{
     size_of::<NoiseCipher>()
 }

@@ -1,4 +1,4 @@
-use Rattle.std.proofs.Common.{◌≡◌, ◌∙◌, List, ℕ, inl, inr, sym, ap, subst, refl, Ok, Err, arith}
+use Rattle.std.proofs.Common.{◌≡◌, ◌-◌, take, ◌∙◌, List, ℕ, inl, inr, sym, ap, subst, refl, Ok, Err, arith}
 use Rattle.noise_c.proofs.Common.{Plan, IsPatternOf, KeepsParty, begun_in, handshake_from_c, role_in, start_code}
 use Rattle.noise_c.proofs.Stored.{usable-stored}
 use Rattle.noise_c.proofs.Numbers.{other}
@@ -68,19 +68,23 @@ pub returns-clause-started : goal.returns-clause-started
 returns-clause-started c e =
     let h = c.in-Ok-begin.value in
     let new = c.store_progress.new.handshake in
-    let text = c.store_progress.ensures.text ∙ c.store_start.ensures.text_is in
+    let text = c.store_progress.ensures.text ∙ c.store_start.ensures.stores.text_is in
     let same : handshake_from_c h.pattern new ≡ h =
-    c.store_progress.ensures.same h c.progress.ensures.value (c.in-Ok-begin.ensures.keys ∙ sym c.store_start.ensures.keys)
-    (c.in-Ok-begin.ensures.role ∙ ap role_in (sym c.store_start.ensures.role)) (c.in-Ok-begin.ensures.psks ∙ sym c.store_start.ensures.psks) in
+    c.store_progress.ensures.same h c.progress.ensures.value (c.in-Ok-begin.ensures.keys ∙ sym c.store_start.ensures.stores.keys)
+    (c.in-Ok-begin.ensures.role ∙ ap role_in (sym c.store_start.ensures.stores.role)) (c.in-Ok-begin.ensures.psks ∙ sym c.store_start.ensures.stores.psks) in
     record {
       begun_is = λ p named later.
           subst (λ (z : Plan). KeepsParty new z (begun_in z c.args.prologue.now c.args.setup.now later)) (sym (c.in-Ok.ensures.one p named))
           (keeps-start new h c.in-Ok.value c.args.pattern.now later (begun_in c.in-Ok.value c.args.prologue.now c.args.setup.now later)
           text c.in-Ok.ensures.named c.in-Ok-begin.ensures.pattern same (c.in-Ok-begin.ensures.matches later));
-      usable = usable-stored new h (c.store_progress.ensures.mark ∙ c.store_start.ensures.mark) (omega (arith, c.store_progress.ensures.text_len, c.store_start.ensures.len))
-          (omega (arith, c.store_progress.ensures.answers, c.store_start.ensures.answers)) (omega (arith, c.store_progress.ensures.psks, c.if-setup-gt9.false))
+      usable = usable-stored new h (c.store_progress.ensures.mark ∙ c.store_start.ensures.stores.mark) (omega (arith, c.store_progress.ensures.text_len, c.store_start.ensures.stores.len))
+          (omega (arith, c.store_progress.ensures.answers, c.store_start.ensures.stores.answers)) (omega (arith, c.store_progress.ensures.psks, c.if-setup-gt9.false))
           (subst (λ (z : List ℕ). IsPatternOf z h.pattern) (sym text)
           (subst (λ (q : Plan). IsPatternOf c.args.pattern.now q) (sym c.in-Ok-begin.ensures.pattern) c.in-Ok.ensures.named))
           c.progress.ensures.valid same c.progress.ensures.whole;
       text_is = text;
+      blank = record {
+        psks = ap (take (9 - c.args.setup.now.psk_count)) c.store_progress.ensures.rest.0 ∙ c.store_start.ensures.blank.psks;
+        dh_results = c.store_progress.ensures.rest.1 ∙ c.store_start.ensures.blank.dh_results;
+      };
     }
