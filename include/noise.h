@@ -175,9 +175,9 @@ size_t noise_stream_sender_size(void), noise_stream_receiver_size(void);
 size_t noise_sender_size(void), noise_receiver_size(void);
 size_t noise_datagram_sender_size(void), noise_datagram_receiver_size(void);
 
-/* Gives a sentence that says what a code means, with a zero byte after it; noise_text, at the end,
-   returns the same. */
-void noise_sentence(uint32_t code, uint8_t sentence[80]);
+/* Gives a sentence that says what a code means, with a zero byte after it, and returns its length.
+   noise_text, at the end, returns the same sentence. */
+size_t noise_sentence(uint32_t code, uint8_t sentence[80]);
 
 /* HANDSHAKES, by the HandshakeState of Noise, 5.3. */
 

@@ -154,6 +154,10 @@ static uint32_t read_handshake(void *object, uint8_t *bytes, size_t len, noise_r
     return noise_read((noise_handshake *)object, bytes, len, result);
 }
 
+static uint32_t try_handshake(void *object, uint8_t *bytes, size_t len, noise_result *result) {
+    return noise_try_read((noise_handshake *)object, bytes, len, result);
+}
+
 static uint32_t open_next(void *object, uint8_t *bytes, size_t len, noise_result *result) {
     return noise_open((noise_receiver *)object, bytes, len, result);
 }
@@ -213,7 +217,9 @@ static uint32_t call_opening(opening *call, void *object, size_t size, uint64_t 
     else
         MUST(!memcmp(out_place.at, bytes, len));
     if (code != NOISE_OK && !may_end) MUST(!memcmp(in_place, object, size));
-    if (code != NOISE_OK && call != read_handshake) must_be_unreported(result_there);
+    if (code != NOISE_OK && call != read_handshake && call != try_handshake) must_be_unreported(result_there);
+    if (is_in(code, CODE(NOISE_STRUCT) | CODE(NOISE_LENGTH) | CODE(NOISE_ENDED) | CODE(NOISE_DONE) | CODE(NOISE_NOT_YOUR_TURN)))
+        must_be_unreported(result_there);
     memcpy(object, in_place, size);
     memcpy(bytes, out_place.at, len);
     return code;
@@ -226,7 +232,7 @@ static void hand_in_there(noise_handshake *h, unsigned role, const noise_result 
     noise_handshake *there = put(&struct_place, h, sizeof *h, false);
     uint8_t *remote_there = put(&first_place, result->remote, 32, true), *answer_there = put(&second_place, answer, 32, true);
     uint32_t code = counted(noise_answer(there, result->of_static, remote_there, answer_there), codes);
-    if (code == NOISE_FULL) MUST(!memcmp(there, h, sizeof *h));
+    if (code != NOISE_OK) MUST(!memcmp(there, h, sizeof *h));
     *h = *there;
 }
 
@@ -258,7 +264,7 @@ static uint32_t write_there(noise_handshake *h, unsigned role, unsigned *given, 
 
 static uint32_t read_there(noise_handshake *h, unsigned role, unsigned *given, uint8_t *bytes, size_t len, noise_result *result) {
     uint32_t code;
-    do code = call_opening(read_handshake, h, sizeof *h, read_codes, bytes, len, result);
+    do code = call_opening(one_in(2) ? read_handshake : try_handshake, h, sizeof *h, read_codes, bytes, len, result);
     while (supply_there(h, role, given, result, code));
     return code;
 }
@@ -310,7 +316,7 @@ static void disturb_handshake(const noise_handshake *h, unsigned role) {
     ask_handshake(&copy);
     call_writing(write_handshake, &copy, sizeof copy, write_codes, random_len(), random_len(), &result);
     call_opening(read_handshake, &copy, sizeof copy, read_codes, bytes, len, &result);
-    hand_in_there(&copy, role, &result, CODE(NOISE_OK) | CODE(NOISE_FULL));
+    hand_in_there(&copy, role, &result, CODE(NOISE_OK) | CODE(NOISE_FULL) | CODE(NOISE_STRUCT));
     if (one_in(2)) set_psk_there(&copy, bytes, psk_codes);
     call_opening(read_handshake, &copy, sizeof copy, read_codes, bytes, len, &result);
 }
@@ -432,7 +438,10 @@ static void try_changed(const noise_handshake *h, unsigned role, unsigned given,
     if (one_in(3)) len = below(len + 1);
     uint32_t code = read_there(&copy, role, &given, changed, len, &result);
     MUST(is_in(code, CODE(NOISE_OK) | CODE(NOISE_SHORT) | CODE(NOISE_TAG)));
-    if (code != NOISE_OK) MUST(call_opening(read_handshake, &copy, sizeof copy, read_codes, changed, len, &result) == NOISE_ENDED);
+    if (code == NOISE_OK) return;
+    uint32_t again = call_opening(read_handshake, &copy, sizeof copy, read_codes, changed, len, &result);    // if it was only tried, it is refused again
+    MUST(again == NOISE_ENDED || again == code);
+    MUST(call_opening(read_handshake, &copy, sizeof copy, read_codes, changed, len, &result) == NOISE_ENDED);
 }
 
 static void shake_hands(const plan *p, noise_handshake h[2], unsigned given[2]) {

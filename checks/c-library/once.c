@@ -83,6 +83,7 @@ static void check_tries(void) {
     for (unsigned m = 0; m < 3; m++) {
         end *writer = &ends[m % 2], *reader = &ends[1 - m % 2];
         uint8_t right[200];
+        MUST(noise_try_read(&writer->h, message, 96, &result) == NOISE_NOT_YOUR_TURN);
         MUST(write_on(writer, (const uint8_t *)"payload", 7, right, sizeof right, &result) == NOISE_OK);
         size_t len = result.len;
         for (size_t i = 0; i < len; i++)                 // changed at each byte: what comes in clear is found out later, or taken
@@ -107,7 +108,6 @@ static void check_tries(void) {
             }
         memset(message, 0, sizeof message);
         MUST(noise_try_read(&reader->h, message, 3, &result) == NOISE_SHORT);
-        MUST(noise_try_read(&writer->h, message, 96, &result) == (m == 2 ? NOISE_DONE : NOISE_NOT_YOUR_TURN));
         MUST(read_on(reader, right, len, &result) == NOISE_OK);
         MUST(result.len == 7 && !memcmp(right + result.from, "payload", 7));
     }
@@ -159,12 +159,15 @@ static void check_answer(void) {
     MUST(noise_answer(&h, 0, message, message) == NOISE_STRUCT && !memcmp(&h, &old, sizeof h));
 }
 
+// The library's sentence of a code is the header's.
 static void check_sentences(void) {
     const char *none = noise_text(99);
     for (uint32_t code = 0; code <= NOISE_CUT; code++) {
         bool is_code = code != 3 && code != 9;
         const char *text = noise_text(code);
         size_t len = strlen(text);
+        uint8_t sentence[80];
+        MUST(noise_sentence(code, sentence) == len && !strcmp((char *)sentence, text));
         MUST(len > 10 && len < 80 && text[len - 1] == '.');
         MUST((strcmp(text, none) != 0) == is_code);
         for (uint32_t other = 0; other < code; other++) MUST(!is_code || strcmp(text, noise_text(other)) != 0);
