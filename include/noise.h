@@ -81,7 +81,7 @@ enum noise_code {
     NOISE_STATIC_MISSING = 5, NOISE_REMOTE_MISSING = 6, NOISE_REMOTE_UNEXPECTED = 7,
     NOISE_PSK_COUNT = 8, NOISE_NOT_YOUR_TURN = 10, NOISE_TOO_LONG = 11, NOISE_DONE = 12,
     NOISE_ENDED = 13, NOISE_AGREEMENT = 14, NOISE_SHORT = 15, NOISE_TAG = 16, NOISE_EXHAUSTED = 17,
-    NOISE_ROOM = 18, NOISE_NOT_DONE = 19, NOISE_WANTED = 20, NOISE_FULL = 21, NOISE_ONE_WAY = 22,
+    NOISE_ROOM = 18, NOISE_NOT_DONE = 19, NOISE_WANTED = 20, NOISE_ONE_WAY = 22,
     NOISE_STRUCT = 23, NOISE_LENGTH = 24, NOISE_WINDOW = 25, NOISE_RESERVED = 26, NOISE_OLD = 27,
     NOISE_REPEATED = 28, NOISE_NOT_DUE = 29, NOISE_HEADING = 30, NOISE_ARROW = 31, NOISE_TOKEN = 32,
     NOISE_PRE_MESSAGE = 33, NOISE_TURN = 34, NOISE_PSK_PLACE = 35, NOISE_NAME_TAKEN = 36,
@@ -193,8 +193,8 @@ uint32_t noise_start(noise_handshake *h, const uint8_t *pattern, size_t pattern_
 
 /* Supplies the result of X25519 (Noise, 12.1) on one of this party's secret keys and a public key
    of the other party: after WANTED those of result. of_static is 0 for the ephemeral key, else the
-   static one.
-   Codes: STRUCT (it isn't a handshake's struct) · FULL. */
+   static one. There is room for eight, twice what a message wants: the oldest gives way to a ninth.
+   Codes: STRUCT (it isn't a handshake's struct). */
 uint32_t noise_answer(noise_handshake *h, uint8_t of_static, const uint8_t remote[32],
     const uint8_t answer[32]);
 
@@ -430,7 +430,6 @@ static inline const char *noise_text(uint32_t code) {
     case NOISE_ROOM: return "The buffer is too short for the message.";
     case NOISE_NOT_DONE: return "Messages of the handshake are still due.";
     case NOISE_WANTED: return "A result of X25519 is needed: pass it to noise_answer; call again.";
-    case NOISE_FULL: return "The handshake holds eight results of X25519: no pattern needs more.";
     case NOISE_ONE_WAY: return "In a one-way pattern only the initiator sends.";
     case NOISE_STRUCT: return "The struct holds no state that a call could have made.";
     case NOISE_LENGTH: return "The prologue, message or associated data has more than 65535 bytes.";

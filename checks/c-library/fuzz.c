@@ -316,7 +316,7 @@ static void disturb_handshake(const noise_handshake *h, unsigned role) {
     ask_handshake(&copy);
     call_writing(write_handshake, &copy, sizeof copy, write_codes, random_len(), random_len(), &result);
     call_opening(read_handshake, &copy, sizeof copy, read_codes, bytes, len, &result);
-    hand_in_there(&copy, role, &result, CODE(NOISE_OK) | CODE(NOISE_FULL) | CODE(NOISE_STRUCT));
+    hand_in_there(&copy, role, &result, CODE(NOISE_OK) | CODE(NOISE_STRUCT));
     if (one_in(2)) set_psk_there(&copy, bytes, psk_codes);
     call_opening(read_handshake, &copy, sizeof copy, read_codes, bytes, len, &result);
 }

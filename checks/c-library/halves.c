@@ -122,7 +122,7 @@ static void check_words(void) {
         count++;
         for (uint32_t other = 0; other < code; other++) MUST(strcmp(noise_text(other), text));
     }
-    MUST(count == 43);
+    MUST(count == 42);
 }
 
 void check_halves(void) {

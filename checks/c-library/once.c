@@ -126,6 +126,28 @@ static void check_tries(void) {
     }
 }
 
+// A flood of messages that a stranger made, each with a public key of its own, doesn't keep out the right one.
+static void check_flood(void) {
+    plan p = plan_of("IK", -1);
+    end ends[2] = {begin(&p, 0), begin(&p, 1)};
+    noise_result result;
+    uint8_t right[200];
+    MUST(write_on(&ends[0], NULL, 0, message, sizeof message, &result) == NOISE_OK);
+    MUST(read_on(&ends[1], message, result.len, &result) == NOISE_OK);
+    MUST(write_on(&ends[1], (const uint8_t *)"here", 4, right, sizeof right, &result) == NOISE_OK);
+    size_t len = result.len;
+    for (unsigned n = 0; n < 100; n++) {
+        uint32_t code;
+        for (size_t i = 0; i < len; i++) message[i] = (uint8_t)(n * 31 + i * 7 + 1);
+        while ((code = noise_try_read(&ends[0].h, message, len, &result)) == NOISE_WANTED)
+            MUST(noise_answer(&ends[0].h, result.of_static, result.remote, result.remote) == NOISE_OK);
+        MUST(code == NOISE_TAG);
+    }
+    uint32_t code;
+    while ((code = noise_try_read(&ends[0].h, right, len, &result)) == NOISE_WANTED) hand_in(&ends[0], &result);
+    MUST(code == NOISE_OK && result.len == 4 && !memcmp(right + result.from, "here", 4));
+}
+
 // How often one message asks: IX and KX three times, IK's and KK's messages too; a pattern of one's own four times.
 static void check_asks(void) {
     plan ix = plan_of("IX", -1), kx = plan_of("KX", -1);
@@ -163,7 +185,7 @@ static void check_answer(void) {
 static void check_sentences(void) {
     const char *none = noise_text(99);
     for (uint32_t code = 0; code <= NOISE_CUT; code++) {
-        bool is_code = code != 3 && code != 9;
+        bool is_code = code != 3 && code != 9 && code != 21;
         const char *text = noise_text(code);
         size_t len = strlen(text);
         uint8_t sentence[80];
@@ -179,6 +201,7 @@ void check_once(void) {
     check_twice();
     check_wiped();
     check_tries();
+    check_flood();
     check_asks();
     check_answer();
     check_sentences();

@@ -3,21 +3,30 @@ use Rattle.std.proofs.Common.{◌≡◌, ◌≤◌, ◌<◌, ◌+◌, ◌-◌, �
 use Rattle.std.proofs.lemmas.List.{append_assoc, append_cancel_left, drop-append-le, set-append_right}
 use Rattle.std.proofs.lemmas.List.Edits.{paste_all}
 use Rattle.std.specs.List.{copy_within}
+use Rattle.std.specs.Prelude.{map, take}
+use Rattle.std.proofs.lemmas.List.{map-append, take_all}
+use Rattle.noise_c.specs.HandshakeStructs.{entry_in}
+use Rattle.noise_c.specs.declared.structs.NoiseAnswer.{NoiseAnswer}
 use Rattle.noise_c.proofs.Common.{Plan, HandshakeValue, with_later, IsLateWhole, Party, Table, NoiseHandshake, psks_of, Matches, IsValid, public_in, agreement_in, text_from_c, handshake_from_c, IsGiven, IsPatternOf, IsUsable, KeepsParty}
 use Rattle.noise_handshake.specs.Parts.{IsWholeValue}
 
-set-first : (ws : List (List ℕ)) (y : List ℕ) → length ws ≡ 1 → slice_set ws 0 y ≡ y ∷ []
+set-first : {X : Type 0} (ws : List X) (y : X) → length ws ≡ 1 → slice_set ws 0 y ≡ y ∷ []
 set-first [] y e = absurd (omega (arith, e))
 set-first (a ∷ []) y e = refl
 set-first (a ∷ b ∷ ws) y e = absurd (omega (arith, e))
 
--- nine psks, moved one place to the front, and one put at the end
-pub moved : (xs ys : List (List ℕ)) (y : List ℕ) → ys ≡ copy_within xs 1 (length xs) 0 → length xs ≡ 9 → slice_set ys 8 y ≡ drop 1 xs ++ y ∷ []
-moved xs ys y up e =
-    let eight : length (drop 1 xs) ≡ 8 = omega (arith, length-drop 1 xs, e) in
-    let last : length (drop 8 xs) ≡ 1 = omega (arith, length-drop 8 xs, e) in
-    ap (λ (z : List (List ℕ)). slice_set z 8 y) (up ∙ ap (λ (n : ℕ). copy_within xs 1 n 0) e ∙ paste_all xs 0 (drop 1 xs) 8 (sym eight)) ∙ set-append_right (drop 1 xs) (drop 8 xs) 8 8 y eight (omega arith)
-    ∙ ap (λ (z : List (List ℕ)). drop 1 xs ++ z) (set-first (drop 8 xs) y last)
+-- a list, moved one place to the front, and one put at the end
+pub moved : {X : Type 0} (n : ℕ) (xs ys : List X) (y : X) → ys ≡ copy_within xs 1 (length xs) 0 → length xs ≡ n + 1
+    → slice_set ys n y ≡ drop 1 xs ++ y ∷ []
+moved {X} n xs ys y up e =
+    let rest : length (drop 1 xs) ≡ n = omega (arith, length-drop 1 xs, e) in
+    let last : length (drop n xs) ≡ 1 = omega (arith, length-drop n xs, e) in
+    let back : 0 + (n + 1 - 1) ≡ n = omega arith in
+    let none : n - n ≡ 0 = omega arith in
+    let shifted : copy_within xs 1 (n + 1) 0 ≡ drop 1 xs ++ drop n xs =
+    paste_all xs 0 (drop 1 xs) (n + 1 - 1) (omega (arith, rest)) ∙ ap (λ (k : ℕ). drop 1 xs ++ drop k xs) back in
+    ap (λ (z : List X). slice_set z n y) (up ∙ ap (λ (k : ℕ). copy_within xs 1 k 0) e ∙ shifted) ∙ set-append_right (drop 1 xs) (drop n xs) n n y rest (omega arith)
+    ∙ ap (λ (k : ℕ). drop 1 xs ++ slice_set (drop n xs) k y) none ∙ ap (λ (z : List X). drop 1 xs ++ z) (set-first (drop n xs) y last)
 
 -- the last of them
 pub moved-last : (xs : List (List ℕ)) (y : List ℕ) (c : ℕ) → length xs ≡ 9 → c < 9 → drop (9 - (c + 1)) (drop 1 xs ++ y ∷ []) ≡ drop (9 - c) xs ++ y ∷ []
@@ -78,3 +87,43 @@ usable-given old new psk h u m t a n g same named one low =
       valid = subst (λ (z : Plan). IsValid z) (one u.pattern u.named) u.valid;
       whole = subst (λ (z : HandshakeValue Table). IsLateWhole public_in z) (ap (λ (z : HandshakeValue Table). with_later z (psk ∷ [])) same ∙ sym (g.handshake h.pattern)) whole;
     }
+
+-- ---- a DH result that takes the place of the first
+
+entries-moved : (xs : List NoiseAnswer) (y : NoiseAnswer) → map entry_in (drop 1 xs ++ y ∷ []) ≡ drop 1 (map entry_in xs) ++ entry_in y ∷ []
+entries-moved [] y = refl
+entries-moved (x ∷ xs) y = map-append entry_in xs (y ∷ [])
+
+-- of a full struct, which has eight
+pub results-moved : (k : NoiseHandshake) (y : NoiseAnswer) (new : List NoiseAnswer) → length k.answers ≡ 8 → k.answer_count ≡ 8 → new ≡ drop 1 k.answers ++ y ∷ []
+    → map entry_in (take k.answer_count new) ≡ drop 1 (map entry_in (take k.answer_count k.answers)) ++ entry_in y ∷ []
+results-moved k y new long full e =
+    let eight : length (drop 1 k.answers ++ y ∷ []) ≡ 8 = length-append (drop 1 k.answers) (y ∷ []) ∙ omega (arith, length-drop 1 k.answers, long) in
+    ap (map entry_in) (ap (take k.answer_count) e ∙ take_all k.answer_count (drop 1 k.answers ++ y ∷ []) (omega (arith, eight, full)))
+    ∙ entries-moved k.answers y
+    ∙ ap (λ (z : List NoiseAnswer). drop 1 (map entry_in z) ++ entry_in y ∷ []) (sym (take_all k.answer_count k.answers (omega (arith, long, full))))
+
+-- a struct whose DH results alone change is still what a call has left
+pub usable-results : (old new : NoiseHandshake) → (new ≡ record old { answers = new.answers; answer_count = new.answer_count }) → new.answer_count ≤ 8 → IsUsable old → IsUsable new
+usable-results old new same few u = subst (λ (k : NoiseHandshake). IsUsable k) (sym same) (record {
+  mark = u.mark;
+  text = u.text;
+  answers = few;
+  psks = u.psks;
+  pattern = u.pattern;
+  named = u.named;
+  valid = u.valid;
+  whole = (
+    u.whole.0,
+    record {
+      within = u.whole.1.within;
+      psks = u.whole.1.psks;
+      own_e = u.whole.1.own_e;
+      own_s = u.whole.1.own_s;
+      remote_e = u.whole.1.remote_e;
+      remote_s = u.whole.1.remote_s;
+      key = u.whole.1.key;
+      nonce = u.whole.1.nonce;
+    },
+  );
+})

@@ -33,7 +33,7 @@ use Rattle.noise_c.specs.declared.structs.NoiseKey.{NoiseKey}
 use Rattle.noise_c.specs.declared.structs.NoiseAnswer.{NoiseAnswer}
 use Rattle.noise_c.specs.declared.structs.NoiseHandshake.{NoiseHandshake}
 use Rattle.noise_c.specs.declared.structs.NoiseSetup.{NoiseSetup}
-use Rattle.noise_c.specs.declared.codes.numbers.TheConstants.{EPHEMERAL_MISSING, FULL, HANDSHAKE, LENGTH, NAME, NOT_DUE, OK, PATTERN, PSK_COUNT, STRUCT, WANTED, WANTED_PSK}
+use Rattle.noise_c.specs.declared.codes.numbers.TheConstants.{EPHEMERAL_MISSING, HANDSHAKE, LENGTH, NAME, NOT_DUE, OK, PATTERN, PSK_COUNT, STRUCT, WANTED, WANTED_PSK}
 use Rattle.noise_c.specs.declared.structs.NoiseStageResult.{NoiseStageResult}
 use Rattle.noise_c.specs.declared.structs.NoiseResult.{NoiseResult}
 use Rattle.noise_c.specs.Codes.{cause_code, read_code, write_code, setup_code}
@@ -256,16 +256,24 @@ pub record IsGiven (old new : NoiseHandshake) (psk : List ℕ) : Type 0 where
   pub text : text_from_c new ≡ text_from_c old
   pub handshake : (p : Plan) → handshake_from_c p new ≡ with_later (handshake_from_c p old) (psk ∷ [])
 
--- a DH result is supplied where there is room in a struct with the mark of a handshake, and a struct that a call has
--- left remains one
+-- the struct has this DH result after the others but the first, and is otherwise unchanged
+pub record IsAddedForFirst (old new : NoiseHandshake) (entry : TableEntry) : Type 0 where
+  pub text : text_from_c new ≡ text_from_c old
+  pub handshake : (p : Plan) → handshake_from_c p new
+      ≡ record (handshake_from_c p old) {
+        keys = record (table_in old) { entries = drop 1 (table_in old).entries ++ entry ∷ [] };
+      }
+
+-- A DH result is supplied to a struct with the mark of a handshake; the ninth takes the place of the first. A struct
+-- that a call has left remains one.
 pub record Supplies (old new : NoiseHandshake) (entry : TableEntry) (code : ℕ) : Type 0 where
-  pub other : code ≡ STRUCT ↔ (old.mark ≡ HANDSHAKE → ⊥)
-  pub full : code ≡ FULL ↔ ((old.mark ≡ HANDSHAKE) × (8 ≤ old.answer_count))
-  pub added : code ≡ OK → IsAdded old new entry
+  pub other : code ≡ STRUCT ↔ ((old.mark ≡ HANDSHAKE) × (old.answer_count ≤ 8) → ⊥)
+  pub added : code ≡ OK → old.answer_count < 8 → IsAdded old new entry
+  pub replaced : code ≡ OK → old.answer_count ≡ 8 → IsAddedForFirst old new entry
   pub mark : new.mark ≡ old.mark
   pub unchanged : OK < code → new ≡ old
   pub stays : IsUsable old → IsUsable new
-  pub codes : (code ≡ OK) ⊎ (code ≡ FULL) ⊎ (code ≡ STRUCT)
+  pub codes : (code ≡ OK) ⊎ (code ≡ STRUCT)
 
 -- the psk is stored after the others
 pub record StoresPsk (old new : NoiseHandshake) (psk : List ℕ) : Type 0 where

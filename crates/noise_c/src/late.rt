@@ -4,13 +4,14 @@ ghost use Rattle.std.specs.Prelude.{◌≡◌, ◌<◌, ◌∷◌, ◌++◌, [],
 ghost use Rattle.noise_c.specs.HandshakeStructs.{own_in, GoesOn, IsUsable, SetsPsk, StoresPsk, Supplies};
 ghost use Rattle.noise_c.specs.declared.codes.numbers.TheConstants.{OK};
 
-use crate::codes::numbers::{FULL, HANDSHAKE, OK, PSK_COUNT, STRUCT};
+use crate::codes::numbers::{HANDSHAKE, OK, PSK_COUNT, STRUCT};
 use crate::codes::some_or;
 use crate::from_c::handshake_from_c;
 use crate::structs::{NoiseAnswer, NoiseHandshake};
 
 /// Hands in the DH result of a key pair of this party and a public key of the other: that of X25519, 32 bytes. There is
-/// room for 8. STRUCT where the struct isn't that of a handshake.
+/// room for 8, twice what a message wants: the oldest gives way to a ninth. STRUCT where the struct isn't that of a
+/// handshake.
 #[unsafe(no_mangle)]
 pub extern "C" fn noise_answer(
     handshake: &mut NoiseHandshake,
@@ -21,20 +22,31 @@ pub extern "C" fn noise_answer(
     ensures { Supplies handshake.old handshake.new
         (record { own = own_in of_static; remote = remote.now; answer = answer.now }) result }
 {
-    if handshake.mark != HANDSHAKE {
+    if handshake.mark != HANDSHAKE || handshake.answer_count > 8 {
         return STRUCT;
     }
-    let count = handshake.answer_count as usize;
-    if count >= 8 {
-        return FULL;
-    }
-    handshake.answers[count] = NoiseAnswer {
+    let last = NoiseAnswer {
         of_static,
         remote: *remote,
         answer: *answer,
     };
+    let count = handshake.answer_count as usize;
+    if count == 8 {
+        put_result_last(&mut handshake.answers, last);
+        return OK;
+    }
+    handshake.answers[count] = last;
     handshake.answer_count += 1;
     OK
+}
+
+// Moves the DH results one place to the front, and puts this one at the end.
+#[tactic(auto, using(crate::proofs::Moved::moved))]
+fn put_result_last(results: &mut [NoiseAnswer; 8], last: NoiseAnswer)
+    ensures { results.new ≡ drop 1 results.old ++ last ∷ [] }
+{
+    results.copy_within(1.., 0);
+    results[7] = last;
 }
 
 // Moves the psks one place to the front, and puts this one at the end.

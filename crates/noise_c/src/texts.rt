@@ -64,8 +64,6 @@ fn sentence_of(code: u32) -> (&'static [u8; 80], usize)
             \0\0\0\0\0\0\0\0\0\0\0\0\0\0\0\0\0\0\0\0\0\0\0\0\0\0\0\0\0\0\0\0\0\0\0\0\0\0\0\0", 40),
         WANTED => (b"A result of X25519 is needed: pass it to noise_answer; call again.\
             \0\0\0\0\0\0\0\0\0\0\0\0\0\0", 66),
-        FULL => (b"The handshake holds eight results of X25519: no pattern needs more.\
-            \0\0\0\0\0\0\0\0\0\0\0\0\0", 67),
         ONE_WAY => (b"In a one-way pattern only the initiator sends.\
             \0\0\0\0\0\0\0\0\0\0\0\0\0\0\0\0\0\0\0\0\0\0\0\0\0\0\0\0\0\0\0\0\0\0", 46),
         STRUCT => (b"The struct holds no state that a call could have made.\
