@@ -459,7 +459,8 @@ static inline const char *noise_text(uint32_t code) {
 
 /* Computes X25519 of one of this party's secret keys, the static one unless of_static is 0, and a
    public key of the other party; 0 if there is no result, as for all zeros. */
-typedef int noise_dh(void *context, uint8_t of_static, const uint8_t remote[32], uint8_t result[32]);
+typedef int noise_dh(void *context, uint8_t of_static, const uint8_t remote[32],
+    uint8_t result[32]);
 
 /* Passes on the result of X25519 that a call wants: 0 if there is none. */
 static inline int noise_answer_with(noise_handshake *h, const noise_result *want, noise_dh *dh,
@@ -493,6 +494,10 @@ static inline uint32_t noise_write_inline(noise_handshake *h, const uint8_t *pay
 static inline uint32_t noise_read_inline(noise_handshake *h, uint8_t *message, size_t len,
     noise_result *result) {
     return noise_read(h, noise_out(message, len), len, result);
+}
+static inline uint32_t noise_try_read_inline(noise_handshake *h, uint8_t *message, size_t len,
+    noise_result *result) {
+    return noise_try_read(h, noise_out(message, len), len, result);
 }
 static inline uint32_t noise_check_pattern_inline(const uint8_t *text, size_t len,
     noise_pattern_result *result) {
@@ -555,6 +560,7 @@ static inline uint32_t noise_cipher_decrypt_inline(noise_cipher *c, const uint8_
 #define noise_start noise_start_inline
 #define noise_write noise_write_inline
 #define noise_read noise_read_inline
+#define noise_try_read noise_try_read_inline
 #define noise_check_pattern noise_check_pattern_inline
 #define noise_frame_message noise_frame_message_inline
 #define noise_frame_find noise_frame_find_inline
@@ -570,8 +576,9 @@ static inline uint32_t noise_cipher_decrypt_inline(noise_cipher *c, const uint8_
 #define noise_cipher_encrypt noise_cipher_encrypt_inline
 #define noise_cipher_decrypt noise_cipher_decrypt_inline
 
-/* noise_write and noise_read with a function for X25519, which is called as often as it is wanted:
-   four times at most for a message. WANTED is returned only where that function gives no result. */
+/* noise_write, noise_read and noise_try_read with a function for X25519, which is called as often
+   as a result is wanted: four times at most for a message. WANTED is returned only where that
+   function gives none. */
 static inline uint32_t noise_write_with(noise_handshake *h, const uint8_t *payload, size_t len,
     uint8_t *out, size_t out_len, noise_result *result, noise_dh *dh, void *context) {
     uint32_t code;
@@ -583,6 +590,13 @@ static inline uint32_t noise_read_with(noise_handshake *h, uint8_t *message, siz
     noise_result *result, noise_dh *dh, void *context) {
     uint32_t code;
     do code = noise_read(h, message, message_len, result);
+    while (code == NOISE_WANTED && noise_answer_with(h, result, dh, context));
+    return code;
+}
+static inline uint32_t noise_try_read_with(noise_handshake *h, uint8_t *message, size_t message_len,
+    noise_result *result, noise_dh *dh, void *context) {
+    uint32_t code;
+    do code = noise_try_read(h, message, message_len, result);
     while (code == NOISE_WANTED && noise_answer_with(h, result, dh, context));
     return code;
 }

@@ -84,31 +84,34 @@ void start(noise_handshake *h, const char *pattern, uint8_t responder, const key
     if (code != NOISE_OK) die(noise_text(code));
 }
 
-// Hands in the result that a call has asked for. False where there is none: OpenSSL refuses zeros, which come of a public key that no honest party has.
-static bool answer(noise_handshake *h, const key_pair *ephemeral, const key_pair *own, const noise_result *result) {
-    uint8_t dh_result[32];
+typedef struct {
+    const key_pair *ephemeral, *own;
+} pairs;
+
+// X25519 for the calls of a handshake. There is no result where OpenSSL refuses zeros, which come of a public key that no honest party has.
+static int dh(void *context, uint8_t of_static, const uint8_t remote[32], uint8_t result[32]) {
+    const pairs *p = context;
     size_t len = 32;
-    EVP_PKEY *other = EVP_PKEY_new_raw_public_key(EVP_PKEY_X25519, NULL, result->remote, 32);
-    EVP_PKEY_CTX *context = EVP_PKEY_CTX_new(result->of_static ? own->secret : ephemeral->secret, NULL);
-    if (!other || !context || EVP_PKEY_derive_init(context) != 1 || EVP_PKEY_derive_set_peer(context, other) != 1) die("no X25519");
-    bool is_one = EVP_PKEY_derive(context, dh_result, &len) == 1;
-    if (is_one && noise_answer(h, result->of_static, result->remote, dh_result) != NOISE_OK) die("too many results");
-    noise_wipe(dh_result, sizeof dh_result);
-    EVP_PKEY_CTX_free(context);
+    EVP_PKEY *other = EVP_PKEY_new_raw_public_key(EVP_PKEY_X25519, NULL, remote, 32);
+    EVP_PKEY_CTX *it = EVP_PKEY_CTX_new(of_static ? p->own->secret : p->ephemeral->secret, NULL);
+    if (!other || !it || EVP_PKEY_derive_init(it) != 1 || EVP_PKEY_derive_set_peer(it, other) != 1) die("no X25519");
+    bool is_one = EVP_PKEY_derive(it, result, &len) == 1;
+    EVP_PKEY_CTX_free(it);
     EVP_PKEY_free(other);
     return is_one;
 }
 
 uint32_t write_message(noise_handshake *h, const key_pair *ephemeral, const key_pair *own, uint8_t *out, size_t out_len, noise_result *result) {
-    uint32_t code;
-    while ((code = noise_write(h, NULL, 0, out, out_len, result)) == NOISE_WANTED)
-        if (!answer(h, ephemeral, own, result)) break;
-    return code;
+    pairs p = {ephemeral, own};
+    return noise_write_with(h, NULL, 0, out, out_len, result, dh, &p);
 }
 
 uint32_t read_message(noise_handshake *h, const key_pair *ephemeral, const key_pair *own, uint8_t *message, size_t len, noise_result *result) {
-    uint32_t code;
-    while ((code = noise_read(h, message, len, result)) == NOISE_WANTED)
-        if (!answer(h, ephemeral, own, result)) break;
-    return code;
+    pairs p = {ephemeral, own};
+    return noise_read_with(h, message, len, result, dh, &p);
+}
+
+uint32_t try_message(noise_handshake *h, const key_pair *ephemeral, const key_pair *own, uint8_t *message, size_t len, noise_result *result) {
+    pairs p = {ephemeral, own};
+    return noise_try_read_with(h, message, len, result, dh, &p);
 }

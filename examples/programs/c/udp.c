@@ -1,8 +1,8 @@
 // A channel of datagrams over UDP on 127.0.0.1, port 4042 if no other is given: udp server [PORT]; or udp client TEXT [PORT], which sends the text, and the
 // server sends it back.
 //
-// The network may lose a message, and anybody may send one. So each party sends again what isn't answered, and tries a message on a copy of its
-// handshake, which it drops if the message is refused.
+// The network may lose a message, and anybody may send one. So each party sends again what isn't answered, and a message that is refused leaves its
+// handshake as it was.
 #include "keys.h"
 #include <arpa/inet.h>
 #include <poll.h>
@@ -29,16 +29,6 @@ static size_t receive_one(int socket, uint8_t bytes[LONGEST], int ms) {
     return len > 0 ? (size_t)len : 0;
 }
 
-// Reads a message if it is the right one, and else leaves the handshake as it was.
-static bool try_message(noise_handshake *h, const key_pair *ephemeral, const key_pair *own, uint8_t *message, size_t len) {
-    noise_handshake copy = *h;
-    noise_result result;
-    bool is_right = read_message(&copy, ephemeral, own, message, len, &result) == NOISE_OK;
-    if (is_right) *h = copy;
-    noise_wipe(&copy, sizeof copy);
-    return is_right;
-}
-
 static void finish(noise_handshake *h, key_pair *ephemeral, network *n) {
     uint32_t code = noise_finish_datagrams(h, 64, &n->sender, &n->receiver);
     if (code != NOISE_OK) die(noise_text(code));
@@ -62,7 +52,7 @@ static bool take_text(network *n, uint8_t *datagram, size_t len, noise_result *r
 
 static void run_client(int socket, const char *text) {
     noise_handshake h;
-    noise_result result;
+    noise_result result, read;
     network n;
     uint8_t expected[32], first[LONGEST], bytes[LONGEST];
     double deadline = now() + SECONDS;
@@ -75,7 +65,7 @@ static void run_client(int socket, const char *text) {
         if (now() > deadline) die("no answer");
         send(socket, first, result.len, 0);
         len = receive_one(socket, bytes, RESEND_MS);
-    } while (!len || !try_message(&h, &ephemeral, &own, bytes, len));
+    } while (!len || try_message(&h, &ephemeral, &own, bytes, len, &read) != NOISE_OK);
     finish(&h, &ephemeral, &n);
     do {
         if (now() > deadline) die("no answer");
