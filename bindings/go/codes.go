@@ -27,7 +27,6 @@ const (
 	ErrRoom             Code = 18
 	ErrNotDone          Code = 19
 	ErrWanted           Code = 20
-	ErrFull             Code = 21
 	ErrOneWay           Code = 22
 	ErrStruct           Code = 23
 	ErrLength           Code = 24

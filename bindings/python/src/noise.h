@@ -20,14 +20,15 @@
        noise_finish_ciphers       or for packets of your own: noise_cipher_encrypt, _decrypt
        noise_wipe                 the handshake, and each other struct once it is no longer used
 
-   Of the four noise_finish calls make one, once. It gives two structs, one to send and one to
-   receive; a thread may have either. In a one-way pattern (N, K, X) the responder can't send, and
-   the initiator can't receive: NOISE_ONE_WAY (Noise, 7.4).
+   The first of the four noise_finish calls uses the handshake up: another one returns ENDED. It
+   gives two structs, one to send and one to receive; a thread may have either. In a one-way
+   pattern (N, K, X) the responder can't send, and the initiator can't receive: NOISE_ONE_WAY
+   (Noise, 7.4).
 
    A call returns a code for each wrong value. No length and no content of an opaque struct makes a
    call stop the process or access memory that it wasn't given. An opaque struct begins with a mark
    of its type and of its layout's version. So a call refuses one of zeros, of another type, or of a
-   build with another layout by NOISE_STRUCT; noise_answer alone doesn't look.
+   build with another layout by NOISE_STRUCT.
 
    WHAT THE CALLER MUST ENSURE, since no call can check it
    - A pointer that has a count may be NULL if the count is 0: see the end of this header. No other
@@ -37,9 +38,8 @@
      calls that have one buffer, as noise_read, work in place.
    - A key never encrypts two texts at one nonce: whoever sees both messages learns the xor of the
      texts, and can forge messages of that nonce. So never use a copy of a struct that writes or
-     encrypts beside the original: not one from a file, and not a forked process's. Make no second
-     pair of structs from a handshake. Don't set the nonce of a cipher state for sending back. A
-     struct may be moved.
+     encrypts beside the original: not one from a file, and not a forked process's. Don't set the
+     nonce of a cipher state for sending back. A struct may be moved.
    - Each handshake has a new ephemeral key pair. A pair that was used before makes the same keys
      again.
    - Calls that take an opaque struct as const may run at once, on any number of threads; any other
@@ -69,7 +69,7 @@ extern "C" {
 #define NOISE_ALIGNED _Alignas(8)
 #endif
 
-/* What a call returns; noise_text, below, says what each code means. A call's comment ends with its
+/* What a call returns; noise_text says what each code means. A call's comment ends with its
    codes but OK. If several apply, the call returns the first. After any code but OK everything
    except `result` is as it was, but:
    - SHORT and TAG of noise_read end the handshake.
@@ -81,7 +81,7 @@ enum noise_code {
     NOISE_STATIC_MISSING = 5, NOISE_REMOTE_MISSING = 6, NOISE_REMOTE_UNEXPECTED = 7,
     NOISE_PSK_COUNT = 8, NOISE_NOT_YOUR_TURN = 10, NOISE_TOO_LONG = 11, NOISE_DONE = 12,
     NOISE_ENDED = 13, NOISE_AGREEMENT = 14, NOISE_SHORT = 15, NOISE_TAG = 16, NOISE_EXHAUSTED = 17,
-    NOISE_ROOM = 18, NOISE_NOT_DONE = 19, NOISE_WANTED = 20, NOISE_FULL = 21, NOISE_ONE_WAY = 22,
+    NOISE_ROOM = 18, NOISE_NOT_DONE = 19, NOISE_WANTED = 20, NOISE_ONE_WAY = 22,
     NOISE_STRUCT = 23, NOISE_LENGTH = 24, NOISE_WINDOW = 25, NOISE_RESERVED = 26, NOISE_OLD = 27,
     NOISE_REPEATED = 28, NOISE_NOT_DUE = 29, NOISE_HEADING = 30, NOISE_ARROW = 31, NOISE_TOKEN = 32,
     NOISE_PRE_MESSAGE = 33, NOISE_TURN = 34, NOISE_PSK_PLACE = 35, NOISE_NAME_TAKEN = 36,
@@ -133,7 +133,7 @@ typedef struct {
     size_t from;          /* OK: where the payload begins that was read; 0 of calls that write */
     size_t len;           /* OK: the length of the payload that was read, or of the message that was
                              written. ROOM of noise_write: the length that the message would have */
-    uint8_t token;        /* SHORT, TAG of noise_read: at which token, counted from 0 */
+    uint8_t token;        /* SHORT, TAG of noise_read, noise_try_read: at which token, from 0 */
     uint8_t of_static;    /* WANTED: which key pair of this party: 0 ephemeral, 1 static */
     uint8_t remote[32];   /* WANTED: with this public key. WANTED_PSK: the other's static key, or
                              zeros */
@@ -153,7 +153,7 @@ typedef struct {
 typedef struct {
     uint8_t messages;    /* how many messages the pattern has, 1 to 8 */
     uint8_t passed;      /* how many of them have been written or read */
-    uint8_t ended;       /* 1 if a refused message has ended the handshake, else 0 */
+    uint8_t ended;       /* 1 if a refused message or noise_finish has ended it, else 0 */
     uint8_t writes_next; /* 1 if this party writes the next message, else 0; after the last one it
                             says nothing */
 } noise_stage_result;
@@ -175,6 +175,10 @@ size_t noise_stream_sender_size(void), noise_stream_receiver_size(void);
 size_t noise_sender_size(void), noise_receiver_size(void);
 size_t noise_datagram_sender_size(void), noise_datagram_receiver_size(void);
 
+/* Gives a sentence that says what a code means, with a zero byte after it, and returns its length.
+   noise_text, at the end, returns the same sentence. */
+size_t noise_sentence(uint32_t code, uint8_t sentence[80]);
+
 /* HANDSHAKES, by the HandshakeState of Noise, 5.3. */
 
 /* Starts a handshake in *h, which may hold anything before (Initialize). pattern is a protocol
@@ -189,8 +193,8 @@ uint32_t noise_start(noise_handshake *h, const uint8_t *pattern, size_t pattern_
 
 /* Supplies the result of X25519 (Noise, 12.1) on one of this party's secret keys and a public key
    of the other party: after WANTED those of result. of_static is 0 for the ephemeral key, else the
-   static one. A struct without a valid state gives OK or FULL too, and STRUCT at the next call.
-   Codes: FULL. */
+   static one. There is room for eight, twice what a message wants: the oldest gives way to a ninth.
+   Codes: STRUCT (it isn't a handshake's struct). */
 uint32_t noise_answer(noise_handshake *h, uint8_t of_static, const uint8_t remote[32],
     const uint8_t answer[32]);
 
@@ -214,6 +218,12 @@ uint32_t noise_write(noise_handshake *h, const uint8_t *payload, size_t payload_
    Codes: STRUCT · LENGTH (message_len is above 65535) · ENDED · DONE · NOT_YOUR_TURN · WANTED ·
    WANTED_PSK · SHORT · TAG. */
 uint32_t noise_read(noise_handshake *h, uint8_t *message, size_t message_len, noise_result *result);
+
+/* Reads as noise_read does, but SHORT and TAG leave the handshake as it was, and the message: for
+   messages that a stranger can send, as datagrams. Drop such a message, and wait for another.
+   Codes: those of noise_read. */
+uint32_t noise_try_read(noise_handshake *h, uint8_t *message, size_t message_len,
+    noise_result *result);
 
 /* Reports the length of the next message with a payload of this length.
    Codes: STRUCT · NOT_DUE (noise_write would return ENDED, DONE, NOT_YOUR_TURN or TOO_LONG). */
@@ -258,11 +268,12 @@ uint32_t noise_frame_find(const uint8_t *buffer, size_t buffer_len, noise_stream
    END has got all that the other party wrote before noise_stream_end, unless a message was
    forged. */
 
-/* Makes the two structs of a handshake whose messages have all passed (Noise, 5.2). Each direction
-   renews its key after `interval` of its frames (Noise, 11.3), the same number at both parties; 0
-   means never.
+/* Makes the two structs of a handshake whose messages have all passed (Noise, 5.2), and uses it
+   up: its keys, psks and results of X25519 are zeros, and it has ended. noise_hash and
+   noise_remote_static go on. Each direction renews its key after `interval` of its frames (Noise,
+   11.3), the same number at both parties; 0 means never.
    Codes: STRUCT · NOT_DONE · ENDED. */
-uint32_t noise_finish_stream(const noise_handshake *h, uint64_t interval,
+uint32_t noise_finish_stream(noise_handshake *h, uint64_t interval,
     noise_stream_sender *sender, noise_stream_receiver *receiver);
 
 /* Writes the frame of the first bytes of payload, of at most 65519, to the start of out: send it,
@@ -295,7 +306,7 @@ uint32_t noise_stream_is_cut(const noise_stream_receiver *r, size_t left);
 
 /* Makes the two structs for messages, as noise_finish_stream does; `interval` counts messages.
    Codes: STRUCT · NOT_DONE · ENDED. */
-uint32_t noise_finish(const noise_handshake *h, uint64_t interval, noise_sender *sender,
+uint32_t noise_finish(noise_handshake *h, uint64_t interval, noise_sender *sender,
     noise_receiver *receiver);
 
 /* Seals a payload as the next message, at the start of out; or in place: the payload is the first
@@ -326,7 +337,7 @@ uint32_t noise_receiver_nonce(const noise_receiver *r, uint64_t *nonce);
    renewed. `window` is 64, 256 or 1024: a datagram may come after others whose nonces are less than
    `window` greater.
    Codes: WINDOW · STRUCT · NOT_DONE · ENDED. */
-uint32_t noise_finish_datagrams(const noise_handshake *h, uint32_t window,
+uint32_t noise_finish_datagrams(noise_handshake *h, uint32_t window,
     noise_datagram_sender *sender, noise_datagram_receiver *receiver);
 
 /* Seals a payload as the next datagram, as noise_seal; in place the payload is the payload_len
@@ -356,7 +367,7 @@ uint32_t noise_datagram_sender_nonce(const noise_datagram_sender *s, uint64_t *n
    (Split: Noise, 5.2). In a one-way pattern the one for the responder's messages has no key, and
    each call with it returns ONE_WAY (Noise, 7.4).
    Codes: STRUCT · NOT_DONE · ENDED. */
-uint32_t noise_finish_ciphers(const noise_handshake *h, noise_cipher *send, noise_cipher *receive);
+uint32_t noise_finish_ciphers(noise_handshake *h, noise_cipher *send, noise_cipher *receive);
 
 /* Encrypts the first text_len bytes of buffer in place, with associated data (EncryptWithAd). The
    message is result->len bytes, 16 more; neither the data nor the nonce is in it. The next nonce is
@@ -419,7 +430,6 @@ static inline const char *noise_text(uint32_t code) {
     case NOISE_ROOM: return "The buffer is too short for the message.";
     case NOISE_NOT_DONE: return "Messages of the handshake are still due.";
     case NOISE_WANTED: return "A result of X25519 is needed: pass it to noise_answer; call again.";
-    case NOISE_FULL: return "The handshake holds eight results of X25519: no pattern needs more.";
     case NOISE_ONE_WAY: return "In a one-way pattern only the initiator sends.";
     case NOISE_STRUCT: return "The struct holds no state that a call could have made.";
     case NOISE_LENGTH: return "The prologue, message or associated data has more than 65535 bytes.";
@@ -447,6 +457,21 @@ static inline const char *noise_text(uint32_t code) {
     }
 }
 
+/* Computes X25519 of one of this party's secret keys, the static one unless of_static is 0, and a
+   public key of the other party; 0 if there is no result, as for all zeros. */
+typedef int noise_dh(void *context, uint8_t of_static, const uint8_t remote[32],
+    uint8_t result[32]);
+
+/* Passes on the result of X25519 that a call wants: 0 if there is none. */
+static inline int noise_answer_with(noise_handshake *h, const noise_result *want, noise_dh *dh,
+    void *context) {
+    uint8_t result[32];
+    int ok = dh(context, want->of_static, want->remote, result)
+        && noise_answer(h, want->of_static, want->remote, result) == NOISE_OK;
+    noise_wipe(result, sizeof result);
+    return ok;
+}
+
 /* NULL WITH A COUNT OF 0. The functions of the library accept no NULL. So each that takes bytes and
    their count is also a macro (C11, 7.1.4) for an inline function. That replaces NULL by the
    address of a byte that nobody reads or writes. A call that doesn't use this header, as by dlsym
@@ -469,6 +494,10 @@ static inline uint32_t noise_write_inline(noise_handshake *h, const uint8_t *pay
 static inline uint32_t noise_read_inline(noise_handshake *h, uint8_t *message, size_t len,
     noise_result *result) {
     return noise_read(h, noise_out(message, len), len, result);
+}
+static inline uint32_t noise_try_read_inline(noise_handshake *h, uint8_t *message, size_t len,
+    noise_result *result) {
+    return noise_try_read(h, noise_out(message, len), len, result);
 }
 static inline uint32_t noise_check_pattern_inline(const uint8_t *text, size_t len,
     noise_pattern_result *result) {
@@ -531,6 +560,7 @@ static inline uint32_t noise_cipher_decrypt_inline(noise_cipher *c, const uint8_
 #define noise_start noise_start_inline
 #define noise_write noise_write_inline
 #define noise_read noise_read_inline
+#define noise_try_read noise_try_read_inline
 #define noise_check_pattern noise_check_pattern_inline
 #define noise_frame_message noise_frame_message_inline
 #define noise_frame_find noise_frame_find_inline
@@ -545,6 +575,31 @@ static inline uint32_t noise_cipher_decrypt_inline(noise_cipher *c, const uint8_
 #define noise_datagram_open noise_datagram_open_inline
 #define noise_cipher_encrypt noise_cipher_encrypt_inline
 #define noise_cipher_decrypt noise_cipher_decrypt_inline
+
+/* noise_write, noise_read and noise_try_read with a function for X25519, which is called as often
+   as a result is wanted: four times at most for a message. WANTED is returned only where that
+   function gives none. */
+static inline uint32_t noise_write_with(noise_handshake *h, const uint8_t *payload, size_t len,
+    uint8_t *out, size_t out_len, noise_result *result, noise_dh *dh, void *context) {
+    uint32_t code;
+    do code = noise_write(h, payload, len, out, out_len, result);
+    while (code == NOISE_WANTED && noise_answer_with(h, result, dh, context));
+    return code;
+}
+static inline uint32_t noise_read_with(noise_handshake *h, uint8_t *message, size_t message_len,
+    noise_result *result, noise_dh *dh, void *context) {
+    uint32_t code;
+    do code = noise_read(h, message, message_len, result);
+    while (code == NOISE_WANTED && noise_answer_with(h, result, dh, context));
+    return code;
+}
+static inline uint32_t noise_try_read_with(noise_handshake *h, uint8_t *message, size_t message_len,
+    noise_result *result, noise_dh *dh, void *context) {
+    uint32_t code;
+    do code = noise_try_read(h, message, message_len, result);
+    while (code == NOISE_WANTED && noise_answer_with(h, result, dh, context));
+    return code;
+}
 
 #ifdef __cplusplus
 }

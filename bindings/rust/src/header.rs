@@ -21,7 +21,6 @@ pub(crate) const EXHAUSTED: u32 = 17;
 pub(crate) const ROOM: u32 = 18;
 pub(crate) const NOT_DONE: u32 = 19;
 pub(crate) const WANTED: u32 = 20;
-pub(crate) const FULL: u32 = 21;
 pub(crate) const ONE_WAY: u32 = 22;
 pub(crate) const STRUCT: u32 = 23;
 pub(crate) const LENGTH: u32 = 24;
