@@ -19,8 +19,8 @@ use crate::{Keys, Own, Remote, SetupFault};
 use noise_names::{Message, Pattern, Role, Token};
 use noise_state::SymmetricState;
 
-// How many psks the messages take.
-pub(crate) fn psk_total(messages: &[Message]) -> usize
+/// How many psks the messages take: one for each psk token (Noise, 9.2).
+pub fn psk_total(messages: &[Message]) -> usize
     requires { length messages.now ≤ 8 }
     ensures total { result ≡ psks_of messages.now }
     ensures bound { result ≤ 10 * length messages.now }

@@ -9,6 +9,7 @@ pub mod Judging
 pub mod Fundamental
 pub mod Validity
 pub mod Overhead
+pub mod Pieces
 pub mod Checking
 pub mod Reading
 pub mod Facts

@@ -27,6 +27,7 @@ impl Model for ValidPattern {
 impl ValidPattern {
     ghost use Rattle.noise_names.specs.Plan.{is_one_way, first_places};
     ghost use Rattle.noise_names.specs.Overhead.{has_key, overhead_of};
+    ghost use Rattle.noise_names.specs.Pieces.{bytes_before, places_to, tokens_of};
     ghost use Rattle.noise_names.specs.Validity.{IsValid};
     ghost use Rattle.noise_names.specs.Checking.{seen_of};
     ghost use Rattle.noise_names.specs.Tokens.{turn_from};
@@ -92,6 +93,47 @@ impl ValidPattern {
             party,
             &self.pattern.messages()[index],
         )
+    }
+
+    // What comes before a token of a message, and how many bytes of the message stand before it.
+    fn seen_before(&self, message: u8, token: u8) -> (Seen, u16)
+        requires first { 1 ≤ message }
+        requires last { message ≤ length self.now.messages }
+        requires token { token ≤ length (tokens_of self.now message) }
+        ensures seen { result.0 ≡ seen_of (places_to self.now message token) }
+        ensures bytes { result.1 ≡ bytes_before self.now message token }
+    {
+        let index = usize::from(message) - 1;
+        let (seen, party) = self.seen_after(index);
+        let mut seen = seen;
+        let tokens = self.pattern.messages()[index].tokens();
+        let front = &tokens[..usize::from(token)];
+        let bytes = seen.tokens_len(self.pattern.has_psk(), party, front);
+        (seen, bytes)
+    }
+
+    /// How many bytes of a message stand before one of its tokens (Noise, 5.3). Messages count from 1 and tokens from
+    /// 0; the payload counts as the token after the last.
+    pub fn bytes_before(&self, message: u8, token: u8) -> u16
+        requires first { 1 ≤ message }
+        requires last { message ≤ length self.now.messages }
+        requires token { token ≤ length (tokens_of self.now message) }
+        ensures { result ≡ bytes_before self.now message token }
+    {
+        let (_, bytes) = self.seen_before(message, token);
+        bytes
+    }
+
+    /// Whether there is a cipher key before such a token (Noise, 5.2 and 9.2): a static key or a payload there is
+    /// encrypted.
+    pub fn has_key_before(&self, message: u8, token: u8) -> bool
+        requires first { 1 ≤ message }
+        requires last { message ≤ length self.now.messages }
+        requires token { token ≤ length (tokens_of self.now message) }
+        ensures { result ≡ has_key self.now (places_to self.now message token) }
+    {
+        let (seen, _) = self.seen_before(message, token);
+        seen.has_key(self.pattern.has_psk())
     }
 
     /// Whether there is a cipher key after the pre-messages and so many messages (Noise, 5.2 and 9.2).

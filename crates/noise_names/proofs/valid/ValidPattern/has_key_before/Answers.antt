@@ -1,0 +1,6 @@
+use Rattle.std.proofs.Common.{rules}
+use Rattle.noise_names.proofs.Lengths.{key_by-seen_of}
+use Rattle.noise_names.proofs.valid.ValidPattern.has_key_before.Goals as goal
+
+pub returns : goal.returns
+returns c = search (rules, key_by-seen_of)
