@@ -30,6 +30,7 @@ int main(int count, char **words) {
     check_changed_structs();
     check_late_psks();
     check_once();
+    check_patterns();
     puts("c-library: all codes, bytes and places were right");
     return 0;
 }

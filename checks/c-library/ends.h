@@ -99,5 +99,6 @@ void check_streams(void);
 void check_changed_structs(void);
 void check_late_psks(void);
 void check_once(void);
+void check_patterns(void);
 
 #endif

@@ -416,6 +416,11 @@ static void disturb_start(const plan *p, unsigned role) {
     start_there(&h, pattern, len, one_in(30) ? NOISE_MAX_PROLOGUE + 1 : random_len() % (NOISE_MAX_PROLOGUE + 1), &setup);
     noise_pattern_result *result = put(&result_place, NULL, sizeof *result, false);
     counted(noise_check_pattern(put_bytes(&first_place, pattern, len, true), len, result), CODE(NOISE_OK) | (CODE(NOISE_RULE + 1) - CODE(NOISE_HEADING)));
+    const uint8_t *at = put_bytes(&first_place, pattern, len, true);
+    noise_pattern_info *info = put(&second_place, NULL, sizeof *info, false);
+    counted(noise_pattern(at, len, info, result), CODE(NOISE_OK) | CODE(NOISE_NAME) | (CODE(NOISE_RULE + 1) - CODE(NOISE_HEADING)));
+    noise_message_layout *layout = put(&second_place, NULL, sizeof *layout, false);
+    counted(noise_layout(at, len, (uint8_t)below(10), random_len(), layout), CODE(NOISE_OK) | CODE(NOISE_NAME) | CODE(NOISE_PATTERN) | CODE(NOISE_NOT_DUE));
 }
 
 static plan random_plan(void) {

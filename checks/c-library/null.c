@@ -40,6 +40,9 @@ static void check_start(void) {
     must_be_same(&a, &b, NOISE_NAME);
     noise_pattern_result result = {0};
     MUST(noise_check_pattern(NULL, 0, &result) == noise_check_pattern(&empty, 0, &result));
+    noise_pattern_info info;
+    noise_message_layout layout;
+    MUST(noise_pattern(NULL, 0, &info, &result) == NOISE_NAME && noise_layout(NULL, 0, 1, 0, &layout) == NOISE_NAME);
 }
 
 // An empty payload, an empty place for the message, and both.

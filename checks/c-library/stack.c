@@ -69,7 +69,11 @@ static void do_ask(void) {
 static void do_check(void) {
     noise_pattern_result of_text;
     const char *text = "XX1psk0+psk3:\n  -> psk, e\n  <- e, ee, s\n  -> es, s, se, psk\n";
+    noise_pattern_info info;
+    noise_message_layout layout;
     MUST(noise_check_pattern((const uint8_t *)text, strlen(text), &of_text) == NOISE_OK);
+    MUST(noise_pattern((const uint8_t *)text, strlen(text), &info, &of_text) == NOISE_OK);
+    MUST(noise_layout((const uint8_t *)text, strlen(text), 2, 40, &layout) == NOISE_OK && layout.pieces[3].from == 80);
 }
 
 static size_t taken_by(void (*call)(void)) {

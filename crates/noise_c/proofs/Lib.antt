@@ -15,3 +15,5 @@ pub mod Wanting
 pub mod Numbers
 pub mod Opening
 pub mod Ciphering
+pub mod Describing
+pub mod Layouts

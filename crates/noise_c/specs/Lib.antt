@@ -11,3 +11,5 @@ pub mod DatagramStructs
 pub mod CipherStructs
 pub mod StreamStructs
 pub mod Outcomes
+pub mod PatternInfo
+pub mod MessageLayouts

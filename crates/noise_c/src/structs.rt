@@ -158,3 +158,47 @@ pub struct NoiseStreamResult {
     pub used: usize,
     pub wanted: usize,
 }
+
+/// Which keys a party brings to the start of a handshake, 1 for each, else 0: its own, and those of the other party's
+/// pre-message.
+#[repr(C)]
+#[derive(Clone, Copy)]
+pub struct NoiseKeysNeeded {
+    pub e: u8,
+    pub s: u8,
+    pub remote_e: u8,
+    pub remote_s: u8,
+}
+
+/// What a pattern has: how many messages and psk tokens, whether it is one-way, 0 or 1, what the initiator and the
+/// responder bring, and the tokens of the pre-messages and of the messages by their numbers, 0 after the last.
+#[repr(C)]
+#[derive(Clone, Copy)]
+pub struct NoisePatternInfo {
+    pub messages: u8,
+    pub one_way: u8,
+    pub psks: u8,
+    pub needed: [NoiseKeysNeeded; 2],
+    pub pre_messages: [[u8; 2]; 2],
+    pub tokens: [[u8; 10]; 8],
+}
+
+/// A token's piece of a message, or the payload's: so many bytes from a place on, of which the last 16 are a tag unless
+/// `encrypted` is 0.
+#[repr(C)]
+#[derive(Clone, Copy)]
+pub struct NoisePiece {
+    pub token: u8,
+    pub encrypted: u8,
+    pub from: u32,
+    pub len: u32,
+}
+
+/// The length of a message, and its pieces: `count` of them, and zeros.
+#[repr(C)]
+#[derive(Clone, Copy)]
+pub struct NoiseMessageLayout {
+    pub count: u8,
+    pub len: u32,
+    pub pieces: [NoisePiece; 11],
+}
