@@ -217,14 +217,36 @@ static void check_messages(const plan *p) {
     }
 }
 
+// Psks at every set of places: no fundamental pattern breaks a rule by them, since each party's first message begins with its e.
+static void check_psk_sets(const char *base, unsigned messages) {
+    for (unsigned set = 1; set < 2u << messages; set++) {
+        char name[120] = "";
+        unsigned psks = 0;
+        snprintf(name, sizeof name, "%s", base);
+        for (unsigned place = 0; place <= messages; place++)
+            if (set >> place & 1) snprintf(name + strlen(name), 10, "%spsk%u", psks++ ? "+" : "", place);
+        noise_pattern_info info;
+        noise_pattern_result result;
+        MUST(ask(name, &info, &result) == NOISE_OK && info.psks == psks && info.messages == messages);
+        for (unsigned m = 0; m < messages; m++) {
+            const uint8_t *row = info.tokens[m];
+            size_t count = strlen((const char *)row);
+            MUST((count && row[count - 1] == PSK) == (set >> (m + 1) & 1) && (m || (row[0] == PSK) == (set & 1)));
+        }
+    }
+}
+
 void check_patterns(void) {
     check_rows();
     check_layouts();
     check_limits();
     check_faults();
-    for (unsigned i = 0; i < PATTERNS; i++)
-        for (int psk = -1; psk <= (int)plan_of(patterns[i], -1).messages; psk++) {
+    for (unsigned i = 0; i < PATTERNS; i++) {
+        int messages = (int)plan_of(patterns[i], -1).messages;
+        check_psk_sets(patterns[i], (unsigned)messages);
+        for (int psk = -1; psk <= messages; psk++) {
             plan p = plan_of(patterns[i], psk);
             check_messages(&p);
         }
+    }
 }

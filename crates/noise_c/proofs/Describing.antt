@@ -4,7 +4,7 @@ use Rattle.std.specs.Prelude.{Bool, Err, IfErr, Ok, OnErr}
 use Rattle.noise_c.proofs.Common.{Plan, Result, IsValid, IsNoName, IsNoText, IsNotValid, IsPatternOf, IsPatternOfName, is_text}
 use Rattle.noise_c.proofs.Numbers.{other}
 use Rattle.noise_names.specs.Text.{Spells}
-use Rattle.noise_c.specs.Checked.{IsTextCode, ReportsMessages, ReportsRuleFault, ReportsText}
+use Rattle.noise_c.specs.Checked.{IsTextCode, ReportsRuleFault, ReportsText}
 use Rattle.noise_c.specs.HandshakeStructs.{IsOfKind}
 use Rattle.noise_c.specs.PatternInfo.{IsOfValid, PatternOutcome, ReportsNoPattern, broken, info_of, no_name, no_text, valid}
 use Rattle.noise_c.specs.declared.structs.NoisePatternInfo.{NoisePatternInfo}

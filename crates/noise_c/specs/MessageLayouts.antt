@@ -1,5 +1,5 @@
 -- Where the pieces of a message stand, and what a call that reports it comes to.
-use Rattle.std.specs.Prelude.{◌≡◌, ◌↔◌, ◌⊎◌, ◌≤◌, ℕ, ◌+◌, ◌==◌, Bool, ◌&&◌, List, Option, Some, None, length, map, slice_get, if◌then◌else◌}
+use Rattle.std.specs.Prelude.{◌≡◌, ◌↔◌, ◌≤◌, ℕ, ◌+◌, ◌==◌, ◌&&◌, List, Option, Some, None, length, map, slice_get, if◌then◌else◌}
 use Rattle.std.specs.List.{range_with_len}
 use Rattle.noise_names.specs.declared.token.Token.{Token}
 use Rattle.noise_names.specs.declared.token.Token.TheVariants.{E, S}
@@ -8,7 +8,7 @@ use Rattle.noise_names.specs.Validity.{encrypts}
 use Rattle.noise_names.specs.Overhead.{added_len, has_key, overhead_of, tag_len}
 use Rattle.noise_names.specs.Pieces.{bytes_before, places_to, tokens_of}
 use Rattle.noise_c.specs.PatternInfo.{flag, token_number}
-use Rattle.noise_c.specs.declared.codes.numbers.TheConstants.{NAME, NOT_DUE, OK, PATTERN}
+use Rattle.noise_c.specs.declared.codes.numbers.TheConstants.{NOT_DUE, OK}
 use Rattle.noise_c.specs.declared.structs.NoiseMessageLayout.{NoiseMessageLayout}
 use Rattle.noise_c.specs.declared.structs.NoisePiece.{NoisePiece}
 

@@ -1,4 +1,4 @@
-use Rattle.std.proofs.Common.{ap, sym, refl, ◌∙◌, List, length, subst}
+use Rattle.std.proofs.Common.{ap, refl, ◌∙◌, List, length, subst}
 use Rattle.noise_c.proofs.Common.{Plan, IsValid, Token, false≢true}
 use Rattle.noise_c.specs.PatternInfo.{info_of, none}
 use Rattle.noise_c.proofs.Describing.{broken-outcome, none-numbered, valid-outcome}

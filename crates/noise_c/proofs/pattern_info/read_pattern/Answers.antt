@@ -1,4 +1,4 @@
-use Rattle.std.proofs.Common.{rules, ◌≡◌, true, false, refl}
+use Rattle.std.proofs.Common.{rules, ◌≡◌, true, false}
 use Rattle.noise_c.proofs.Common.{is_text}
 use Rattle.noise_c.proofs.Describing.{name-fault, text-fault}
 use Rattle.noise_c.proofs.pattern_info.read_pattern.Goals as goal
