@@ -63,7 +63,7 @@ static const laid layouts[] = {
     {"Fpsk0+psk1:\n  <- e, s\n  ...\n  -> psk, e, s, ee, es, se, ss, psk\n", 1,
         {9, 106, {{PSK, 0, 0, 0}, {E, 0, 0, 32}, {S, 1, 32, 48}, {EE, 0, 80, 0}, {ES, 0, 80, 0}, {SE, 0, 80, 0}, {SS, 0, 80, 0}, {PSK, 0, 80, 0},
             {PAYLOAD, 1, 80, 26}}}},
-    {"INpsk1", 1, {4, 90, {{E, 0, 0, 32}, {S, 1, 32, 48}, {PSK, 0, 80, 0}, {PAYLOAD, 1, 80, 26}}}},
+    {"INpsk1", 1, {4, 106, {{E, 0, 0, 32}, {S, 1, 32, 48}, {PSK, 0, 80, 0}, {PAYLOAD, 1, 80, 26}}}},
 };
 
 // A text as it is, and the protocol name of anything else.
