@@ -167,6 +167,37 @@ typedef struct {
     uint8_t messages; /* OK: how many messages the pattern has */
 } noise_pattern_result;
 
+/* The numbers of the tokens; the payload is in a layout alone. 0 is none. */
+enum noise_token {
+    NOISE_TOKEN_E = 1, NOISE_TOKEN_S = 2, NOISE_TOKEN_EE = 3, NOISE_TOKEN_ES = 4,
+    NOISE_TOKEN_SE = 5, NOISE_TOKEN_SS = 6, NOISE_TOKEN_PSK = 7, NOISE_TOKEN_PAYLOAD = 8
+};
+
+/* The keys that a party passes to noise_start: 1 for each key of noise_setup that must be there,
+   else 0; a remote key must not be there then. */
+typedef struct { uint8_t e, s, remote_e, remote_s; } noise_keys_needed;
+
+typedef struct {
+    uint8_t messages;            /* 1 to 8; the initiator writes the first, then they take turns */
+    uint8_t one_way;             /* 1: one message alone, and only the initiator sends afterwards
+                                    (Noise, 7.4); else 0 */
+    uint8_t psks;                /* how many psk tokens */
+    noise_keys_needed needed[2]; /* of the initiator, of the responder */
+    uint8_t pre_messages[2][2];  /* tokens of the initiator's and the responder's pre-message, 0
+                                    after the last */
+    uint8_t tokens[8][10];       /* tokens of each message, 0 after the last */
+} noise_pattern_info;
+
+/* A piece of a message: len bytes from `from` on, of which the last 16 are a tag if encrypted is 1.
+   A key has 32 bytes without the tag; ee, es, se, ss and psk have none. */
+typedef struct { uint8_t token; uint8_t encrypted; uint32_t from; uint32_t len; } noise_piece;
+
+typedef struct {
+    uint8_t count;          /* how many pieces: those of the tokens in order, and the payload */
+    uint32_t len;           /* the length of the message */
+    noise_piece pieces[11]; /* zeros after the last */
+} noise_message_layout;
+
 /* Report the library's version (docs/VERSIONS.md) and its sizes of the opaque structs: compare them
    with NOISE_VERSION and sizeof. */
 uint32_t noise_version(void);
@@ -251,6 +282,18 @@ uint32_t noise_stage(const noise_handshake *h, noise_stage_result *result);
    e of its own. A valid pattern isn't necessarily a secure one.
    Codes: HEADING to ENDING · RULE. */
 uint32_t noise_check_pattern(const uint8_t *text, size_t text_len, noise_pattern_result *result);
+
+/* Reports what a valid pattern has, of its protocol name or its text as for noise_start;
+   result->messages is set too. HEADING to ENDING and RULE set result as noise_check_pattern does.
+   Codes: NAME · HEADING to ENDING · RULE. */
+uint32_t noise_pattern(const uint8_t *pattern, size_t pattern_len, noise_pattern_info *info,
+    noise_pattern_result *result);
+
+/* Reports where the pieces of a message stand with a payload of this length. Messages count from 1.
+   Codes: NAME · PATTERN · NOT_DUE (there is no such message, or it would have more than 65535
+   bytes). */
+uint32_t noise_layout(const uint8_t *pattern, size_t pattern_len, uint8_t message,
+    size_t payload_len, noise_message_layout *layout);
 
 /* FRAMES, for the messages of a handshake over a stream: the length in 2 bytes, the higher first,
    and the message (Noise, 13). */
@@ -503,6 +546,14 @@ static inline uint32_t noise_check_pattern_inline(const uint8_t *text, size_t le
     noise_pattern_result *result) {
     return noise_check_pattern(noise_in(text, len), len, result);
 }
+static inline uint32_t noise_pattern_inline(const uint8_t *pattern, size_t len,
+    noise_pattern_info *info, noise_pattern_result *result) {
+    return noise_pattern(noise_in(pattern, len), len, info, result);
+}
+static inline uint32_t noise_layout_inline(const uint8_t *pattern, size_t len, uint8_t message,
+    size_t payload_len, noise_message_layout *layout) {
+    return noise_layout(noise_in(pattern, len), len, message, payload_len, layout);
+}
 static inline uint32_t noise_frame_message_inline(uint8_t *buffer, size_t len, size_t message_len,
     noise_stream_result *result) {
     return noise_frame_message(noise_out(buffer, len), len, message_len, result);
@@ -562,6 +613,8 @@ static inline uint32_t noise_cipher_decrypt_inline(noise_cipher *c, const uint8_
 #define noise_read noise_read_inline
 #define noise_try_read noise_try_read_inline
 #define noise_check_pattern noise_check_pattern_inline
+#define noise_pattern noise_pattern_inline
+#define noise_layout noise_layout_inline
 #define noise_frame_message noise_frame_message_inline
 #define noise_frame_find noise_frame_find_inline
 #define noise_stream_write noise_stream_write_inline
