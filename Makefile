@@ -1,37 +1,77 @@
-# make           builds the libraries and the command of the assembly text in dist/, in packaging/out; CC is the compiler
-# make install   installs them, and noisecat where Go is: PREFIX (/usr/local), LIBDIR (PREFIX/lib), DESTDIR
-# make check     runs the gate, ./check; without Rattle's `rt` it leaves out the proofs
+# make           builds the libraries and the command of the assembly text in dist/, in OUT (packaging/out); CC is the compiler
+# make noisecat  builds noisecat, the command of the package for Go; needs Go
+# make check     tries what was built, with a C compiler alone, in seconds; RUN is what runs a program for another machine, as qemu-aarch64
+# make install   installs what was built: PREFIX (/usr/local), LIBDIR (PREFIX/lib), DESTDIR
+# make uninstall removes what `make install` installs
 # make prove     proves the library and the command from the sources, and compares what comes out with dist/; needs `rt`
 # make web       puts the page, for any static server, into out/web
 # make clean     removes what `make` built, and no proofs
+# The gate is ./check. In a tree that can't be written, name another folder by OUT.
 PREFIX ?= /usr/local
-export CC CFLAGS LDFLAGS AR PREFIX LIBDIR DESTDIR
+export CFLAGS LDFLAGS AR PREFIX LIBDIR DESTDIR RUN
 
 # (make's own AR is always `ar`; packaging/assemble asks CC for its own)
 ifeq ($(origin AR),default)
 unexport AR
 endif
 
-all:
-	@packaging/build
+top := $(dir $(lastword $(MAKEFILE_LIST)))
+OUT ?= $(top)packaging/out
 
-packaging/out/libnoise_c.a:
-	@packaging/build
+# What was built for another machine is installed and checked as it is, without another word on the compiler.
+ifeq ($(origin CC),default)
+CC := cc
+ifeq (,$(filter-out install check,$(or $(MAKECMDGOALS),all)))
+CC := $(or $(shell cat '$(OUT)/compiler' 2>/dev/null),cc)
+endif
+endif
+export CC
 
-install: | packaging/out/libnoise_c.a
-	@packaging/noisecat
-	@packaging/install
+shared := $(OUT)/$(or $(shell $(top)packaging/link name 2>/dev/null),libnoise_c.so)
+command := $(if $(shell $(top)packaging/assemble --text noise 2>/dev/null),$(OUT)/noise)
+every := $(top)include/noise.h $(addprefix $(top)packaging/,version assemble link sections.ld) $(addprefix $(top)dist/,MANIFEST is-current) $(OUT)/compiler
 
-check:
-	@./check
+all: $(OUT)/libnoise_c.a $(shared) $(command)
+	@$(if $(command),,echo "make: left out: noise: dist/ has no text of the command for the machine of $(CC)")
+
+$(OUT)/compiler: FORCE
+	@printf '%s' '$(CC)' | cmp -s - $@ || { mkdir -p $(OUT) && printf '%s' '$(CC)' >$@; } 2>/dev/null || \
+		{ echo "make: $(OUT) can't be written: name another folder, as make OUT=/tmp/noise" >&2; exit 1; }
+
+$(OUT)/sections.a: $(every) $(wildcard $(top)dist/noise_c_*.s) $(top)dist/noise_c.S
+	$(top)packaging/assemble noise_c $@
+
+$(OUT)/libnoise_c.a: $(OUT)/sections.a
+	$(top)packaging/link static $< $@
+
+$(shared): $(OUT)/libnoise_c.a
+	$(top)packaging/link shared $< $@
+
+$(OUT)/noise: $(every) $(wildcard $(top)dist/noise_[lmw]*.s) $(top)dist/noise.S $(top)dist/runtime.c
+	$(top)packaging/assemble noise $@
+
+noisecat:
+	$(top)packaging/noisecat $(OUT)
+
+install: all
+	$(top)packaging/install $(OUT)
+
+uninstall:
+	$(top)packaging/install --uninstall $(OUT)
+
+check: all
+	$(top)packaging/check $(OUT)
 
 prove:
-	@dist/make --check
+	@$(top)dist/make --check
 
 web:
-	@web/build
+	@$(top)web/build
 
 clean:
-	rm -rf packaging/out out/web
+	rm -f $(addprefix $(OUT)/,compiler sections.a libnoise_c.a libnoise_c.so.* libnoise_c.*.dylib libnoise_c.dll.a noise_c.dll noise noisecat)
+	rm -rf $(top)packaging/out $(top)out/web
 
-.PHONY: all install check prove web clean
+FORCE:
+
+.PHONY: all noisecat install uninstall check prove web clean FORCE
