@@ -59,6 +59,7 @@ class Cases:
     def run_case(self, path, line, expected):
         """Runs a command; one with variables is run with the library that reads them. A file of version 1 that was run is also converted."""
         variables, words = words_of(line)
+        words = [written_out(word.encode()).decode() for word in words]
         if variables and not self.refuse:
             self.left_out += 1
             return

@@ -10,6 +10,7 @@ from typing import NamedTuple
 TOP = os.path.dirname(os.path.dirname(os.path.dirname(os.path.realpath(__file__))))
 PROGRAM = os.path.realpath(os.environ.get("NOISE_PROGRAM", f"{TOP}/crates/noise/out/noise"))
 ANY_TEXT = "[..]"
+LIMIT = 60    # seconds of a run; the longest takes one
 
 
 class Ran(NamedTuple):
@@ -24,7 +25,11 @@ def run(words, folder=None, variables=None, given=None):
     """Runs the program on these words, in this folder, with these variables beside its own, and with these bytes on its standard input."""
     environment = {**os.environ, "LC_ALL": "C", **(variables or {})}
     stdin = {"stdin": subprocess.DEVNULL} if given is None else {"input": given}
-    ran = subprocess.run([PROGRAM, *words], cwd=folder, env=environment, capture_output=True, check=False, **stdin)
+    try:
+        ran = subprocess.run([PROGRAM, *words], cwd=folder, env=environment, capture_output=True, check=False, timeout=LIMIT, **stdin)
+    except subprocess.TimeoutExpired:    # (thousands of others would take as long)
+        tell(f"command: noise {' '.join(words)[:200]}: it takes more than {LIMIT} seconds, with {variables or 'no variables'}")
+        os._exit(1)
     return Ran(ran.returncode, ran.stdout, ran.stderr)
 
 
