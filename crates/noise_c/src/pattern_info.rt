@@ -76,6 +76,7 @@ fn row(messages: &[Message], place: usize) -> [u8; 10]
 }
 
 // Those of each message.
+#[tactic(auto, unfolding(crate::specs::PatternInfo::rows_of))]
 fn rows(messages: &[Message]) -> [[u8; 10]; 8]
     ensures { result ≡ rows_of messages.now }
 {
@@ -92,6 +93,7 @@ fn rows(messages: &[Message]) -> [[u8; 10]; 8]
 }
 
 // The keys that a party brings.
+#[tactic(auto, unfolding(crate::specs::PatternInfo::keys_needed))]
 fn keys_needed(pattern: &Pattern, role: Role) -> NoiseKeysNeeded
     ensures { result ≡ keys_needed pattern.now role }
 {
