@@ -11,7 +11,7 @@ function builder(role, { has, knows, psks, interval, isDatagrams }) {
     has[role] && `.static_key(${own}_key)`,
     knows[role] && `.remote_static(&${other}_public)`,
     ...Array.from({ length: psks }, (_, n) => `.psk(&psk_${n + 1})`),
-    `.${role}::<KeyPair>()?`,
+    `.${role}()?`,
   ].filter(Boolean);
   return parts.join('\n        ');
 }

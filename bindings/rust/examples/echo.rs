@@ -34,19 +34,18 @@ fn main() -> io::Result<()> {
         builder = builder.psk(psk);
     }
     match listens {
-        None => {
-            send(Stream::anonymous(TcpStream::connect(address)?, builder.initiator::<KeyPair>()?)?, letters.len() == 1)
-        }
+        None => send(Stream::anonymous(TcpStream::connect(address)?, builder.initiator()?)?, letters.len() == 1),
         Some(address) => {
             let listener = TcpListener::bind(address)?;
             println!("{}", listener.local_addr()?);
             let below = listener.accept()?.0;
+            below.set_nodelay(true)?;
             let stream = if secrets.is_empty() {
-                Stream::anonymous(below, builder.responder::<KeyPair>()?)?
+                Stream::anonymous(below, builder.responder()?)?
             } else {
                 let secret_of =
                     |key: &[u8; 32]| secrets.iter().find(|(known, _)| known == key).map(|(_, secret)| *secret);
-                Stream::with_psk_for(below, builder.late_psks().responder::<KeyPair>()?, secret_of)?
+                Stream::with_psk_for(below, builder.late_psks().responder()?, secret_of)?
             };
             echo(stream, letters.len() == 1)
         }

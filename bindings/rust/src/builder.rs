@@ -1,13 +1,15 @@
 use crate::handshake::Options;
 use crate::header::{MAX_PSKS, OK, STATIC_MISSING};
 use crate::raw::{self, Key, Setup};
+#[cfg(any(feature = "x25519", feature = "openssl"))]
+use crate::KeyPair;
 use crate::{Dh, Ephemeral, Error, Handshake, NoKey};
 use core::fmt;
 
 /// What a handshake starts from.
 ///
-#[cfg_attr(feature = "openssl", doc = "```")]
-#[cfg_attr(not(feature = "openssl"), doc = "```ignore")]
+#[cfg_attr(any(feature = "x25519", feature = "openssl"), doc = "```")]
+#[cfg_attr(not(any(feature = "x25519", feature = "openssl")), doc = "```ignore")]
 /// # fn main() -> Result<(), yulimosar::Error> {
 /// use yulimosar::{Builder, KeyPair};
 ///
@@ -17,7 +19,7 @@ use core::fmt;
 ///     .static_key(KeyPair::generate()?)
 ///     .psk(&secret)
 ///     .interval(1000)
-///     .initiator::<KeyPair>()?;
+///     .initiator()?;
 /// assert!(handshake.writes_next());
 /// # Ok(()) }
 /// ```
@@ -97,13 +99,25 @@ impl<'a, S: Dh> Builder<'a, S> {
         self
     }
 
-    /// Starts as the initiator, which writes the first message, with a new ephemeral key pair.
-    pub fn initiator<E: Ephemeral>(self) -> Result<Handshake<S, E>, Error> {
+    /// Starts as the initiator, which writes the first message, with a new ephemeral key pair: a [`KeyPair`].
+    #[cfg(any(feature = "x25519", feature = "openssl"))]
+    pub fn initiator(self) -> Result<Handshake<S, KeyPair>, Error> {
         self.begin(0)
     }
 
-    /// Starts as the responder, with a new ephemeral key pair.
-    pub fn responder<E: Ephemeral>(self) -> Result<Handshake<S, E>, Error> {
+    /// Starts as the responder, with a new ephemeral key pair: a [`KeyPair`].
+    #[cfg(any(feature = "x25519", feature = "openssl"))]
+    pub fn responder(self) -> Result<Handshake<S, KeyPair>, Error> {
+        self.begin(1)
+    }
+
+    /// Starts as the initiator, with a new ephemeral key pair of your own type.
+    pub fn initiator_with<E: Ephemeral>(self) -> Result<Handshake<S, E>, Error> {
+        self.begin(0)
+    }
+
+    /// Starts as the responder, with a new ephemeral key pair of your own type.
+    pub fn responder_with<E: Ephemeral>(self) -> Result<Handshake<S, E>, Error> {
         self.begin(1)
     }
 

@@ -1,18 +1,18 @@
 use crate::header::OK;
-use crate::raw::{CallResult, Cipher};
+use crate::raw::{CallResult, Cipher, Held};
 use crate::Error;
 use core::fmt;
 
 /// The CipherState (Noise, 5.1) by which this party encrypts what it sends, for a protocol whose packets have associated data, name their nonces or have a
 /// form of their own. [`Handshake::finish_ciphers`](crate::Handshake::finish_ciphers) makes it.
 ///
-#[cfg_attr(feature = "openssl", doc = "```")]
-#[cfg_attr(not(feature = "openssl"), doc = "```ignore")]
+#[cfg_attr(any(feature = "x25519", feature = "openssl"), doc = "```")]
+#[cfg_attr(not(any(feature = "x25519", feature = "openssl")), doc = "```ignore")]
 /// # fn main() -> Result<(), yulimosar::Error> {
-/// use yulimosar::{Builder, Error, KeyPair, TAG_LEN};
+/// use yulimosar::{Builder, Error, TAG_LEN};
 ///
-/// let mut client = Builder::new("NN").initiator::<KeyPair>()?;
-/// let mut server = Builder::new("NN").responder::<KeyPair>()?;
+/// let mut client = Builder::new("NN").initiator()?;
+/// let mut server = Builder::new("NN").responder()?;
 /// let mut message = [0; 100];
 /// let len = client.write(b"", &mut message)?;
 /// server.read(&mut message[..len])?;
@@ -27,11 +27,11 @@ use core::fmt;
 /// # Ok(()) }
 /// ```
 #[doc(alias = "CipherState")]
-pub struct SendCipherState(pub(crate) Cipher);
+pub struct SendCipherState(pub(crate) Held<Cipher>);
 
 /// The CipherState (Noise, 5.1) by which this party decrypts what it receives. [`SendCipherState`] has an example.
 #[doc(alias = "CipherState")]
-pub struct ReceiveCipherState(pub(crate) Cipher);
+pub struct ReceiveCipherState(pub(crate) Held<Cipher>);
 
 fn done(code: u32) -> Result<(), Error> {
     match code {

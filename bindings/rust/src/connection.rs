@@ -7,6 +7,7 @@ pub use connecting::{Connecting, Step};
 pub use receiver::{Event, StreamReceiver};
 pub use sender::StreamSender;
 
+use crate::raw::Held;
 use crate::{raw, Error};
 use alloc::sync::Arc;
 use core::fmt;
@@ -20,8 +21,8 @@ use core::sync::atomic::{AtomicBool, Ordering};
 /// after all of them, and only if it has ended its stream. A refused message, and a connection that closes without an end ([`Error::Cut`]), end the channel:
 /// each later call of `event` returns the same error, and there is nothing more to send, also no end.
 ///
-#[cfg_attr(feature = "openssl", doc = "```")]
-#[cfg_attr(not(feature = "openssl"), doc = "```ignore")]
+#[cfg_attr(any(feature = "x25519", feature = "openssl"), doc = "```")]
+#[cfg_attr(not(any(feature = "x25519", feature = "openssl")), doc = "```ignore")]
 /// # fn main() -> Result<(), yulimosar::Error> {
 /// use yulimosar::{Builder, Connecting, Connection, Event, KeyPair, Step};
 ///
@@ -42,9 +43,9 @@ use core::sync::atomic::{AtomicBool, Ordering};
 /// }
 ///
 /// let handshake = Builder::new("XX").static_key(KeyPair::generate()?);
-/// let mut client = Connecting::new(handshake.initiator::<KeyPair>()?)?;
+/// let mut client = Connecting::new(handshake.initiator()?)?;
 /// let handshake = Builder::new("XX").static_key(KeyPair::generate()?);
-/// let mut server = Connecting::new(handshake.responder::<KeyPair>()?)?;
+/// let mut server = Connecting::new(handshake.responder()?)?;
 /// while !(pass(&mut client, &mut server)? & pass(&mut server, &mut client)?) {}
 /// let (mut client, mut server): (Connection, Connection) = (client.finish()?, server.finish()?);
 ///
@@ -58,7 +59,7 @@ use core::sync::atomic::{AtomicBool, Ordering};
 ///             let count = server.receive(client.outgoing());
 ///             client.sent(count);
 ///         }
-///         Event::End => break,
+///         _ => break, // the end
 ///     }
 /// }
 /// assert_eq!(text, b"hello");
@@ -87,7 +88,7 @@ impl Over {
 
 impl Connection {
     fn of(
-        raw: (raw::StreamSender, raw::StreamReceiver),
+        raw: (Held<raw::StreamSender>, Held<raw::StreamReceiver>),
         buffers: (buffers::Outgoing, buffers::Incoming),
     ) -> Connection {
         let over = Over::default();

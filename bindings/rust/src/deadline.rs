@@ -46,18 +46,18 @@ timeouts!(std::os::unix::net::UnixStream);
 /// however slowly. Past it `read` and `write` return `TimedOut`, with [`Error::Deadline`], and the handshake has failed.
 /// Timeouts that the stream below has hold as well.
 ///
-#[cfg_attr(feature = "openssl", doc = "```")]
-#[cfg_attr(not(feature = "openssl"), doc = "```ignore")]
+#[cfg_attr(any(feature = "x25519", feature = "openssl"), doc = "```")]
+#[cfg_attr(not(any(feature = "x25519", feature = "openssl")), doc = "```ignore")]
 /// # fn main() -> std::io::Result<()> {
 /// use std::io::ErrorKind;
 /// use std::net::{TcpListener, TcpStream};
 /// use std::time::Duration;
-/// use yulimosar::{Builder, Deadline, KeyPair, Stream};
+/// use yulimosar::{Builder, Deadline, Stream};
 ///
 /// let listener = TcpListener::bind("127.0.0.1:0")?;
 /// let _silent = TcpStream::connect(listener.local_addr()?)?;
 /// let serve = |below: TcpStream| -> std::io::Result<Stream<TcpStream>> {
-///     let handshake = Builder::new("NN").responder::<KeyPair>()?;
+///     let handshake = Builder::new("NN").responder()?;
 ///     let below = Deadline::after(below, Duration::from_millis(50))?;
 ///     Stream::anonymous(below, handshake)?.lift_deadline()
 /// };

@@ -31,6 +31,33 @@ pub trait Dh {
     fn agree(&self, remote: &[u8; 32]) -> Result<[u8; 32], DhError>;
 }
 
+macro_rules! by_what_it_leads_to {
+    ($($(#[$attribute:meta])* $pointer:ty;)*) => {
+        $(
+            $(#[$attribute])*
+            impl<T: Dh + ?Sized> Dh for $pointer {
+                fn public(&self) -> [u8; 32] {
+                    (**self).public()
+                }
+
+                fn agree(&self, remote: &[u8; 32]) -> Result<[u8; 32], DhError> {
+                    (**self).agree(remote)
+                }
+            }
+        )*
+    };
+}
+
+by_what_it_leads_to! {
+    &T;
+    #[cfg(feature = "alloc")]
+    alloc::boxed::Box<T>;
+    #[cfg(feature = "alloc")]
+    alloc::rc::Rc<T>;
+    #[cfg(feature = "alloc")]
+    alloc::sync::Arc<T>;
+}
+
 /// A key pair that can be drawn: each handshake draws a new ephemeral one.
 pub trait Ephemeral: Dh + Sized {
     /// Draws a new key pair.

@@ -3,11 +3,11 @@ use core::fmt;
 
 /// Why a call did nothing.
 ///
-#[cfg_attr(feature = "openssl", doc = "```")]
-#[cfg_attr(not(feature = "openssl"), doc = "```ignore")]
-/// use yulimosar::{Builder, Error, KeyPair};
+#[cfg_attr(any(feature = "x25519", feature = "openssl"), doc = "```")]
+#[cfg_attr(not(any(feature = "x25519", feature = "openssl")), doc = "```ignore")]
+/// use yulimosar::{Builder, Error};
 ///
-/// let error = Builder::new("XX").initiator::<KeyPair>().err().unwrap();
+/// let error = Builder::new("XX").initiator().err().unwrap();
 /// assert_eq!(error, Error::StaticMissing);
 /// assert_eq!(error.to_string(), "the pattern needs a static key of this party: Builder::static_key");
 /// ```

@@ -1,5 +1,5 @@
 use crate::header::{OK, WANTED, WANTED_PSK};
-use crate::raw::{self, CallResult};
+use crate::raw::{self, CallResult, Held, Stage};
 use crate::{Datagrams, Dh, Ephemeral, Error, ReceiveCipherState, SendCipherState, Transport};
 use core::fmt;
 
@@ -7,15 +7,15 @@ use core::fmt;
 ///
 /// Calls through `&` only read: threads may make them at once, so a handshake is `Sync` where its key pairs are.
 ///
-#[cfg_attr(feature = "openssl", doc = "```")]
-#[cfg_attr(not(feature = "openssl"), doc = "```ignore")]
+#[cfg_attr(any(feature = "x25519", feature = "openssl"), doc = "```")]
+#[cfg_attr(not(any(feature = "x25519", feature = "openssl")), doc = "```ignore")]
 /// # fn main() -> Result<(), yulimosar::Error> {
 /// use yulimosar::{Builder, KeyPair};
 ///
 /// let server_key = KeyPair::generate()?;
 /// let public = *server_key.public_key();
-/// let mut client = Builder::new("NK").remote_static(&public).initiator::<KeyPair>()?;
-/// let mut server = Builder::new("NK").static_key(server_key).responder::<KeyPair>()?;
+/// let mut client = Builder::new("NK").remote_static(&public).initiator()?;
+/// let mut server = Builder::new("NK").static_key(server_key).responder()?;
 /// let mut message = [0; 100];
 /// let len = client.write(b"", &mut message)?;
 /// server.read(&mut message[..len])?; // a network comes between the two
@@ -27,7 +27,8 @@ use core::fmt;
 /// # Ok(()) }
 /// ```
 pub struct Handshake<S: Dh, E: Ephemeral> {
-    memory: raw::Handshake,
+    memory: Held<raw::Handshake>,
+    stage: Stage,
     static_key: Option<S>,
     ephemeral: E,
     options: Options,
@@ -44,8 +45,8 @@ pub(crate) struct Options {
 }
 
 impl<S: Dh, E: Ephemeral> Handshake<S, E> {
-    pub(crate) fn begun(memory: raw::Handshake, static_key: Option<S>, ephemeral: E, options: Options) -> Self {
-        Handshake { memory, static_key, ephemeral, options }
+    pub(crate) fn begun(memory: Held<raw::Handshake>, static_key: Option<S>, ephemeral: E, options: Options) -> Self {
+        Handshake { stage: memory.stage(), memory, static_key, ephemeral, options }
     }
 
     /// Writes the next message, with this payload, to the start of `out`, and returns its length. At an error, as `WantedPsk`, nothing is changed.
@@ -53,7 +54,10 @@ impl<S: Dh, E: Ephemeral> Handshake<S, E> {
         let mut result = CallResult::default();
         loop {
             match self.memory.write(payload, out, &mut result) {
-                OK => return Ok(result.len),
+                OK => {
+                    self.stage = self.memory.stage();
+                    return Ok(result.len);
+                }
                 WANTED => self.answer(&result)?,
                 WANTED_PSK => return Err(result.wanted_psk()),
                 code => return Err(Error::of(code, None)),
@@ -67,15 +71,22 @@ impl<S: Dh, E: Ephemeral> Handshake<S, E> {
         let mut result = CallResult::default();
         loop {
             match self.memory.read(message, &mut result) {
-                OK => return Ok(&mut message[result.from..result.from + result.len]),
+                OK => {
+                    self.stage = self.memory.stage();
+                    return Ok(&mut message[result.from..result.from + result.len]);
+                }
                 WANTED => self.answer(&result)?,
                 WANTED_PSK => return Err(result.wanted_psk()),
-                code => return Err(Error::of(code, Some(result.token))),
+                code => {
+                    self.stage = self.memory.stage();
+                    return Err(Error::of(code, Some(result.token)));
+                }
             }
         }
     }
 
     // Passes the X25519 result that the call needs. Zeros are refused (Noise, 12.1).
+    #[inline(never)] // what it leaves on the stack is overwritten once the handshake is finished
     fn answer(&mut self, result: &CallResult) -> Result<(), Error> {
         let mut dh_result = match &self.static_key {
             Some(key) if result.of_static != 0 => key.agree(&result.remote)?,
@@ -95,15 +106,15 @@ impl<S: Dh, E: Ephemeral> Handshake<S, E> {
     /// Passes the secret of the first psk token that has none: after `WantedPsk`, or before. `PskCount`: no token that is still to come lacks its
     /// secret. A secret that was passed can't be replaced: if it is wrong, the other party's message is refused with `Tag`.
     ///
-    #[cfg_attr(feature = "openssl", doc = "```")]
-    #[cfg_attr(not(feature = "openssl"), doc = "```ignore")]
+    #[cfg_attr(any(feature = "x25519", feature = "openssl"), doc = "```")]
+    #[cfg_attr(not(any(feature = "x25519", feature = "openssl")), doc = "```ignore")]
     /// # fn main() -> Result<(), yulimosar::Error> {
     /// use yulimosar::{Builder, Error, KeyPair};
     ///
     /// let (client_key, server_key) = (KeyPair::generate()?, KeyPair::generate()?);
     /// let psks = std::collections::HashMap::from([(*client_key.public_key(), [7; 32])]);
-    /// let mut client = Builder::new("XXpsk3").static_key(client_key).psk(&[7; 32]).initiator::<KeyPair>()?;
-    /// let mut server = Builder::new("XXpsk3").static_key(server_key).late_psks().responder::<KeyPair>()?;
+    /// let mut client = Builder::new("XXpsk3").static_key(client_key).psk(&[7; 32]).initiator()?;
+    /// let mut server = Builder::new("XXpsk3").static_key(server_key).late_psks().responder()?;
     /// let mut message = [0; 100];
     /// let len = client.write(b"", &mut message)?;
     /// server.read(&mut message[..len])?;
@@ -136,13 +147,12 @@ impl<S: Dh, E: Ephemeral> Handshake<S, E> {
 
     /// Whether the next message, if there is one, is this party's to write.
     pub fn writes_next(&self) -> bool {
-        self.memory.stage().writes_next != 0 && !self.is_done()
+        self.stage.writes_next != 0 && !self.is_done()
     }
 
     /// Whether all messages have passed.
     pub fn is_done(&self) -> bool {
-        let stage = self.memory.stage();
-        stage.ended == 0 && stage.passed == stage.messages
+        self.stage.ended == 0 && self.stage.passed == self.stage.messages
     }
 
     /// The handshake hash so far. After the last message it is the same at both parties (Noise, 11.2).
@@ -157,7 +167,10 @@ impl<S: Dh, E: Ephemeral> Handshake<S, E> {
 
     /// Makes the transport, after all messages have passed.
     pub fn finish(self) -> Result<Transport, Error> {
-        Transport::of(&self.memory, self.options.interval)
+        let (mut sender, mut receiver) = (raw::Sender::new(), raw::Receiver::new());
+        let code = self.memory.finish(self.options.interval, &mut sender, &mut receiver);
+        self.end(code)?;
+        Ok(Transport::of(sender, receiver))
     }
 
     // Whether the pattern has a static key of the other party.
@@ -173,10 +186,20 @@ impl<S: Dh, E: Ephemeral> Handshake<S, E> {
     }
 
     #[cfg(feature = "alloc")]
-    pub(crate) fn finish_stream(self) -> Result<(raw::StreamSender, raw::StreamReceiver), Error> {
+    #[allow(clippy::type_complexity)]
+    pub(crate) fn finish_stream(self) -> Result<(Held<raw::StreamSender>, Held<raw::StreamReceiver>), Error> {
         let (mut sender, mut receiver) = (raw::StreamSender::new(), raw::StreamReceiver::new());
-        match self.memory.finish_stream(self.options.interval, &mut sender, &mut receiver) {
-            OK => Ok((sender, receiver)),
+        let code = self.memory.finish_stream(self.options.interval, &mut sender, &mut receiver);
+        self.end(code)?;
+        Ok((sender, receiver))
+    }
+
+    // Overwrites what the handshake has, and what its calls have left on the stack.
+    fn end(self, code: u32) -> Result<(), Error> {
+        drop(self);
+        raw::wipe_stack();
+        match code {
+            OK => Ok(()),
             code => Err(Error::of(code, None)),
         }
     }
@@ -185,16 +208,18 @@ impl<S: Dh, E: Ephemeral> Handshake<S, E> {
     /// receives. The one for the responder's messages of a one-way pattern has no key: each call returns `OneWay` (Noise, 7.4).
     pub fn finish_ciphers(self) -> Result<(SendCipherState, ReceiveCipherState), Error> {
         let (mut send, mut receive) = (raw::Cipher::new(), raw::Cipher::new());
-        match self.memory.finish_ciphers(&mut send, &mut receive) {
-            OK => Ok((SendCipherState(send), ReceiveCipherState(receive))),
-            code => Err(Error::of(code, None)),
-        }
+        let code = self.memory.finish_ciphers(&mut send, &mut receive);
+        self.end(code)?;
+        Ok((SendCipherState(send), ReceiveCipherState(receive)))
     }
 
     /// Makes the state for datagrams, after all messages have passed. A datagram may arrive after others whose numbers are less than `window`
     /// greater: 64, 256 or 1024.
     pub fn finish_datagrams(self, window: u32) -> Result<Datagrams, Error> {
-        Datagrams::of(&self.memory, window)
+        let (mut sender, mut receiver) = (raw::DatagramSender::new(), raw::DatagramReceiver::new());
+        let code = self.memory.finish_datagrams(window, &mut sender, &mut receiver);
+        self.end(code)?;
+        Ok(Datagrams::of(sender, receiver))
     }
 }
 

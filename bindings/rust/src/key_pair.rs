@@ -1,12 +1,17 @@
-// X25519 by OpenSSL.
-use crate::raw::wipe;
 use crate::{Dh, DhError, Ephemeral, Error};
-use openssl::derive::Deriver;
-use openssl::error::ErrorStack;
-use openssl::pkey::{Id, PKey, Private};
-use std::fmt;
+use core::fmt;
+use secret::Secret;
+use zeroize::Zeroizing;
 
-/// A key pair of X25519, by OpenSSL.
+#[cfg(feature = "openssl")]
+#[path = "key_pair/by_openssl.rs"]
+mod secret;
+#[cfg(not(feature = "openssl"))]
+#[path = "key_pair/own.rs"]
+mod secret;
+
+/// A key pair of X25519, by this crate (feature `x25519`) or, with the feature `openssl`, by OpenSSL. A clone shares the secret key, and copies nothing
+/// of it.
 ///
 /// ```
 /// # fn main() -> Result<(), Box<dyn std::error::Error>> {
@@ -18,33 +23,26 @@ use std::fmt;
 /// assert_eq!(again.public_key(), one.public_key());
 /// # Ok(()) }
 /// ```
+#[derive(Clone)]
 pub struct KeyPair {
-    pair: PKey<Private>,
+    secret: Secret,
     public: [u8; 32],
 }
 
 impl KeyPair {
-    /// Draws a new key pair.
+    /// Draws a new key pair, from the random bytes of the system.
     pub fn generate() -> Result<KeyPair, Error> {
-        Ok(KeyPair::of(PKey::generate_x25519())?)
+        Ok(KeyPair::draw()?)
     }
 
     /// The key pair of this secret key.
     pub fn from_secret(secret: &[u8; 32]) -> Result<KeyPair, Error> {
-        Ok(KeyPair::of(PKey::private_key_from_raw_bytes(secret, Id::X25519))?)
+        Ok(KeyPair::of(Secret::of(secret)?)?)
     }
 
-    fn of(pair: Result<PKey<Private>, ErrorStack>) -> Result<KeyPair, DhError> {
-        let pair = pair.map_err(DhError::new)?;
-        let public = bytes(pair.raw_public_key())?;
-        Ok(KeyPair { pair, public })
-    }
-
-    fn derive(&self, remote: &[u8; 32], result: &mut [u8; 32]) -> Result<usize, ErrorStack> {
-        let remote = PKey::public_key_from_raw_bytes(remote, Id::X25519)?;
-        let mut deriver = Deriver::new(&self.pair)?;
-        deriver.set_peer(&remote)?;
-        deriver.derive(result)
+    fn of(secret: Secret) -> Result<KeyPair, DhError> {
+        let public = secret.public()?;
+        Ok(KeyPair { secret, public })
     }
 
     /// The public key.
@@ -52,18 +50,10 @@ impl KeyPair {
         &self.public
     }
 
-    /// The secret key: keep it from others.
-    pub fn secret_key(&self) -> Result<[u8; 32], Error> {
-        Ok(bytes(self.pair.raw_private_key())?)
+    /// The secret key: keep it from others. It is overwritten when it is dropped.
+    pub fn secret_key(&self) -> Result<Zeroizing<[u8; 32]>, Error> {
+        Ok(self.secret.bytes()?)
     }
-}
-
-// The key that OpenSSL returns; its own copy is overwritten.
-fn bytes(got: Result<Vec<u8>, ErrorStack>) -> Result<[u8; 32], DhError> {
-    let mut got = got.map_err(DhError::new)?;
-    let key = got[..].try_into().map_err(DhError::new);
-    wipe(&mut got);
-    key
 }
 
 impl Dh for KeyPair {
@@ -72,15 +62,13 @@ impl Dh for KeyPair {
     }
 
     fn agree(&self, remote: &[u8; 32]) -> Result<[u8; 32], DhError> {
-        let mut result = [0; 32];
-        self.derive(remote, &mut result).map_err(DhError::new)?;
-        Ok(result)
+        self.secret.agree(remote)
     }
 }
 
 impl Ephemeral for KeyPair {
     fn draw() -> Result<KeyPair, DhError> {
-        KeyPair::of(PKey::generate_x25519())
+        KeyPair::of(Secret::draw()?)
     }
 }
 

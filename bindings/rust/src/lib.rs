@@ -23,14 +23,14 @@
 //! let listener = TcpListener::bind("127.0.0.1:0")?;
 //! let address = listener.local_addr()?;
 //! let echo = std::thread::spawn(move || -> std::io::Result<()> {
-//!     let handshake = Builder::new("XX").prologue(b"chat 1").static_key(server).responder::<KeyPair>()?;
+//!     let handshake = Builder::new("XX").prologue(b"chat 1").static_key(server).responder()?;
 //!     let mut stream = Stream::new(listener.accept()?.0, handshake, |key| key == &client_key)?;
 //!     let mut said = [0; 5];
 //!     stream.read_exact(&mut said)?;
 //!     stream.write_all(&said)?;
 //!     stream.close_write()
 //! });
-//! let handshake = Builder::new("XX").prologue(b"chat 1").static_key(client).initiator::<KeyPair>()?;
+//! let handshake = Builder::new("XX").prologue(b"chat 1").static_key(client).initiator()?;
 //! let mut stream = Stream::new(TcpStream::connect(address)?, handshake, |key| key == &server_key)?;
 //! stream.write_all(b"hello")?;
 //! let mut answer = String::new();
@@ -42,6 +42,7 @@
 //! ```
 #![cfg_attr(not(feature = "std"), no_std)]
 #![deny(unsafe_op_in_unsafe_fn, missing_docs, missing_debug_implementations)]
+#![allow(clippy::duplicate_mod)] // the code of `AsyncStream` over tokio and over futures-io
 // Some link to what another feature adds.
 #![cfg_attr(not(feature = "tokio"), allow(rustdoc::broken_intra_doc_links))]
 
@@ -51,7 +52,7 @@ extern crate alloc;
 #[cfg(not(feature = "system"))]
 mod assembly;
 #[cfg(feature = "tokio")]
-mod async_stream;
+pub mod async_stream;
 mod builder;
 mod cipher_state;
 #[cfg(feature = "alloc")]
@@ -60,16 +61,23 @@ mod connection;
 mod deadline;
 mod dh;
 mod error;
+#[cfg(feature = "futures-io")]
+pub mod futures;
 mod handshake;
 #[allow(dead_code)]
 mod header;
-#[cfg(feature = "openssl")]
+#[cfg(any(feature = "x25519", feature = "openssl"))]
 mod key_pair;
 #[cfg_attr(not(feature = "alloc"), allow(dead_code))] // streams
 mod raw;
+#[cfg(all(test, feature = "std", any(feature = "x25519", feature = "openssl")))]
+mod stack;
 #[cfg(feature = "std")]
 mod stream;
 mod transport;
+#[cfg(feature = "x25519")]
+#[cfg_attr(feature = "openssl", allow(dead_code))]
+mod x25519;
 
 #[cfg(feature = "tokio")]
 pub use async_stream::{AsyncReadHalf, AsyncStream, AsyncWriteHalf};
@@ -82,7 +90,7 @@ pub use deadline::{Deadline, Timeouts};
 pub use dh::{Dh, DhError, Ephemeral, NoKey};
 pub use error::Error;
 pub use handshake::Handshake;
-#[cfg(feature = "openssl")]
+#[cfg(any(feature = "x25519", feature = "openssl"))]
 pub use key_pair::KeyPair;
 #[cfg(feature = "std")]
 pub use stream::{HandshakeError, MidHandshake, ReadHalf, Stream, WriteHalf};

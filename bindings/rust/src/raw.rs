@@ -61,6 +61,47 @@ const _: () = assert!(size_of::<Key>() == 33 && size_of::<Setup>() == 2 + 4 * 33
 #[cfg(target_pointer_width = "64")]
 const _: () = assert!(size_of::<CallResult>() == 56 && size_of::<StreamResult>() == 32);
 
+// Declares functions of the library. Those of the text in this crate have the version in their names: build.rs writes them so.
+macro_rules! calls {
+    ($(fn $name:ident($($argument:ident: $type:ty),* $(,)?) -> $answer:ty;)*) => {
+        extern "C" {
+            $(
+                #[cfg_attr(
+                    not(feature = "system"),
+                    link_name = concat!(
+                        "noise_c_",
+                        env!("CARGO_PKG_VERSION_MAJOR"),
+                        "_",
+                        env!("CARGO_PKG_VERSION_MINOR"),
+                        "_",
+                        env!("CARGO_PKG_VERSION_PATCH"),
+                        "_",
+                        stringify!($name)
+                    )
+                )]
+                fn $name($($argument: $type),*) -> $answer;
+            )*
+        }
+    };
+}
+
+#[cfg(feature = "system")]
+#[link(name = "noise_c")]
+extern "C" {}
+
+// An opaque struct where it stays while what has it is moved: a move would leave a copy.
+#[cfg(feature = "alloc")]
+pub(crate) type Held<T> = alloc::boxed::Box<T>;
+#[cfg(not(feature = "alloc"))]
+pub(crate) type Held<T> = T;
+
+fn held<T>(empty: T) -> Held<T> {
+    #[cfg(feature = "alloc")]
+    return alloc::boxed::Box::new(empty);
+    #[cfg(not(feature = "alloc"))]
+    return empty;
+}
+
 macro_rules! structs {
     ($($name:ident $size:ident $size_in_c:ident;)*) => {
         $(
@@ -71,8 +112,14 @@ macro_rules! structs {
 
             impl $name {
                 // Memory that holds nothing: each call on it returns STRUCT.
-                pub(crate) const fn new() -> $name {
-                    $name([0; $size])
+                pub(crate) fn new() -> Held<$name> {
+                    held($name([0; $size]))
+                }
+
+                #[cfg(test)]
+                #[allow(dead_code)]
+                pub(crate) fn memory(&self) -> &[u8] {
+                    &self.0
                 }
             }
 
@@ -83,7 +130,7 @@ macro_rules! structs {
             }
         )*
 
-        extern "C" {
+        calls! {
             $(fn $size_in_c() -> usize;)*
         }
 
@@ -105,8 +152,7 @@ structs! {
     Cipher SIZE_OF_CIPHER noise_cipher_size;
 }
 
-#[cfg_attr(feature = "system", link(name = "noise_c"))]
-extern "C" {
+calls! {
     fn noise_version() -> u32;
     fn noise_start(
         h: *mut Handshake,
@@ -241,11 +287,32 @@ impl Drop for Setup {
 
 // Overwrites bytes with zeros, in a way that the compiler keeps.
 pub(crate) fn wipe(bytes: &mut [u8]) {
-    for byte in bytes {
+    // SAFETY: any eight bytes are a number.
+    let (first, numbers, last) = unsafe { bytes.align_to_mut::<u64>() };
+    for byte in first.iter_mut().chain(last) {
         // SAFETY: a reference leads to a byte that may be written.
         unsafe { core::ptr::write_volatile(byte, 0) };
     }
+    for number in numbers {
+        // SAFETY: a reference leads to a number that may be written.
+        unsafe { core::ptr::write_volatile(number, 0) };
+    }
     compiler_fence(Ordering::SeqCst);
+}
+
+// Overwrites the stack below the caller, as deep as calls of the library and of X25519 reach.
+#[inline(never)]
+pub(crate) fn wipe_stack() {
+    wipe(&mut [0; STACK]);
+}
+
+const STACK: usize = 24 << 10;
+
+// The same number, of which the compiler knows nothing.
+#[cfg(feature = "x25519")]
+pub(crate) fn hidden(number: u64) -> u64 {
+    // SAFETY: a reference leads to a number that may be read.
+    unsafe { core::ptr::read_volatile(&number) }
 }
 
 static IS_LIBRARY: AtomicBool = AtomicBool::new(false);

@@ -8,7 +8,7 @@ pub use handshake::{HandshakeError, MidHandshake};
 use crate::connection::connecting::Peer;
 use crate::{Connection, Dh, Ephemeral, Error, Handshake};
 use std::fmt;
-use std::io::{self, ErrorKind, Read, Write};
+use std::io::{self, BufRead, ErrorKind, Read, Write};
 
 pub(crate) use reading::Reading;
 pub(crate) use writing::Writing;
@@ -22,11 +22,17 @@ pub(crate) use writing::Writing;
 /// the end of this party's stream; a `write` of the other half that runs at that time may still send its frame. Drop the
 /// channel then; what is dropped without `close_write` is cut.
 ///
+/// The last message of the handshake, if this party writes it, leaves with what is written first, or before the first `read` that may have to wait. A program
+/// that does neither, as one that waits in another way for bytes, calls `flush`; so does one that uses the stream below. On a `TcpStream` set
+/// `set_nodelay(true)`: else the system keeps the end of a stream back for up to 40 ms.
+///
 /// A stream below that doesn't block, or that has timeouts, may return `WouldBlock` or `TimedOut`. `read`, `flush` and
 /// `close_write` return the same then, and a later call continues. A `write` that takes bytes seals them, and what of
 /// their frame the stream below doesn't take waits: the next `write`, `flush` or `close_write` sends it first, and a
 /// `write` that can't do so takes nothing. So `flush` after the last `write`. Windows doesn't say how much of a write
 /// past its timeout was sent: drop the channel there.
+///
+/// Buffers of more than 4096 bytes are given back where `read` has to wait, and that for writing also by `flush`.
 pub struct Stream<T> {
     below: T,
     reading: Reading,
@@ -95,10 +101,11 @@ impl<T: Read + Write> Stream<T> {
     /// The other party hasn't shown yet that it has the secret key: so choose the secret, and do nothing else. 32 random
     /// bytes for a key that you don't know, in place of `None`, don't tell which keys you know.
     ///
-    #[cfg_attr(feature = "openssl", doc = "```")]
-    #[cfg_attr(not(feature = "openssl"), doc = "```ignore")]
+    #[cfg_attr(any(feature = "x25519", feature = "openssl"), doc = "```")]
+    #[cfg_attr(not(any(feature = "x25519", feature = "openssl")), doc = "```ignore")]
     /// # fn main() -> std::io::Result<()> {
     /// use std::collections::HashMap;
+    /// use std::io::Write;
     /// use std::os::unix::net::UnixStream;
     /// use yulimosar::{Builder, KeyPair, Stream};
     ///
@@ -107,11 +114,12 @@ impl<T: Read + Write> Stream<T> {
     /// let client_key = *client.public_key();
     /// let psks = HashMap::from([(client_key, [7; 32])]);
     /// let server = std::thread::spawn(move || {
-    ///     let handshake = Builder::new("XXpsk3").static_key(server).late_psks().responder::<KeyPair>()?;
+    ///     let handshake = Builder::new("XXpsk3").static_key(server).late_psks().responder()?;
     ///     Stream::with_psk_for(there, handshake, |key| psks.get(key).copied())
     /// });
-    /// let handshake = Builder::new("XXpsk3").static_key(client).psk(&[7; 32]).initiator::<KeyPair>()?;
-    /// let client = Stream::anonymous(here, handshake)?;
+    /// let handshake = Builder::new("XXpsk3").static_key(client).psk(&[7; 32]).initiator()?;
+    /// let mut client = Stream::anonymous(here, handshake)?;
+    /// client.flush()?; // the last message of the handshake
     /// let server = server.join().unwrap()?;
     /// assert_eq!(server.remote_static(), Some(&client_key));
     /// assert_eq!(client.hash(), server.hash());
@@ -148,38 +156,44 @@ impl<T> Stream<T> {
         let Stream { below, reading, writing, hash, remote_static } = self;
         Ok(Stream { below: map(below)?, reading, writing, hash, remote_static })
     }
-
-    /// Two halves, for two threads. `clone` makes the second handle of the stream below: `stream.split(TcpStream::try_clone)`.
-    ///
-    #[cfg_attr(feature = "openssl", doc = "```")]
-    #[cfg_attr(not(feature = "openssl"), doc = "```ignore")]
-    /// # fn main() -> std::io::Result<()> {
-    /// use std::io::{Read, Write};
-    /// use std::os::unix::net::UnixStream;
-    /// use yulimosar::{Builder, KeyPair, Stream};
-    ///
-    /// let (here, there) = UnixStream::pair()?;
-    /// let server = std::thread::spawn(move || Stream::anonymous(there, Builder::new("NN").responder::<KeyPair>()?));
-    /// let client = Stream::anonymous(here, Builder::new("NN").initiator::<KeyPair>()?)?;
-    /// let mut server = server.join().unwrap()?;
-    ///
-    /// let (_reads, mut writes) = client.split(UnixStream::try_clone)?;
-    /// writes.write_all(b"hello")?;
-    /// writes.close_write()?;
-    /// let mut text = String::new();
-    /// server.read_to_string(&mut text)?;
-    /// assert_eq!(text, "hello");
-    /// # Ok(()) }
-    /// ```
-    pub fn split(self, clone: impl FnOnce(&T) -> io::Result<T>) -> io::Result<(ReadHalf<T>, WriteHalf<T>)> {
-        let second = clone(&self.below)?;
-        Ok((ReadHalf { below: self.below, reading: self.reading }, WriteHalf { below: second, writing: self.writing }))
-    }
 }
 
 impl<T: Write> Stream<T> {
+    /// Two halves, for two threads. `clone` makes the second handle of the stream below: `stream.split(TcpStream::try_clone)`. It sends the last message of
+    /// the handshake if that wasn't sent; where it would block the half that writes sends it at `flush`.
+    ///
+    #[cfg_attr(any(feature = "x25519", feature = "openssl"), doc = "```")]
+    #[cfg_attr(not(any(feature = "x25519", feature = "openssl")), doc = "```ignore")]
+    /// # fn main() -> std::io::Result<()> {
+    /// use std::io::{Read, Write};
+    /// use std::os::unix::net::UnixStream;
+    /// use yulimosar::{Builder, Stream};
+    ///
+    /// let (here, there) = UnixStream::pair()?;
+    /// let server = std::thread::spawn(move || -> std::io::Result<String> {
+    ///     let mut text = String::new();
+    ///     Stream::anonymous(there, Builder::new("NN").responder()?)?.read_to_string(&mut text)?;
+    ///     Ok(text)
+    /// });
+    /// let client = Stream::anonymous(here, Builder::new("NN").initiator()?)?;
+    /// let (_reads, mut writes) = client.split(UnixStream::try_clone)?;
+    /// writes.write_all(b"hello")?;
+    /// writes.close_write()?;
+    /// assert_eq!(server.join().unwrap()?, "hello");
+    /// # Ok(()) }
+    /// ```
+    pub fn split(mut self, clone: impl FnOnce(&T) -> io::Result<T>) -> io::Result<(ReadHalf<T>, WriteHalf<T>)> {
+        match self.writing.before_a_wait(&mut self.below, false) {
+            Err(error) if !is_wait(&error) => return Err(error),
+            _ => {}
+        }
+        let second = clone(&self.below)?;
+        Ok((ReadHalf { below: self.below, reading: self.reading }, WriteHalf { below: second, writing: self.writing }))
+    }
+
     /// Sends the end of this party's stream: `read` at the other party returns 0. What that party writes can still be
-    /// read. After `WouldBlock` or `TimedOut` a later call continues.
+    /// read, and should be, up to its end: a `TcpStream` that is dropped with bytes that were not read resets the connection, and what the other party
+    /// hasn't read is lost. After `WouldBlock` or `TimedOut` a later call continues.
     pub fn close_write(&mut self) -> io::Result<()> {
         self.writing.end(&mut self.below)
     }
@@ -192,9 +206,40 @@ impl<T: Write> WriteHalf<T> {
     }
 }
 
-impl<T: Read> Read for Stream<T> {
+impl<T: Read + Write> Stream<T> {
+    fn before_a_read(&mut self) -> io::Result<()> {
+        if self.reading.has_opened() {
+            return Ok(());
+        }
+        self.writing.before_a_wait(&mut self.below, self.reading.is_idle())
+    }
+}
+
+impl<T: Read + Write> Read for Stream<T> {
     fn read(&mut self, into: &mut [u8]) -> io::Result<usize> {
+        self.before_a_read()?;
         self.reading.read(&mut self.below, into)
+    }
+}
+
+impl<T: Read + Write> BufRead for Stream<T> {
+    fn fill_buf(&mut self) -> io::Result<&[u8]> {
+        self.before_a_read()?;
+        self.reading.fill(&mut self.below)
+    }
+
+    fn consume(&mut self, count: usize) {
+        self.reading.consume(count);
+    }
+}
+
+impl<T: Read> BufRead for ReadHalf<T> {
+    fn fill_buf(&mut self) -> io::Result<&[u8]> {
+        self.reading.fill(&mut self.below)
+    }
+
+    fn consume(&mut self, count: usize) {
+        self.reading.consume(count);
     }
 }
 
@@ -236,11 +281,19 @@ macro_rules! over {
             pub fn get_mut(&mut self) -> &mut T {
                 &mut self.below
             }
+        }
 
-            /// The stream below, without the channel: of what comes over it nothing is taken but the frames that were
-            /// read. A part of a frame that has come, or that waits to be sent, is lost.
-            pub fn into_inner(self) -> T {
-                self.below
+        #[cfg(unix)]
+        impl<T: std::os::unix::io::AsFd> std::os::unix::io::AsFd for $stream<T> {
+            fn as_fd(&self) -> std::os::unix::io::BorrowedFd<'_> {
+                self.get_ref().as_fd()
+            }
+        }
+
+        #[cfg(windows)]
+        impl<T: std::os::windows::io::AsSocket> std::os::windows::io::AsSocket for $stream<T> {
+            fn as_socket(&self) -> std::os::windows::io::BorrowedSocket<'_> {
+                self.get_ref().as_socket()
             }
         }
 
@@ -252,8 +305,47 @@ macro_rules! over {
     };
 }
 
-pub(crate) use over;
+// What comes back of the stream below, of a type that reads.
+macro_rules! hands_out {
+    ($stream:ident) => {
+        impl<T> $stream<T> {
+            /// The stream below, without the channel, and the bytes that came over it after the last frame that was read, as what another protocol
+            /// has sent after the end. What waits to be sent is lost: call `flush` before.
+            pub fn into_inner(self) -> (T, Vec<u8>) {
+                let rest = self.reading.rest();
+                (self.below, rest)
+            }
+        }
+    };
+}
+
+pub(crate) use {hands_out, over};
 
 over!(Stream);
 over!(ReadHalf);
 over!(WriteHalf);
+hands_out!(Stream);
+hands_out!(ReadHalf);
+
+impl<T> WriteHalf<T> {
+    /// The stream below, without the channel. What waits to be sent is lost: call `flush` before.
+    pub fn into_inner(self) -> T {
+        self.below
+    }
+}
+
+#[cfg(test)]
+impl<T> ReadHalf<T> {
+    #[allow(dead_code)]
+    pub(crate) fn memory(&self) -> &[u8] {
+        self.reading.memory()
+    }
+}
+
+#[cfg(test)]
+impl<T> WriteHalf<T> {
+    #[allow(dead_code)]
+    pub(crate) fn memory(&self) -> &[u8] {
+        self.writing.memory()
+    }
+}

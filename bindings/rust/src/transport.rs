@@ -1,23 +1,23 @@
 use crate::header::OK;
-use crate::raw::{self, CallResult};
+use crate::raw::{self, CallResult, Held};
 use crate::Error;
 use core::fmt;
 
 /// Seals transport messages. They have to arrive in the order in which they were sealed.
-pub struct Sender(raw::Sender);
+pub struct Sender(Held<raw::Sender>);
 
 /// Opens transport messages, in their order.
-pub struct Receiver(raw::Receiver);
+pub struct Receiver(Held<raw::Receiver>);
 
 /// Both directions of a transport, over a stream, which loses no message and keeps their order.
 ///
-#[cfg_attr(feature = "openssl", doc = "```")]
-#[cfg_attr(not(feature = "openssl"), doc = "```ignore")]
+#[cfg_attr(any(feature = "x25519", feature = "openssl"), doc = "```")]
+#[cfg_attr(not(any(feature = "x25519", feature = "openssl")), doc = "```ignore")]
 /// # fn main() -> Result<(), yulimosar::Error> {
-/// use yulimosar::{Builder, KeyPair, TAG_LEN};
+/// use yulimosar::{Builder, TAG_LEN};
 ///
-/// let mut client = Builder::new("NN").initiator::<KeyPair>()?;
-/// let mut server = Builder::new("NN").responder::<KeyPair>()?;
+/// let mut client = Builder::new("NN").initiator()?;
+/// let mut server = Builder::new("NN").responder()?;
 /// let mut message = [0; 100];
 /// let len = client.write(b"", &mut message)?;
 /// server.read(&mut message[..len])?;
@@ -38,20 +38,20 @@ pub struct Transport {
 }
 
 /// Seals datagrams.
-pub struct DatagramSender(raw::DatagramSender);
+pub struct DatagramSender(Held<raw::DatagramSender>);
 
 /// Opens datagrams, in any order, each once.
-pub struct DatagramReceiver(raw::DatagramReceiver);
+pub struct DatagramReceiver(Held<raw::DatagramReceiver>);
 
 /// Both directions of a channel over a network that loses, repeats and reorders datagrams.
 ///
-#[cfg_attr(feature = "openssl", doc = "```")]
-#[cfg_attr(not(feature = "openssl"), doc = "```ignore")]
+#[cfg_attr(any(feature = "x25519", feature = "openssl"), doc = "```")]
+#[cfg_attr(not(any(feature = "x25519", feature = "openssl")), doc = "```ignore")]
 /// # fn main() -> Result<(), yulimosar::Error> {
-/// use yulimosar::{Builder, Error, KeyPair, DATAGRAM_OVERHEAD};
+/// use yulimosar::{Builder, Error, DATAGRAM_OVERHEAD};
 ///
-/// let mut client = Builder::new("NN").initiator::<KeyPair>()?;
-/// let mut server = Builder::new("NN").responder::<KeyPair>()?;
+/// let mut client = Builder::new("NN").initiator()?;
+/// let mut server = Builder::new("NN").responder()?;
 /// let mut message = [0; 100];
 /// let len = client.write(b"", &mut message)?;
 /// server.read(&mut message[..len])?;
@@ -121,12 +121,8 @@ impl Receiver {
 }
 
 impl Transport {
-    pub(crate) fn of(handshake: &raw::Handshake, interval: u64) -> Result<Transport, Error> {
-        let (mut sender, mut receiver) = (Sender(raw::Sender::new()), Receiver(raw::Receiver::new()));
-        match handshake.finish(interval, &mut sender.0, &mut receiver.0) {
-            OK => Ok(Transport { sender, receiver }),
-            code => Err(Error::of(code, None)),
-        }
+    pub(crate) fn of(sender: Held<raw::Sender>, receiver: Held<raw::Receiver>) -> Transport {
+        Transport { sender: Sender(sender), receiver: Receiver(receiver) }
     }
 
     /// Seals a payload as [`Sender::seal`] does.
@@ -179,13 +175,8 @@ impl DatagramReceiver {
 }
 
 impl Datagrams {
-    pub(crate) fn of(handshake: &raw::Handshake, window: u32) -> Result<Datagrams, Error> {
-        let mut sender = DatagramSender(raw::DatagramSender::new());
-        let mut receiver = DatagramReceiver(raw::DatagramReceiver::new());
-        match handshake.finish_datagrams(window, &mut sender.0, &mut receiver.0) {
-            OK => Ok(Datagrams { sender, receiver }),
-            code => Err(Error::of(code, None)),
-        }
+    pub(crate) fn of(sender: Held<raw::DatagramSender>, receiver: Held<raw::DatagramReceiver>) -> Datagrams {
+        Datagrams { sender: DatagramSender(sender), receiver: DatagramReceiver(receiver) }
     }
 
     /// Seals a payload as [`DatagramSender::seal`] does.
@@ -227,5 +218,19 @@ impl fmt::Debug for DatagramSender {
 impl fmt::Debug for DatagramReceiver {
     fn fmt(&self, f: &mut fmt::Formatter<'_>) -> fmt::Result {
         f.debug_struct("DatagramReceiver").finish_non_exhaustive()
+    }
+}
+
+#[cfg(test)]
+impl Sender {
+    pub(crate) fn memory(&self) -> &[u8] {
+        self.0.memory()
+    }
+}
+
+#[cfg(test)]
+impl Receiver {
+    pub(crate) fn memory(&self) -> &[u8] {
+        self.0.memory()
     }
 }

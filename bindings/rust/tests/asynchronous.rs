@@ -1,8 +1,10 @@
 // `AsyncStream` over TCP: halves in tasks, peers that are silent or don't read, futures that are dropped, keys and secrets that are waited for.
 #![cfg(feature = "tokio")]
 use std::io::{self, ErrorKind};
+use std::pin::Pin;
+use std::task::{Context, Poll};
 use std::time::Duration;
-use tokio::io::{AsyncReadExt, AsyncWriteExt};
+use tokio::io::{AsyncBufReadExt, AsyncRead, AsyncReadExt, AsyncWrite, AsyncWriteExt, ReadBuf};
 use tokio::net::{TcpListener, TcpStream};
 use tokio::time::{sleep, timeout};
 use toy::{begun, builder, Toy};
@@ -21,7 +23,8 @@ type Pair = (AsyncStream<TcpStream>, AsyncStream<TcpStream>);
 async fn streams(pattern: &str) -> Pair {
     let ((a, b), (client, server)) = (tcp().await, begun(pattern));
     let server = tokio::spawn(AsyncStream::new(b, server, |key| async move { key == [3; 32] }));
-    let client = AsyncStream::new(a, client, |key| async move { key == [5; 32] }).await.unwrap();
+    let mut client = AsyncStream::new(a, client, |key| async move { key == [5; 32] }).await.unwrap();
+    client.flush().await.unwrap(); // the last message of the handshake
     (client, server.await.unwrap().unwrap())
 }
 
@@ -37,7 +40,7 @@ async fn halves_carry_all_both_ways_at_once() {
     assert_eq!((client.remote_static(), server.remote_static()), (Some(&[5; 32]), Some(&[3; 32])));
     let mut tasks = Vec::new();
     for stream in [client, server] {
-        let (mut reads, mut writes) = stream.split(TcpStream::into_split);
+        let (mut reads, mut writes) = stream.split(TcpStream::into_split).await.unwrap();
         let bytes = sent.clone();
         let writer = tokio::spawn(async move {
             writes.write_all(&bytes).await?;
@@ -73,7 +76,8 @@ async fn ends_cuts_and_refusals() {
     // A connection that closes without an end is a cut; damage is refused; after both nothing is sent.
     for (bytes, kind) in [(&[][..], ErrorKind::UnexpectedEof), (&[0, 2, 1, 1], ErrorKind::InvalidData)] {
         let (client, mut server) = streams("XX").await;
-        let mut below = client.into_inner();
+        let (mut below, rest) = client.into_inner();
+        assert!(rest.is_empty());
         below.write_all(bytes).await.unwrap();
         below.shutdown().await.unwrap();
         for _ in 0..2 {
@@ -140,14 +144,15 @@ async fn keys_and_secrets_are_waited_for() {
     for (key, secret) in [(Toy(11), Some([7; 32])), (Toy(13), None)] {
         let (a, b) = tcp().await;
         let server =
-            Builder::new("XXpsk3").prologue(b"test").static_key(Toy(5)).late_psks().responder::<Toy>().unwrap();
+            Builder::new("XXpsk3").prologue(b"test").static_key(Toy(5)).late_psks().responder_with::<Toy>().unwrap();
         let server = tokio::spawn(AsyncStream::with_psk_for(b, server, move |peer| async move {
             sleep(Duration::from_millis(5)).await;
             assert_eq!(peer, key.public());
             secret
         }));
-        let client = builder("XXpsk3", key, Toy(5), true).initiator::<Toy>().unwrap();
-        let _client = AsyncStream::anonymous(a, client).await.unwrap();
+        let client = builder("XXpsk3", key, Toy(5), true).initiator_with::<Toy>().unwrap();
+        let mut client = AsyncStream::anonymous(a, client).await.unwrap();
+        client.flush().await.unwrap();
         assert_eq!(server.await.unwrap().is_ok(), secret.is_some());
     }
 }
@@ -167,6 +172,65 @@ async fn the_stream_below_comes_back() {
     must_be_sent(&client);
     client.get_ref().set_nodelay(true).unwrap();
     assert!(client.get_mut().nodelay().unwrap());
-    let text = format!("{client:?} {:?}", server.split(TcpStream::into_split));
+    let text = format!("{client:?} {:?}", server.split(TcpStream::into_split).await.unwrap());
     assert!(text.starts_with("AsyncStream { below: ") && text.len() < 1000, "{text}");
+}
+
+// A stream below that says `WouldBlock` in place of pending wakes nobody: that is an error, and not a wait for ever.
+struct NeverReady;
+
+impl AsyncRead for NeverReady {
+    fn poll_read(self: Pin<&mut Self>, _: &mut Context<'_>, _: &mut ReadBuf<'_>) -> Poll<io::Result<()>> {
+        Poll::Ready(Err(ErrorKind::WouldBlock.into()))
+    }
+}
+
+impl AsyncWrite for NeverReady {
+    fn poll_write(self: Pin<&mut Self>, _: &mut Context<'_>, bytes: &[u8]) -> Poll<io::Result<usize>> {
+        Poll::Ready(Ok(bytes.len()))
+    }
+
+    fn poll_flush(self: Pin<&mut Self>, _: &mut Context<'_>) -> Poll<io::Result<()>> {
+        Poll::Ready(Ok(()))
+    }
+
+    fn poll_shutdown(self: Pin<&mut Self>, _: &mut Context<'_>) -> Poll<io::Result<()>> {
+        Poll::Ready(Ok(()))
+    }
+}
+
+#[tokio::test]
+async fn a_stream_below_that_says_would_block_is_not_waited_for() {
+    let opening = AsyncStream::new(NeverReady, begun("XX").0, |_| async { true });
+    let opened = timeout(Duration::from_secs(5), opening).await.expect("it doesn't hang");
+    assert_eq!(opened.err().unwrap().kind(), ErrorKind::WouldBlock);
+    let mut client = AsyncStream::anonymous(NeverReady, begun("N").0).await.unwrap();
+    client.write_all(b"hello").await.unwrap();
+}
+
+#[tokio::test]
+async fn the_last_message_leaves_with_a_read_and_a_split() {
+    for splits in [false, true] {
+        let ((a, b), (client, server)) = (tcp().await, begun("XX"));
+        let server = tokio::spawn(AsyncStream::new(b, server, |_| async { true }));
+        let mut client = AsyncStream::new(a, client, |_| async { true }).await.unwrap();
+        if splits {
+            let _halves = client.split(TcpStream::into_split).await.unwrap();
+            server.await.unwrap().unwrap();
+        } else {
+            assert!(timeout(Duration::from_millis(50), client.read(&mut [0])).await.is_err());
+            server.await.unwrap().unwrap();
+        }
+    }
+}
+
+#[tokio::test]
+async fn lines_are_read() {
+    let (mut client, server) = streams("XX").await;
+    client.write_all(b"one\ntwo").await.unwrap();
+    client.shutdown().await.unwrap();
+    let mut lines = server.lines();
+    assert_eq!(lines.next_line().await.unwrap().as_deref(), Some("one"));
+    assert_eq!(lines.next_line().await.unwrap().as_deref(), Some("two"));
+    assert_eq!(lines.next_line().await.unwrap(), None);
 }

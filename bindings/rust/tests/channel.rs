@@ -44,12 +44,12 @@ fn every_pattern_makes_a_transport() {
 
 #[test]
 fn builds_are_refused() {
-    let fault = |builder: Builder<Toy>| builder.initiator::<Toy>().err().unwrap();
+    let fault = |builder: Builder<Toy>| builder.initiator_with::<Toy>().err().unwrap();
     let own = || Builder::new("XX").static_key(Toy(3));
     assert_eq!(fault(Builder::new("ZZ").static_key(Toy(3))), Error::Name);
     assert_eq!(fault(Builder::new(&"X".repeat(1000)).static_key(Toy(3))), Error::Name);
     assert_eq!(fault(Builder::new("NN:\n  -> ee\n").static_key(Toy(3))), Error::Pattern);
-    assert_eq!(Builder::<NoKey>::new("XX").initiator::<Toy>().err(), Some(Error::StaticMissing));
+    assert_eq!(Builder::<NoKey>::new("XX").initiator_with::<Toy>().err(), Some(Error::StaticMissing));
     assert_eq!(fault(Builder::new("NK").static_key(Toy(3))), Error::RemoteMissing);
     assert_eq!(fault(own().remote_static(&[1; 32])), Error::RemoteUnexpected);
     assert_eq!(fault(own().psk(&PSK)), Error::PskCount);
@@ -180,10 +180,10 @@ fn a_pattern_without_a_key_to_judge_is_refused_at_once() {
         }
     }
     let own = "XX1:\n  -> e\n  <- e, ee, s, es\n  -> s, se\n";
-    let party = Builder::new(own).static_key(Toy(3)).initiator::<Toy>().unwrap();
+    let party = Builder::new(own).static_key(Toy(3)).initiator_with::<Toy>().unwrap();
     assert_eq!(inner(Stream::new(Script(&[]), party, |_| true)), Error::Cut);
     let own = "NX1:\n  -> e\n  <- e, ee, s, es\n";
-    let party = Builder::new(own).static_key(Toy(3)).responder::<Toy>().unwrap();
+    let party = Builder::new(own).static_key(Toy(3)).responder_with::<Toy>().unwrap();
     assert_eq!(inner(Stream::new(Closed, party, |_| true)), Error::Refused);
 }
 
@@ -209,7 +209,9 @@ impl Write for Closed {
 #[test]
 fn the_silent_direction_of_a_one_way_pattern() {
     let ((a, b), (client, server)) = (tcp(), begun("X"));
-    let (mut client, mut server) = (Stream::anonymous(a, client).unwrap(), Stream::anonymous(b, server).unwrap());
+    let mut client = Stream::anonymous(a, client).unwrap();
+    client.flush().unwrap(); // the one message of the handshake
+    let mut server = Stream::anonymous(b, server).unwrap();
     let one_way = |result: io::Result<usize>| assert_eq!(result.unwrap_err().kind(), ErrorKind::Unsupported);
     one_way(client.read(&mut [0]));
     one_way(server.write(b"x"));
@@ -302,7 +304,7 @@ fn client_and_late_server(pattern: &str, key: Toy, secret: &[u8; 32]) -> (Party,
     if pattern.starts_with("IK") {
         client = client.remote_static(&[5; 32]);
     }
-    (client.initiator().unwrap(), Builder::new(pattern).static_key(Toy(5)).late_psks().responder().unwrap())
+    (client.initiator_with().unwrap(), Builder::new(pattern).static_key(Toy(5)).late_psks().responder_with().unwrap())
 }
 
 #[test]
@@ -311,8 +313,16 @@ fn each_peer_has_its_secret() {
     for (pattern, reads, token) in [("XXpsk3", true, 3), ("IKpsk2", false, 4), ("IKpsk1", true, 5)] {
         let run = |key, secret| {
             let ((a, b), (client, server)) = (tcp(), client_and_late_server(pattern, key, &secret));
-            let server = std::thread::spawn(move || Stream::with_psk_for(b, server, choose));
-            (Stream::new(a, client, |key| key == &[5; 32]), server.join().unwrap())
+            let server = std::thread::spawn(move || {
+                let mut server = Stream::with_psk_for(b, server, choose)?;
+                server.flush()?;
+                Ok(server)
+            });
+            let mut client = Stream::new(a, client, |key| key == &[5; 32]);
+            if let Ok(client) = &mut client {
+                client.flush().unwrap(); // the last message of the handshake
+            }
+            (client, server.join().unwrap())
         };
         for (key, secret) in [(Toy(11), [1; 32]), (Toy(13), [2; 32])] {
             let (client, server) = run(key, secret);
@@ -348,7 +358,7 @@ fn a_wanted_secret_changes_nothing() {
     assert_eq!(server.set_psk(&[1; 32]), Err(Error::PskCount));
     assert_eq!(server.read(&mut message[..len]).unwrap(), b"payload");
     assert_eq!(client.hash(), server.hash());
-    let mut first = Builder::new("NNpsk0").late_psks().initiator::<Toy>().unwrap();
+    let mut first = Builder::new("NNpsk0").late_psks().initiator_with::<Toy>().unwrap();
     assert_eq!(first.write(b"", &mut message), Err(Error::WantedPsk { remote_static: None }));
 }
 
@@ -358,9 +368,9 @@ fn a_stream_has_all_secrets_or_asks_for_them() {
     assert_eq!(inner(Stream::new(Script(&[]), begun().1, |_| true)), Error::PskCount);
     assert_eq!(inner(Stream::anonymous(Script(&[]), begun().1)), Error::PskCount);
     assert_eq!(inner(Stream::with_psk_for(Script(&[]), begun().0, choose)), Error::PskCount);
-    let early = Builder::new("NNpsk0").late_psks().initiator::<Toy>().unwrap();
+    let early = Builder::new("NNpsk0").late_psks().initiator_with::<Toy>().unwrap();
     assert_eq!(inner(Stream::with_psk_for(Script(&[]), early, choose)), Error::WantedPsk { remote_static: None });
-    let nobody = Builder::new("NNpsk2").late_psks().initiator::<Toy>().unwrap();
+    let nobody = Builder::new("NNpsk2").late_psks().initiator_with::<Toy>().unwrap();
     assert_eq!(inner(Stream::with_psk_for(Closed, nobody, choose)), Error::WantedPsk { remote_static: None });
 }
 

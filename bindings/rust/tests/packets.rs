@@ -104,7 +104,7 @@ fn messages_are_sealed_in_place() {
 // X25519 with the key of twos fails in a `Toy`, and with the key of zeros gives zeros.
 #[test]
 fn a_failed_agreement_keeps_its_cause() {
-    let mut server = toy::builder("NN", Toy(5), Toy(3), false).responder::<Toy>().unwrap();
+    let mut server = toy::builder("NN", Toy(5), Toy(3), false).responder_with::<Toy>().unwrap();
     server.read(&mut [2; 32]).unwrap();
     let error = server.write(b"", &mut [0; 100]).unwrap_err();
     assert_eq!(error, Error::KeyPair(DhError::new("the device is gone")));
@@ -117,7 +117,7 @@ fn a_failed_agreement_keeps_its_cause() {
     let inner = error.source().unwrap().downcast_ref::<io::Error>().unwrap();
     assert_eq!(inner.kind(), io::ErrorKind::NotConnected);
 
-    let mut server = toy::builder("NN", Toy(5), Toy(3), false).responder::<Toy>().unwrap();
+    let mut server = toy::builder("NN", Toy(5), Toy(3), false).responder_with::<Toy>().unwrap();
     server.read(&mut [0; 32]).unwrap();
     assert_eq!(server.write(b"", &mut [0; 100]), Err(Error::Zeros));
 }
@@ -194,9 +194,9 @@ fn unauthenticated_set_ups_are_refused_before_a_byte() {
     assert_eq!(Connecting::new(begun("NN").0).err(), Some(Error::Refused));
     assert_eq!(Connecting::new(begun("NNpsk0").0).err(), Some(Error::Refused));
     assert_eq!(Connecting::with_late_psks(begun("XX").0).err(), Some(Error::PskCount));
-    let late = Builder::new("NNpsk2").late_psks().initiator::<Toy>().unwrap();
+    let late = Builder::new("NNpsk2").late_psks().initiator_with::<Toy>().unwrap();
     assert_eq!(Connecting::with_late_psks(late).err(), Some(Error::WantedPsk { remote_static: None }));
-    let late = Builder::new("NNpsk2").late_psks().initiator::<Toy>().unwrap();
+    let late = Builder::new("NNpsk2").late_psks().initiator_with::<Toy>().unwrap();
     assert_eq!(Connecting::anonymous(late).err(), Some(Error::PskCount));
     assert!(Stream::new(io::Cursor::new(Vec::new()), begun("NN").0, |_| true).is_err());
 }

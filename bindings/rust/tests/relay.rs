@@ -1,5 +1,5 @@
 // Two ends of one session with a relay between them that flips, cuts, repeats or drops at each byte, whatever the order
-// in which they end their streams: over `Stream`, over `AsyncStream`, and over `Connection` alone. None of them blocks, and
+// in which they end their streams: over `Stream`, over both `AsyncStream`, and over `Connection` alone. None of them blocks, and
 // bytes come and go in small pieces. What each side reports is compared with the law: what was read is the first of what was
 // written; an end is reported only if the writer has ended and all of it came, and else a refused message or a cut; and after
 // that nothing more is sent.
@@ -43,7 +43,7 @@ impl<C: Channel> End<C> {
         let below = Below { to: to.clone(), from, moves: moves.clone(), calls: 0 };
         let (own, other) = [(Toy(3), Toy(5)), (Toy(5), Toy(3))][role];
         let builder = builder("XX", own, other, role == 0).interval(2);
-        let handshake = if role == 0 { builder.initiator() } else { builder.responder() }.unwrap();
+        let handshake = if role == 0 { builder.initiator_with() } else { builder.responder_with() }.unwrap();
         let begun = C::begin(below, handshake);
         let mut end = End {
             role,
@@ -199,4 +199,10 @@ fn each_side_of_a_connection_reports_what_is_true() {
 #[cfg(feature = "tokio")]
 fn each_side_of_an_async_stream_reports_what_is_true() {
     each_side_reports_what_is_true::<yulimosar::AsyncStream<Below>>();
+}
+
+#[test]
+#[cfg(feature = "futures-io")]
+fn each_side_of_a_stream_over_futures_reports_what_is_true() {
+    each_side_reports_what_is_true::<yulimosar::futures::AsyncStream<Below>>();
 }

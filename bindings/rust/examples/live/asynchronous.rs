@@ -14,11 +14,12 @@ pub async fn run(run: Run) -> io::Result<Report> {
         println!("{}", listener.local_addr()?);
         listener.accept().await?.0
     };
+    below.set_nodelay(true)?;
     let stream = match run.peer() {
         Some(peer) => AsyncStream::new(below, run.handshake()?, |key| async move { key == peer }).await?,
         None => AsyncStream::anonymous(below, run.handshake()?).await?,
     };
-    let (reads, mut writes) = stream.split(TcpStream::into_split);
+    let (reads, mut writes) = stream.split(TcpStream::into_split).await?;
     let (says, hears) = oneshot::channel();
     let (bytes, first) = (bytes_of(run.is_initiator, run.size), run.ends_first);
     let writer = tokio::spawn(async move {

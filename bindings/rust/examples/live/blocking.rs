@@ -13,6 +13,7 @@ pub fn run(run: Run) -> io::Result<Report> {
         println!("{}", listener.local_addr()?);
         listener.accept()?.0
     };
+    below.set_nodelay(true)?;
     let stream = match run.peer() {
         Some(peer) => Stream::new(below, run.handshake()?, |key| key == &peer)?,
         None => Stream::anonymous(below, run.handshake()?)?,

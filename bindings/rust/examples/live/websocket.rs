@@ -22,6 +22,7 @@ pub struct WebSocket {
 impl WebSocket {
     // The end that asks for it.
     pub fn client(mut below: TcpStream) -> io::Result<WebSocket> {
+        below.set_nodelay(true)?;
         let mut bytes = [0; 16];
         rand_bytes(&mut bytes)?;
         let key = encode_block(&bytes);
@@ -36,6 +37,7 @@ impl WebSocket {
 
     // The end that is asked.
     pub fn server(mut below: TcpStream) -> io::Result<WebSocket> {
+        below.set_nodelay(true)?;
         let head = head(&mut below)?;
         let key = accepted(field(&head, "sec-websocket-key").ok_or_else(wrong)?);
         let answer = "HTTP/1.1 101 Switching Protocols\r\nUpgrade: websocket\r\nConnection: Upgrade";

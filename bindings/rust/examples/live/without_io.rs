@@ -114,6 +114,7 @@ fn read(mut receiver: StreamReceiver, socket: &mut WebSocket, expected: &[u8]) -
             },
             Event::Receive(_) => drop(came.drain(..receiver.receive(&came))),
             Event::End => return Ok(true),
+            other => panic!("{other:?}"),
         }
         Ok(false)
     };

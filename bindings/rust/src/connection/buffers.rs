@@ -4,40 +4,48 @@ use alloc::vec;
 use alloc::vec::Vec;
 use core::ops::Range;
 
-const FIRST_ROOM: usize = 1024;
+// The bytes of a buffer that is kept while nothing comes and nothing is to be sent.
+const KEPT: usize = 4096;
 
-// Bytes that came, and aren't used yet: of the frame that is due alone. The buffer grows with what comes, whatever length a frame begins with.
+// Bytes that came, and aren't used yet. The buffer grows with what comes, whatever length a frame begins with.
 #[derive(Default)]
 pub(super) struct Incoming {
     buffer: Vec<u8>,
-    have: usize,
+    have: Range<usize>,
+    is_filled: bool, // the room was filled when bytes came last: there may be more
 }
 
 impl Incoming {
     pub(super) fn len(&self) -> usize {
-        self.have
+        self.have.len()
     }
 
     pub(super) fn bytes(&self) -> &[u8] {
-        &self.buffer[..self.have]
+        &self.buffer[self.have.clone()]
     }
 
     pub(super) fn bytes_mut(&mut self) -> &mut [u8] {
-        &mut self.buffer[..self.have]
+        &mut self.buffer[self.have.clone()]
     }
 
-    // Room for at most `wanted` bytes more: for one at least.
-    pub(super) fn room(&mut self, wanted: usize) -> &mut [u8] {
-        if self.have == self.buffer.len() {
-            self.grow();
+    // Room for what comes: for one byte at least.
+    pub(super) fn room(&mut self) -> &mut [u8] {
+        if self.have.is_empty() {
+            self.have = 0..0;
+            if !self.is_filled {
+                self.release();
+            }
         }
-        let end = self.buffer.len().min(self.have + wanted);
-        &mut self.buffer[self.have..end]
+        if self.have.end == self.buffer.len() {
+            self.make_room();
+        }
+        &mut self.buffer[self.have.end..]
     }
 
     // The first bytes of the room came.
     pub(super) fn came(&mut self, count: usize) {
-        self.have += count;
+        self.have.end += count;
+        self.is_filled = self.have.end == self.buffer.len();
     }
 
     // Takes at most `wanted` bytes, and returns how many.
@@ -45,25 +53,44 @@ impl Incoming {
         let mut rest = &bytes[..bytes.len().min(wanted)];
         let taken = rest.len();
         while !rest.is_empty() {
-            let room = self.room(rest.len());
-            let count = room.len();
-            room.copy_from_slice(&rest[..count]);
+            let room = self.room();
+            let count = room.len().min(rest.len());
+            room[..count].copy_from_slice(&rest[..count]);
             self.came(count);
             rest = &rest[count..];
         }
         taken
     }
 
-    fn grow(&mut self) {
-        let mut larger = vec![0; (2 * self.have).clamp(FIRST_ROOM, MAX_FRAME)];
-        larger[..self.have].copy_from_slice(&self.buffer);
-        wipe(&mut self.buffer);
-        self.buffer = larger;
+    fn make_room(&mut self) {
+        let have = self.have.clone();
+        if have.start > 0 {
+            self.buffer.copy_within(have.clone(), 0);
+        } else {
+            let mut larger = vec![0; (4 * have.len() + 1).clamp(KEPT, MAX_FRAME)];
+            larger[..have.len()].copy_from_slice(&self.buffer);
+            wipe(&mut self.buffer);
+            self.buffer = larger;
+        }
+        self.have = 0..have.len();
     }
 
     pub(super) fn remove(&mut self, used: usize) {
-        self.buffer.copy_within(used..self.have, 0);
-        self.have -= used;
+        self.have.start += used;
+    }
+
+    // Whether there may be more than came last.
+    #[cfg(feature = "std")]
+    pub(super) fn is_filled(&self) -> bool {
+        self.is_filled
+    }
+
+    // Gives a large buffer back, of which nothing is used any more.
+    pub(super) fn release(&mut self) {
+        if self.have.is_empty() && self.buffer.len() > KEPT {
+            wipe(&mut self.buffer);
+            *self = Incoming::default();
+        }
     }
 }
 
@@ -105,5 +132,44 @@ impl Outgoing {
     // So many bytes were sent.
     pub(super) fn sent(&mut self, count: usize) {
         self.rest.start = self.rest.end.min(self.rest.start + count);
+    }
+
+    // Gives a large buffer back, of which all was sent.
+    pub(super) fn release(&mut self) {
+        if self.rest.is_empty() && self.buffer.len() > KEPT {
+            *self = Outgoing::default();
+        }
+    }
+}
+
+#[cfg(test)]
+mod tests {
+    use super::*;
+
+    #[test]
+    fn large_buffers_are_given_back() {
+        let mut incoming = Incoming::default();
+        incoming.room();
+        assert_eq!(incoming.buffer.len(), KEPT);
+        for kept in [4 * KEPT + 1, MAX_FRAME] {
+            let count = incoming.room().len();
+            incoming.came(count);
+            incoming.room();
+            assert_eq!(incoming.buffer.len(), kept);
+        }
+        let count = incoming.room().len();
+        incoming.came(count - 1);
+        incoming.remove(incoming.len());
+        incoming.room();
+        assert_eq!(incoming.buffer.len(), KEPT);
+        let mut outgoing = Outgoing::default();
+        outgoing.room(KEPT + 1);
+        outgoing.put(KEPT + 1);
+        outgoing.sent(KEPT);
+        outgoing.release();
+        assert_eq!(outgoing.buffer.len(), KEPT + 1);
+        outgoing.sent(1);
+        outgoing.release();
+        assert_eq!(outgoing.buffer.capacity(), 0);
     }
 }

@@ -1,7 +1,7 @@
 use super::buffers::{Incoming, Outgoing};
 use super::Connection;
 use crate::header::{MAX_FRAME, MAX_MESSAGE, MORE, OK};
-use crate::raw::{frame_find, frame_message, StreamResult};
+use crate::raw::{frame_find, frame_message, wipe_stack, StreamResult};
 use crate::{Dh, Ephemeral, Error, Handshake};
 use core::fmt;
 
@@ -140,10 +140,12 @@ impl<S: Dh, E: Ephemeral> Connecting<S, E> {
     // Reads the message that is due, or says how many bytes more are wanted.
     fn read(&mut self) -> Result<(), Error> {
         let mut result = StreamResult::default();
-        if frame_find(self.incoming.bytes(), &mut result) == MORE {
-            if self.incoming.len() + result.wanted > LENGTH.saturating_add(self.handshake.max_message()) {
-                return Err(Error::TooLong);
-            }
+        let is_part = frame_find(self.incoming.bytes(), &mut result) == MORE;
+        let len = if is_part { self.incoming.len() + result.wanted } else { result.used };
+        if len > LENGTH.saturating_add(self.handshake.max_message()) {
+            return Err(Error::TooLong);
+        }
+        if is_part {
             if self.is_closed {
                 return Err(Error::Cut);
             }
@@ -183,7 +185,8 @@ impl<S: Dh, E: Ephemeral> Connecting<S, E> {
         self.handshake.set_psk(secret)
     }
 
-    /// The channel, after [`Step::Done`]; `NotDone` before it, and `Refused` if the other party's static key wasn't accepted.
+    /// The channel, after [`Step::Done`]; `NotDone` before it, and `Refused` if the other party's static key wasn't accepted. Where the last message is still
+    /// to be sent, the channel sends it before its first frame.
     pub fn finish(self) -> Result<Connection, Error> {
         if let Some(failure) = self.failure {
             return Err(failure);
@@ -193,19 +196,35 @@ impl<S: Dh, E: Ephemeral> Connecting<S, E> {
         }
         let (hash, remote_static) = (self.handshake.hash(), self.handshake.remote_static());
         let raw = self.handshake.finish_stream()?;
-        Ok(Connection { hash, remote_static, ..Connection::of(raw, (self.outgoing, self.incoming)) })
+        let (mut outgoing, mut incoming) = (self.outgoing, self.incoming);
+        outgoing.release();
+        incoming.release();
+        let connection = Connection { hash, remote_static, ..Connection::of(raw, (outgoing, incoming)) };
+        wipe_stack();
+        Ok(connection)
     }
 
-    // Room for the bytes that are wanted, and how many of them came.
+    // What is to be sent, and whether it is the last message.
+    #[cfg(feature = "std")]
+    pub(crate) fn outgoing(&self) -> &[u8] {
+        self.outgoing.rest()
+    }
+
+    #[cfg(feature = "std")]
+    pub(crate) fn is_last(&self) -> bool {
+        self.handshake.is_done()
+    }
+
+    // Room for what comes, and how many bytes of it came.
     #[cfg(feature = "std")]
     pub(crate) fn room(&mut self) -> &mut [u8] {
-        self.incoming.room(self.wanted)
+        self.incoming.room()
     }
 
     #[cfg(feature = "std")]
     pub(crate) fn came(&mut self, count: usize) {
         self.incoming.came(count);
-        self.wanted -= count;
+        self.wanted = self.wanted.saturating_sub(count);
     }
 
     #[cfg(feature = "std")]

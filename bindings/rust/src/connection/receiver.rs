@@ -1,7 +1,7 @@
 use super::buffers::Incoming;
 use super::Over;
 use crate::header::{CLOSED, END, MORE, OK};
-use crate::raw::{self, StreamResult};
+use crate::raw::{self, Held, StreamResult};
 use crate::Error;
 use core::fmt;
 use core::mem::take;
@@ -9,6 +9,7 @@ use core::ops::Range;
 
 /// What has come over a [`Connection`](crate::Connection).
 #[derive(PartialEq, Eq)]
+#[non_exhaustive]
 pub enum Event<'c> {
     /// Bytes that the other party has written, one at least. Each comes once.
     Data(&'c [u8]),
@@ -20,13 +21,14 @@ pub enum Event<'c> {
 
 /// The direction of a [`Connection`](crate::Connection) that this party reads.
 pub struct StreamReceiver {
-    memory: raw::StreamReceiver,
+    memory: Held<raw::StreamReceiver>,
     incoming: Incoming,
     wanted: usize,
     opened: Range<usize>, // what of the first frame is opened, and not read yet
     used: usize,          // how many bytes that frame has
     is_closed: bool,
     is_silent: bool,
+    has_ended: bool,
     failure: Option<Error>,
     over: Over,
 }
@@ -40,10 +42,20 @@ pub(crate) enum Due {
 }
 
 impl StreamReceiver {
-    pub(super) fn new(memory: raw::StreamReceiver, incoming: Incoming, over: Over) -> StreamReceiver {
+    pub(super) fn new(memory: Held<raw::StreamReceiver>, incoming: Incoming, over: Over) -> StreamReceiver {
         let is_silent = memory.is_silent();
-        let (opened, failure) = (0..0, None);
-        StreamReceiver { memory, incoming, wanted: 0, opened, used: 0, is_closed: false, is_silent, failure, over }
+        StreamReceiver {
+            memory,
+            incoming,
+            wanted: 0,
+            opened: 0..0,
+            used: 0,
+            is_closed: false,
+            is_silent,
+            has_ended: false,
+            failure: None,
+            over,
+        }
     }
 
     /// What has come. After an error each later call returns the same; [`Error::OneWay`] alone, in the silent direction of a one-way pattern, leaves the
@@ -77,6 +89,9 @@ impl StreamReceiver {
         if !self.opened.is_empty() {
             return Ok(Due::Data);
         }
+        if self.has_ended {
+            return Ok(Due::End);
+        }
         if let Some(failure) = &self.failure {
             return Err(failure.clone());
         }
@@ -85,28 +100,31 @@ impl StreamReceiver {
         }
         self.incoming.remove(take(&mut self.used));
         let mut result = StreamResult::default();
-        loop {
-            match self.memory.read(self.incoming.bytes_mut(), &mut result) {
-                OK => {
-                    self.opened = result.from..result.from + result.len;
-                    self.used = result.used;
-                    return Ok(Due::Data);
-                }
-                MORE if !self.is_closed => {
-                    self.wanted = result.wanted;
-                    return Ok(Due::Receive);
-                }
-                END => self.incoming.remove(result.used),
-                MORE | CLOSED => return self.ended(),
-                code => return Err(self.fail(Error::of(code, None))),
+        match self.memory.read(self.incoming.bytes_mut(), &mut result) {
+            OK => {
+                self.opened = result.from..result.from + result.len;
+                self.used = result.used;
+                Ok(Due::Data)
             }
+            MORE if !self.is_closed => {
+                self.wanted = result.wanted;
+                Ok(Due::Receive)
+            }
+            END => {
+                // What came after the end is no part of the stream.
+                self.incoming.remove(result.used);
+                self.has_ended = true;
+                self.ended(0)
+            }
+            MORE | CLOSED => self.ended(self.incoming.len()),
+            code => Err(self.fail(Error::of(code, None))),
         }
     }
 
-    // What it means that nothing more comes: the end of the stream, or a cut.
-    fn ended(&mut self) -> Result<Due, Error> {
+    // What it means that nothing more comes, with so many bytes left: the end of the stream, or a cut.
+    fn ended(&mut self, left: usize) -> Result<Due, Error> {
         self.wanted = 0;
-        match self.memory.is_cut(self.incoming.len()) {
+        match self.memory.is_cut(left) {
             OK => Ok(Due::End),
             code => Err(self.fail(Error::of(code, None))),
         }
@@ -126,26 +144,48 @@ impl StreamReceiver {
         self.over.set();
     }
 
-    // Copies bytes that are opened.
+    // The bytes that are opened, and how many of them were read.
     #[cfg(feature = "std")]
-    pub(crate) fn read(&mut self, into: &mut [u8]) -> usize {
-        let count = into.len().min(self.opened.len());
-        let start = self.opened.start;
-        into[..count].copy_from_slice(&self.incoming.bytes()[start..start + count]);
-        self.opened.start += count;
-        count
+    pub(crate) fn opened(&self) -> &[u8] {
+        &self.incoming.bytes()[self.opened.clone()]
     }
 
-    // Room for the bytes that are wanted, and how many of them came.
+    #[cfg(feature = "std")]
+    pub(crate) fn read(&mut self, count: usize) {
+        self.opened = match count {
+            _ if count < self.opened.len() => self.opened.start + count..self.opened.end,
+            _ => 0..0,
+        };
+    }
+
+    // Room for what comes, and how many bytes of it came.
     #[cfg(feature = "std")]
     pub(crate) fn room(&mut self) -> &mut [u8] {
-        self.incoming.room(self.wanted)
+        self.incoming.room()
     }
 
     #[cfg(feature = "std")]
     pub(crate) fn came(&mut self, count: usize) {
         self.incoming.came(count);
-        self.wanted -= count;
+        self.wanted = self.wanted.saturating_sub(count);
+    }
+
+    // Whether all that came was used, and as far as is known nothing more has come.
+    #[cfg(feature = "std")]
+    pub(crate) fn is_idle(&self) -> bool {
+        self.incoming.len() == self.used && !self.incoming.is_filled()
+    }
+
+    // Gives a large buffer back, of which nothing is used any more.
+    #[cfg(feature = "std")]
+    pub(crate) fn release(&mut self) {
+        self.incoming.release();
+    }
+
+    // What came after the frames that were opened.
+    #[cfg(feature = "std")]
+    pub(crate) fn rest(&self) -> &[u8] {
+        &self.incoming.bytes()[self.used..]
     }
 }
 
@@ -157,6 +197,14 @@ impl fmt::Debug for Event<'_> {
             Event::Receive(wanted) => f.debug_tuple("Receive").field(wanted).finish(),
             Event::End => f.write_str("End"),
         }
+    }
+}
+
+#[cfg(test)]
+impl StreamReceiver {
+    #[allow(dead_code)]
+    pub(crate) fn memory(&self) -> &[u8] {
+        self.memory.memory()
     }
 }
 

@@ -18,16 +18,21 @@ pub enum HandshakeError<T, S: Dh, E: Ephemeral> {
 /// A handshake that was interrupted by `WouldBlock` or `TimedOut` of the stream below. It continues with the call that
 /// goes with the one by which it began.
 ///
-#[cfg_attr(feature = "openssl", doc = "```")]
-#[cfg_attr(not(feature = "openssl"), doc = "```ignore")]
+#[cfg_attr(any(feature = "x25519", feature = "openssl"), doc = "```")]
+#[cfg_attr(not(any(feature = "x25519", feature = "openssl")), doc = "```ignore")]
 /// # fn main() -> std::io::Result<()> {
+/// use std::io::Write;
 /// use std::os::unix::net::UnixStream;
-/// use yulimosar::{Builder, HandshakeError, KeyPair, Stream};
+/// use yulimosar::{Builder, HandshakeError, Stream};
 ///
 /// let (here, there) = UnixStream::pair()?;
-/// let server = std::thread::spawn(move || Stream::anonymous(there, Builder::new("NN").responder::<KeyPair>()?));
+/// let server = std::thread::spawn(move || -> std::io::Result<[u8; 32]> {
+///     let mut stream = Stream::anonymous(there, Builder::new("NN").responder()?)?;
+///     stream.flush()?; // the last message of the handshake
+///     Ok(*stream.hash())
+/// });
 /// here.set_nonblocking(true)?;
-/// let mut handshake = Stream::anonymous(here, Builder::new("NN").initiator::<KeyPair>()?);
+/// let mut handshake = Stream::anonymous(here, Builder::new("NN").initiator()?);
 /// let client = loop {
 ///     handshake = match handshake {
 ///         Ok(stream) => break stream,
@@ -38,7 +43,7 @@ pub enum HandshakeError<T, S: Dh, E: Ephemeral> {
 ///         Err(error) => return Err(error.into()),
 ///     };
 /// };
-/// assert_eq!(client.hash(), server.join().unwrap()?.hash());
+/// assert_eq!(client.hash(), &server.join().unwrap()?);
 /// # Ok(()) }
 /// ```
 pub struct MidHandshake<T, S: Dh, E: Ephemeral>(Box<Parts<T, S, E>>);

@@ -22,12 +22,16 @@ impl<S: Dh, E: Ephemeral> Passing<S, E> {
         Ok(Passing { connecting: Connecting::with(handshake, peer)?, is_flushed: true })
     }
 
-    // Sends and receives until the party is asked for something. After an error of time a later call continues.
+    // Sends and receives until the party is asked for something. After an error of time a later call continues. The last message, if it is this party's,
+    // is kept: the channel sends it with its first frame.
     pub(crate) fn pass(&mut self, below: &mut (impl Read + Write)) -> io::Result<Asked> {
         loop {
             match self.connecting.step()? {
-                Step::Send(bytes) => {
-                    let count = send(below, bytes)?;
+                Step::Send(_) => {
+                    if self.connecting.is_last() {
+                        return Ok(Asked::Nothing);
+                    }
+                    let count = send(below, self.connecting.outgoing())?;
                     self.connecting.sent(count);
                     self.is_flushed = false;
                 }

@@ -16,24 +16,61 @@ impl Reading {
     }
 
     pub(crate) fn read(&mut self, below: &mut impl Read, into: &mut [u8]) -> io::Result<usize> {
+        if into.is_empty() && self.lost.is_none() {
+            return Ok(0);
+        }
+        let bytes = self.fill(below)?;
+        let count = bytes.len().min(into.len());
+        into[..count].copy_from_slice(&bytes[..count]);
+        self.receiver.read(count);
+        Ok(count)
+    }
+
+    // The bytes that are opened; at the end of the stream none.
+    pub(crate) fn fill(&mut self, below: &mut impl Read) -> io::Result<&[u8]> {
         if let Some(error) = &self.lost {
             return Err(again(error));
         }
-        while !into.is_empty() {
-            match self.receiver.due()? {
-                Due::Data => return Ok(self.receiver.read(into)),
-                Due::End => break,
-                Due::Receive => self.receive(below)?,
-            }
+        while let Due::Receive = self.receiver.due()? {
+            self.receive(below)?;
         }
-        Ok(0)
+        Ok(self.receiver.opened())
+    }
+
+    // So many of them were read.
+    pub(crate) fn consume(&mut self, count: usize) {
+        self.receiver.read(count);
+    }
+
+    // Whether a read has to wait, as far as is known: nothing has come that isn't used.
+    pub(crate) fn is_idle(&self) -> bool {
+        self.receiver.is_idle()
+    }
+
+    // Whether bytes are opened.
+    pub(crate) fn has_opened(&self) -> bool {
+        !self.receiver.opened().is_empty()
+    }
+
+    // What came after the frames that were opened.
+    pub(crate) fn rest(&self) -> Vec<u8> {
+        self.receiver.rest().to_vec()
+    }
+
+    #[cfg(test)]
+    #[allow(dead_code)]
+    pub(super) fn memory(&self) -> &[u8] {
+        self.receiver.memory()
     }
 
     fn receive(&mut self, below: &mut impl Read) -> io::Result<()> {
         match receive(below, self.receiver.room()) {
             Ok(0) => self.receiver.closed(),
             Ok(count) => self.receiver.came(count),
-            Err(error) if is_wait(&error) => return Err(error),
+            Err(error) if is_wait(&error) => {
+                self.receiver.release();
+                return Err(error);
+            }
             Err(error) => {
                 self.receiver.lose();
                 self.lost = Some(again(&error));

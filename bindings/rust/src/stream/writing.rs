@@ -12,7 +12,9 @@ impl Writing {
     }
 
     pub(crate) fn write(&mut self, below: &mut impl Write, bytes: &[u8]) -> io::Result<usize> {
-        self.send(below)?;
+        if !self.0.takes() {
+            self.send(below)?;
+        }
         let count = self.0.write(bytes)?;
         match self.send(below) {
             Err(error) if !is_wait(&error) => Err(error),
@@ -22,14 +24,32 @@ impl Writing {
 
     pub(crate) fn flush(&mut self, below: &mut impl Write) -> io::Result<()> {
         self.send(below)?;
+        self.0.release();
         let flushed = below.flush();
         self.lose(flushed)
+    }
+
+    // Before a read that may have to wait: the other party may be waiting for the last message of the handshake. Where the channel is idle a large
+    // buffer is given back.
+    pub(crate) fn before_a_wait(&mut self, below: &mut impl Write, is_idle: bool) -> io::Result<()> {
+        match self.0.outgoing() {
+            [] if is_idle => self.0.release(),
+            [_, ..] if !self.0.has_begun() => self.flush(below)?,
+            _ => {} // frames wait for the next `write` or `flush`
+        }
+        Ok(())
     }
 
     // Ends the stream; or, where an earlier call has sealed the end, continues to send it.
     pub(crate) fn end(&mut self, below: &mut impl Write) -> io::Result<()> {
         self.0.end()?;
         self.flush(below)
+    }
+
+    #[cfg(test)]
+    #[allow(dead_code)]
+    pub(super) fn memory(&self) -> &[u8] {
+        self.0.memory()
     }
 
     // Sends what waits. After an error of time a later call continues.

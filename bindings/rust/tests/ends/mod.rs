@@ -222,6 +222,7 @@ impl Channel for Alone<Connection> {
                     assert!(count > 0 && count <= wanted);
                     self.came.drain(..count);
                 }
+                other => panic!("{other:?}"),
             }
         }
         self.opened.read(into)
@@ -253,24 +254,46 @@ impl Channel for Alone<Connection> {
     }
 }
 
-#[cfg(feature = "tokio")]
-mod asynchronous {
-    use super::{Below, Channel, Opening};
-    use crate::toy::Party;
-    use std::future::Future;
-    use std::io::{self, ErrorKind, Read, Write};
-    use std::pin::Pin;
+// Polls once, as a task that nobody wakes: these tests ask again by themselves.
+#[cfg(any(feature = "tokio", feature = "futures-io"))]
+mod polled {
+    use std::io::{self, ErrorKind};
     use std::sync::Arc;
     use std::task::{Context, Poll, Wake};
-    use tokio::io::{AsyncRead, AsyncWrite, ReadBuf};
-    use yulimosar::AsyncStream;
 
-    fn pending<R>(answer: io::Result<R>) -> Poll<io::Result<R>> {
+    struct Nobody;
+
+    impl Wake for Nobody {
+        fn wake(self: Arc<Self>) {}
+    }
+
+    // `WouldBlock`: it is pending.
+    pub fn once<R>(poll: impl FnOnce(&mut Context<'_>) -> Poll<io::Result<R>>) -> io::Result<R> {
+        match poll(&mut Context::from_waker(&Arc::new(Nobody).into())) {
+            Poll::Ready(answer) => answer,
+            Poll::Pending => Err(ErrorKind::WouldBlock.into()),
+        }
+    }
+
+    pub fn pending<R>(answer: io::Result<R>) -> Poll<io::Result<R>> {
         match answer {
             Err(error) if error.kind() == ErrorKind::WouldBlock => Poll::Pending,
             answer => Poll::Ready(answer),
         }
     }
+}
+
+#[cfg(feature = "tokio")]
+mod asynchronous {
+    use super::polled::{once, pending};
+    use super::{Below, Channel, Opening};
+    use crate::toy::Party;
+    use std::future::Future;
+    use std::io::{self, ErrorKind, Read, Write};
+    use std::pin::Pin;
+    use std::task::{Context, Poll};
+    use tokio::io::{AsyncRead, AsyncWrite, ReadBuf};
+    use yulimosar::AsyncStream;
 
     impl AsyncRead for Below {
         fn poll_read(self: Pin<&mut Self>, _: &mut Context<'_>, into: &mut ReadBuf<'_>) -> Poll<io::Result<()>> {
@@ -290,21 +313,6 @@ mod asynchronous {
         fn poll_shutdown(self: Pin<&mut Self>, _: &mut Context<'_>) -> Poll<io::Result<()>> {
             self.to.borrow_mut().is_closed = true;
             Poll::Ready(Ok(()))
-        }
-    }
-
-    // These tests ask again by themselves.
-    struct Nobody;
-
-    impl Wake for Nobody {
-        fn wake(self: Arc<Self>) {}
-    }
-
-    // Polls once; `WouldBlock`: it is pending.
-    fn once<R>(poll: impl FnOnce(&mut Context<'_>) -> Poll<io::Result<R>>) -> io::Result<R> {
-        match poll(&mut Context::from_waker(&Arc::new(Nobody).into())) {
-            Poll::Ready(answer) => answer,
-            Poll::Pending => Err(ErrorKind::WouldBlock.into()),
         }
     }
 
@@ -339,6 +347,72 @@ mod asynchronous {
 
         fn end(&mut self) -> io::Result<()> {
             once(|context| Pin::new(self).poll_shutdown(context))
+        }
+    }
+}
+
+#[cfg(feature = "futures-io")]
+mod over_futures {
+    use super::polled::{once, pending};
+    use super::{Below, Channel, Opening};
+    use crate::toy::Party;
+    use futures_io::{AsyncRead, AsyncWrite};
+    use std::future::Future;
+    use std::io::{self, ErrorKind, Read, Write};
+    use std::pin::Pin;
+    use std::task::{Context, Poll};
+    use yulimosar::futures::AsyncStream;
+
+    impl AsyncRead for Below {
+        fn poll_read(self: Pin<&mut Self>, _: &mut Context<'_>, into: &mut [u8]) -> Poll<io::Result<usize>> {
+            pending(self.get_mut().read(into))
+        }
+    }
+
+    impl AsyncWrite for Below {
+        fn poll_write(self: Pin<&mut Self>, _: &mut Context<'_>, bytes: &[u8]) -> Poll<io::Result<usize>> {
+            pending(self.get_mut().write(bytes))
+        }
+
+        fn poll_flush(self: Pin<&mut Self>, _: &mut Context<'_>) -> Poll<io::Result<()>> {
+            Poll::Ready(Ok(()))
+        }
+
+        fn poll_close(self: Pin<&mut Self>, _: &mut Context<'_>) -> Poll<io::Result<()>> {
+            self.to.borrow_mut().is_closed = true;
+            Poll::Ready(Ok(()))
+        }
+    }
+
+    impl Channel for AsyncStream<Below> {
+        type Shaking = Pin<Box<dyn Future<Output = io::Result<Self>>>>;
+
+        fn begin(below: Below, handshake: Party) -> Opening<Self> {
+            Self::go_on(Box::pin(AsyncStream::new(below, handshake, |_| async { true })))
+        }
+
+        fn go_on(mut shaking: Self::Shaking) -> Opening<Self> {
+            match once(|context| shaking.as_mut().poll(context)) {
+                Ok(stream) => Opening::Open(stream),
+                Err(error) if error.kind() == ErrorKind::WouldBlock => Opening::Waits(shaking),
+                Err(error) => Opening::Failed(error),
+            }
+        }
+
+        fn read(&mut self, into: &mut [u8]) -> io::Result<usize> {
+            once(|context| Pin::new(self).poll_read(context, into))
+        }
+
+        fn write(&mut self, bytes: &[u8]) -> io::Result<usize> {
+            once(|context| Pin::new(self).poll_write(context, bytes))
+        }
+
+        fn flush(&mut self) -> io::Result<()> {
+            once(|context| Pin::new(self).poll_flush(context))
+        }
+
+        fn end(&mut self) -> io::Result<()> {
+            once(|context| Pin::new(self).poll_close(context))
         }
     }
 }

@@ -1,5 +1,6 @@
 // Parties whose key agreement is none: what the tests look at doesn't depend on it.
 #![allow(dead_code)] // each test uses some
+use std::io::Write;
 use std::net::{TcpListener, TcpStream};
 use std::sync::atomic::{AtomicU8, Ordering};
 use yulimosar::{Builder, Dh, DhError, Ephemeral, Handshake, Stream};
@@ -48,8 +49,8 @@ pub type Party = Handshake<Toy, Toy>;
 pub fn begun(pattern: &str) -> (Party, Party) {
     let (client, server) = (Toy(3), Toy(5));
     (
-        builder(pattern, client, server, true).initiator().unwrap(),
-        builder(pattern, server, client, false).responder().unwrap(),
+        builder(pattern, client, server, true).initiator_with().unwrap(),
+        builder(pattern, server, client, false).responder_with().unwrap(),
     )
 }
 
@@ -62,5 +63,7 @@ pub fn tcp() -> (TcpStream, TcpStream) {
 pub fn streams() -> (Stream<TcpStream>, Stream<TcpStream>) {
     let ((a, b), (client, server)) = (tcp(), begun("XX"));
     let server = std::thread::spawn(move || Stream::new(b, server, |key| key == &[3; 32]).unwrap());
-    (Stream::new(a, client, |key| key == &[5; 32]).unwrap(), server.join().unwrap())
+    let mut client = Stream::new(a, client, |key| key == &[5; 32]).unwrap();
+    client.flush().unwrap(); // the last message of the handshake
+    (client, server.join().unwrap())
 }

@@ -58,7 +58,7 @@ fn open(words: &Words, below: TcpStream, is_initiator: bool) -> io::Result<Strea
     if let Some(psk) = &words.psk {
         builder = builder.psk(psk);
     }
-    let handshake = if is_initiator { builder.initiator::<KeyPair>() } else { builder.responder::<KeyPair>() }?;
+    let handshake = if is_initiator { builder.initiator() } else { builder.responder() }?;
     let opened = if base == "NN" {
         Stream::anonymous(below, handshake).map_err(|error| error.to_string())
     } else {

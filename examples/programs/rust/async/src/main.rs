@@ -30,7 +30,7 @@ async fn main() -> io::Result<()> {
 async fn serve(below: TcpStream, secret: &[u8; 32]) -> io::Result<()> {
     let key = KeyPair::from_secret(secret)?;
     let handshake =
-        Builder::new("XX").prologue(b"example channel 1").static_key(key).interval(1000).responder::<KeyPair>()?;
+        Builder::new("XX").prologue(b"example channel 1").static_key(key).interval(1000).responder()?;
     let accept = |_peer| async { true }; // or look the key up
     let mut stream = timeout(Duration::from_secs(10), AsyncStream::new(below, handshake, accept)).await??;
     while timeout(Duration::from_secs(60), echo(&mut stream)).await?? > 0 {}

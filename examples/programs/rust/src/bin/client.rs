@@ -10,7 +10,7 @@ fn main() -> io::Result<()> {
         .prologue(b"example channel 1")
         .static_key(KeyPair::generate()?)
         .interval(1000)
-        .initiator::<KeyPair>()?;
+        .initiator()?;
     let mut stream = Stream::new(TcpStream::connect("127.0.0.1:4043")?, handshake, |peer| peer[..] == expected[..])?;
     stream.write_all(text.as_bytes())?;
     stream.close_write()?;

@@ -30,7 +30,7 @@ fn main() -> io::Result<()> {
 fn serve(below: TcpStream, secret: &[u8; 32]) -> io::Result<()> {
     let key = KeyPair::from_secret(secret)?;
     let handshake =
-        Builder::new("XX").prologue(b"example channel 1").static_key(key).interval(1000).responder::<KeyPair>()?;
+        Builder::new("XX").prologue(b"example channel 1").static_key(key).interval(1000).responder()?;
     // Each read and write takes at most a minute, and the whole handshake ten seconds.
     below.set_read_timeout(Some(Duration::from_secs(60)))?;
     below.set_write_timeout(Some(Duration::from_secs(60)))?;

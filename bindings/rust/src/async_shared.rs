@@ -1,0 +1,302 @@
+// A channel over what is polled, whatever traits it has: the module above names them, and how they are polled.
+use super::{below_closes, below_reads, AsyncRead, AsyncWrite};
+use crate::connection::connecting::Peer;
+use crate::raw::wipe;
+use crate::stream::passing::{Asked, Passing};
+use crate::stream::{hands_out, over, own, Reading, Writing};
+use crate::{Connection, Dh, Ephemeral, Error, Handshake};
+use std::fmt;
+use std::future::{ready, Future};
+use std::io::{self, ErrorKind, Read, Write};
+use std::pin::Pin;
+use std::task::{Context, Poll};
+
+/// A secure channel over anything that is `AsyncRead` and `AsyncWrite`: see the [module](self).
+pub struct AsyncStream<T> {
+    below: T,
+    reading: Reading,
+    writing: Writing,
+    hash: [u8; 32],
+    remote_static: Option<[u8; 32]>,
+}
+
+/// The half of an [`AsyncStream`] that reads.
+pub struct AsyncReadHalf<T> {
+    below: T,
+    reading: Reading,
+}
+
+/// The half of an [`AsyncStream`] that writes.
+pub struct AsyncWriteHalf<T> {
+    below: T,
+    writing: Writing,
+}
+
+impl<T: AsyncRead + AsyncWrite + Unpin> AsyncStream<T> {
+    /// Runs the handshake over `below`, with empty payloads. `accept` is called with the other party's static key as soon as that is known, and waited for
+    /// before anything else is read or written. A pattern without such a key, as NN, is refused before anything is sent: see `anonymous`.
+    pub async fn new<S: Dh, E: Ephemeral, F: Future<Output = bool>>(
+        below: T,
+        handshake: Handshake<S, E>,
+        accept: impl FnOnce([u8; 32]) -> F,
+    ) -> io::Result<AsyncStream<T>> {
+        let mut accept = Some(accept);
+        let judge = |key| {
+            let judged = accept.take().map(|accept| accept(key));
+            async move {
+                match judged {
+                    Some(judged) => judged.await,
+                    None => false,
+                }
+            }
+        };
+        AsyncStream::open(below, Passing::new(handshake, Peer::Judged)?, judge, |_| ready(None)).await
+    }
+
+    /// Runs a handshake in which the other party has no static key, or one that you don't compare: with a secret that both have (psk), or with anybody.
+    pub async fn anonymous<S: Dh, E: Ephemeral>(below: T, handshake: Handshake<S, E>) -> io::Result<AsyncStream<T>> {
+        AsyncStream::open(below, Passing::new(handshake, Peer::Anybody)?, |_| ready(true), |_| ready(None)).await
+    }
+
+    /// Runs a handshake of [`Builder::late_psks`](crate::Builder::late_psks): at a psk token that lacks its secret `psk_for` is called and waited for, as
+    /// [`Stream::with_psk_for`](crate::Stream::with_psk_for) does.
+    pub async fn with_psk_for<S: Dh, E: Ephemeral, F: Future<Output = Option<[u8; 32]>>>(
+        below: T,
+        handshake: Handshake<S, E>,
+        psk_for: impl FnMut([u8; 32]) -> F,
+    ) -> io::Result<AsyncStream<T>> {
+        AsyncStream::open(below, Passing::new(handshake, Peer::Chosen)?, |_| ready(true), psk_for).await
+    }
+
+    async fn open<S: Dh, E: Ephemeral, F: Future<Output = bool>, G: Future<Output = Option<[u8; 32]>>>(
+        mut below: T,
+        mut passing: Passing<S, E>,
+        mut accept: impl FnMut([u8; 32]) -> F,
+        mut psk_for: impl FnMut([u8; 32]) -> G,
+    ) -> io::Result<AsyncStream<T>> {
+        loop {
+            match (Pass { below: &mut below, passing: &mut passing }).await? {
+                Asked::Judge(key) if accept(key).await => passing.connecting.accept(),
+                Asked::Judge(_) => return Err(Error::Refused.into()),
+                Asked::Psk(key) => {
+                    let mut secret = psk_for(key).await.ok_or(Error::Refused)?;
+                    let passed = passing.connecting.set_psk(&secret);
+                    wipe(&mut secret);
+                    passed?;
+                }
+                Asked::Nothing => return Ok(AsyncStream::of(below, passing.connecting.finish()?)),
+            }
+        }
+    }
+}
+
+impl<T: AsyncWrite + Unpin> AsyncStream<T> {
+    /// Two halves, for two tasks, over those of the stream below: `stream.split(TcpStream::into_split).await?`. It sends the last message of the handshake,
+    /// if that wasn't sent.
+    pub async fn split<R, W>(
+        mut self,
+        split: impl FnOnce(T) -> (R, W),
+    ) -> io::Result<(AsyncReadHalf<R>, AsyncWriteHalf<W>)> {
+        (SendLast { below: &mut self.below, writing: &mut self.writing }).await?;
+        let (reads, writes) = split(self.below);
+        let reads = AsyncReadHalf { below: reads, reading: self.reading };
+        Ok((reads, AsyncWriteHalf { below: writes, writing: self.writing }))
+    }
+}
+
+impl<T> AsyncStream<T> {
+    fn of(below: T, connection: Connection) -> AsyncStream<T> {
+        let (hash, remote_static) = (*connection.hash(), connection.remote_static().copied());
+        let (sender, receiver) = connection.split();
+        AsyncStream { below, reading: Reading::new(receiver), writing: Writing::new(sender), hash, remote_static }
+    }
+
+    /// The handshake hash, the same at both parties, to bind other data to the channel (Noise, 11.2).
+    pub fn hash(&self) -> &[u8; 32] {
+        &self.hash
+    }
+
+    /// The other party's static key; `None` if the handshake has none.
+    pub fn remote_static(&self) -> Option<&[u8; 32]> {
+        self.remote_static.as_ref()
+    }
+}
+
+// The messages of a handshake until its party is asked for something.
+struct Pass<'p, T, S: Dh, E: Ephemeral> {
+    below: &'p mut T,
+    passing: &'p mut Passing<S, E>,
+}
+
+impl<T: AsyncRead + AsyncWrite + Unpin, S: Dh, E: Ephemeral> Future for Pass<'_, T, S, E> {
+    type Output = io::Result<Asked>;
+
+    fn poll(self: Pin<&mut Self>, context: &mut Context<'_>) -> Poll<io::Result<Asked>> {
+        let Pass { below, passing } = self.get_mut();
+        let mut below = Polled::new(below, context);
+        let asked = passing.pass(&mut below);
+        below.polled(asked)
+    }
+}
+
+// The last message of a handshake.
+struct SendLast<'p, T> {
+    below: &'p mut T,
+    writing: &'p mut Writing,
+}
+
+impl<T: AsyncWrite + Unpin> Future for SendLast<'_, T> {
+    type Output = io::Result<()>;
+
+    fn poll(self: Pin<&mut Self>, context: &mut Context<'_>) -> Poll<io::Result<()>> {
+        let SendLast { below, writing } = self.get_mut();
+        let mut below = Polled::new(below, context);
+        let sent = writing.before_a_wait(&mut below, false);
+        below.polled(sent)
+    }
+}
+
+// A stream below that is polled, as one that doesn't block: where it isn't ready it returns `WouldBlock`, and wakes the task later.
+struct Polled<'p, 'c, T> {
+    below: &'p mut T,
+    context: &'p mut Context<'c>,
+    wakes: bool, // the last call was pending
+}
+
+impl<'p, 'c, T> Polled<'p, 'c, T> {
+    fn new(below: &'p mut T, context: &'p mut Context<'c>) -> Self {
+        Polled { below, context, wakes: false }
+    }
+
+    fn waits<R>(&mut self, answer: Poll<io::Result<R>>) -> io::Result<R> {
+        self.wakes = answer.is_pending();
+        match answer {
+            Poll::Ready(answer) => answer,
+            Poll::Pending => Err(ErrorKind::WouldBlock.into()),
+        }
+    }
+
+    // What to answer: a stream below that says `WouldBlock` by itself wakes nobody, so that is an error.
+    fn polled<R>(&self, answer: io::Result<R>) -> Poll<io::Result<R>> {
+        match answer {
+            Err(error) if self.wakes && error.kind() == ErrorKind::WouldBlock && own(&error).is_none() => Poll::Pending,
+            answer => Poll::Ready(answer),
+        }
+    }
+}
+
+impl<T: AsyncRead + Unpin> Read for Polled<'_, '_, T> {
+    fn read(&mut self, into: &mut [u8]) -> io::Result<usize> {
+        let answer = below_reads(Pin::new(&mut *self.below), self.context, into);
+        self.waits(answer)
+    }
+}
+
+impl<T: AsyncWrite + Unpin> Write for Polled<'_, '_, T> {
+    fn write(&mut self, bytes: &[u8]) -> io::Result<usize> {
+        let answer = Pin::new(&mut *self.below).poll_write(self.context, bytes);
+        self.waits(answer)
+    }
+
+    fn flush(&mut self) -> io::Result<()> {
+        let answer = Pin::new(&mut *self.below).poll_flush(self.context);
+        self.waits(answer)
+    }
+}
+
+impl<T: AsyncRead + AsyncWrite + Unpin> AsyncStream<T> {
+    pub(super) fn fill(&mut self, context: &mut Context<'_>) -> Poll<io::Result<&[u8]>> {
+        let AsyncStream { below, reading, writing, .. } = self;
+        let mut below = Polled::new(below, context);
+        if !reading.has_opened() {
+            let sent = writing.before_a_wait(&mut below, reading.is_idle());
+            match below.polled(sent) {
+                Poll::Ready(Ok(())) => {}
+                Poll::Ready(Err(error)) => return Poll::Ready(Err(error)),
+                Poll::Pending => return Poll::Pending,
+            }
+        }
+        let filled = reading.fill(&mut below);
+        below.polled(filled)
+    }
+}
+
+impl<T: AsyncRead + Unpin> AsyncReadHalf<T> {
+    pub(super) fn fill(&mut self, context: &mut Context<'_>) -> Poll<io::Result<&[u8]>> {
+        let mut below = Polled::new(&mut self.below, context);
+        let filled = self.reading.fill(&mut below);
+        below.polled(filled)
+    }
+}
+
+macro_rules! reads {
+    ($stream:ident: $($bound:tt)*) => {
+        impl<T: $($bound)* + Unpin> $stream<T> {
+            pub(super) fn read(&mut self, context: &mut Context<'_>, into: &mut [u8]) -> Poll<io::Result<usize>> {
+                if into.is_empty() {
+                    return Poll::Ready(Ok(0));
+                }
+                let count = match self.fill(context) {
+                    Poll::Ready(Ok(bytes)) => {
+                        let count = bytes.len().min(into.len());
+                        into[..count].copy_from_slice(&bytes[..count]);
+                        count
+                    }
+                    Poll::Ready(Err(error)) => return Poll::Ready(Err(error)),
+                    Poll::Pending => return Poll::Pending,
+                };
+                self.consume(count);
+                Poll::Ready(Ok(count))
+            }
+
+            pub(super) fn consume(&mut self, count: usize) {
+                self.reading.consume(count);
+            }
+        }
+    };
+}
+
+macro_rules! writes {
+    ($stream:ident) => {
+        impl<T: AsyncWrite + Unpin> $stream<T> {
+            pub(super) fn write(&mut self, context: &mut Context<'_>, bytes: &[u8]) -> Poll<io::Result<usize>> {
+                let mut below = Polled::new(&mut self.below, context);
+                let wrote = self.writing.write(&mut below, bytes);
+                below.polled(wrote)
+            }
+
+            pub(super) fn flush(&mut self, context: &mut Context<'_>) -> Poll<io::Result<()>> {
+                let mut below = Polled::new(&mut self.below, context);
+                let flushed = self.writing.flush(&mut below);
+                below.polled(flushed)
+            }
+
+            // Sends the end, and closes the stream below for writing.
+            pub(super) fn end(&mut self, context: &mut Context<'_>) -> Poll<io::Result<()>> {
+                let mut below = Polled::new(&mut self.below, context);
+                let ended = self.writing.end(&mut below);
+                match below.polled(ended) {
+                    Poll::Ready(Ok(())) => below_closes(Pin::new(&mut self.below), context),
+                    answer => answer,
+                }
+            }
+        }
+    };
+}
+
+reads!(AsyncStream: AsyncRead + AsyncWrite);
+reads!(AsyncReadHalf: AsyncRead);
+writes!(AsyncStream);
+writes!(AsyncWriteHalf);
+over!(AsyncStream);
+over!(AsyncReadHalf);
+over!(AsyncWriteHalf);
+hands_out!(AsyncStream);
+hands_out!(AsyncReadHalf);
+
+impl<T> AsyncWriteHalf<T> {
+    /// The stream below, without the channel. What waits to be sent is lost: call `flush` before.
+    pub fn into_inner(self) -> T {
+        self.below
+    }
+}
