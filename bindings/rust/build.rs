@@ -1,6 +1,6 @@
 // Writes the library's text for this target to OUT_DIR/assembly.s, with names of this version alone: so another version of the crate, or the static library
 // for C, can be in the same program, and the compiler can join their texts. OUT_DIR/assembly.rs hands it to rustc's assembler, or says that there is none.
-use std::collections::HashSet;
+use std::collections::{HashMap, HashSet};
 use std::path::{Path, PathBuf};
 use std::{env, fs};
 
@@ -68,32 +68,36 @@ fn find() -> Result<Text, String> {
     Ok(Text { file, is_att: arch == "x86_64" })
 }
 
-/// What the assembly calls by another name on this target. The MSVC runtime's function for large frames does on x86-64 what that of mingw-w64 does.
+/// The text as this target needs it. The MSVC runtime has another name for the function that large frames call, which on x86-64 does what that of mingw-w64
+/// does. The text for macOS says so, and is right for each system of Apple.
 fn for_target(assembly: &str) -> String {
-    match env::var("CARGO_CFG_TARGET_ENV").as_deref() {
-        Ok("msvc") => assembly.replace("___chkstk_ms", "__chkstk"),
+    let of = |name: &str| env::var(format!("CARGO_CFG_TARGET_{name}")).unwrap_or_default();
+    match (of("ENV").as_str(), of("VENDOR").as_str()) {
+        ("msvc", _) => assembly.replace("___chkstk_ms", "__chkstk"),
+        (_, "apple") => assembly.replacen("\t.build_version macos, 11, 0\n", "", 1),
         _ => assembly.to_owned(),
     }
 }
 
-/// The text with a prefix in each name that it defines, and in no other.
+/// The text with a prefix in each name that it defines, and in no other. Not every assembler takes a quoted name everywhere: so none is left.
 fn renamed(assembly: &str, prefix: &str) -> String {
-    let names: HashSet<&str> = assembly.lines().filter_map(label).collect();
+    let names: HashMap<&str, String> = assembly.lines().filter_map(label).map(|name| (name, new_name(name, prefix))).collect();
+    let distinct: HashSet<&String> = names.values().collect();
+    assert_eq!(distinct.len(), names.len(), "two names would be the same");
     let mut text = String::with_capacity(assembly.len() * 5 / 4);
     let mut rest = assembly;
     while !rest.is_empty() {
         let (token, after) = rest.split_at(token_len(rest));
-        let bare = token.trim_matches('"');
-        if names.contains(bare) {
-            let (before, name) = bare.split_at(mark_len(bare));
-            let quote = &token[..token.len() - token.trim_start_matches('"').len()];
-            text.extend([quote, before, prefix, name, quote]);
-        } else {
-            text.push_str(token);
-        }
+        text.push_str(names.get(token.trim_matches('"')).map_or(token, |name| name));
         rest = after;
     }
     text
+}
+
+fn new_name(name: &str, prefix: &str) -> String {
+    let (mark, name) = name.split_at(mark_len(name));
+    let bare: String = name.chars().map(|it| if is_of_name(it) { it } else { '.' }).collect();
+    format!("{mark}{prefix}{bare}")
 }
 
 /// The name that a line defines.
@@ -102,9 +106,12 @@ fn label(line: &str) -> Option<&str> {
     line[end..].starts_with(':').then(|| line[..end].trim_matches('"')).filter(|name| !name.is_empty())
 }
 
+fn is_of_name(it: char) -> bool {
+    it.is_ascii_alphanumeric() || "_.$".contains(it)
+}
+
 /// How many bytes the text's first token has: a name, a text between quotation marks, or any other character.
 fn token_len(text: &str) -> usize {
-    let is_of_name = |it: char| it.is_ascii_alphanumeric() || "_.$".contains(it);
     match text.chars().next() {
         Some('"') => text[1..].find(['"', '\n']).map_or(text.len(), |end| end + 2),
         Some(first) if is_of_name(first) => text.find(|it| !is_of_name(it)).unwrap_or(text.len()),

@@ -68,9 +68,38 @@ impl<S: Dh, E: Ephemeral> Handshake<S, E> {
     /// Reads the message that is due, in place, and returns its payload. `Short` and `Tag` end the handshake; otherwise an error, as `WantedPsk`,
     /// changes nothing.
     pub fn read<'m>(&mut self, message: &'m mut [u8]) -> Result<&'m mut [u8], Error> {
+        self.read_by(raw::Handshake::read, message)
+    }
+
+    /// Reads as `read` does, but an error changes nothing, neither the handshake nor the message: for a message that anybody may have sent, as a datagram.
+    ///
+    #[cfg_attr(any(feature = "x25519", feature = "openssl"), doc = "```")]
+    #[cfg_attr(not(any(feature = "x25519", feature = "openssl")), doc = "```ignore")]
+    /// # fn main() -> Result<(), yulimosar::Error> {
+    /// use yulimosar::{Builder, Error};
+    ///
+    /// let (mut client, mut server) = (Builder::new("NN").initiator()?, Builder::new("NN").responder()?);
+    /// let mut message = [0; 100];
+    /// let len = client.write(b"", &mut message)?;
+    /// server.try_read(&mut message[..len])?;
+    /// let len = server.write(b"", &mut message)?;
+    /// assert_eq!(client.try_read(&mut [7; 48]), Err(Error::Tag { token: Some(2) })); // of a stranger: drop it
+    /// client.try_read(&mut message[..len])?;
+    /// assert!(client.is_done() && server.is_done());
+    /// # Ok(()) }
+    /// ```
+    pub fn try_read<'m>(&mut self, message: &'m mut [u8]) -> Result<&'m mut [u8], Error> {
+        self.read_by(raw::Handshake::try_read, message)
+    }
+
+    fn read_by<'m>(
+        &mut self,
+        read: fn(&mut raw::Handshake, &mut [u8], &mut CallResult) -> u32,
+        message: &'m mut [u8],
+    ) -> Result<&'m mut [u8], Error> {
         let mut result = CallResult::default();
         loop {
-            match self.memory.read(message, &mut result) {
+            match read(&mut self.memory, message, &mut result) {
                 OK => {
                     self.stage = self.memory.stage();
                     return Ok(&mut message[result.from..result.from + result.len]);
@@ -166,7 +195,7 @@ impl<S: Dh, E: Ephemeral> Handshake<S, E> {
     }
 
     /// Makes the transport, after all messages have passed.
-    pub fn finish(self) -> Result<Transport, Error> {
+    pub fn finish(mut self) -> Result<Transport, Error> {
         let (mut sender, mut receiver) = (raw::Sender::new(), raw::Receiver::new());
         let code = self.memory.finish(self.options.interval, &mut sender, &mut receiver);
         self.end(code)?;
@@ -187,7 +216,7 @@ impl<S: Dh, E: Ephemeral> Handshake<S, E> {
 
     #[cfg(feature = "alloc")]
     #[allow(clippy::type_complexity)]
-    pub(crate) fn finish_stream(self) -> Result<(Held<raw::StreamSender>, Held<raw::StreamReceiver>), Error> {
+    pub(crate) fn finish_stream(mut self) -> Result<(Held<raw::StreamSender>, Held<raw::StreamReceiver>), Error> {
         let (mut sender, mut receiver) = (raw::StreamSender::new(), raw::StreamReceiver::new());
         let code = self.memory.finish_stream(self.options.interval, &mut sender, &mut receiver);
         self.end(code)?;
@@ -206,7 +235,7 @@ impl<S: Dh, E: Ephemeral> Handshake<S, E> {
 
     /// Makes the two cipher states of Split (Noise, 5.2), for packets of your own: the one to encrypt what this party sends, and the one to decrypt what it
     /// receives. The one for the responder's messages of a one-way pattern has no key: each call returns `OneWay` (Noise, 7.4).
-    pub fn finish_ciphers(self) -> Result<(SendCipherState, ReceiveCipherState), Error> {
+    pub fn finish_ciphers(mut self) -> Result<(SendCipherState, ReceiveCipherState), Error> {
         let (mut send, mut receive) = (raw::Cipher::new(), raw::Cipher::new());
         let code = self.memory.finish_ciphers(&mut send, &mut receive);
         self.end(code)?;
@@ -215,7 +244,7 @@ impl<S: Dh, E: Ephemeral> Handshake<S, E> {
 
     /// Makes the state for datagrams, after all messages have passed. A datagram may arrive after others whose numbers are less than `window`
     /// greater: 64, 256 or 1024.
-    pub fn finish_datagrams(self, window: u32) -> Result<Datagrams, Error> {
+    pub fn finish_datagrams(mut self, window: u32) -> Result<Datagrams, Error> {
         let (mut sender, mut receiver) = (raw::DatagramSender::new(), raw::DatagramReceiver::new());
         let code = self.memory.finish_datagrams(window, &mut sender, &mut receiver);
         self.end(code)?;

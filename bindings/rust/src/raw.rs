@@ -173,13 +173,14 @@ calls! {
         result: *mut CallResult,
     ) -> u32;
     fn noise_read(h: *mut Handshake, message: *mut u8, message_len: usize, result: *mut CallResult) -> u32;
+    fn noise_try_read(h: *mut Handshake, message: *mut u8, message_len: usize, result: *mut CallResult) -> u32;
     fn noise_message_len(h: *const Handshake, payload_len: usize, len: *mut usize) -> u32;
     fn noise_hash(h: *const Handshake, hash: *mut u8) -> u32;
     fn noise_remote_static(h: *const Handshake, key: *mut Key) -> u32;
     fn noise_stage(h: *const Handshake, result: *mut Stage) -> u32;
     fn noise_frame_message(buffer: *mut u8, buffer_len: usize, message_len: usize, result: *mut StreamResult) -> u32;
     fn noise_frame_find(buffer: *const u8, buffer_len: usize, result: *mut StreamResult) -> u32;
-    fn noise_finish_stream(h: *const Handshake, interval: u64, s: *mut StreamSender, r: *mut StreamReceiver) -> u32;
+    fn noise_finish_stream(h: *mut Handshake, interval: u64, s: *mut StreamSender, r: *mut StreamReceiver) -> u32;
     fn noise_stream_write(
         s: *mut StreamSender,
         payload: *const u8,
@@ -191,7 +192,7 @@ calls! {
     fn noise_stream_end(s: *mut StreamSender, out: *mut u8, out_len: usize, result: *mut StreamResult) -> u32;
     fn noise_stream_read(r: *mut StreamReceiver, buffer: *mut u8, buffer_len: usize, result: *mut StreamResult) -> u32;
     fn noise_stream_is_cut(r: *const StreamReceiver, left: usize) -> u32;
-    fn noise_finish(h: *const Handshake, interval: u64, sender: *mut Sender, receiver: *mut Receiver) -> u32;
+    fn noise_finish(h: *mut Handshake, interval: u64, sender: *mut Sender, receiver: *mut Receiver) -> u32;
     fn noise_seal(
         s: *mut Sender,
         payload: *const u8,
@@ -211,7 +212,7 @@ calls! {
     fn noise_sender_nonce(s: *const Sender, nonce: *mut u64) -> u32;
     fn noise_receiver_nonce(r: *const Receiver, nonce: *mut u64) -> u32;
     fn noise_finish_datagrams(
-        h: *const Handshake,
+        h: *mut Handshake,
         window: u32,
         sender: *mut DatagramSender,
         receiver: *mut DatagramReceiver,
@@ -238,7 +239,7 @@ calls! {
         result: *mut CallResult,
     ) -> u32;
     fn noise_datagram_sender_nonce(s: *const DatagramSender, nonce: *mut u64) -> u32;
-    fn noise_finish_ciphers(h: *const Handshake, send: *mut Cipher, receive: *mut Cipher) -> u32;
+    fn noise_finish_ciphers(h: *mut Handshake, send: *mut Cipher, receive: *mut Cipher) -> u32;
     fn noise_cipher_encrypt(
         c: *mut Cipher,
         ad: *const u8,
@@ -381,6 +382,11 @@ impl Handshake {
         unsafe { noise_read(self, message.as_mut_ptr(), message.len(), result) }
     }
 
+    pub(crate) fn try_read(&mut self, message: &mut [u8], result: &mut CallResult) -> u32 {
+        // SAFETY: see above.
+        unsafe { noise_try_read(self, message.as_mut_ptr(), message.len(), result) }
+    }
+
     pub(crate) fn message_len(&self, payload_len: usize) -> Option<usize> {
         let mut len = 0;
         // SAFETY: see above.
@@ -408,22 +414,22 @@ impl Handshake {
         stage
     }
 
-    pub(crate) fn finish_stream(&self, interval: u64, s: &mut StreamSender, r: &mut StreamReceiver) -> u32 {
+    pub(crate) fn finish_stream(&mut self, interval: u64, s: &mut StreamSender, r: &mut StreamReceiver) -> u32 {
         // SAFETY: see above.
         unsafe { noise_finish_stream(self, interval, s, r) }
     }
 
-    pub(crate) fn finish(&self, interval: u64, sender: &mut Sender, receiver: &mut Receiver) -> u32 {
+    pub(crate) fn finish(&mut self, interval: u64, sender: &mut Sender, receiver: &mut Receiver) -> u32 {
         // SAFETY: see above.
         unsafe { noise_finish(self, interval, sender, receiver) }
     }
 
-    pub(crate) fn finish_datagrams(&self, window: u32, s: &mut DatagramSender, r: &mut DatagramReceiver) -> u32 {
+    pub(crate) fn finish_datagrams(&mut self, window: u32, s: &mut DatagramSender, r: &mut DatagramReceiver) -> u32 {
         // SAFETY: see above.
         unsafe { noise_finish_datagrams(self, window, s, r) }
     }
 
-    pub(crate) fn finish_ciphers(&self, send: &mut Cipher, receive: &mut Cipher) -> u32 {
+    pub(crate) fn finish_ciphers(&mut self, send: &mut Cipher, receive: &mut Cipher) -> u32 {
         // SAFETY: see above.
         unsafe { noise_finish_ciphers(self, send, receive) }
     }

@@ -79,6 +79,33 @@ fn refusals_of_a_handshake() {
     assert_eq!(server.finish().err(), Some(Error::NotDone));
 }
 
+// A stranger's message, altered or cut at any byte, changes neither the handshake nor the message; then the one that was sent is read. Of each pattern: which
+// messages end with a tag.
+#[test]
+fn what_a_stranger_sends_changes_nothing() {
+    for (pattern, tags) in [("XX", [false, true, true]), ("IK", [true, true, true]), ("NNpsk0", [true, true, true])] {
+        let ((mut client, mut server), mut message) = (begun(pattern), [0; 200]);
+        for has_tag in tags.iter().take(if pattern == "XX" { 3 } else { 2 }) {
+            let (writer, reader) =
+                if client.writes_next() { (&mut client, &mut server) } else { (&mut server, &mut client) };
+            let len = writer.write(b"payload", &mut message).unwrap();
+            for at in (0..len).filter(|_| *has_tag) {
+                let (hash, mut altered, mut cut) = (reader.hash(), message, message);
+                altered[at] ^= 0x80;
+                if altered[at] & 0x7f != 0 || at >= 32 {
+                    let sent = altered;
+                    assert!(reader.try_read(&mut altered[..len]).is_err(), "{pattern}: byte {at}");
+                    assert_eq!(altered, sent);
+                }
+                assert!(reader.try_read(&mut cut[..at]).is_err(), "{pattern}: {at} bytes");
+                assert!(cut == message && reader.hash() == hash && !reader.is_done() && !reader.writes_next());
+            }
+            assert_eq!(reader.try_read(&mut message[..len]).unwrap(), b"payload");
+        }
+        assert!(client.is_done() && server.is_done() && client.hash() == server.hash());
+    }
+}
+
 #[test]
 fn halves_are_the_transport() {
     let (client, server) = done("KK");
