@@ -63,6 +63,8 @@ def main() -> None:
     write(folder / "rust/.cargo/config.toml", indented("RUST.md", "[source.crates-io]"))
     write(folder / "rust/src/main.rs", listings("RUST.md", "rust")[0])
     compare("RUST.md", "rust", "bindings/rust/src/stream.rs", "bindings/rust/src/handshake.rs")
+    tokio = next(it for it in listings("RUST.md", "rust") if it.startswith("async fn"))
+    stands("RUST.md", tokio, "examples/programs/rust/async/src/main.rs")
 
 
 main()

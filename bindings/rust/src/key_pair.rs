@@ -19,7 +19,7 @@ mod secret;
 ///
 /// let (one, two) = (KeyPair::generate()?, KeyPair::generate()?);
 /// assert_eq!(one.agree(two.public_key())?, two.agree(one.public_key())?);
-/// let again = KeyPair::from_secret(&one.secret_key()?)?;
+/// let again = KeyPair::from_secret(&*one.secret_key()?)?;
 /// assert_eq!(again.public_key(), one.public_key());
 /// # Ok(()) }
 /// ```

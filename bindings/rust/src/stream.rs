@@ -319,6 +319,7 @@ macro_rules! hands_out {
     };
 }
 
+#[cfg(any(feature = "tokio", feature = "futures-io"))]
 pub(crate) use {hands_out, over};
 
 over!(Stream);

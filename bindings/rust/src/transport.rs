@@ -222,6 +222,7 @@ impl fmt::Debug for DatagramReceiver {
 }
 
 #[cfg(test)]
+#[allow(dead_code)]
 impl Sender {
     pub(crate) fn memory(&self) -> &[u8] {
         self.0.memory()
@@ -229,6 +230,7 @@ impl Sender {
 }
 
 #[cfg(test)]
+#[allow(dead_code)]
 impl Receiver {
     pub(crate) fn memory(&self) -> &[u8] {
         self.0.memory()

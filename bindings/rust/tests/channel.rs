@@ -301,10 +301,10 @@ fn nothing_is_sent_after_a_refusal_or_a_cut() {
             if is_split {
                 let (mut reads, mut writes) = server.split(TcpStream::try_clone).unwrap();
                 assert!(reads.read(&mut [0]).is_err());
-                [writes.write(b"x").map(drop), writes.flush(), writes.close_write()].map(closed);
+                [writes.write(b"x").map(drop), writes.flush(), writes.close_write()].into_iter().for_each(closed);
             } else {
                 assert!(server.read(&mut [0]).is_err());
-                [server.write(b"x").map(drop), server.flush(), server.close_write()].map(closed);
+                [server.write(b"x").map(drop), server.flush(), server.close_write()].into_iter().for_each(closed);
                 drop(server);
             }
             assert_eq!(client.get_ref().read(&mut [0]).unwrap(), 0);

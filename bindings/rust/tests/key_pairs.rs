@@ -1,7 +1,7 @@
 // Key pairs that are shared, borrowed or of a type that is chosen at run time; and the two that the crate has.
 use std::sync::Arc;
 use toy::Toy;
-use yulimosar::{Builder, Dh, Error};
+use yulimosar::{Builder, Dh};
 
 mod toy;
 
@@ -47,7 +47,7 @@ fn two_handshakes_have_one_key_pair() {
 fn a_key_of_small_order_is_refused() {
     let mut client = Builder::new("NK").remote_static(&[0; 32]).initiator().unwrap();
     let error = client.write(b"", &mut [0; 200]).unwrap_err();
-    assert!(matches!(error, Error::Zeros | Error::KeyPair(_)));
+    assert!(matches!(error, yulimosar::Error::Zeros | yulimosar::Error::KeyPair(_)));
 }
 
 // RFC 7748, 6.1.

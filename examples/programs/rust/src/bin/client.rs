@@ -11,9 +11,12 @@ fn main() -> io::Result<()> {
         .static_key(KeyPair::generate()?)
         .interval(1000)
         .initiator()?;
-    let mut stream = Stream::new(TcpStream::connect("127.0.0.1:4043")?, handshake, |peer| peer[..] == expected[..])?;
+    let below = TcpStream::connect("127.0.0.1:4043")?;
+    below.set_nodelay(true)?;
+    let mut stream = Stream::new(below, handshake, |peer| peer[..] == expected[..])?;
     stream.write_all(text.as_bytes())?;
     stream.close_write()?;
+    // To its end: else what the server hasn't read yet may be lost.
     let mut answer = String::new();
     stream.read_to_string(&mut answer)?;
     println!("client: the server says: {answer}");

@@ -7,18 +7,26 @@ use std::time::Duration;
 use yulimosar::{Builder, Deadline, KeyPair, Stream};
 
 fn main() -> io::Result<()> {
-    let secret = KeyPair::generate()?.secret_key()?; // a server that lives longer keeps it in a file
+    let key = KeyPair::generate()?; // a server that lives longer keeps it in a file
     let listener = TcpListener::bind("127.0.0.1:4043")?;
     // The client gets this file by a way that nobody else can write to.
-    std::fs::write("server.public", KeyPair::from_secret(&secret)?.public_key())?;
+    std::fs::write("server.public", key.public_key())?;
     let clients = Arc::new(());
-    for below in listener.incoming().flatten() {
-        let client = clients.clone();
+    for below in listener.incoming() {
+        let below = match below {
+            Ok(below) => below,
+            Err(error) => {
+                eprintln!("server: {error}"); // as too many open files, until some are closed
+                thread::sleep(Duration::from_millis(100));
+                continue;
+            }
+        };
+        let (client, key) = (clients.clone(), key.clone());
         if Arc::strong_count(&clients) > 100 {
             continue; // too many at once
         }
         thread::spawn(move || {
-            if let Err(error) = serve(below, &secret) {
+            if let Err(error) = serve(below, key) {
                 eprintln!("server: {error}");
             }
             drop(client);
@@ -27,10 +35,9 @@ fn main() -> io::Result<()> {
     Ok(())
 }
 
-fn serve(below: TcpStream, secret: &[u8; 32]) -> io::Result<()> {
-    let key = KeyPair::from_secret(secret)?;
-    let handshake =
-        Builder::new("XX").prologue(b"example channel 1").static_key(key).interval(1000).responder()?;
+fn serve(below: TcpStream, key: KeyPair) -> io::Result<()> {
+    let handshake = Builder::new("XX").prologue(b"example channel 1").static_key(key).interval(1000).responder()?;
+    below.set_nodelay(true)?;
     // Each read and write takes at most a minute, and the whole handshake ten seconds.
     below.set_read_timeout(Some(Duration::from_secs(60)))?;
     below.set_write_timeout(Some(Duration::from_secs(60)))?;
