@@ -81,7 +81,8 @@ fn for_target(assembly: &str) -> String {
 
 /// The text with a prefix in each name that it defines, and in no other. Not every assembler takes a quoted name everywhere: so none is left.
 fn renamed(assembly: &str, prefix: &str) -> String {
-    let names: HashMap<&str, String> = assembly.lines().filter_map(label).map(|name| (name, new_name(name, prefix))).collect();
+    let names: HashMap<&str, String> =
+        assembly.lines().filter_map(label).map(|name| (name, new_name(name, prefix))).collect();
     let distinct: HashSet<&String> = names.values().collect();
     assert_eq!(distinct.len(), names.len(), "two names would be the same");
     let mut text = String::with_capacity(assembly.len() * 5 / 4);

@@ -11,7 +11,7 @@ use std::io::{self, ErrorKind, Read, Write};
 use std::pin::Pin;
 use std::task::{Context, Poll};
 
-/// A secure channel over anything that is `AsyncRead` and `AsyncWrite`: see the [module](self).
+/// A secure channel over anything that is `AsyncRead` and `AsyncWrite`. Its module says more.
 pub struct AsyncStream<T> {
     below: T,
     reading: Reading,
