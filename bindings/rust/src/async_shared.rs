@@ -212,7 +212,10 @@ impl<T: AsyncRead + AsyncWrite + Unpin> AsyncStream<T> {
             let sent = writing.before_a_wait(&mut below, reading.is_idle());
             match below.polled(sent) {
                 Poll::Ready(Ok(())) => {}
-                Poll::Ready(Err(error)) => return Poll::Ready(Err(error)),
+                Poll::Ready(Err(error)) => {
+                    reading.lose(&error);
+                    return Poll::Ready(Err(error));
+                }
                 Poll::Pending => return Poll::Pending,
             }
         }

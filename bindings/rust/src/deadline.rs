@@ -109,6 +109,20 @@ impl<T: Timeouts> Deadline<T> {
     }
 }
 
+#[cfg(unix)]
+impl<T: Timeouts + std::os::unix::io::AsFd> std::os::unix::io::AsFd for Deadline<T> {
+    fn as_fd(&self) -> std::os::unix::io::BorrowedFd<'_> {
+        self.below.as_fd()
+    }
+}
+
+#[cfg(windows)]
+impl<T: Timeouts + std::os::windows::io::AsSocket> std::os::windows::io::AsSocket for Deadline<T> {
+    fn as_socket(&self) -> std::os::windows::io::BorrowedSocket<'_> {
+        self.below.as_socket()
+    }
+}
+
 impl<T: Read + Timeouts> Read for Deadline<T> {
     fn read(&mut self, into: &mut [u8]) -> io::Result<usize> {
         self.below.set_read_timeout(self.time(self.reads)?)?;

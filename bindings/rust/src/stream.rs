@@ -211,7 +211,11 @@ impl<T: Read + Write> Stream<T> {
         if self.reading.has_opened() {
             return Ok(());
         }
-        self.writing.before_a_wait(&mut self.below, self.reading.is_idle())
+        let sent = self.writing.before_a_wait(&mut self.below, self.reading.is_idle());
+        sent.map_err(|error| {
+            self.reading.lose(&error);
+            error
+        })
     }
 }
 

@@ -141,6 +141,36 @@ fn a_first_connection_takes_less_than_5_ms() {
     assert!(times.iter().min() < Some(&Duration::from_millis(5)), "{times:?}");
 }
 
+// A connection that takes nothing more: each read returns the same error, and nothing waits for ever.
+#[test]
+fn a_last_message_that_cannot_be_sent_is_an_error() {
+    struct Broken(End);
+
+    impl Read for Broken {
+        fn read(&mut self, into: &mut [u8]) -> io::Result<usize> {
+            self.0.read(into)
+        }
+    }
+
+    impl Write for Broken {
+        fn write(&mut self, _: &[u8]) -> io::Result<usize> {
+            Err(ErrorKind::BrokenPipe.into())
+        }
+
+        fn flush(&mut self) -> io::Result<()> {
+            Ok(())
+        }
+    }
+
+    let wire = Rc::new(RefCell::new(Wire::default()));
+    let below = Broken(End { to: wire.clone(), from: wire });
+    let mut client = Stream::anonymous(below, begun("N").0).unwrap();
+    for _ in 0..2 {
+        assert_eq!(client.read(&mut [0]).unwrap_err().kind(), ErrorKind::BrokenPipe);
+    }
+    assert_eq!(client.write(b"x").unwrap_err().kind(), ErrorKind::ConnectionAborted);
+}
+
 #[test]
 fn many_frames_are_received_at_once() {
     let (mut client, server, there) = opened("XX");
@@ -210,4 +240,17 @@ fn a_client_that_reads_to_the_end_loses_nothing() {
     server.close_write().unwrap();
     writer.join().unwrap().unwrap();
     assert!(got == all);
+}
+
+#[test]
+#[cfg(unix)]
+fn the_descriptor_is_that_of_the_stream_below() {
+    use std::os::unix::io::{AsFd, AsRawFd};
+    let (client, server) = streams();
+    let own = client.get_ref().as_raw_fd();
+    assert_eq!(client.as_fd().as_raw_fd(), own);
+    let (reads, _writes) = client.split(TcpStream::try_clone).unwrap();
+    assert_eq!(reads.as_fd().as_raw_fd(), own);
+    let below = yulimosar::Deadline::after(server.into_inner().0, Duration::from_secs(1)).unwrap();
+    assert_eq!(below.as_fd().as_raw_fd(), below.get_ref().as_raw_fd());
 }

@@ -72,12 +72,19 @@ impl Reading {
                 return Err(error);
             }
             Err(error) => {
-                self.receiver.lose();
-                self.lost = Some(again(&error));
+                self.lose(&error);
                 return Err(error);
             }
         }
         Ok(())
+    }
+
+    // The connection is lost: each later read returns the same error, unless that is one of time.
+    pub(crate) fn lose(&mut self, error: &io::Error) {
+        if !is_wait(error) {
+            self.receiver.lose();
+            self.lost = Some(again(error));
+        }
     }
 }
 
