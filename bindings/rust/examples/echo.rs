@@ -3,7 +3,7 @@
 // listener chooses by the other party's key.
 use std::io::{self, Read, Write};
 use std::net::{TcpListener, TcpStream};
-use yulimosar::{Builder, KeyPair, Stream};
+use yulimosar::{Builder, KeyPair, Pattern, Stream};
 
 fn bytes32(digits: &str) -> [u8; 32] {
     let mut bytes = [0; 32];
@@ -25,16 +25,16 @@ fn main() -> io::Result<()> {
         psk.split(',').filter_map(|it| it.split_once('=')).map(|(key, it)| (bytes32(key), bytes32(it))).collect();
     let psk = if psk == "-" || !secrets.is_empty() { None } else { Some(bytes32(psk)) };
     let mut builder = Builder::new(pattern).prologue(b"live").static_key(own);
-    let letters = pattern.split("psk").next().unwrap_or_default().as_bytes();
-    if letters[if listens.is_some() { 0 } else { letters.len() - 1 }] == b'K' || letters.len() == 1 && listens.is_none()
-    {
+    let facts = Pattern::new(pattern)?;
+    let keys = if listens.is_some() { facts.responder() } else { facts.initiator() };
+    if keys.remote_static {
         builder = builder.remote_static(&peer);
     }
     if let Some(psk) = &psk {
         builder = builder.psk(psk);
     }
     match listens {
-        None => send(Stream::anonymous(TcpStream::connect(address)?, builder.initiator()?)?, letters.len() == 1),
+        None => send(Stream::anonymous(TcpStream::connect(address)?, builder.initiator()?)?, facts.is_one_way()),
         Some(address) => {
             let listener = TcpListener::bind(address)?;
             println!("{}", listener.local_addr()?);
@@ -47,7 +47,7 @@ fn main() -> io::Result<()> {
                     |key: &[u8; 32]| secrets.iter().find(|(known, _)| known == key).map(|(_, secret)| *secret);
                 Stream::with_psk_for(below, builder.late_psks().responder()?, secret_of)?
             };
-            echo(stream, letters.len() == 1)
+            echo(stream, facts.is_one_way())
         }
     }
 }

@@ -1,9 +1,10 @@
 use crate::handshake::Options;
-use crate::header::{MAX_PSKS, OK, STATIC_MISSING};
+use crate::header::{MAX_PSKS, OK};
+use crate::pattern::with_name;
 use crate::raw::{self, Key, Setup};
 #[cfg(any(feature = "x25519", feature = "openssl"))]
 use crate::KeyPair;
-use crate::{Dh, Ephemeral, Error, Handshake, NoKey};
+use crate::{Dh, Ephemeral, Error, Handshake, NoKey, Pattern};
 use core::fmt;
 
 /// What a handshake starts from.
@@ -46,7 +47,7 @@ impl<'a> Builder<'a, NoKey> {
             psks: [None; MAX_PSKS],
             psk_count: 0,
             late_psks: false,
-            options: Options { interval: 0, max_message: 8192, other_has_static: false },
+            options: Options::default(),
         }
     }
 }
@@ -122,11 +123,10 @@ impl<'a, S: Dh> Builder<'a, S> {
     }
 
     fn begin<E: Ephemeral>(self, responder: u8) -> Result<Handshake<S, E>, Error> {
-        if self.psk_count > MAX_PSKS {
+        let pattern = Pattern::new(self.pattern)?;
+        // Where psks are late, one at least has to lack.
+        if self.psk_count > pattern.psks() || (self.psk_count < pattern.psks()) != self.late_psks {
             return Err(Error::PskCount);
-        }
-        if !raw::is_library() {
-            return Err(Error::Version);
         }
         let ephemeral = E::draw()?;
         let mut setup = Setup::new(responder, Key::of(Some(ephemeral.public())));
@@ -137,10 +137,14 @@ impl<'a, S: Dh> Builder<'a, S> {
             place.copy_from_slice(&psk[..]);
         }
         let mut memory = raw::Handshake::new();
-        match start(&mut memory, self.pattern, self.prologue, &setup) {
-            OK if memory.lacks_psk() != self.late_psks => Err(Error::PskCount),
+        match with_name(self.pattern, |name| memory.start(name, self.prologue, &setup)) {
             OK => {
-                let options = Options { other_has_static: has_static(self.pattern, 1 - responder), ..self.options };
+                let options = Options {
+                    lacking_psks: pattern.psks() - self.psk_count,
+                    other_has_static: pattern.keys(1 - responder).static_key,
+                    is_silent: pattern.is_one_way() && responder == 0,
+                    ..self.options
+                };
                 Ok(Handshake::begun(memory, self.static_key, ephemeral, options))
             }
             code => Err(Error::of(code, None)),
@@ -155,27 +159,4 @@ impl<S: Dh> fmt::Debug for Builder<'_, S> {
             .field("remote_static", &self.remote_static)
             .finish_non_exhaustive()
     }
-}
-
-// Whether a party has a static key in the pattern: without one its setup lacks one.
-fn has_static(pattern: &str, responder: u8) -> bool {
-    let setup = Setup::new(responder, Key::of(Some([9; 32])));
-    start(&mut raw::Handshake::new(), pattern, &[], &setup) == STATIC_MISSING
-}
-
-const SUITE: &[u8] = b"_25519_ChaChaPoly_SHA256";
-
-fn start(memory: &mut raw::Handshake, pattern: &str, prologue: &[u8], setup: &Setup) -> u32 {
-    if pattern.ends_with('\n') || pattern.starts_with("Noise_") {
-        return memory.start(pattern.as_bytes(), prologue, setup);
-    }
-    // The library knows no name that is longer than this.
-    let mut name = [0; 128];
-    let mut len = 0;
-    for part in [b"Noise_", pattern.as_bytes(), SUITE] {
-        let end = (len + part.len()).min(name.len());
-        name[len..end].copy_from_slice(&part[..end - len]);
-        len = end;
-    }
-    memory.start(&name[..len], prologue, setup)
 }

@@ -90,11 +90,12 @@ impl Connection {
     fn of(
         raw: (Held<raw::StreamSender>, Held<raw::StreamReceiver>),
         buffers: (buffers::Outgoing, buffers::Incoming),
+        is_silent: bool,
     ) -> Connection {
         let over = Over::default();
         Connection {
             sender: StreamSender::new(raw.0, buffers.0, over.clone()),
-            receiver: StreamReceiver::new(raw.1, buffers.1, over),
+            receiver: StreamReceiver::new(raw.1, buffers.1, is_silent, over),
             hash: [0; 32],
             remote_static: None,
         }

@@ -42,6 +42,16 @@ pub(crate) struct Options {
     pub(crate) max_message: usize,
     #[cfg_attr(not(feature = "alloc"), allow(dead_code))]
     pub(crate) other_has_static: bool,
+    pub(crate) lacking_psks: usize,
+    // Nothing comes after the handshake.
+    #[cfg_attr(not(feature = "alloc"), allow(dead_code))]
+    pub(crate) is_silent: bool,
+}
+
+impl Default for Options {
+    fn default() -> Options {
+        Options { interval: 0, max_message: 8192, other_has_static: false, lacking_psks: 0, is_silent: false }
+    }
 }
 
 impl<S: Dh, E: Ephemeral> Handshake<S, E> {
@@ -159,14 +169,17 @@ impl<S: Dh, E: Ephemeral> Handshake<S, E> {
     /// ```
     pub fn set_psk(&mut self, secret: &[u8; 32]) -> Result<(), Error> {
         match self.memory.set_psk(secret) {
-            OK => Ok(()),
+            OK => {
+                self.options.lacking_psks -= 1;
+                Ok(())
+            }
             code => Err(Error::of(code, None)),
         }
     }
 
     /// Whether a psk token that is still to come lacks its secret.
     pub fn lacks_psk(&self) -> bool {
-        self.memory.lacks_psk()
+        self.options.lacking_psks > 0
     }
 
     /// How many bytes the next message has with a payload of this length; `None` if `write` wouldn't accept it now.
@@ -206,6 +219,12 @@ impl<S: Dh, E: Ephemeral> Handshake<S, E> {
     #[cfg(feature = "alloc")]
     pub(crate) fn other_has_static(&self) -> bool {
         self.options.other_has_static
+    }
+
+    // Whether nothing comes after the handshake: a one-way pattern's initiator receives nothing.
+    #[cfg(feature = "alloc")]
+    pub(crate) fn is_silent(&self) -> bool {
+        self.options.is_silent
     }
 
     // The most bytes that a `Connecting` takes as a message of the handshake.

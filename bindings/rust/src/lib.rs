@@ -3,17 +3,18 @@
 //!
 //! [`Builder`] starts a [`Handshake`], which becomes a [`Transport`], for messages in order, [`Datagrams`], for a network that loses and reorders, or two
 //! cipher states, for packets of your own. [`Stream`] does all of this over anything that reads and writes, [`AsyncStream`] over what tokio reads and writes,
-//! and [`Connection`] over whatever you have: it only takes bytes and gives bytes. X25519 comes through the trait [`Dh`]: from OpenSSL with the feature
-//! `openssl`, or from any other crate in a few lines.
+//! and [`Connection`] over whatever you have: it only takes bytes and gives bytes. [`Pattern`] says what a pattern needs. X25519 comes through the trait
+//! [`Dh`]: from this crate, which has `KeyPair`, from OpenSSL with the feature `openssl`, or from any other crate in a few lines.
 //!
 //! Without the feature `std` the crate is `no_std`, and with neither `std` nor `alloc` it uses no heap. The feature `system` links an installed library in
 //! place of the text, as for a target that has none.
 //!
-//! A value's keys are overwritten when it is dropped; what a move leaves on the stack isn't. Calls through `&` only read, so threads may make them at once:
+//! A value's keys are overwritten when it is dropped. With the feature `alloc` they stay in one place while the value is moved, and the stack is overwritten
+//! once a handshake is finished; without it what a move leaves on the stack isn't. Calls through `&` only read, so threads may make them at once:
 //! each type is `Send` and `Sync` where what it is made of is.
 //!
 //! ```
-//! # #[cfg(feature = "openssl")] fn main() -> Result<(), Box<dyn std::error::Error>> {
+//! # #[cfg(any(feature = "x25519", feature = "openssl"))] fn main() -> Result<(), Box<dyn std::error::Error>> {
 //! use std::io::{Read, Write};
 //! use std::net::{TcpListener, TcpStream};
 //! use yulimosar::{Builder, KeyPair, Stream};
@@ -38,7 +39,7 @@
 //! assert_eq!(answer, "hello");
 //! echo.join().unwrap()?;
 //! # Ok(()) }
-//! # #[cfg(not(feature = "openssl"))] fn main() {}
+//! # #[cfg(not(any(feature = "x25519", feature = "openssl")))] fn main() {}
 //! ```
 #![cfg_attr(not(feature = "std"), no_std)]
 #![deny(unsafe_op_in_unsafe_fn, missing_docs, missing_debug_implementations)]
@@ -68,6 +69,7 @@ mod handshake;
 mod header;
 #[cfg(any(feature = "x25519", feature = "openssl"))]
 mod key_pair;
+mod pattern;
 #[cfg_attr(not(feature = "alloc"), allow(dead_code))] // streams
 mod raw;
 #[cfg(all(test, feature = "std", any(feature = "x25519", feature = "openssl")))]
@@ -92,6 +94,7 @@ pub use error::Error;
 pub use handshake::Handshake;
 #[cfg(any(feature = "x25519", feature = "openssl"))]
 pub use key_pair::KeyPair;
+pub use pattern::{Keys, Pattern};
 #[cfg(feature = "std")]
 pub use stream::{HandshakeError, MidHandshake, ReadHalf, Stream, WriteHalf};
 pub use transport::{DatagramReceiver, DatagramSender, Datagrams, Receiver, Sender, Transport};

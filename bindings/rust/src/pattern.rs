@@ -78,7 +78,10 @@ impl Pattern {
 
 impl fmt::Debug for Pattern {
     fn fmt(&self, f: &mut fmt::Formatter<'_>) -> fmt::Result {
-        f.debug_struct("Pattern").field("messages", &self.messages()).field("psks", &self.psks()).finish_non_exhaustive()
+        f.debug_struct("Pattern")
+            .field("messages", &self.messages())
+            .field("psks", &self.psks())
+            .finish_non_exhaustive()
     }
 }
 

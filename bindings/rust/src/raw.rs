@@ -28,6 +28,37 @@ pub(crate) struct Setup {
 }
 
 #[repr(C)]
+#[derive(Clone, Copy, Default)]
+pub(crate) struct Needed {
+    pub(crate) e: u8,
+    pub(crate) s: u8,
+    pub(crate) remote_e: u8,
+    pub(crate) remote_s: u8,
+}
+
+#[repr(C)]
+#[derive(Clone, Default)]
+pub(crate) struct PatternInfo {
+    pub(crate) messages: u8,
+    pub(crate) one_way: u8,
+    pub(crate) psks: u8,
+    pub(crate) needed: [Needed; 2],
+    pre_messages: [[u8; 2]; 2],
+    tokens: [[u8; 10]; 8],
+}
+
+#[repr(C)]
+#[derive(Default)]
+#[allow(dead_code)] // the library writes them
+struct PatternResult {
+    line: usize,
+    rule: u8,
+    message: u8,
+    token: u8,
+    messages: u8,
+}
+
+#[repr(C)]
 #[derive(Default)]
 pub(crate) struct CallResult {
     pub(crate) from: usize,
@@ -58,6 +89,8 @@ pub(crate) struct Stage {
 
 // The sizes that C gives these structs.
 const _: () = assert!(size_of::<Key>() == 33 && size_of::<Setup>() == 2 + 4 * 33 + 9 * 32 && size_of::<Stage>() == 4);
+const _: () =
+    assert!(size_of::<PatternInfo>() == 3 + 2 * 4 + 4 + 80 && size_of::<PatternResult>() == 2 * size_of::<usize>());
 #[cfg(target_pointer_width = "64")]
 const _: () = assert!(size_of::<CallResult>() == 56 && size_of::<StreamResult>() == 32);
 
@@ -154,6 +187,12 @@ structs! {
 
 calls! {
     fn noise_version() -> u32;
+    fn noise_pattern(
+        pattern: *const u8,
+        pattern_len: usize,
+        info: *mut PatternInfo,
+        result: *mut PatternResult,
+    ) -> u32;
     fn noise_start(
         h: *mut Handshake,
         pattern: *const u8,
@@ -351,6 +390,14 @@ pub(crate) fn frame_find(buffer: &[u8], result: &mut StreamResult) -> u32 {
     unsafe { noise_frame_find(buffer.as_ptr(), buffer.len(), result) }
 }
 
+impl PatternInfo {
+    // What the pattern has of this protocol name or text.
+    pub(crate) fn read(&mut self, pattern: &[u8]) -> u32 {
+        // SAFETY: see above.
+        unsafe { noise_pattern(pattern.as_ptr(), pattern.len(), self, &mut PatternResult::default()) }
+    }
+}
+
 impl Handshake {
     pub(crate) fn start(&mut self, pattern: &[u8], prologue: &[u8], setup: &Setup) -> u32 {
         // SAFETY: see above.
@@ -365,11 +412,6 @@ impl Handshake {
     pub(crate) fn set_psk(&mut self, psk: &[u8; KEY_LEN]) -> u32 {
         // SAFETY: see above.
         unsafe { noise_set_psk(self, psk.as_ptr()) }
-    }
-
-    // Whether a psk token that is still to come lacks its secret: a copy, which is dropped, takes one more.
-    pub(crate) fn lacks_psk(&self) -> bool {
-        Handshake(self.0).set_psk(&[0; KEY_LEN]) == OK
     }
 
     pub(crate) fn write(&mut self, payload: &[u8], out: &mut [u8], result: &mut CallResult) -> u32 {
@@ -451,12 +493,6 @@ impl StreamReceiver {
     pub(crate) fn read(&mut self, buffer: &mut [u8], result: &mut StreamResult) -> u32 {
         // SAFETY: see above.
         unsafe { noise_stream_read(self, buffer.as_mut_ptr(), buffer.len(), result) }
-    }
-
-    // Whether this is the direction of a one-way pattern in which nothing comes: a copy, which is dropped, says so of a
-    // frame.
-    pub(crate) fn is_silent(&self) -> bool {
-        StreamReceiver(self.0).read(&mut [0; 2], &mut StreamResult::default()) == ONE_WAY
     }
 
     pub(crate) fn is_cut(&self, left: usize) -> u32 {

@@ -2,7 +2,7 @@
 use std::io::{self, ErrorKind, Read, Write};
 use std::net::{Shutdown, TcpStream};
 use toy::{begun, streams, tcp, Party, Toy, PSK};
-use yulimosar::{Builder, Connecting, Dh, DhError, Error, Event, HandshakeError, NoKey, Stream};
+use yulimosar::{Builder, Connecting, Dh, DhError, Error, Event, HandshakeError, NoKey, Pattern, Stream};
 
 mod toy;
 
@@ -38,8 +38,29 @@ fn every_pattern_makes_a_transport() {
         let mut message = [0; 21];
         assert_eq!(client.seal(b"hello", &mut message), Ok(21));
         assert_eq!(server.open(&mut message).unwrap(), b"hello");
-        assert_eq!(server.seal(b"hello", &mut message).is_err(), pattern.split("psk").next().unwrap().len() == 1);
+        assert_eq!(server.seal(b"hello", &mut message).is_err(), Pattern::new(&pattern).unwrap().is_one_way());
     }
+}
+
+// Of the standard's patterns (7.4, 7.5) the letters say what each party brings; 9.4 says how many psks.
+#[test]
+fn what_a_pattern_has() {
+    for pattern in patterns() {
+        let (facts, base) = (Pattern::new(&pattern).unwrap(), pattern.split("psk").next().unwrap().as_bytes());
+        let (first, last) = if base.len() == 1 { (base[0], b'K') } else { (base[0], base[1]) };
+        assert_eq!(facts.is_one_way(), base.len() == 1, "{pattern}");
+        assert_eq!(facts.messages(), if facts.is_one_way() { 1 } else { 2 + usize::from(first == b'X') }, "{pattern}");
+        assert_eq!(facts.psks(), usize::from(pattern.contains("psk")), "{pattern}");
+        let (initiator, responder) = (facts.initiator(), facts.responder());
+        assert!(initiator.ephemeral && responder.ephemeral != facts.is_one_way(), "{pattern}");
+        assert_eq!((initiator.static_key, initiator.remote_static), (first != b'N', last == b'K'), "{pattern}");
+        assert_eq!((responder.static_key, responder.remote_static), (last != b'N', first == b'K'), "{pattern}");
+    }
+    assert_eq!(Pattern::new("XXpsk0+psk3").unwrap().psks(), 2);
+    assert_eq!(Pattern::new("Noise_IK_25519_ChaChaPoly_SHA256").unwrap().messages(), 2);
+    assert_eq!(Pattern::new("XX1:\n  -> e\n  <- e, ee, s, es\n  -> s, se\n").unwrap().messages(), 3);
+    assert_eq!(Pattern::new("XX1:\n  -> e\n  -> e\n").err(), Some(Error::Pattern));
+    assert_eq!(Pattern::new(&"X".repeat(1000)).err(), Some(Error::Name));
 }
 
 #[test]

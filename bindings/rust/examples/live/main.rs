@@ -7,7 +7,7 @@ mod websocket;
 mod without_io;
 
 use std::io::{self, ErrorKind};
-use yulimosar::{Builder, Handshake, KeyPair};
+use yulimosar::{Builder, Handshake, KeyPair, Pattern};
 
 pub struct Run {
     words: Vec<String>,
@@ -39,8 +39,8 @@ impl Run {
         let (pattern, peer, psk) = (&self.words[1], bytes32(&self.words[3]), &self.words[4]);
         let mut builder =
             Builder::new(pattern).prologue(b"live").static_key(KeyPair::from_secret(&bytes32(&self.words[2]))?);
-        let letters = pattern.split("psk").next().unwrap_or_default().as_bytes();
-        if letters[if self.is_initiator { 1 } else { 0 }] == b'K' {
+        let facts = Pattern::new(pattern)?;
+        if if self.is_initiator { facts.initiator() } else { facts.responder() }.remote_static {
             builder = builder.remote_static(&peer);
         }
         let secret = if psk == "-" { [0; 32] } else { bytes32(psk) };

@@ -1,7 +1,7 @@
 use super::buffers::{Incoming, Outgoing};
 use super::Connection;
 use crate::header::{MAX_FRAME, MAX_MESSAGE, MORE, OK};
-use crate::raw::{frame_find, frame_message, wipe_stack, StreamResult};
+use crate::raw::{frame_find, frame_message, StreamResult};
 use crate::{Dh, Ephemeral, Error, Handshake};
 use core::fmt;
 
@@ -195,13 +195,12 @@ impl<S: Dh, E: Ephemeral> Connecting<S, E> {
             return Err(Error::Refused);
         }
         let (hash, remote_static) = (self.handshake.hash(), self.handshake.remote_static());
+        let is_silent = self.handshake.is_silent();
         let raw = self.handshake.finish_stream()?;
         let (mut outgoing, mut incoming) = (self.outgoing, self.incoming);
         outgoing.release();
         incoming.release();
-        let connection = Connection { hash, remote_static, ..Connection::of(raw, (outgoing, incoming)) };
-        wipe_stack();
-        Ok(connection)
+        Ok(Connection { hash, remote_static, ..Connection::of(raw, (outgoing, incoming), is_silent) })
     }
 
     // What is to be sent, and whether it is the last message.

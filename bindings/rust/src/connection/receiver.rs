@@ -42,8 +42,12 @@ pub(crate) enum Due {
 }
 
 impl StreamReceiver {
-    pub(super) fn new(memory: Held<raw::StreamReceiver>, incoming: Incoming, over: Over) -> StreamReceiver {
-        let is_silent = memory.is_silent();
+    pub(super) fn new(
+        memory: Held<raw::StreamReceiver>,
+        incoming: Incoming,
+        is_silent: bool,
+        over: Over,
+    ) -> StreamReceiver {
         StreamReceiver {
             memory,
             incoming,

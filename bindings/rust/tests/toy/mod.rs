@@ -3,7 +3,7 @@
 use std::io::Write;
 use std::net::{TcpListener, TcpStream};
 use std::sync::atomic::{AtomicU8, Ordering};
-use yulimosar::{Builder, Dh, DhError, Ephemeral, Handshake, Stream};
+use yulimosar::{Builder, Dh, DhError, Ephemeral, Handshake, Pattern, Stream};
 
 #[derive(Clone, Copy)]
 pub struct Toy(pub u8);
@@ -34,14 +34,11 @@ pub const PSK: [u8; 32] = [7; 32];
 
 pub fn builder(pattern: &str, own: Toy, other: Toy, initiator: bool) -> Builder<'_, Toy> {
     let mut builder = Builder::new(pattern).prologue(b"test").static_key(own);
-    let letters = pattern.split("psk").next().unwrap().as_bytes();
-    if letters[if initiator { letters.len() - 1 } else { 0 }] == b'K' || letters.len() == 1 && initiator {
+    let facts = Pattern::new(pattern).unwrap();
+    if if initiator { facts.initiator() } else { facts.responder() }.remote_static {
         builder = builder.remote_static(&other.public());
     }
-    if pattern.contains("psk") {
-        builder = builder.psk(&PSK);
-    }
-    builder
+    (0..facts.psks()).fold(builder, |builder, _| builder.psk(&PSK))
 }
 
 pub type Party = Handshake<Toy, Toy>;
