@@ -24,6 +24,7 @@
 //! let echo = tokio::spawn(async move {
 //!     let handshake = Builder::new("XX").static_key(server).responder()?;
 //!     let below = listener.accept().await?.0;
+//!     below.set_nodelay(true)?;
 //!     let accept = |key| async move { key == client_key }; // or look it up, and wait for the answer
 //!     let mut stream = timeout(Duration::from_secs(10), AsyncStream::new(below, handshake, accept)).await??;
 //!     let mut said = [0; 5];
@@ -33,7 +34,9 @@
 //! });
 //! let handshake = Builder::new("XX").static_key(client).initiator()?;
 //! let accept = |key| async move { key == server_key };
-//! let mut stream = AsyncStream::new(TcpStream::connect(address).await?, handshake, accept).await?;
+//! let below = TcpStream::connect(address).await?;
+//! below.set_nodelay(true)?;
+//! let mut stream = AsyncStream::new(below, handshake, accept).await?;
 //! stream.write_all(b"hello").await?;
 //! stream.flush().await?;
 //! let mut answer = String::new();

@@ -25,14 +25,18 @@
 //! let address = listener.local_addr()?;
 //! let echo = std::thread::spawn(move || -> std::io::Result<()> {
 //!     let handshake = Builder::new("XX").prologue(b"chat 1").static_key(server).responder()?;
-//!     let mut stream = Stream::new(listener.accept()?.0, handshake, |key| key == &client_key)?;
+//!     let below = listener.accept()?.0;
+//!     below.set_nodelay(true)?;
+//!     let mut stream = Stream::new(below, handshake, |key| key == &client_key)?;
 //!     let mut said = [0; 5];
 //!     stream.read_exact(&mut said)?;
 //!     stream.write_all(&said)?;
 //!     stream.close_write()
 //! });
 //! let handshake = Builder::new("XX").prologue(b"chat 1").static_key(client).initiator()?;
-//! let mut stream = Stream::new(TcpStream::connect(address)?, handshake, |key| key == &server_key)?;
+//! let below = TcpStream::connect(address)?;
+//! below.set_nodelay(true)?;
+//! let mut stream = Stream::new(below, handshake, |key| key == &server_key)?;
 //! stream.write_all(b"hello")?;
 //! let mut answer = String::new();
 //! stream.read_to_string(&mut answer)?;
