@@ -1,10 +1,10 @@
 // The page: what is set up, and what happens at each button. What the first verdict doesn't need is loaded after it.
-import { layout } from '../bindings/js/layout.mjs';
 import { load } from '../bindings/js/module.mjs';
-import { textOf } from '../bindings/js/patterns.mjs';
 import { Editor, standardOf } from './editor.mjs';
-import { element, refocus } from './element.mjs';
+import { element, refocus, speak } from './element.mjs';
 import * as link from './link.mjs';
+import { MOST } from './own.mjs';
+import { textOf } from './patterns.mjs';
 
 const at = (id) => document.getElementById(id);
 const STARTED = { text: textOf('XX'), prologue: 'my protocol 1', interval: 0 };
@@ -16,24 +16,27 @@ const READ = {
   window: ({ value }) => Number(value),
   ownPsks: ({ checked }) => checked,
 };
-const page = { setup: link.read(location.hash, STARTED), plan: undefined, run: undefined, isStale: false };
+const page = { setup: link.read(location.hash, STARTED), plan: undefined, run: undefined, isStale: false, shape: undefined };
 let addressing;
 let editor;
-let shape;
 /** What the scripts export that come after the first verdict, and what is made of them. */
 let late;
 
 async function loadLate() {
-  const names = ['./control.mjs', './take.mjs', './mends.mjs', './vectorfile.mjs', './schedule.mjs'];
+  const names = ['./control.mjs', './take.mjs', './mends.mjs', './vectorfile.mjs', './schedule.mjs', './runs.mjs', './undo.mjs', './opening.mjs'];
   const modules = await Promise.all(names.map((name) => import(name)));
   const all = Object.assign({}, ...modules);
-  return { ...all, control: new all.Control(page, acted, takeBack), take: new all.Take(page) };
+  const undo = new all.Undo(page.setup, restore);
+  all.wireOpening({ take: takeIn, follow: (fragment) => { location.hash = fragment; }, notice: (says) => notice([says]) });
+  return { ...all, undo, control: new all.Control(page, acted, takeBack), take: new all.Take(page) };
 }
 
 /** Says what of a link is left out; and that it has a run, which is further down. */
 function notice(sentences, hasRun) {
   const toRun = Object.assign(element('a', '', 'See the run'), { href: '#run' });
-  at('notice').replaceChildren(sentences.filter(Boolean).join(' '), ...(hasRun ? ['This link has a run, which is done again with new keys. ', toRun] : []));
+  const text = sentences.filter(Boolean).join(' ');
+  at('notice').replaceChildren(text, ...(hasRun ? ['This link has a run, which is done again with new keys. ', toRun] : []));
+  if (text) speak(text);
 }
 
 /** Whether the page was opened by a link, and not by a reload or by Back. */
@@ -57,40 +60,42 @@ function showRun() {
   late?.take.show();
 }
 
-/** The state of the history's entries that are this page's own: that of a link is null. */
-const KEPT = { isKept: true };
-const addressOf = () => link.address(page.setup, page.run && !page.isStale ? page.run.steps : []);
-const keepNow = () => history.replaceState(KEPT, '', addressOf());
+/** The page's address has the set-up, and this tab alone keeps the run that belongs to it. */
+function keepNow() {
+  const steps = page.run && !page.isStale ? page.run.steps : [];
+  history.replaceState(late.kept(history.state, link.write(page.setup), link.written(steps)), '', link.address(page.setup));
+}
 
-/** The page's address has the set-up and the run: not at each key, which browsers refuse, and not before the run of a link is done again. */
+/** Not at each key, which browsers refuse, and not before the run of a link is done again. */
 function keepAddress() {
   clearTimeout(addressing);
-  if (!late) return;
-  addressing = setTimeout(keepNow, 250);
+  if (late) addressing = setTimeout(keepNow, 250);
 }
 
 /** Keeps the address as it is for Back, and goes on under one of its own, which has the new set-up as soon as it is there. */
 function leave() {
+  if (!late) return;
   clearTimeout(addressing);
   keepNow();
-  history.pushState(KEPT, '', addressOf());
+  history.pushState(null, '', link.address(page.setup));
   queueMicrotask(keepNow);
 }
 
 /** After each change of the set-up. The run stays; it is greyed while it belongs to another one. */
-function changed() {
+function changed(isTyped = false) {
   page.isStale = Boolean(page.run) && link.keyOf(page.run.given) !== link.keyOf(page.setup);
+  late?.undo.note(page.setup, isTyped);
   keepAddress();
   late?.take.clear();
   showInputs();
   showRun();
 }
 
-function patternChanged(text, verdict) {
+function patternChanged(text, plan, isTyped) {
   page.setup.text = text;
-  page.plan = verdict.valid ? layout(text) : undefined;
-  shape?.show();
-  changed();
+  page.plan = plan;
+  page.shape?.show();
+  changed(isTyped);
 }
 
 /** Another pattern was chosen to be beside this one: the address has it, if it is one of the standard. */
@@ -106,19 +111,32 @@ function acted() {
   showRun();
 }
 
-/** Takes the set-up of the run again. */
-function takeBack() {
-  Object.assign(page.setup, page.run.given, { beside: page.setup.beside });
+/** Puts another set-up in the place of this one. */
+function restore(setup) {
+  Object.assign(page.setup, setup, { beside: page.setup.beside });
   editor.replace(page.setup.text);
   changed();
 }
 
-/** The steps of an address's run that can be done. What else it has and can't be taken is said. */
-function stepsOf(fragment, isFirst = false) {
+/** Takes the set-up of the run again. */
+const takeBack = () => restore(page.run.given);
+
+/** Takes what was opened, dropped or pasted. */
+function takeIn(setup, says) {
+  leave();
+  Object.assign(page.setup, setup);
+  editor.take(page.setup.text);
+  changed();
+  notice([says]);
+}
+
+/** The steps of an address's run that can be done, or of the run that this tab kept. What else the address has and can't be taken is said. */
+function stepsOf(fragment, state, isFirst = false) {
   const { steps, fault } = link.readRun(fragment);
+  const kept = steps.length || fault ? [] : link.readRun(`#run=${late?.keptRun(state, link.write(page.setup)) ?? ''}`).steps;
   const isIdle = steps.length > 0 && !page.plan;
   notice([link.faultOf(fragment), fault, isIdle && 'The run of this link is left out: its pattern isn’t valid.'], isFirst && steps.length > 0 && !isIdle);
-  return isIdle ? [] : steps;
+  return isIdle || !page.plan ? [] : [...steps, ...kept];
 }
 
 /** Takes the set-up of the page's address, and its run. Where the address has another place of the page, the set-up stays. */
@@ -129,25 +147,27 @@ async function follow({ state }) {
   if (link.write(page.setup) !== link.write(setup)) {
     Object.assign(page.setup, setup);
     editor.replace(setup.text);
-    shape?.choose(setup.beside);
+    page.shape?.choose(setup.beside);
   }
   changed();
   clearTimeout(addressing);
   const isAtHand = late?.control.isAtHand(link.readRun(location.hash).steps);
-  const steps = stepsOf(location.hash, state === null && !isAtHand);
+  const steps = stepsOf(location.hash, state, state === null && !isAtHand);
   if (steps.length && late && !isAtHand) await late.control.repeat(steps);
-  return refocus(activeElement, at('start'));
+  else keepAddress();
+  return refocus(activeElement, at('step'));
 }
 
 function wire() {
   for (const [name, read] of Object.entries(READ)) {
     at(name).addEventListener('input', ({ target }) => {
       page.setup[name] = read(target);
-      changed();
+      changed(true);
     });
   }
   at('interval').addEventListener('change', () => { at('interval').value = page.setup.interval; });
   addEventListener('popstate', follow);
+  addEventListener('pagehide', () => { if (late) keepNow(); });
 }
 
 /** Keeps the page for use without a network. */
@@ -155,22 +175,25 @@ function keepOffline() {
   if (isSecureContext && navigator.serviceWorker) navigator.serviceWorker.register('offline.mjs').catch(() => {});
 }
 
+const full = () => notice([`This design isn’t kept: this browser has ${MOST} of them already. Forget one first.`]);
+
 try {
   const shaping = import('./shape.mjs');
   notice([], isOpened() && link.readRun(location.hash).steps.length > 0);    // before anything is drawn, so that nothing moves
   await load();
   showInputs();
   wire();
-  editor = new Editor(patternChanged, leave);
+  editor = new Editor({ changed: patternChanged, leaves: leave, under: (place) => page.shape?.under(place), full });
   editor.set(page.setup.text);
-  const steps = stepsOf(location.hash, isOpened());
+  stepsOf(location.hash, history.state, isOpened());
   const firstVerdict = performance.now();
-  shape = new (await shaping).Shape(page, besideChosen);
+  page.shape = new (await shaping).Shape(page, besideChosen);
   document.body.classList.remove('loading');
   late = await loadLate();
   editor.mendsOf = late.mendsOf;
   editor.showMends();
   showRun();
+  const steps = stepsOf(location.hash, history.state, isOpened());
   if (steps.length) await late.control.repeat(steps);
   keepAddress();
   // What the checks and a curious reader of the console may look at; the vector file and the key schedule of a run have its secrets, but no private keys.
@@ -184,6 +207,6 @@ try {
 } catch (error) {
   document.body.classList.remove('loading');
   at('verdict').className = 'bad';
-  const title = error.code === -3 ? 'This browser can’t run the library.' : 'The library couldn’t be loaded.';
-  at('verdict').replaceChildren(element('p', 'title', title), element('p', '', error.message));
+  at('verdict').replaceChildren(element('p', 'title', 'The library couldn’t be loaded.'), element('p', '', error.message));
+  speak(at('verdict').textContent);
 }

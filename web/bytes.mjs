@@ -13,6 +13,8 @@ export const joined = (...parts) => {
   }
   return whole;
 };
+/** A text with what can't be seen, or turns the text around it, as escapes. */
+export const visible = (text) => text.replace(/[\p{C}\u2028\u2029]/gu, (it) => `\\u{${it.codePointAt(0).toString(16)}}`);
 /** A payload as text if it is one, and else in hex; a long one by its first part and its length. */
 export const shown = (bytes) => {
   if (bytes.length === 0) return 'empty';
@@ -20,7 +22,7 @@ export const shown = (bytes) => {
   const count = bytes.length > 48 ? ` (${bytes.length} bytes)` : '';
   try {
     const text = new TextDecoder('utf-8', { fatal: true }).decode(bytes);
-    if (/^[\x20-\x7e\u00a0-\uffff]*$/.test(text)) return `“${rest(text, 48)}”${count}`;
+    if (/^[\x20-\x7e\u00a0-\uffff]*$/.test(text)) return `“${visible(rest(text, 48))}”${count}`;
   } catch { /* no text */ }
   return `${rest(hex(bytes), 64)}${count}`;
 };

@@ -1,5 +1,6 @@
-// The bytes of a message by piece. Each byte is a button that flips its lowest bit; one of them is reached by Tab, the others by the arrow keys.
-import { element } from './element.mjs';
+// The bytes of a message by piece. A byte that is pressed by pointer or finger is only looked at, and a button beside it changes its lowest bit; Enter and
+// the space bar change the byte that has the focus. One byte is reached by Tab, the others by the arrow keys.
+import { button, element, enable } from './element.mjs';
 import { hex } from './bytes.mjs';
 
 const MOST = 128;
@@ -8,7 +9,7 @@ const TAIL = 16;
 export const TITLES = {
   e: 'ephemeral key', s: 'static key, clear', sealed: 'static key, encrypted', tag: 'tag', payload: 'payload, clear', nonce: 'nonce', text: 'payload, encrypted',
 };
-const HINT = 'Point at a byte to see what it is; press it to change its lowest bit on the way.';
+const HINT = 'Point at a byte, or press it, to see what it is.';
 
 /** The pieces of a message in bytes, for one of the handshake, the transport or datagrams. */
 export function piecesOf(run, { number, message, isDatagram }) {
@@ -91,26 +92,38 @@ export function bytesView(run, item, name, changed) {
   const places = placesOf(piecesOf(run, item));
   const box = element('div', 'bytes');
   const tells = element('p', 'piece', HINT);
+  let looked;
   box.setAttribute('role', 'toolbar');
-  box.setAttribute('aria-label', `The bytes of ${name}; press one to change it on the way`);
+  box.setAttribute('aria-label', `The bytes of ${name}: Enter changes one on the way`);
   fill(box, item, places, false);
   if (item.message.length) box.firstChild.tabIndex = 0;
   const of = (event) => event.target.closest('[data-at]');
-  const tell = (event) => {
-    const at = Number(of(event)?.dataset.at);
-    if (at >= 0) tells.textContent = `${nameAt(places, at)}${item.flips.has(at) ? ', changed' : ''}`;
+  const say = (at) => { tells.textContent = `${nameAt(places, at)}${item.flips.has(at) ? ', changed' : ''}`; };
+  const change = button('Change its lowest bit', () => flip(looked), 'copy flip');
+  enable(change, false, 'No byte is chosen.');
+  const look = (made) => {
+    box.querySelector('.looked')?.classList.remove('looked');
+    made.classList.add('looked');
+    looked = Number(made.dataset.at);
+    moveTo(box, made);
+    say(looked);
+    enable(change, true);
+    change.textContent = `${item.flips.has(looked) ? 'Change byte' : 'Change the lowest bit of byte'} ${looked}${item.flips.has(looked) ? ' back' : ''}`;
   };
-  box.addEventListener('mouseover', tell);
-  box.addEventListener('focusin', tell);
+  const flip = (at) => {
+    if (!item.flips.delete(at)) item.flips.add(at);
+    const made = box.querySelector(`[data-at="${at}"]`);
+    showByte(made, item, places, at);
+    look(made);
+    changed();
+  };
+  box.addEventListener('mouseover', (event) => { if (of(event)) say(Number(of(event).dataset.at)); });
+  box.addEventListener('mouseleave', () => { if (looked !== undefined) say(looked); });
+  box.addEventListener('focusin', (event) => { if (of(event)) look(of(event)); });
   box.addEventListener('click', (event) => {
     const made = of(event);
-    if (!made) return;
-    const at = Number(made.dataset.at);
-    if (!item.flips.delete(at)) item.flips.add(at);
-    showByte(made, item, places, at);
-    moveTo(box, made);
-    tell(event);
-    changed();
+    if (made && event.detail > 0) look(made);
+    else if (made) flip(Number(made.dataset.at));
   });
   box.addEventListener('keydown', (event) => {
     const made = of(event);
@@ -120,5 +133,5 @@ export function bytesView(run, item, name, changed) {
     moveTo(box, next);
     next.focus();
   });
-  return element('div', 'message', box, tells);
+  return element('div', 'message', box, element('div', 'looking', change, tells));
 }

@@ -1,6 +1,6 @@
 // The set-up as a program in each language: both parties of the pattern, in one process. The programs compile and run as they are, and checks/web/run
 // does so.
-import { FUNDAMENTAL } from '../bindings/js/patterns.mjs';
+import { FUNDAMENTAL } from './patterns.mjs';
 import { c } from './programs/c.mjs';
 import { go } from './programs/go.mjs';
 import { javascript } from './programs/javascript.mjs';
@@ -19,6 +19,7 @@ function factsOf(plan, { text, prologue, interval, mode, window }) {
     isNamed: FUNDAMENTAL.includes(base),
     lines: text.trimEnd().split('\n'),
     isDatagrams: mode === 'datagrams',
+    isStream: mode === 'stream',
     has: plan.static,
     knows: { initiator: before.responder.includes('s'), responder: before.initiator.includes('s') },
     knowsEphemeral: { initiator: before.responder.includes('e'), responder: before.initiator.includes('e') },

@@ -1,10 +1,11 @@
-// Section 3: the buttons of a run, and what comes of each.
-import { FUNDAMENTAL } from '../bindings/js/patterns.mjs';
+// The buttons of a run, and what comes of each.
 import { encode } from './bytes.mjs';
-import { enable } from './element.mjs';
+import { enable, speak } from './element.mjs';
 import { keyOf, write } from './link.mjs';
-import { NotNow, Run } from './run.mjs';
-import { Log, showKeys, showWindows } from './runview.mjs';
+import { FUNDAMENTAL } from './patterns.mjs';
+import { nextStep, seenOf, turnOf } from './progress.mjs';
+import { NotNow, Run, sorted } from './run.mjs';
+import { Current, Log, showKeys, showWindows } from './runview.mjs';
 import { sentenceOf, stateOf } from './sentences.mjs';
 
 const at = (id) => document.getElementById(id);
@@ -14,12 +15,18 @@ const payload = () => encode(at('payload').value);
 function say(text, isBad = false) {
   at('said').textContent = text;
   at('said').classList.toggle('bad', isBad);
+  speak(text);
 }
 
 export class Control {
   #page;
   #shown;
-  #log = new Log(at('log'), at('earlier'), { act: (work) => this.#act(work), whyNot: () => this.#whyNot() });
+  #log = new Log(at('log'), at('earlier'), (entry) => this.#pick(entry));
+  #current = new Current({ box: at('current'), title: at('current-h'), acts: at('current-acts'), body: at('current-body') }, {
+    act: (work) => this.#act(work), whyNot: () => this.#whyNot(), looked: () => this.#draw(),
+  });
+  #written = 0;
+  #shownRun;
   #acting = Promise.resolve();
 
   /** `page` has `setup`, `plan`, `run` and `isStale`. `shown()` is called after each thing done, and `back()` takes the run's set-up again. */
@@ -34,7 +41,8 @@ export class Control {
     const onPress = (it, work) => it.addEventListener('click', () => { if (it.getAttribute('aria-disabled') !== 'true') work(); });
     const onAct = (it, work) => onPress(it, () => this.#act(work));
     onPress(at('start'), () => this.begin());
-    onPress(at('back'), () => { back(); at('start').focus(); });
+    onPress(at('step'), () => this.#next());
+    onPress(at('back'), () => { back(); at('step').focus(); });
     onAct(at('all'), () => page.run.passAll(payload));
     onAct(at('close'), () => page.run.close());
     for (const it of document.querySelectorAll('[data-write]')) onAct(it, () => page.run.write(it.dataset.write, payload()));
@@ -57,8 +65,11 @@ export class Control {
     const isLive = Boolean(run) && !isStale;
     const none = run ? STALE : 'No keys are drawn yet.';
     const silence = (role) => (isLive ? `It can’t write: ${run.silenceOf(role) ?? 'this isn’t a stream'}.` : none);
+    const { step, label } = nextStep(run, isStale);
+    enable(at('step'), step !== 'begin' || plan, 'The pattern isn’t valid.');
+    at('step').textContent = label;
     enable(at('start'), plan, 'The pattern isn’t valid.');
-    at('start').textContent = run ? `Begin again with ${isStale ? 'this set-up' : 'new keys'}` : 'Draw keys and begin';
+    at('start').hidden = !run || step === 'begin';
     enable(at('all'), isLive && (run.next || run.pending), isLive ? 'No message of the handshake is left.' : none);
     for (const it of document.querySelectorAll('[data-write]')) {
       const role = it.dataset.write;
@@ -72,10 +83,37 @@ export class Control {
     at('keys').hidden = !run;
   }
 
+  /** The run in the picture, and what its next step is. */
+  #draw() {
+    const { run } = this.#page;
+    this.#page.shape?.run(seenOf(run, this.#current.item));
+    this.#showButtons();
+  }
+
+  #pick(entry) {
+    this.#current.pick(this.#page.run, entry);
+    this.#current.show(this.#page.run, false);
+    this.#draw();
+    at('current').querySelector('button').focus();
+  }
+
+  /** Does the next step. */
+  #next() {
+    const { run, isStale } = this.#page;
+    const { step, role, item } = nextStep(run, isStale);
+    if (step === 'begin') return this.begin();
+    return this.#act(() => (step === 'write' ? run.write(role, payload()) : run.deliver(role, item.n, sorted(item.flips))));
+  }
+
   show() {
     const { run, isStale } = this.#page;
-    this.#showButtons();
-    at('state').textContent = stateOf(run);
+    const written = run ? run.log.filter(({ kind }) => kind === 'wrote').length : 0;
+    const isNew = this.#shownRun !== run || written !== this.#written;
+    this.#written = written;
+    this.#shownRun = run;
+    this.#current.show(run, isNew);
+    this.#draw();
+    at('state').textContent = stateOf(run, run && turnOf(run));
     this.#log.show(run);
     showWindows(at('windows'), run);
     at('stale').hidden = !isStale;
@@ -117,7 +155,7 @@ export class Control {
     old?.dispose();
     Object.assign(this.#page, { run: Object.assign(run, { given }), isStale: keyOf(given) !== keyOf(setup) });
     showKeys(at('key-list'), run);
-    say('New keys are drawn. The initiator writes the first message.');
+    say('New keys are drawn.');
   }
 
   begin() {
@@ -140,7 +178,7 @@ export class Control {
       for (done = 0; done < steps.length; done += 1) await page.run.repeat(steps[done]);
     }, true);
     if (done === undefined) return;
-    const what = done < steps.length ? `Of the link’s run ${done} of ${steps.length} steps were done` : 'The run of the link was done';
+    const what = done < steps.length ? `Of the run ${done} of ${steps.length} steps were done` : 'The run was done';
     const { length } = page.run.log;
     at('said').textContent = `${what} again with new keys: ${length} ${length === 1 ? 'entry' : 'entries'}. ${at('said').textContent}`;
   }

@@ -1,12 +1,18 @@
-// The text of the pattern: it is checked at each change, its first fault is marked, and a click sets psk places or mends a fault. What the page changes in
-// it the browser's own undo takes back.
+// The text of the pattern: it is checked at each change, its faults are marked, and a click sets psk places or mends a fault. What the page changes in it the
+// browser's own undo takes back.
 import { checkPattern } from '../bindings/js/check.mjs';
-import { layout, linesOf } from '../bindings/js/layout.mjs';
-import { DEFERRED, FUNDAMENTAL, textOf } from '../bindings/js/patterns.mjs';
-import { explain } from './faults.mjs';
-import { button, element } from './element.mjs';
+import { button, element, speak } from './element.mjs';
+import { warningsOf } from './facts.mjs';
+import { explain, firstOf } from './faults.mjs';
 import * as own from './own.mjs';
+import { DEFERRED, FUNDAMENTAL, textOf } from './patterns.mjs';
+import { layout, linesOf } from './plan.mjs';
+import { faultsOf } from './reading.mjs';
 
+/** How long after the last key the verdict is said, in milliseconds. */
+const QUIET = 600;
+/** How many faults are told. */
+const MOST_FAULTS = 8;
 const HEADING = /^([A-Z][A-Z0-9]{0,7})((?:psk[0-8])(?:\+psk[0-8])*)?:$/;
 
 /** A text as the library reads it: its last line ends with a line feed too. */
@@ -53,6 +59,30 @@ function difference(old, text) {
   return [from, old.length - rest, text.slice(from, text.length - rest)];
 }
 
+const paragraph = (cls, ...words) => element('p', cls, ...words);
+
+/** What is said of a valid pattern. */
+function validParts({ messages }, plan, warnings) {
+  const lengths = plan.messages.map(({ length }) => length);
+  const says = messages === 1 ? `Without its payload the message has ${lengths[0]} bytes.` : `Without payloads the messages have ${lengths.join(', ')} bytes.`;
+  const title = `Valid: ${messages} ${messages === 1 ? 'message' : 'messages'}${warnings.length ? ', with a warning' : ''}. `;
+  return [paragraph('title', title), ...warnings.map((it) => paragraph('warns', `Warning: ${it} `)), paragraph('mend', says)];
+}
+
+/** The title of a fault; a rule's number is a link to the rule, and there is one to its section of the standard. */
+function titleOf({ title, rule, section, where }) {
+  if (!rule) return [`${title}. `];
+  const to = (href, text) => Object.assign(element('a', '', text), { href });
+  return ['Rule ', to(`rules.html#rule-${rule}`, String(rule)), ' (', to(section.url, section.number), `)${where}. `];
+}
+
+/** What is said of a refused text: its first fault with what mends it, and a line for each other one. */
+function faultParts([first, ...others]) {
+  const more = others.map((it) => element('li', '', ...titleOf(it), it.says));
+  const list = more.length ? [element('ul', 'more', ...more)] : [];
+  return [paragraph('title', ...titleOf(first)), paragraph('', `${first.says} `), paragraph('mend', `${first.mend} `), ...list];
+}
+
 export class Editor {
   #text = document.getElementById('text');
   #marks = document.getElementById('marks');
@@ -61,14 +91,19 @@ export class Editor {
   #pick = document.getElementById('pick');
   #places = document.getElementById('places');
   #verdictOf;
+  /** The text that was kept last of what is typed now: a later one under its name takes its place. */
+  #former;
   #mine = element('optgroup');
   /** The text when the list of patterns got the focus, and whether another was chosen since. */
   #chosen = { text: '', isOther: false };
   #isReplacing = false;
 
-  /** `changed(text, verdict, says)` is called after each change; `leaves()` before the page puts another pattern in the place of this one. */
-  constructor(changed, leaves) {
-    Object.assign(this, { changed, leaves, mendsOf: () => [] });
+  /**
+   * `changed(text, plan, isTyped)` is called after each change; `leaves()` before the page puts another pattern in the place of this one; `under(place)` with the token
+   * that the caret is in; and `full()` where a design can't be kept.
+   */
+  constructor({ changed, leaves, under, full }) {
+    Object.assign(this, { changed, leaves, full, mendsOf: () => [] });
     const group = (label, bases) => {
       const made = element('optgroup', '', ...bases.map((base) => new Option(base)));
       made.label = label;
@@ -94,11 +129,51 @@ export class Editor {
     }
     this.#text.addEventListener('input', () => this.judge());
     this.#text.addEventListener('scroll', () => { this.#marks.scrollTop = this.#text.scrollTop; this.#marks.scrollLeft = this.#text.scrollLeft; });
-    addEventListener('pagehide', () => this.#remember());
+    this.#text.addEventListener('change', () => this.remember());
+    document.addEventListener('selectionchange', () => { if (document.activeElement === this.#text) under(this.#place()); });
+    document.getElementById('copy-own').addEventListener('click', () => this.#copy());
+    document.getElementById('forget').addEventListener('click', () => {
+      own.forget(this.text);
+      this.#former = undefined;
+      this.#fillPick();
+      speak('This design is forgotten. Its text is still in the editor.');
+      this.judge();
+    });
+    addEventListener('pagehide', () => this.remember());
   }
 
-  #remember() {
-    if (!standardOf(this.text)) own.remember(this.text);
+  /** The token that the caret is in: its message and its place, from 0 on. */
+  #place() {
+    const lines = linesOf(this.text);
+    let rest = this.#text.selectionStart;
+    const n = lines.findIndex(({ line }) => {
+      if (rest <= line.length) return true;
+      rest -= line.length + 1;
+      return false;
+    });
+    const token = lines[n]?.tokens?.findIndex(({ start, end }) => rest >= start && rest <= end) ?? -1;
+    return token < 0 || n < firstOf(lines) ? undefined : { message: n - firstOf(lines), token };
+  }
+
+  /** Keeps a design of one's own: in the place of what it was typed out of, if that has its name. */
+  remember() {
+    const { text } = this;
+    if (standardOf(text) || text.trim() === '') return;
+    const former = this.#former !== undefined && own.nameOf(this.#former) === own.nameOf(text) ? this.#former : undefined;
+    if (own.remember(text, former)) this.#former = text;
+    else if (text.length <= own.LONGEST) this.full();
+  }
+
+  /** The same pattern under a name that no other design has. */
+  #copy() {
+    this.leaves();
+    this.remember();
+    this.#former = undefined;
+    this.replace(this.text.replace(/^[A-Z0-9]*/, own.freeName()));
+    this.remember();
+    speak(`This is your ${own.nameOf(this.text)} now.`);
+    this.#fillPick();
+    this.judge();
   }
 
   /** The list of patterns has one's own first. It stays as it is while it has the focus, since the arrow keys go through it. */
@@ -106,19 +181,25 @@ export class Editor {
     const { text } = this;
     const isStandard = standardOf(text) !== '';
     this.#chosen = { text, isOther: false };
-    const mine = own.all().filter((it) => it !== text).map((it) => new Option(`your ${own.nameOf(it)}`, `own ${own.nameOf(it)}`));
-    const copied = new Option('make it your own', 'copy');
-    this.#mine.replaceChildren(...(isStandard ? [] : [new Option('this pattern', 'this')]), ...mine, ...(isStandard && mine.length === 0 ? [copied] : []));
+    const mine = own.all().filter((it) => it.text !== text).map(({ id, label }) => new Option(`your ${label}`, `own ${id}`));
+    this.#mine.replaceChildren(...(isStandard ? [] : [new Option('this pattern', 'this')]), ...mine);
   }
 
   #choose(value) {
     const { text, isOther } = this.#chosen;
     if (!isOther) this.leaves();
     this.#chosen.isOther = true;
-    this.#remember();
+    this.remember();
+    this.#former = value.startsWith('own ') ? value.slice(4) : undefined;
     if (value === 'this') return this.replace(text);
-    if (value === 'copy') return this.replace(text.replace(/^[A-Z0-9]*/, 'MINE'));
-    return this.replace(value.startsWith('own ') ? own.all().find((it) => own.nameOf(it) === value.slice(4)) : textOf(value));
+    return this.replace(value.startsWith('own ') ? own.textOf(value.slice(4)) : textOf(value));
+  }
+
+  /** Puts a pattern that comes from elsewhere in the place of this one, which is kept. */
+  take(text) {
+    this.remember();
+    this.#former = undefined;
+    this.replace(text);
   }
 
   /** Sets the text at the start, without a way back. */
@@ -151,31 +232,34 @@ export class Editor {
   judge() {
     const { text } = this;
     const verdict = checkPattern(text);
-    const says = verdict.valid ? undefined : explain(text, verdict);
+    const plan = verdict.valid ? layout(text) : undefined;
+    const faults = verdict.valid ? [] : faultsOf(text, verdict).slice(0, MOST_FAULTS).map((fault) => explain(text, fault));
     this.#verdictOf = verdict;
-    this.#mark(text, says?.span);
-    this.#tell(text, verdict, says);
+    this.#mark(text, faults.map(({ span }) => span));
+    this.#tell(verdict, plan, faults);
     this.showMends();
     this.#set(text);
-    this.changed(text, verdict);
+    this.changed(text, plan, !this.#isReplacing);
   }
 
-  #mark(text, span) {
-    this.#text.setAttribute('aria-invalid', String(Boolean(span)));
-    if (!span) return this.#marks.replaceChildren(text);
-    const [from, to] = span;
-    return this.#marks.replaceChildren(text.slice(0, from), element('mark', '', text.slice(from, to) || ' '), text.slice(to === from ? to + 1 : to));
+  #mark(text, spans) {
+    this.#text.setAttribute('aria-invalid', String(spans.length > 0));
+    const parts = [];
+    let at = 0;
+    for (const [from, to] of spans.toSorted((a, b) => a[0] - b[0])) {
+      if (from < at) continue;
+      parts.push(text.slice(at, from), element('mark', '', text.slice(from, to) || ' '));
+      at = to === from ? to + 1 : to;
+    }
+    this.#marks.replaceChildren(...parts, text.slice(at));
   }
 
-  #tell(text, verdict, says) {
-    const line = (cls, words) => element('p', cls, words);
-    this.#verdict.className = verdict.valid ? 'good' : 'bad';
-    this.#verdict.replaceChildren(...(verdict.valid
-      ? [
-        line('title', `Valid: ${verdict.messages} ${verdict.messages === 1 ? 'message' : 'messages'}.`),
-        line('mend', `No rule is broken. Without payloads the messages have ${layout(text).messages.map(({ length }) => length).join(', ')} bytes.`),
-      ]
-      : [line('title', `${says.title}.`), line('', says.says), line('mend', says.mend)]));
+  #tell(verdict, plan, faults) {
+    const warnings = plan ? warningsOf(plan) : [];
+    const parts = plan ? validParts(verdict, plan, warnings) : faultParts(faults);
+    this.#verdict.className = { true: warnings.length ? 'warned' : 'good', false: 'bad' }[verdict.valid];
+    this.#verdict.replaceChildren(...parts);
+    speak(this.#verdict.textContent, QUIET);
   }
 
   /** The corrections that are offered. */
@@ -192,7 +276,7 @@ export class Editor {
     const base = standardOf(text);
     if (!this.#isReplacing) this.#fillPick();
     this.#pick.value = base || 'this';
-    if (!base && text !== this.#chosen.text) this.#pick.value = `own ${own.nameOf(text)}`;
+    if (!base && text !== this.#chosen.text) this.#pick.value = `own ${text}`;
     if (this.#pick.selectedIndex >= 0) return this.#setPlaces(text);
     if (![...this.#mine.children].some(({ value }) => value === 'this')) this.#mine.prepend(new Option('this pattern', 'this'));
     this.#chosen.text = text;
@@ -207,6 +291,8 @@ export class Editor {
     for (const box of this.#places.querySelectorAll('input')) {
       box.checked = places.includes(Number(box.value));
       box.disabled = Number(box.value) > messages && !box.checked && box !== document.activeElement;
+      box.parentElement.hidden = box.disabled;
     }
+    document.getElementById('forget').hidden = !own.all().some((it) => it.text === text);
   }
 }

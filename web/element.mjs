@@ -21,15 +21,24 @@ export function enable(it, isEnabled, why = '') {
   if (it.title !== title) it.title = title;
 }
 
+let speaking;
+let spoken = '';
+
+/** Says something to those who don't see the page: once, after so many milliseconds, and not what was said last. Only the newest of several is said. */
+export function speak(text, after = 0) {
+  clearTimeout(speaking);
+  speaking = setTimeout(() => {
+    if (text === spoken && after > 0) return;
+    spoken = text;
+    const region = document.getElementById('live');
+    region.textContent = region.textContent === text ? `${text}\u00a0` : text;
+  }, after);
+}
+
 /** Gives the focus to another element, if the one that had it isn't shown any more. */
 export function refocus(had, other) {
   if (!had || had === document.body || (had.isConnected && had.getClientRects().length > 0)) return;
   other.focus({ preventScroll: true });
-}
-
-/** Says something to those who don't see a button change. */
-function tell(text) {
-  document.getElementById('told').textContent = text;
 }
 
 /** A button that copies a text. `what` says of what, for those who don't see where it is. */
@@ -38,11 +47,8 @@ export function copier(what, textOf, label = 'Copy') {
     let isCopied = true;
     try { await navigator.clipboard.writeText(textOf()); } catch { isCopied = false; }
     made.textContent = isCopied ? 'Copied' : 'Not allowed';
-    tell(isCopied ? `Copied: ${what}.` : 'This browser doesn’t let the page copy.');
-    setTimeout(() => {
-      made.textContent = label;
-      tell('');
-    }, 1500);
+    speak(isCopied ? `Copied: ${what}.` : 'This browser doesn’t let the page copy.');
+    setTimeout(() => { made.textContent = label; }, 1500);
   }, 'copy');
   made.setAttribute('aria-label', `${label}: ${what}`);
   return made;

@@ -1,109 +1,168 @@
-// What follows from a pattern's tokens alone: which DH results each message's keys are made of, who can therefore compute them, and which messages can
-// be replayed. `judge` decides, and TABLE has the sentences. Nothing here is graded, and nothing here is proved. A pattern is taken as `layout` of
-// bindings/js gives it: `messages` with `from`, `tokens` and `pieces`, `before`, and `oneWay`. There is no DOM here.
-
-/** The sentences by their names. A word in braces is filled in from the fact. `warns` marks those that a designer has to see. */
-export const TABLE = Object.freeze({
-  everybody: { warns: true, says: 'No DH is mixed: everybody can compute these keys.' },
-  psk: { says: 'No DH is mixed, only psk: whoever has the pre-shared secret can compute these keys.' },
-  oneStatic: { says: 'Whoever has the {role}’s static private key{psk} can compute these keys.' },
-  eitherStatic: { says: 'Whoever has the static private key of either party{psk} can compute these keys.' },
-  bothStatics: { says: 'Whoever has the static private keys of both parties{psk} can compute these keys.' },
-  ephemeral: { says: 'Of these, ee is made of ephemeral keys alone.' },
-  clear: { says: 'The payload is in the clear: there is no key yet.' },
-  noStatic: { says: 'No static key of the {role} takes part: the {other} can’t tell who it is.' },
-  onlyPsk: { says: 'No static key of the {role} takes part: the {other} can tell only that it has the pre-shared secret.' },
-  unmixed: { warns: true, says: 'The {role}’s static key is named, and no DH mixes it: nothing shows that the {role} has its private key.' },
-  shown: { says: 'The {role}’s static key is in the clear in message {message}: everybody sees who takes part.' },
-  shownToAll: { warns: true, says: 'The {role}’s static key is encrypted in message {message} under keys that everybody can compute.' },
-  replay: { says: 'Message {message} can be replayed: the {role} has put in no fresh key by then, so it accepts a recorded one again.' },
-  replayAll: { says: 'The whole session can be replayed: the {role} puts in no fresh key, so it accepts a recorded one again.' },
-});
-
-/** What isn't judged, and where to look for it. */
-export const UNJUDGED = 'These are facts about the tokens. Not judged: how well each payload is authenticated and kept secret, and how well identities are '
-  + 'hidden. Sections 7.7 and 7.8 of the standard grade the fundamental patterns; the tool Noise Explorer analyses a pattern of one’s own.';
+// What a pattern's tokens show: which private keys are enough for each key, who might have written each message, and whether a recording of it is accepted
+// again. `rowsOf` decides, and SENTENCES has the words. Nothing here is graded, and nothing here is proved. A pattern is data: `messages`, each with `from`,
+// `tokens` and `pieces` (of which `kind` and `sealed` count), `before` with the tokens of both pre-messages, and `oneWay`. There is no DOM here.
 
 const OTHER = { initiator: 'responder', responder: 'initiator' };
+const ROLES = ['initiator', 'responder'];
 const DHS = ['ee', 'es', 'se', 'ss'];
+const KEYS = ['initiator e', 'initiator s', 'responder e', 'responder s'];
 
-/** A fact in words. */
-export function sentence({ fact, ...values }) {
-  return TABLE[fact].says.replace(/\{(\w+)\}/g, (_, name) => values[name]);
-}
+/** The words of each fact. A name in braces is filled in. */
+const SENTENCES = {
+  seen: 'In the clear: everybody sees it.',
+  everybody: 'No DH is mixed in: everybody can compute this key.',
+  psk: 'The psk alone.',
+  key: '{ways}{psk}.',
+  part: ' Who takes the {role}’s part needs only {keys} of its own{psk}.',
+  untagged: 'Anyone: it has no tag.',
+  openWriter: 'Anyone: everybody can compute the key.',
+  anyone: 'Anyone, with an e of its own.',
+  pskWriter: 'Who has the psk.',
+  writer: 'Who has {ways}{psk}.',
+  isNew: 'Refused: the {role}’s e is new each time.',
+  again: 'Accepted again: the {role} puts in no e before.',
+  bare: 'Accepted again: it has no tag.',
+};
 
-export const warns = ({ fact }) => Boolean(TABLE[fact].warns);
+/** What a designer has to see. */
+const WARNINGS = {
+  everybody: '{name}: no DH is mixed in, and everybody can compute the key.',
+  unmixed: 'The {role}’s s is named, and no DH mixes it: nothing shows that the {role} has its private key.',
+};
 
-/** Whether these private keys are enough for every one of the DHs: a DH needs one of its two. */
+/** What the tables mean, and what isn't judged. */
+export const MEANING = 'Private keys are meant, and all public keys count as known; e is made for one handshake, s is kept. '
+  + '“Or” parts ways of which each is enough. Where an s comes in a message, the application has to compare it.';
+export const UNJUDGED = 'These are facts of tokens, and no proof. Not judged: how well payloads are authenticated and kept secret, and how well identities '
+  + 'are hidden. Sections 7.7 and 7.8 of the standard grade the fundamental patterns; Noise Explorer grades and analyses one’s own.';
+
+const filled = (text, values) => text.replace(/\{(\w+)\}/g, (_, name) => values[name] ?? '');
+
+/** Whether these private keys are enough for every DH: a DH needs one of its two. */
 const areEnough = (dhs, keys) => dhs.every((dh) => keys.includes(`initiator ${dh[0]}`) || keys.includes(`responder ${dh[1]}`));
 
-/** Who can compute the keys that are made of these DHs, and of so many psks. */
-function whoComputes(dhs, psks) {
-  if (dhs.length === 0) return { fact: psks ? 'psk' : 'everybody' };
-  const psk = psks ? ' and the pre-shared secret' : '';
-  const alone = ['initiator', 'responder'].filter((role) => areEnough(dhs, [`${role} s`]));
-  if (alone.length === 2) return { fact: 'eitherStatic', psk };
-  if (alone.length === 1) return { fact: 'oneStatic', role: alone[0], psk };
-  if (areEnough(dhs, ['initiator s', 'responder s'])) return { fact: 'bothStatics', psk };
-  return { fact: 'ephemeral' };
+/** The smallest sets of private keys, out of these, that are enough for all the DHs. */
+export function waysOf(dhs, keys = KEYS) {
+  const sets = Array.from({ length: 1 << keys.length }, (_, bits) => keys.filter((_key, n) => bits & (1 << n)));
+  const enough = sets.filter((set) => areEnough(dhs, set)).sort((a, b) => a.length - b.length);
+  return enough.filter((set, n) => !enough.slice(0, n).some((smaller) => smaller.every((key) => set.includes(key))));
 }
 
-/** What is mixed by each message's payload, and by the transport: `{ message, dhs, psks, fact }`, where `message` is undefined for the transport. */
-function moments({ messages }) {
-  const mixed = [];
-  const rows = messages.map(({ tokens, pieces }, n) => {
-    mixed.push(...tokens.filter((token) => token === 'psk' || DHS.includes(token)));
-    const dhs = DHS.filter((dh) => mixed.includes(dh));
-    const psks = mixed.filter((token) => token === 'psk').length;
-    const isClear = !pieces.find(({ kind }) => kind === 'payload').sealed;
-    return { message: n + 1, dhs, psks, fact: isClear ? { fact: 'clear' } : whoComputes(dhs, psks) };
+/** One such set in words. */
+function wayWords(way) {
+  if (way.length === 2 && way[0].at(-1) === way[1].at(-1)) return `both parties’ ${way[0].at(-1)}`;
+  const of = ROLES.map((role) => [role, way.filter((key) => key.startsWith(role)).map((key) => key.at(-1))]).filter(([, own]) => own.length);
+  return of.map(([role, own]) => `the ${role}’s ${own.join(' and ')}`).join(' and ');
+}
+
+const waysWords = (ways) => ways.map(wayWords).join(', or ');
+const capital = (text) => text[0].toUpperCase() + text.slice(1);
+const isMixed = (token) => token === 'psk' || DHS.includes(token);
+
+/** What is mixed in by these tokens: the DHs, and how many psks. */
+const mixedOf = (tokens) => ({ dhs: DHS.filter((dh) => tokens.includes(dh)), psks: tokens.filter((token) => token === 'psk').length });
+export const mixedWords = ({ dhs, psks }) => [...dhs, ...(psks ? [psks > 1 ? `psk (${psks})` : 'psk'] : [])].join(', ') || 'nothing';
+
+/** What a party could do that takes the place of the one to read: which of the keys it chooses itself are enough, or undefined. */
+function ownPart({ before, messages }, role, until, dhs) {
+  const sent = ['e', 's'].filter((own) => !before[role].includes(own) && messages.slice(0, until).some(({ from, tokens }) => from === role && tokens.includes(own)));
+  return [['e'], ['e', 's']].find((own) => own.every((key) => sent.includes(key)) && areEnough(dhs, own.map((key) => `${role} ${key}`)));
+}
+
+/** The row of one key: of an encrypted s, an encrypted payload or the transport. */
+function keyRow(plan, { name, to, until, isTransport }, tokens) {
+  const mixed = mixedOf(tokens);
+  const { dhs, psks } = mixed;
+  const row = { name, of: 'key', mixed };
+  if (dhs.length === 0) return psks ? { ...row, fact: 'psk' } : { ...row, fact: 'everybody', warns: true };
+  const psk = psks ? ' and the psk' : '';
+  const ways = waysOf(dhs);
+  const part = isTransport ? undefined : ownPart(plan, to, until, dhs);
+  const manyPsk = psks && ways.length > 1 ? '; and in each case the psk' : psk;
+  const own = part && { role: to, keys: part.map((key) => `an ${key}`).join(' and '), psk };
+  return { ...row, fact: 'key', ways, values: { ways: capital(waysWords(ways)), psk: manyPsk }, part: own };
+}
+
+/** The rows of the keys: each s that is sent, each payload, and the transport. */
+function keyRows(plan) {
+  const tokens = [];
+  const rows = plan.messages.flatMap(({ from, tokens: own, pieces }, n) => {
+    const found = [];
+    const add = (kind, label) => {
+      const place = { name: `Message ${n + 1}, ${label}`, to: OTHER[from], until: n + 1 };
+      const isSealed = pieces.find((piece) => piece.kind === kind).sealed;
+      found.push(isSealed ? keyRow(plan, { ...place, until: n }, tokens) : { name: place.name, of: 'key', mixed: mixedOf(tokens), fact: 'seen' });
+    };
+    for (const token of own) {
+      if (token === 's') add('s', 's');
+      if (isMixed(token) || token === 'e') tokens.push(token);
+    }
+    add('payload', 'payload');
+    return found;
   });
-  const { dhs, psks } = rows.at(-1);
-  return [...rows, { message: undefined, dhs, psks, fact: whoComputes(dhs, psks) }];
+  return [...rows, keyRow(plan, { name: 'Transport, recorded', isTransport: true }, tokens)];
 }
 
-/** What is to be said of a party's static key. */
-function ofStatic({ messages, before }, role) {
-  const other = OTHER[role];
-  const isMixed = messages.some(({ tokens }) => tokens.some((token) => DHS.includes(token) && token[role === 'initiator' ? 0 : 1] === 's'));
-  const sent = messages.findIndex(({ from, tokens }) => from === role && tokens.includes('s'));
-  if (!isMixed) {
-    if (sent >= 0 || before[role].includes('s')) return [{ fact: 'unmixed', role }];
-    return [{ fact: messages.some(({ tokens }) => tokens.includes('psk')) ? 'onlyPsk' : 'noStatic', role, other }];
-  }
-  if (sent < 0) return [];
-  const { pieces, tokens } = messages[sent];
-  const isSealed = pieces.find(({ kind }) => kind === 's').sealed;
-  if (!isSealed) return [{ fact: 'shown', role, message: sent + 1 }];
-  const mixedBefore = [...messages.slice(0, sent).flatMap((message) => message.tokens), ...tokens.slice(0, tokens.indexOf('s'))];
-  return mixedBefore.some((token) => token === 'psk' || DHS.includes(token)) ? [] : [{ fact: 'shownToAll', role, message: sent + 1 }];
+/** Who might have written a message, by what is mixed in at its last tag. */
+function writerOf({ before, messages }, from, until, tokens, isTagged) {
+  if (!isTagged) return { fact: 'untagged' };
+  const { dhs, psks } = mixedOf(tokens);
+  if (dhs.length + psks === 0) return { fact: 'openWriter' };
+  const choosesE = !before[from].includes('e') && messages.slice(0, until).some((message) => message.from === from && message.tokens.includes('e'));
+  const rest = choosesE ? dhs.filter((dh) => !areEnough([dh], [`${from} e`])) : dhs;
+  if (rest.length === 0) return { fact: psks ? 'pskWriter' : 'anyone' };
+  const ways = waysOf(rest, KEYS.filter((key) => !choosesE || key !== `${from} e`));
+  return { fact: 'writer', ways, values: { ways: waysWords(ways), psk: psks ? (ways.length > 1 ? '; and in each case the psk' : ' and the psk') : '' } };
 }
 
-/** The messages that a party accepts again: those that come to it before it has put in a fresh key. */
-function replays({ messages, before }, role) {
-  if (before[role].includes('e')) return [];
-  const first = messages.findIndex(({ from, tokens }) => from === role && tokens.includes('e'));
-  const come = messages.map(({ from }, n) => ({ from, n })).filter(({ from, n }) => from !== role && (first < 0 || n < first));
-  if (come.length === 0) return [];
-  if (first < 0) return [{ fact: 'replayAll', role }];
-  return come.map(({ n }) => ({ fact: 'replay', role, message: n + 1 }));
+/** Whether a recording is accepted again: not if it has a tag, and the reader has put in an e before. */
+function againOf({ before, messages }, to, until, isTagged) {
+  if (!isTagged) return { fact: 'bare' };
+  const isNew = before[to].includes('e') || messages.slice(0, until).some(({ from, tokens }) => from === to && tokens.includes('e'));
+  return { fact: isNew ? 'isNew' : 'again', values: { role: to } };
 }
 
-/**
- * The facts about a valid pattern. `moments` has one row for each message and one for the transport, each with what is mixed by then and a fact; `facts`
- * has those about its parties.
- */
-export function judge(plan) {
-  const roles = ['initiator', 'responder'];
-  return { moments: moments(plan), facts: [...roles.flatMap((role) => ofStatic(plan, role)), ...roles.flatMap((role) => replays(plan, role))] };
+/** The rows of the messages: those of the handshake, and the transport in each direction. */
+function messageRows(plan) {
+  const { messages, oneWay } = plan;
+  const tokens = [];
+  const row = (name, from, until, isTagged) => ({
+    name, of: 'message', from, writer: writerOf(plan, from, until, tokens, isTagged), again: againOf(plan, OTHER[from], until, isTagged),
+  });
+  const rows = messages.map(({ from, tokens: own, pieces }, n) => {
+    tokens.push(...own);
+    return row(`Message ${n + 1}`, from, n + 1, pieces.some(({ sealed }) => sealed));
+  });
+  const ways = oneWay ? ['initiator'] : ROLES;
+  return [...rows, ...ways.map((from) => row(`Transport, ${from}’s`, from, messages.length, true))];
 }
 
-/** What is mixed in a row of `moments`, as a text. */
-export const mixedIn = ({ dhs, psks }) => [...dhs, ...(psks ? [psks > 1 ? `psk (${psks})` : 'psk'] : [])].join(', ') || 'nothing';
+/** All facts of a valid pattern, one row each. */
+export const rowsOf = (plan) => ({ keys: keyRows(plan), messages: messageRows(plan) });
 
-/** Everything that `judge` finds, as lines of text: what a command would print. */
+/** A fact in words: of a row of the keys. */
+export const keySentence = ({ fact, values, part }) => filled(SENTENCES[fact], values ?? {}) + (part ? filled(SENTENCES.part, part) : '');
+export const writerSentence = ({ writer }) => filled(SENTENCES[writer.fact], writer.values ?? {});
+export const againSentence = ({ again }) => filled(SENTENCES[again.fact], again.values ?? {});
+
+/** What a designer has to see, in sentences. */
+export function warningsOf(plan) {
+  const { messages, before } = plan;
+  const unmixed = ROLES.filter((role) => {
+    const isNamed = before[role].includes('s') || messages.some(({ from, tokens }) => from === role && tokens.includes('s'));
+    return isNamed && !messages.some(({ tokens }) => tokens.some((token) => DHS.includes(token) && token[ROLES.indexOf(role)] === 's'));
+  });
+  const open = keyRows(plan).filter(({ warns }) => warns);
+  return [...open.map(({ name }) => filled(WARNINGS.everybody, { name })), ...unmixed.map((role) => filled(WARNINGS.unmixed, { role }))];
+}
+
+/** All that is found, as lines of text: a name and its sentences, in the order of the tables. */
 export function lines(plan) {
-  const { moments: rows, facts } = judge(plan);
-  const nameOf = ({ message }) => (message ? `message ${message}` : 'transport');
-  return [...rows.map((row) => `${nameOf(row)}: ${mixedIn(row)} mixed in. ${sentence(row.fact)}`), ...facts.map(sentence), UNJUDGED];
+  const { keys, messages } = rowsOf(plan);
+  return [
+    ...keys.map((row) => `${row.name}: ${mixedWords(row.mixed)} mixed in. ${keySentence(row)}`),
+    ...messages.map((row) => `${row.name}: ${writerSentence(row)} ${againSentence(row)}`),
+    ...warningsOf(plan).map((says) => `Warning: ${says}`),
+    MEANING, UNJUDGED,
+  ];
 }

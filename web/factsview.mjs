@@ -1,13 +1,11 @@
-// The facts about a pattern's tokens, and two patterns beside each other, as they are shown.
+// The facts about a pattern's tokens, and where two patterns differ in them, as they are shown.
 import { checkPattern } from '../bindings/js/check.mjs';
-import { layout, linesOf } from '../bindings/js/layout.mjs';
-import { DEFERRED, FUNDAMENTAL, textOf } from '../bindings/js/patterns.mjs';
 import { element } from './element.mjs';
-import { UNJUDGED, judge, mixedIn, sentence, warns } from './facts.mjs';
+import { MEANING, UNJUDGED, againSentence, keySentence, mixedWords, rowsOf, writerSentence } from './facts.mjs';
 import * as own from './own.mjs';
+import { DEFERRED, FUNDAMENTAL, textOf } from './patterns.mjs';
+import { layout } from './plan.mjs';
 
-const nameOf = ({ message }) => (message ? `Message ${message}` : 'Transport');
-const says = (fact) => (warns(fact) ? [element('strong', '', 'Warning: '), sentence(fact)] : [sentence(fact)]);
 const cell = (name, ...children) => element(name, '', ...children);
 
 function headed(...names) {
@@ -22,65 +20,54 @@ function rowHead(text) {
   return made;
 }
 
-/** The facts in a box: a table of what is mixed by when, and a list. */
+const PARTS = { TABLE: 'table', THEAD: 'rowgroup', TBODY: 'rowgroup', TR: 'row', TD: 'cell' };
+
+/** A table that stays one for a screen reader where its rows are shown as blocks. */
+function table(title, heads, rows) {
+  const made = element('table', 'facts', element('caption', '', title), headed(...heads), element('tbody', '', ...rows));
+  for (const it of [made, ...made.querySelectorAll('thead, tbody, tr, th, td')]) it.setAttribute('role', PARTS[it.tagName] ?? (it.scope === 'row' ? 'rowheader' : 'columnheader'));
+  return made;
+}
+
+/** The facts in a box: a table of the keys, and one of the messages. */
 export function showFacts(box, plan) {
-  const { moments, facts } = judge(plan);
-  const rows = moments.map((moment) => element('tr', warns(moment.fact) ? 'warns' : '', rowHead(nameOf(moment)), cell('td', mixedIn(moment)), cell('td', ...says(moment.fact))));
-  const table = element('table', '', headed('Keys of', 'DHs mixed', 'What follows'), element('tbody', '', ...rows));
-  const list = element('ul', '', ...facts.map((fact) => element('li', warns(fact) ? 'warns' : '', ...says(fact))));
-  box.replaceChildren(table, list, element('p', 'hint', UNJUDGED));
+  const { keys, messages } = rowsOf(plan);
+  const keyRows = keys.map((row) => element('tr', row.warns ? 'warns' : '', rowHead(row.name), cell('td', mixedWords(row.mixed)), cell('td', keySentence(row))));
+  const messageRows = messages.map((row) => element('tr', '', rowHead(row.name), cell('td', writerSentence(row)), cell('td', againSentence(row))));
+  box.replaceChildren(
+    table('Private keys that are enough to compute each key', ['Key of', 'Mixed in', 'Enough'], keyRows),
+    table('Who might have written a message, and a recording of it', ['Message', 'Written by', 'Sent again'], messageRows),
+    element('p', 'hint', MEANING), element('p', 'hint', UNJUDGED),
+  );
 }
 
-/** The warnings of a pattern. */
-export function warningsOf(plan) {
-  const { moments, facts } = judge(plan);
-  return [...moments.filter(({ fact }) => warns(fact)).map((moment) => `${nameOf(moment)}: ${sentence(moment.fact)}`), ...facts.filter(warns).map(sentence)];
-}
-
-/** What is shown of a pattern beside another one, each with a name: `[name, text]`. */
-function rowsOf(text) {
+/** What is compared of a pattern: `[name, text]`. */
+function comparedOf(text) {
   const plan = layout(text);
-  const { moments, facts } = judge(plan);
-  const before = linesOf(text).map(({ line }) => line.trim().replace('->', '→').replace('<-', '←')).slice(1);
-  const dots = before.indexOf('...');
-  const rows = [['Known before', dots < 0 ? 'nothing' : before.slice(0, dots).join('; ')]];
-  plan.messages.forEach(({ from, tokens, length }, n) => rows.push([`Message ${n + 1}`, `${from === 'initiator' ? '→' : '←'} ${tokens.join(', ')} (${length} bytes)`]));
-  moments.forEach((moment) => rows.push([`Keys of ${nameOf(moment).toLowerCase()}`, `${mixedIn(moment)}. ${sentence(moment.fact)}`]));
-  for (const role of ['initiator', 'responder']) {
-    const found = facts.filter((fact) => fact.role === role).map(sentence);
-    rows.push([`The ${role}`, found.length ? found.join(' ') : 'nothing to say']);
-  }
-  return rows;
+  const { keys, messages } = rowsOf(plan);
+  const known = ['initiator', 'responder'].filter((role) => plan.before[role].length).map((role) => `the ${role}’s ${plan.before[role].join(', ')}`);
+  return [
+    ['Known before', known.join('; ') || 'nothing'],
+    ...plan.messages.map(({ from, tokens, length }, n) => [`Message ${n + 1}`, `${from === 'initiator' ? '→' : '←'} ${tokens.join(', ')} (${length} bytes)`]),
+    ...keys.map((row) => [row.name, `${mixedWords(row.mixed)}. ${keySentence(row)}`]),
+    ...messages.flatMap((row) => [[`${row.name}: written by`, writerSentence(row)], [`${row.name}: sent again`, againSentence(row)]]),
+  ];
 }
 
-/** A text, with the words in bold that another one hasn't. */
-function marked(text, other) {
-  const bare = (word) => word.replace(/[(),.;]/g, '');
-  const others = new Set(other.split(' ').map(bare));
-  return text.split(' ').flatMap((word, n) => [n ? ' ' : '', others.has(bare(word)) ? word : element('strong', '', word)]);
+/** The rows of two patterns that differ: `[name, left, right]`, in the order of the first. */
+export function differencesOf(textA, textB) {
+  const [a, b] = [comparedOf(textA), comparedOf(textB)].map((rows) => new Map(rows));
+  const all = [...a.keys(), ...[...b.keys()].filter((name) => !a.has(name))].map((name) => [name, a.get(name) ?? 'none', b.get(name) ?? 'none']);
+  return all.filter(([, left, right]) => left !== right);
 }
 
-/** Two patterns beside each other, with a mark where they differ. */
 function showBeside(box, [nameA, textA], [nameB, textB]) {
-  const [a, b] = [rowsOf(textA), rowsOf(textB)].map((rows) => new Map(rows));
-  const order = ['Known before', ...[...new Set([...a.keys(), ...b.keys()])].filter((name) => name !== 'Known before')];
-  const rank = (name) => (name.startsWith('Message') ? 1 : name.startsWith('Keys') ? 2 : name.startsWith('The ') ? 3 : 0);
-  const last = (name) => (name.endsWith('transport') ? 1 : 0);
-  order.sort((x, y) => rank(x) - rank(y) || last(x) - last(y));
-  let count = 0;
-  const rows = order.map((name) => {
-    const [left, right] = [a.get(name) ?? 'none', b.get(name) ?? 'none'];
-    const isOther = left !== right;
-    if (isOther) count += 1;
-    const mark = isOther ? [' ', element('span', 'differs', 'differs')] : [];
-    const isMarked = isOther && name.startsWith('Message') && a.has(name) && b.has(name);
-    const cells = isMarked ? [marked(left, right), marked(right, left)] : [[left], [right]];
-    return element('tr', isOther ? 'other' : '', element('th', '', name, ...mark), ...cells.map((parts) => cell('td', ...parts)));
-  });
-  for (const row of rows) row.firstChild.scope = 'row';
-  const table = element('table', 'beside', headed('What', nameA, nameB), element('tbody', '', ...rows));
-  const differs = count === 1 ? '1 row differs' : `${count} rows differ`;
-  box.replaceChildren(element('p', '', count ? `${nameA} and ${nameB}: ${differs}.` : `${nameA} and ${nameB} are alike in all of these.`), table);
+  const rows = differencesOf(textA, textB);
+  const count = rows.length === 1 ? 'differ in one row' : `differ in ${rows.length} rows`;
+  const says = element('p', '', rows.length ? `${nameA} and ${nameB} ${count}, and are alike in the others.` : `${nameA} and ${nameB} are alike in all rows.`);
+  if (!rows.length) return box.replaceChildren(says);
+  const made = rows.map(([name, left, right]) => element('tr', '', rowHead(name), cell('td', left), cell('td', right)));
+  return box.replaceChildren(says, element('table', 'beside', headed('What differs', nameA, nameB), element('tbody', '', ...made)));
 }
 
 const headingOf = (text) => text.split('\n')[0].replace(/:$/, '');
@@ -89,7 +76,7 @@ const headingOf = (text) => text.split('\n')[0].replace(/:$/, '');
 export class Beside {
   #list;
   #box;
-  #shown = ['', undefined];
+  #shown = ['', false];
 
   /** `changed(name)` is called with the name of the pattern of the standard that was chosen, or ''. */
   constructor(list, box, changed) {
@@ -106,7 +93,7 @@ export class Beside {
   /** What can be chosen: one's own patterns that are valid, then those of the standard. */
   #fill() {
     const { value } = this.#list;
-    const mine = own.all().filter((text) => checkPattern(text).valid).map((text) => new Option(`your ${own.nameOf(text)}`, `own ${own.nameOf(text)}`));
+    const mine = own.all().filter(({ text }) => checkPattern(text).valid).map(({ id, label }) => new Option(`your ${label}`, `own ${id}`));
     this.#list.replaceChildren(new Option('nothing', ''), ...mine, ...[...FUNDAMENTAL, ...DEFERRED].map((base) => new Option(base)));
     this.#list.value = value;
   }
@@ -119,19 +106,15 @@ export class Beside {
   #other() {
     const { value } = this.#list;
     if (!value.startsWith('own ')) return value && textOf(value);
-    return own.all().find((text) => own.nameOf(text) === value.slice(4));
+    return own.textOf(value.slice(4));
   }
 
-  /** Shows it beside this text. While that isn't valid, what was shown stays, greyed. */
+  /** Shows where it differs from this text, if that is valid. */
   show(text, isValid) {
     this.#shown = [text, isValid];
     const other = this.#other();
-    this.#box.classList.toggle('old', !isValid);
-    if (other && !isValid) return;
-    const isShown = other && checkPattern(other).valid;
+    const isShown = Boolean(other) && isValid && checkPattern(other).valid;
     if (isShown) showBeside(this.#box, [headingOf(text), text], [headingOf(other), other]);
     else this.#box.replaceChildren();
-    if (isShown) this.#box.tabIndex = 0;
-    else this.#box.removeAttribute('tabindex');
   }
 }

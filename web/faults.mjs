@@ -1,6 +1,7 @@
 // What a refusal means, in a sentence, and how to correct it. The proved check says that a text is refused, and which rule is broken where. It also gives
 // the line and the kind of a malformed text, but no contract covers these two. The place in that line is this page's own reading.
-import { linesOf } from '../bindings/js/layout.mjs';
+import { visible } from './bytes.mjs';
+import { linesOf } from './plan.mjs';
 
 /** For each rule a sentence, and how to mend it. Words in braces are filled in by `brokenRule`. */
 export const RULES = Object.freeze({
@@ -10,26 +11,27 @@ export const RULES = Object.freeze({
   4: ['The {sender} encrypts here, {after} is mixed in, and {missing} isn’t: what it encrypts could depend on no fresh key of its own.', '{mend}.'],
   5: ['The {sender} encrypts here after psk, and has sent no e: the same key and nonce could come again.', 'Let the {sender} send e before it.'],
 });
-/** The same for each kind of malformed line, by its code in include/noise.h. */
+/** The same for each kind of malformed line, by its code in include/noise.h: a title, a sentence, and how to mend it. */
 export const FORMS = Object.freeze({
-  30: ['The first line has to be a name of 1 to 8 upper-case letters and digits, then psk places such as psk0 or psk0+psk2, then a colon.', 'For example: MINE:'],
-  31: ['The line has to begin with two spaces, an arrow (-> or <-) and one space.', 'For example: two spaces, then “-> e”.'],
-  32: ['This isn’t a token.', 'The tokens are e, s, ee, es, se, ss and psk, with a comma and a space between two.'],
-  33: ['Above “...” a line has e, s or “e, s”, the initiator’s first, and “...” comes once, after them.', 'Move this line, or leave it out.'],
-  34: ['It is the other party’s turn.', 'Turn the arrow around: the initiator (->) begins, and then they alternate.'],
-  35: ['The psk tokens aren’t where the heading says.', 'psk0 is before message 1, pskN at the end of message N: set the places by the boxes above the text.'],
-  36: ['This name belongs to a fundamental pattern, and the text is another one.', 'Give it a name of its own.'],
-  37: ['A pattern has at most 8 messages, and each has from 1 to 8 tokens besides psk.', 'Leave some out, or add one.'],
-  38: ['There is no message.', 'Add a line such as “  -> e”.'],
+  30: ['this isn’t a heading', 'The first line is a name of 1 to 8 upper-case letters and digits, then psk places such as psk0 or psk0+psk2, then a colon.', 'For example: MINE:'],
+  31: ['no arrow at the start', 'The line has to begin with two spaces, an arrow (-> or <-) and one space.', 'For example: two spaces, then “-> e”.'],
+  32: ['not a token', '{what} isn’t a token.', 'The tokens are e, s, ee, es, se, ss and psk, with a comma and a space between two.'],
+  33: ['not a key known before', 'Above “...” a line has e, s or “e, s”, the initiator’s first, and “...” comes once, after them.', 'Move this line, or leave it out.'],
+  34: ['the other party’s turn', 'It is the other party’s turn.', 'Turn the arrow around: the initiator (->) begins, and then they alternate.'],
+  35: ['psk isn’t where the heading says', 'psk0 in the heading is a psk before message 1, pskN one at the end of message N; none is elsewhere.', 'Set the places by the boxes.'],
+  36: ['the name is taken', 'This name belongs to a fundamental pattern, and the text is another one.', 'Give it a name of its own.'],
+  37: ['too many, or none', 'A pattern has at most 8 messages, and each has from 1 to 8 tokens besides psk.', 'Leave some out, or add one.'],
+  38: ['no message', 'There is no message.', 'Add a line such as “  -> e”.'],
 });
-/** What stands in the place of a sentence of FORMS where the line shows more. */
+/** What stands in the place of an entry of FORMS where the line shows more. */
 const CLOSER = Object.freeze({
-  empty: ['The line is empty.', 'Leave it out.'],
-  dots: ['A key that is known before the first message stands above a line of two spaces and “...”, and that line is missing.', 'Put “...” below this line.'],
-  space: ['A space is at the end of the line.', 'Take it out.'],
-  arrow: ['The arrow is written as two characters: -> or <-.', 'Write it so.'],
+  empty: ['an empty line', 'The line is empty.', 'Leave it out.'],
+  dots: ['“...” is missing', 'A key that is known before the first message stands above a line of two spaces and “...”, and that line is missing.', 'Put “...” below this line.'],
+  space: ['a space at the end', 'A space is at the end of the line.', 'Take it out.'],
+  arrow: ['another arrow', 'The arrow is written as two characters: -> or <-.', 'Write it so.'],
+  comment: ['a comment', 'The library takes no comments.', 'Take them out.'],
 });
-const WORDS = new Set(['e', 's', 'ee', 'es', 'se', 'ss', 'psk']);
+export const WORDS = new Set(['e', 's', 'ee', 'es', 'se', 'ss', 'psk']);
 export const OTHER = Object.freeze({ initiator: 'responder', responder: 'initiator' });
 
 /** The number of the line with the first message. */
@@ -123,23 +125,40 @@ const filled = (text, values) => text.replace(/\{(\w+)\}/g, (_, name) => values[
 function closerOf(lines, n, code) {
   const { line } = lines[n];
   if (line.trim() === '' && code === 31) return CLOSER.empty;
+  if (/#/.test(line) && [30, 31, 32].includes(code)) return CLOSER.comment;
   if (code === 34 && forgottenDots(lines, n) !== undefined) return CLOSER.dots;
   if (/\s$/.test(line) && [30, 31, 32].includes(code)) return CLOSER.space;
   if (code === 31 && /[→←⟶⟵⇒⇐]/.test(line)) return CLOSER.arrow;
   return FORMS[code];
 }
 
-/** What a verdict says: a title, a sentence, how to correct it, and its place in the text as two offsets. */
-export function explain(text, verdict) {
+/** Which section of the standard a rule follows, and where that is. */
+const SECTIONS = { 7.3: 'https://noiseprotocol.org/noise.html#handshake-pattern-validity', 9.3: 'https://noiseprotocol.org/noise.html#validity-rule' };
+const sectionOf = (rule) => (rule === 5 ? '9.3' : '7.3');
+
+/** The token that isn't one, between quotes. */
+function whatIs(line, [from, to]) {
+  const it = line.slice(from, to);
+  return it.trim() === '' ? 'What is here' : `“${visible(it)}”`;
+}
+
+/**
+ * What a fault says: a title, a sentence, how to correct it, and its place in the text as two offsets. Of a broken rule the title comes in two parts, with the
+ * rule's number between them, and `section` is that of the standard.
+ */
+export function explain(text, fault) {
   const lines = linesOf(text);
-  if (verdict.rule) {
-    const values = brokenRule(lines, verdict);
-    const [says, mend] = RULES[verdict.rule].map((it) => filled(it, values));
-    return { title: `Rule ${verdict.rule} is broken at ${placeOf(lines, verdict)}`, says, mend, span: spanOfRule(lines, verdict) };
+  if (fault.rule) {
+    const values = brokenRule(lines, fault);
+    const [says, mend] = RULES[fault.rule].map((it) => filled(it, values));
+    const [number, where] = [sectionOf(fault.rule), ` is broken at ${placeOf(lines, fault)}`];
+    return { title: `Rule ${fault.rule}${where}`, where, rule: fault.rule, section: { number, url: SECTIONS[number] }, says, mend, span: spanOfRule(lines, fault) };
   }
-  const n = Math.min(verdict.line, lines.length) - 1;
-  const [says, mend] = closerOf(lines, n, verdict.code);
-  return { title: `Line ${verdict.line}: ${verdict.name.slice(6).toLowerCase().replaceAll('_', '-')}`, says, mend, span: spanInLine(lines, n, verdict.code) };
+  const n = Math.min(fault.line, lines.length) - 1;
+  const [title, says, mend] = closerOf(lines, n, fault.code);
+  const at = spanInLine(lines, n, fault.code);
+  const [start] = span(lines, n);
+  return { title: `Line ${fault.line}: ${title}`, says: filled(says, { what: whatIs(lines[n].line, at.map((it) => it - start)) }), mend, span: at };
 }
 
 /** Why a message, a datagram or a set-up was refused. */

@@ -4,9 +4,9 @@ import { hex, unhex } from './bytes.mjs';
 const MODES = ['transport', 'stream', 'datagrams'];
 /** How many steps of a run a link has at most. */
 export const MOST_STEPS = 400;
-/** How long an address that the page keeps by itself may be, and how long a text in one. */
-const MOST = 8000;
-const MOST_TEXT = 2000;
+/** How long a link may be, and how long a text in one. */
+export const MOST = 60000;
+export const MOST_TEXT = 2000;
 
 const LETTERS = { write: 'w', end: 'e', deliver: 'd', cut: 'c', close: 'q' };
 const STEPS = Object.fromEntries(Object.entries(LETTERS).map(([step, letter]) => [letter, step]));
@@ -92,17 +92,25 @@ export function keyOf({ text, prologue, interval, mode, window, ownPsks }) {
   return JSON.stringify([text, prologue, mode, mode === 'datagrams' ? window : interval, hasPsk(text) && ownPsks]);
 }
 
+/** A run's steps as a text. */
+export const written = (steps) => steps.map(writeStep).join('_');
+
 /** The fragment of a set-up, with a run's steps or without. */
 export function write({ text, prologue, interval, mode, window, ownPsks, beside }, steps = []) {
   const words = new URLSearchParams({ pattern: text, prologue, interval, mode, window });
   if (ownPsks) words.set('psks', 'own');
   if (beside) words.set('beside', beside);
-  if (steps.length) words.set('run', steps.map(writeStep).join('_'));
+  if (steps.length) words.set('run', written(steps));
   return `#${words}`;
 }
 
-/** The same for the page's own address: without the run where it would be too long. */
-export function address(setup, steps) {
-  const whole = write(setup, steps);
-  return whole.length > MOST || steps.length > MOST_STEPS ? write(setup) : whole;
+/** Why no link can have a set-up and these steps, or ''. */
+export function whyNot(setup, steps = []) {
+  if (setup.text.length > MOST_TEXT || setup.prologue.length > MOST_TEXT) return `a link has at most ${MOST_TEXT} characters of a pattern, and as many of a prologue`;
+  if (steps.length > MOST_STEPS) return `this run has ${steps.length} steps, and a link can have ${MOST_STEPS}`;
+  const { length } = write(setup, steps);
+  return length > MOST ? `it would have ${length} characters, and a link can have ${MOST}` : '';
 }
+
+/** The page's own address: the set-up, and nothing of a run, whose payloads a browser would keep in its history. */
+export const address = (setup) => (whyNot(setup) ? '#' : write(setup));

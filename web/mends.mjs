@@ -1,9 +1,9 @@
 // Corrections of a refused text that the page offers. Each is a whole text, and is offered only if the proved check takes it, or finds its next fault
 // further on. There is no DOM here.
 import { checkPattern } from '../bindings/js/check.mjs';
-import { linesOf } from '../bindings/js/layout.mjs';
-import { FUNDAMENTAL } from '../bindings/js/patterns.mjs';
 import { brokenRule, firstOf, forgottenDots, mixPlace } from './faults.mjs';
+import { freeName } from './own.mjs';
+import { linesOf } from './plan.mjs';
 
 const textOf = (lines) => lines.map((line) => `${line}\n`).join('');
 const plain = (lines) => lines.map(({ line }) => line);
@@ -24,12 +24,13 @@ function tidyLine(line, n) {
 }
 
 function tidy(text) {
-  const lines = text.replace(/\n$/, '').split('\n');
+  const lines = text.replace(/ *#.*$/gm, '').replace(/\n$/, '').split('\n').filter((line) => line.trim() !== '');
   return textOf(lines.map(tidyLine).filter((line) => line.trim() !== ''));
 }
 
 /** What `tidy` has changed, in words. */
 function tidied(text) {
+  if (/#/.test(text)) return 'Take the comments out';
   if (text.replace(/[ \t\r]+$/gm, '') === tidy(text)) return 'Take the space at the end out';
   if (/[→←⟶⟵⇒⇐]/.test(text)) return 'Write the arrows as -> and <-';
   if (/\n\s*\n/.test(text)) return 'Leave the empty line out';
@@ -63,11 +64,15 @@ function placed(lines) {
   return places.some(Number.isNaN) ? undefined : `${base}${places.map((it) => `psk${it}`).join('+')}:`;
 }
 
-/** The psk tokens where the heading says. */
+/** The text with each psk at the nearest place that one can have, and a heading that says so; undefined if two would have one place. */
 function moved(lines) {
-  const places = (lines[0].line.match(/psk(\d)/g) ?? []).map((it) => Number(it[3]));
+  const [base] = /^[A-Z0-9]*/.exec(lines[0].line);
   const first = firstOf(lines);
+  const places = lines.slice(first).flatMap((line, n) => namesOf(line).flatMap((name, at) => (name !== 'psk' ? [] : [n === 0 && at === 0 ? 0 : n + 1])));
+  if (!base || new Set(places).size < places.length) return undefined;
+  const heading = `${base}${places.map((it) => `psk${it}`).join('+')}:`;
   return textOf(lines.map((line, n) => {
+    if (n === 0) return heading;
     if (n < first) return line.line;
     const names = namesOf(line).filter((name) => name !== 'psk');
     return bodyOf([...(n === first && places.includes(0) ? ['psk'] : []), ...names, ...(places.includes(n - first + 1) ? ['psk'] : [])], line.role);
@@ -75,22 +80,24 @@ function moved(lines) {
 }
 
 const FORM_MENDS = {
-  30: (lines) => (lines[0].tokens ? [['Put a heading above it', `MINE:\n${textOf(plain(lines))}`]] : []),
+  30: (lines) => (lines[0].tokens ? [['Put a heading above it', `${freeName()}:\n${textOf(plain(lines))}`]] : []),
   33: (lines, n) => (n === 2 && lines[2].role === 'initiator' && lines[1].role === 'responder'
     ? [['Put the initiator’s line first', textOf([lines[0].line, lines[2].line, lines[1].line, ...plain(lines).slice(3)])]] : []),
   34: (lines, n) => {
-    const dots = forgottenDots(lines, n);
+    const dots = lines[1].role === 'responder' ? forgottenDots(lines, n) : undefined;    // a line that could be a message stays one
     const turned = { '->': '<-', '<-': '->' }[lines[n].line.slice(2, 4)];
     return [
-      ...(dots === undefined ? [] : [[`Put “...” below line ${dots + 1}`, withLine(lines, dots + 1, '  ...')]]),
+      ...(dots === undefined ? [] : [[`This key is known before: put “...” below line ${dots + 1}`, withLine(lines, dots + 1, '  ...')]]),
       ['Turn the arrow around', changedLine(lines, n, `  ${turned}${lines[n].line.slice(4)}`)],
     ];
   },
   35: (lines) => {
     const heading = placed(lines);
-    return [...(heading ? [[`Call it ${heading}`, changedLine(lines, 0, heading)]] : []), ['Put the psk tokens where the heading says', moved(lines)]];
+    const text = moved(lines);
+    if (heading) return [[`Call it ${heading}`, changedLine(lines, 0, heading)]];
+    return text ? [[`Move psk to the end of its message, and call it ${text.split('\n')[0]}`, text]] : [];
   },
-  36: (lines) => [['Call it MINE', changedLine(lines, 0, lines[0].line.replace(/^[A-Z0-9]*/, 'MINE'))]],
+  36: (lines) => [[`Call it ${freeName()}`, changedLine(lines, 0, lines[0].line.replace(/^[A-Z0-9]*/, freeName()))]],
   38: (lines) => [['Add a first message', `${textOf(plain(lines))}  -> e\n`]],
 };
 
@@ -145,6 +152,10 @@ function reach(verdict) {
   return verdict.rule ? 1e6 + verdict.message * 100 + verdict.token : verdict.line * 100 + KINDS.indexOf(verdict.code);
 }
 
+const pskCount = (text) => linesOf(text).slice(1).flatMap(({ tokens = [] }) => tokens).filter(({ name }) => name === 'psk').length;
+/** Whether a candidate keeps the secrets of a text. */
+const keepsPsks = (text, candidate) => pskCount(candidate) >= pskCount(text);
+
 /** Corrections of a refused text, each with a label and the whole text after it: at most two. */
 export function mendsOf(text, verdict) {
   const lines = linesOf(text);
@@ -152,9 +163,6 @@ export function mendsOf(text, verdict) {
   const found = tidyText === text ? [] : [[tidied(text), tidyText]];
   if (verdict.rule) found.push(...ruleMends(lines, verdict));
   else if (tidyText === text) found.push(...(FORM_MENDS[verdict.code]?.(lines, Math.min(verdict.line, lines.length) - 1) ?? []));
-  const isBetter = (candidate) => candidate !== undefined && candidate !== text && reach(checkPattern(candidate)) > reach(verdict);
+  const isBetter = (candidate) => candidate !== undefined && candidate !== text && keepsPsks(text, candidate) && reach(checkPattern(candidate)) > reach(verdict);
   return found.filter(([, candidate]) => isBetter(candidate)).slice(0, 2).map(([label, candidate]) => ({ label, text: candidate }));
 }
-
-/** A name that no fundamental pattern has, for a text that is to become one's own. */
-export const renamed = (text) => (FUNDAMENTAL.includes(/^[A-Z0-9]*/.exec(text)[0]) ? text.replace(/^[A-Z0-9]*/, 'MINE') : text);

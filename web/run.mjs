@@ -1,7 +1,9 @@
 // A run of a pattern: two parties with real keys in one page, the messages between them, and what has come of each. No DOM here.
-import { Handshake, KeyPair, layout } from '../bindings/js/noise.mjs';
+import { Handshake } from '../bindings/js/handshake.mjs';
+import { KeyPair } from '../bindings/js/keys.mjs';
 import { frame, hex, hexOrDash } from './bytes.mjs';
 import { Asked, OTHER, Party, ROLES } from './party.mjs';
+import { layout } from './plan.mjs';
 import { frameOf, linesOf, rawOf, reports, silence, take } from './streams.mjs';
 
 /** The words of the command for the codes of include/noise.h. */

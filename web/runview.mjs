@@ -1,4 +1,4 @@
-// The run as it is shown: each entry with its outcome, and each message with its bytes and the buttons that deliver it.
+// The run as it is shown: a line for each entry with its outcome, and one message with its bytes and the buttons that deliver it.
 import { hex, shown } from './bytes.mjs';
 import { bytesView } from './bytesview.mjs';
 import { button, copier, element, enable } from './element.mjs';
@@ -7,39 +7,31 @@ import { sorted } from './run.mjs';
 import { scheduleOf } from './schedule.mjs';
 import { CHIPS, fateOf, messageName, named, sentenceOf } from './sentences.mjs';
 
-/** How many of the newest entries are open, and how many are shown unless more are asked for. */
-const OPEN = 3;
+/** How many of the newest entries are shown unless more are asked for. */
 const SHOWN = 12;
 
-const COLUMNS = ['Step', 'h', 'ck', 'k', 'n'];
-const HEX = /^[0-9a-f]{64}$/;
+const VALUES = ['h', 'ck', 'k', 'n'];
 
-/** A table of lines of `noise trace`. */
-function scheduleTable(lines) {
-  const head = element('tr', '', ...COLUMNS.map((name) => element('th', '', name)));
-  const rows = lines.map((line) => {
+/** Lines of `noise trace` as a list: of each step its values, whole. */
+function scheduleList(lines) {
+  const rows = lines.flatMap((line) => {
     const words = line.split(' ');
-    const cells = [words[8], words[9], words[10], words[11]].map((word) => element('td', '', HEX.test(word) ? element('code', '', `${word.slice(0, 8)}…`) : word));
-    cells.forEach((cell, n) => { cell.title = words[8 + n]; });
-    return element('tr', '', element('th', '', `${words[4]} (${words[5]})`), ...cells);
+    const values = VALUES.map((name, n) => `${name} ${words[8 + n]}`).filter((it) => !it.endsWith(' -'));
+    return [element('dt', '', `${words[4]} (${words[5]})`), ...values.map((it) => element('dd', '', it))];
   });
-  for (const row of rows) row.firstChild.scope = 'row';
-  for (const th of head.children) th.scope = 'col';
-  const box = element('div', 'scroll', element('table', 'schedule', element('thead', '', head), element('tbody', '', ...rows)));
-  Object.assign(box, { tabIndex: 0, role: 'group', ariaLabel: 'Key schedule' });
-  return box;
+  return element('dl', 'schedule', ...rows);
 }
 
 /** A key schedule, worked out when it is opened: `linesOf` gives its lines of all, and `what` says of what it is. */
 function scheduleDetails(run, linesOf, what, title) {
-  const made = element('details', 'keys', element('summary', '', title));
+  const made = element('details', 'schedules', element('summary', '', title));
   made.addEventListener('toggle', async () => {
     if (!made.open || made.childElementCount > 1) return;
     try {
       const lines = linesOf(await scheduleOf(run));
       if (made.childElementCount > 1) return;
       if (!lines.length) return made.append(element('p', '', 'No step of the key schedule belongs to it.'));
-      made.append(scheduleTable(lines), copier(`the key schedule of ${what}`, () => lines.map((line) => `${line}\n`).join(''), 'Copy as log'),
+      made.append(scheduleList(lines), copier(`the key schedule of ${what}`, () => lines.map((line) => `${line}\n`).join(''), 'Copy as log'),
         element('p', 'hint', 'Secrets of this run, as noise trace prints them. This page works them out, and compares h with the library’s after each message.'));
     } catch (error) {
       made.append(element('p', 'bad', `This page can’t work it out: ${error.message}.`));
@@ -75,9 +67,9 @@ function deliverRow(run, entry, { act, whyNot }) {
       element('label', '', place, ` bytes of ${length + 2}: the first 2 are its length`),
     );
   }
-  allow(row, whyNot());
   row.append(copier(name, () => hex(item.message)));
   const show = () => {
+    allow(row, whyNot());
     const { size } = item.flips;
     const [at] = item.flips;
     deliver.textContent = size === 0 ? `Deliver to the ${to}` : `Deliver with ${size === 1 ? `byte ${at}` : `${size} bytes`} changed`;
@@ -93,67 +85,107 @@ function hashLine({ initiator, responder }) {
   return element('p', 'hash', `hash at both ends ${a} `, copier('the hash', () => a));
 }
 
-/** What is inside an entry, made when it is first opened. */
-function inside(run, entry, hands) {
-  const parts = [];
-  const name = entry.kind === 'closed' ? '' : entry.item ? messageName(entry) : '';
-  if (entry.kind === 'wrote') {
-    const { row, show } = deliverRow(run, entry, hands);
-    parts.push(bytesView(run, entry.item, name, show), row);
-    if (entry.payload?.length > 48) parts.push(element('p', 'payload', `payload: ${shown(entry.payload)} `, copier(`the payload of ${name} in hex`, () => hex(entry.payload))));
+const headOf = (entry) => {
+  const name = named(messageName(entry));
+  return `${name}${entry.number === undefined ? '' : `, from the ${entry.role}`}: ${entry.item.message.length} bytes`;
+};
+
+/** The message that is shown: what delivers it, its bytes, and what came of it. It stays in its place until another one is written or chosen. */
+export class Current {
+  #parts;
+  #hands;
+  #item;
+  #entry;
+  #shown = 0;
+  #row;
+
+  /** `parts` are elements: `box`, `title`, `acts` and `body`. `hands` has `act(work)`, `whyNot()` and `looked()`, which is called after another message is shown. */
+  constructor(parts, hands) {
+    this.#parts = parts;
+    this.#hands = hands;
   }
-  if (entry.number !== undefined) parts.push(hashLine(entry.hash));
-  if (entry.item && !entry.isDatagram) parts.push(scheduleDetails(run, ({ entries }) => entries.get(entry), name, 'Key schedule'));
-  return parts.filter(Boolean);
+
+  get item() {
+    return this.#item;
+  }
+
+  /** Shows a message by the entry of its writing, or none. */
+  pick(run, entry) {
+    const { box, acts, body } = this.#parts;
+    this.#item = entry?.item;
+    this.#entry = entry;
+    this.#shown = 0;
+    box.hidden = !entry;
+    acts.replaceChildren();
+    body.replaceChildren();
+    if (!entry) return;
+    const { row, show } = deliverRow(run, entry, this.#hands);
+    this.#row = show;
+    acts.append(row);
+    const flipped = () => { show(); this.#hands.looked(); };
+    body.append(bytesView(run, entry.item, messageName(entry), flipped), element('div', 'hashes'), element('div', 'schedule-lists'));
+    if (!(entry.payload?.length > 48)) return;
+    body.append(element('p', 'payload', `payload: ${shown(entry.payload)} `, copier(`the payload of ${messageName(entry)} in hex`, () => hex(entry.payload))));
+  }
+
+  /** After each thing done: a message that was written since is shown; of the one that is, what came of it. */
+  show(run, isNew) {
+    const newest = [...run?.log ?? []].reverse().find(({ kind }) => kind === 'wrote');
+    if (!run || !newest) this.pick(run, undefined);
+    else if (isNew || this.#item === undefined) this.pick(run, newest);
+    if (!this.#item) return;
+    this.#parts.title.replaceChildren(headOf(this.#entry), ' ', element('span', 'fate', fateOf(this.#item)));
+    this.#row();
+    const entries = run.log.filter(({ item }) => item === this.#item);
+    const hash = entries.at(-1).number === undefined ? undefined : hashLine(entries.at(-1).hash);
+    this.#parts.body.querySelector('.hashes').replaceChildren(...(hash ? [hash] : []));
+    if (!this.#entry.isDatagram) {
+      const details = (entry) => scheduleDetails(run, (all) => all.entries.get(entry), messageName(entry), `Key schedule of ${entry.at}: the ${entry.role}`);
+      const added = entries.slice(this.#shown).map(details);
+      this.#parts.body.querySelector('.schedule-lists').append(...added);
+    }
+    this.#shown = entries.length;
+  }
 }
 
-function entryItem(run, entry, hands) {
+function entryItem(run, entry, pick) {
   const isRefused = ['refused', 'unwritten'].includes(entry.kind);
   const li = element('li', isRefused ? 'refused' : entry.kind);
-  const chip = element('span', 'chip', CHIPS[entry.kind]);
   const fate = element('span', 'fate');
-  const sentence = element('span', 'who', `${entry.at}. ${sentenceOf(run, entry)} `);
-  const hasMore = entry.kind === 'wrote' || (entry.item && !entry.isDatagram);
-  if (!hasMore) {
-    li.append(element('p', '', chip, ' ', sentence));
-    return { li, entry };
+  const line = element('p', '', element('span', 'chip', CHIPS[entry.kind]), ' ', element('span', 'who', `${entry.at}. ${sentenceOf(run, entry)} `), fate);
+  if (entry.kind === 'wrote') {
+    const made = button('Show', () => pick(entry), 'copy show');
+    made.setAttribute('aria-label', `Show ${messageName(entry)}`);
+    line.append(' ', made);
   }
-  const details = element('details', 'entry', element('summary', '', chip, ' ', sentence, fate));
-  const open = () => {
-    details.open = true;
-    if (details.childElementCount === 1) details.append(...inside(run, entry, hands));
-  };
-  details.addEventListener('toggle', () => { if (details.open) open(); });
-  li.append(details);
-  return { li, entry, details, fate, open };
+  li.append(line);
+  return { li, entry, fate };
 }
 
-/** The log: its newest entries are open, older ones are a line each, and of many the oldest are left out until they are asked for. */
+/** The log: a line for each entry. Of many the oldest are left out until they are asked for. */
 export class Log {
   #list;
   #more;
   #shown = [];
   #run;
-  #hands;
+  #pick;
 
-  /** `hands` has `act(work)`, which does something with the run, and `whyNot()`, which says why no message can come now, or ''. */
-  constructor(list, more, hands) {
+  /** `pick(entry)` is called to show the message that an entry tells of. */
+  constructor(list, more, pick) {
     Object.assign(this, { isWhole: false });
     this.#list = list;
     this.#more = more;
-    this.#hands = hands;
+    this.#pick = pick;
     more.addEventListener('click', () => {
       this.isWhole = true;
       this.#limit();
-      const next = this.#list.children[SHOWN]?.querySelector('summary, p');
-      if (next?.localName === 'p') next.tabIndex = -1;
+      const next = this.#list.children[SHOWN]?.querySelector('p');
+      if (next) next.tabIndex = -1;
       next?.focus();
     });
   }
 
   show(run) {
-    for (const row of this.#list.querySelectorAll('.deliver')) allow(row, this.#hands.whyNot());
-    if (run && run === this.#run && run.log.length === this.#shown.length) return undefined;
     if (run !== this.#run) {
       this.#list.replaceChildren();
       Object.assign(this, { isWhole: false });
@@ -161,22 +193,12 @@ export class Log {
       this.#run = run;
     }
     for (const entry of run?.log.slice(this.#shown.length) ?? []) {
-      const made = entryItem(run, entry, this.#hands);
+      const made = entryItem(run, entry, this.#pick);
       this.#shown.push(made);
       this.#list.prepend(made.li);
     }
-    this.#shown.forEach(({ details, fate, entry, open }, n) => {
-      if (fate && entry.kind === 'wrote') fate.textContent = fateOf(entry.item);
-      if (details) this.#fold(details, open, n >= this.#shown.length - OPEN);
-    });
+    for (const { fate, entry } of this.#shown) if (entry.kind === 'wrote') fate.textContent = fateOf(entry.item);
     return this.#limit();
-  }
-
-  /** Opens what is new, once, and closes what has become old, unless the focus is in it or the user has opened it. */
-  #fold(details, open, isNew) {
-    if (isNew && details.dataset.was === undefined) open();
-    if (!isNew && details.dataset.was === 'new' && !details.contains(document.activeElement)) details.open = false;
-    if (isNew || !details.contains(document.activeElement)) details.dataset.was = isNew ? 'new' : 'old';
   }
 
   #limit() {

@@ -78,9 +78,10 @@ export function fateOf({ comings }) {
   return [good && `delivered${times(good)}`, refused && `refused${times(refused)}`, !good && !refused && 'not read'].filter(Boolean).join(', ');
 }
 
-/** Where both parties stand. */
-export function stateOf(run) {
+/** Where both parties stand: whose turn it is, and after the handshake what each has sent. */
+export function stateOf(run, turn) {
   if (!run) return 'No keys are drawn yet.';
+  if (turn) return turn;
   if (run.isClosed) return 'The connection is closed: begin again with new keys.';
   const of = (role) => {
     const party = run[role];

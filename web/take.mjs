@@ -1,6 +1,7 @@
-// Section 4: what is saved and copied, and the set-up as a program.
+// What is saved and copied, and the set-up as a program.
+import { visible } from './bytes.mjs';
 import { program, LANGUAGES } from './code.mjs';
-import { button, copier, element, enable } from './element.mjs';
+import { button, copier, element, enable, speak } from './element.mjs';
 import { highlighted } from './highlight.mjs';
 import * as link from './link.mjs';
 import { pictureFile } from './picture.mjs';
@@ -9,6 +10,11 @@ import { vectorFile } from './vectorfile.mjs';
 
 const at = (id) => document.getElementById(id);
 
+function say(text) {
+  at('copied').textContent = visible(text).replaceAll('\\u{a}', '\n');
+  speak(text);
+}
+
 /** Hands a file to the browser, and says so. */
 function save(name, type, text) {
   const url = URL.createObjectURL(new Blob([text], { type }));
@@ -16,17 +22,24 @@ function save(name, type, text) {
   Object.assign(anchor, { href: url, download: name });
   anchor.click();
   setTimeout(() => URL.revokeObjectURL(url), 1000);
-  at('copied').textContent = `The browser saves ${name}.`;
+  say(`The browser saves ${name}.`);
 }
 
 /** Copies a text, and says so below the buttons; where the browser doesn't let it, the text is shown to be copied by hand. */
 async function copy(text, what, more = '') {
   try {
     await navigator.clipboard.writeText(text);
-    at('copied').textContent = `${what} copied.${more}`;
+    say(`${what} copied.${more}`);
   } catch {
-    at('copied').textContent = `This browser doesn’t let the page copy. ${what}: ${text}`;
+    say(`This browser doesn’t let the page copy. ${what}: ${text}`);
   }
+}
+
+/** The text with an arrow alone for the transport messages of each party, in turn. */
+export function forExplorer({ messages, oneWay }, text) {
+  const arrows = ['  ->', '  <-'];
+  const first = messages.length % 2;
+  return `${text}${(oneWay ? [arrows[0]] : [arrows[first], arrows[1 - first]]).map((it) => `${it}\n`).join('')}`;
 }
 
 export class Take {
@@ -45,6 +58,7 @@ export class Take {
     wire('save-program', () => { const { name, text } = this.#program(); save(name, 'text/plain', text); });
     wire('copy-link', () => this.#copyLink([], 'A link to this set-up'));
     wire('copy-run', () => this.#copyLink(page.run.steps, 'A link to this run'));
+    wire('copy-explorer', () => copy(forExplorer(page.plan, page.setup.text), 'The pattern for Noise Explorer'));
     wire('copy-log', async () => copy((await scheduleOf(page.run)).whole.map((line) => `${line}\n`).join(''), 'The key schedule'));
     for (const name of LANGUAGES) at('languages').append(button(name, () => { this.#language = name; this.show(); }));
     at('program-row').append(copier('the program', () => this.#program().text));
@@ -52,12 +66,10 @@ export class Take {
 
   /** Copies the page's own address, wherever it is served, with a set-up and a run's steps. */
   async #copyLink(steps, what) {
-    if (steps.length > link.MOST_STEPS) {
-      at('copied').textContent = `No link is copied: this run has ${steps.length} steps, and a link can have ${link.MOST_STEPS}. Save the run as a vector file.`;
-      return;
-    }
+    const why = link.whyNot(this.#page.setup, steps);
+    if (why) return say(`No link is copied: ${why}. Save ${steps.length ? 'the run as a vector file' : 'the pattern'}.`);
     const here = link.isLocal(location) ? ' It opens only on this computer, which serves this page.' : '';
-    await copy(location.href.split('#')[0] + link.write(this.#page.setup, steps), what, here);
+    return copy(location.href.split('#')[0] + link.write(this.#page.setup, steps), what, here);
   }
 
   #program() {
@@ -70,12 +82,13 @@ export class Take {
     for (const made of at('languages').children) made.setAttribute('aria-pressed', String(made.textContent === this.#language));
     const none = run ? 'The run belongs to another set-up.' : 'No keys are drawn yet.';
     const isLive = run && !this.#page.isStale;
-    for (const id of ['save-program', 'save-picture']) enable(at(id), plan, 'The pattern isn’t valid.');
+    for (const id of ['save-program', 'save-picture', 'copy-explorer']) enable(at(id), plan, 'The pattern isn’t valid.');
     for (const id of ['copy-run', 'copy-log']) enable(at(id), isLive, none);
     enable(at('save-vector'), isLive && !run.hasOwnPsks, isLive ? at('no-vector').textContent : none);
     at('no-vector').hidden = !isLive || !run.hasOwnPsks;
     at('code').classList.toggle('old', !plan);
-    at('code-old').hidden = Boolean(plan);
+    at('code-old').hidden = Boolean(plan) || !this.#shown;
+    at('code').hidden = !plan && !this.#shown;
     clearTimeout(this.#coding);
     this.#coding = setTimeout(() => this.#showCode(), 0);
   }

@@ -21,7 +21,8 @@ export async function speech(page) {
   assert.equal(shown.filter(({ role, name }) => role.value === 'region' && name?.value).length, 5);
   assert.ok(shown.some(({ role, name }) => role.value === 'toolbar' && name?.value.startsWith('The bytes of message 3')));
   const property = ({ properties = [] }, wanted) => properties.find(({ name }) => name === wanted)?.value.value;
-  assert.ok(shown.filter(({ role }) => role.value === 'status').every((node) => property(node, 'live') === 'polite'));
+  const live = shown.filter((node) => property(node, 'live') && property(node, 'live') !== 'off');
+  assert.deepEqual(live.map(({ role }) => role.value), ['status'], 'more than one part of the page is said by itself');
   const text = shown.find(({ name, role }) => role.value === 'textbox' && name?.value === 'Pattern text');
   assert.match(text.description.value, /^Valid: 3 messages\./);
 }

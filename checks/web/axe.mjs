@@ -4,7 +4,7 @@ import assert from 'node:assert/strict';
 import vm from 'node:vm';
 
 const BUNDLE = 'devtools://devtools/bundled/third_party/lighthouse/lighthouse-dt-bundle.js';
-const WIDTHS = [320, 390, 820, 1440];
+const WIDTHS = [280, 320, 390, 820, 1440];
 const RULES = `{ rules: { region: { enabled: true }, 'target-size': { enabled: true } } }`;
 /** Of what depends on the scheme alone. */
 const COLOURS = `{ runOnly: { type: 'rule', values: ['color-contrast', 'link-in-text-block'] } }`;
@@ -33,7 +33,7 @@ const BORDERS = `(() => {
   const light = (colour) => { const [r, g, b] = parts(colour); return 0.2126 * r + 0.7152 * g + 0.0722 * b; };
   const ratio = (a, b) => { const [x, y] = [light(a), light(b)].sort((p, q) => q - p); return (x + 0.05) / (y + 0.05); };
   const all = [...document.querySelectorAll('input:not([type=checkbox]), select, .editor, button:not(.bytes button)')];
-  const shown = all.filter((it) => it.offsetHeight && it.getAttribute('aria-disabled') !== 'true');
+  const shown = all.filter((it) => it.offsetHeight && !it.disabled && it.getAttribute('aria-disabled') !== 'true');
   return shown.filter((it) => ratio(getComputedStyle(it).borderTopColor, getComputedStyle(it.closest('section')).backgroundColor) < 3).map((it) => it.outerHTML.slice(0, 100));
 })()`;
 
@@ -44,7 +44,7 @@ async function fill(page) {
   await page.passAll();
   await page.write('initiator');
   await page.deliver(2, [3]);
-  await page.run('for (const it of document.querySelectorAll("#how, #keys, #log li:nth-child(-n+2) details")) it.open = true');
+  await page.run('for (const it of document.querySelectorAll("#how, #keys, #current-body details")) it.open = true');
   await page.type('beside', 'NK1');
   await page.until('document.querySelectorAll(".schedule").length >= 1');
 }

@@ -14,7 +14,9 @@ import { serve } from './server.mjs';
 import { sizes } from './sizes.mjs';
 import { EXPECTED, takeChannels } from './socket-server.mjs';
 import { Walk } from './walk.mjs';
-import { DEFERRED, FUNDAMENTAL } from '../../bindings/js/patterns.mjs';
+import { designs } from './designs.mjs';
+import { workbench } from './workbench.mjs';
+import { DEFERRED, FUNDAMENTAL } from '../../web/patterns.mjs';
 
 const [top, room, built] = process.argv.slice(2);
 const server = await serve(top);
@@ -30,7 +32,7 @@ async function allPatterns() {
     await page.begin();
     await page.passAll();
     assert.match(await page.textOf('state'), /initiator is open .*responder is open/, base);
-    assert.match(await page.evaluate('document.querySelector("#log .hash").textContent'), /^hash at both ends [0-9a-f]{64} /, base);
+    assert.match(await page.evaluate('document.querySelector("#current-body .hash").textContent'), /^hash at both ends [0-9a-f]{64} /, base);
     // Each length in the picture is that of the message that the library has written, with a payload of two bytes.
     const labels = await page.evaluate('[...document.querySelectorAll("#picture text")].map((it) => it.textContent)');
     const drawn = labels.map((label) => /: (\d+) bytes \+ payload/.exec(label)?.[1]).filter(Boolean).map(Number);
@@ -46,29 +48,29 @@ async function allPatterns() {
 
 async function faults() {
   const cases = [
-    ['MINE:\n  -> e, es\n', 'es', 'Rule 1 is broken at message 1, token es'],
+    ['MINE:\n  -> e, es\n', 'es', 'Rule 1 (7.3) is broken at message 1, token es'],
     ['MINE:\n  -> e\n  <- e, ee\n  -> e\n', 'e', 'Rule 2'],
     ['MINE:\n  -> e\n  <- e, ee, ee\n', 'ee', 'Rule 3'],
     ['MINE:\n  -> e, s\n  <- e, se\n', 'se', 'Rule 4'],
     ['MINEpsk0:\n  -> psk, s\n', 's', 'Rule 5'],
-    ['mine:\n  -> e\n', 'mine:', 'Line 1: heading'],
-    ['MINE:\n -> e\n', ' -> e', 'Line 2: arrow'],
-    ['MINE:\n  -> e, foo, s\n', 'foo', 'Line 2: token'],
-    ['MINE:\n  -> e \n', ' ', 'Line 2: token'],
-    ['MINE:\n  -> e\n  -> e, ee\n', '->', 'Line 3: turn'],
-    ['MINE:\n  -> e, psk\n', 'psk', 'Line 2: psk-place'],
-    ['XX:\n  -> e\n', 'XX', 'Line 1: name-taken'],
-    ['MINE:\n  <- s\n  -> s\n  ...\n  -> e, es\n', '  -> s', 'Line 3: pre-message'],
-    ['MINE:\n  -> e\n  <- e, e, e, e, e, e, e, e, e\n', '  <- e, e, e, e, e, e, e, e, e', 'Line 3: limit'],
-    ['MINE:\n', 'MINE:', 'Line 2: ending'],
-    ['MINE:\n  -> e\n\n', ' ', 'Line 3: arrow'],
+    ['mine:\n  -> e\n', 'mine:', 'Line 1: this isn’t a heading'],
+    ['MINE:\n -> e\n', ' -> e', 'Line 2: no arrow at the start'],
+    ['MINE:\n  -> e, foo, s\n', 'foo', 'Line 2: not a token'],
+    ['MINE:\n  -> e \n', ' ', 'Line 2: a space at the end'],
+    ['MINE:\n  -> e\n  -> e, ee\n', '->', 'Line 3: the other party’s turn'],
+    ['MINE:\n  -> e, psk\n', 'psk', 'Line 2: psk isn’t where the heading says'],
+    ['XX:\n  -> e\n', 'XX', 'Line 1: the name is taken'],
+    ['MINE:\n  <- s\n  -> s\n  ...\n  -> e, es\n', '  -> s', 'Line 3: not a key known before'],
+    ['MINE:\n  -> e\n  <- e, e, e, e, e, e, e, e, e\n', '  <- e, e, e, e, e, e, e, e, e', 'Line 3: too many, or none'],
+    ['MINE:\n', 'MINE:', 'Line 2: no message'],
+    ['MINE:\n  -> e\n\n', ' ', 'Line 3: an empty line'],
   ];
   for (const [text, marked, title] of cases) {
     await page.type('text', text);
     assert.equal(await page.evaluate('document.querySelector("mark").textContent'), marked, text);
     assert.ok((await page.evaluate('document.querySelector("#verdict .title").textContent')).startsWith(title), text);
-    assert.equal(await page.evaluate('document.getElementById("start").getAttribute("aria-disabled")'), 'true');
-    assert.equal(await page.evaluate('document.getElementById("start").title'), 'The pattern isn’t valid.');
+    assert.equal(await page.evaluate('document.getElementById("step").getAttribute("aria-disabled")'), 'true');
+    assert.equal(await page.evaluate('document.getElementById("step").title'), 'The pattern isn’t valid.');
     assert.equal(await page.evaluate('document.getElementById("text").getAttribute("aria-invalid")'), 'true');
   }
   await page.type('text', 'mine:\n  -> e\n');
@@ -122,7 +124,6 @@ async function datagrams() {
   for (const n of [4, 3]) await page.deliver(n);
   await page.deliver(3);
   assert.match(await page.last(), /datagram 1 of the initiator: a datagram with its nonce was opened already/);
-  assert.equal(await page.evaluate('[...document.querySelectorAll("#log details[open]")].filter((it) => it.childElementCount < 2).length'), 0, 'an entry opens onto nothing');
   await page.deliver(5, [20]);
   assert.match(await page.last(), /^refused/);
   assert.equal(await page.evaluate('document.querySelectorAll(".window i.opened, .window i.top").length'), 2);
@@ -141,12 +142,12 @@ async function long() {
   await page.passAll();
   await page.type('payload', 'a'.repeat(2000));
   for (let n = 0; n < 30; n += 1) await page.write('initiator');
-  const height = await page.evaluate('document.getElementById("log").offsetHeight');
+  const height = await page.evaluate('document.getElementById("log").offsetHeight + document.getElementById("current-body").offsetHeight');
   assert.ok(height < 3500, `a long run makes a long page: ${height} px`);
-  const entry = await page.evaluate('document.querySelector("#log li").offsetHeight');
+  const entry = await page.evaluate('document.querySelector("#current-body").offsetHeight');
   assert.ok(entry < 550, `a long payload makes a long entry: ${entry} px`);
-  await page.click('#log li:first-child .bytes .more');
-  assert.equal(await page.evaluate('document.querySelectorAll("#log li:first-child .bytes [data-at]").length'), 2016);
+  await page.click('#current-body .bytes .more');
+  assert.equal(await page.evaluate('document.querySelectorAll("#current-body .bytes [data-at]").length'), 2016);
   await page.click('#earlier');
   assert.equal(await page.evaluate('[...document.querySelectorAll("#log li")].filter((it) => !it.hidden).length'), 34);
   await page.type('payload', 'hello');
@@ -208,21 +209,23 @@ async function offline() {
   await there.passAll();
   assert.match(await there.textOf('state'), /initiator is open/);
   await browser.open(`${there.url}rules.html`);
-  await there.until('document.querySelectorAll("article li").length === 5');
+  await there.until('document.querySelectorAll("article li[id^=rule-]").length === 5');
   report('the folder that web/build makes works on another server, and without it after the first load');
 }
 
 try {
   await page.open();
-  await allPatterns();
+  if (!process.env.QUICK) await allPatterns();
   await faults();
   await ownPattern();
   await refusals();
   await datagrams();
-  await long();
-  report(await sizes(page, top));
+  if (!process.env.NEW) await long();
+  if (!process.env.NEW) report(await sizes(page, top));
   report(await links(page));
+  report(await workbench(page));
   await walks();
+  report(await designs(page));
   await page.resize(1100);
   await speech(page);
   report(await axe(page));

@@ -1,64 +1,97 @@
-// The facts about tokens (web/facts.mjs), and the corrections that the page offers (web/mends.mjs): node --test facts.test.mjs. What is expected was worked
-// out by hand from the patterns of the standard.
+// The facts about tokens (web/facts.mjs), the faults of a text (web/reading.mjs), and the corrections that the page offers (web/mends.mjs): node --test
+// facts.test.mjs. What is expected was worked out by hand from the patterns of the standard.
 import assert from 'node:assert/strict';
 import { before, test } from 'node:test';
 import { checkPattern } from '../../bindings/js/check.mjs';
-import { layout } from '../../bindings/js/layout.mjs';
 import { load } from '../../bindings/js/module.mjs';
-import { DEFERRED, FUNDAMENTAL, textOf } from '../../bindings/js/patterns.mjs';
-import { TABLE, UNJUDGED, judge, lines, mixedIn, sentence, warns } from '../../web/facts.mjs';
+import { UNJUDGED, againSentence, keySentence, lines, mixedWords, rowsOf, warningsOf, waysOf, writerSentence } from '../../web/facts.mjs';
+import { differencesOf } from '../../web/factsview.mjs';
 import { explain } from '../../web/faults.mjs';
 import { mendsOf } from '../../web/mends.mjs';
+import { DEFERRED, FUNDAMENTAL, textOf } from '../../web/patterns.mjs';
+import { layout } from '../../web/plan.mjs';
+import { faultsOf, readingOf } from '../../web/reading.mjs';
 
 before(() => load());
 
-const of = (text) => judge(layout(text.includes('\n') ? text : textOf(text)));
-const rowsOf = (text) => of(text).moments.map((row) => `${mixedIn(row)}: ${row.fact.fact}`);
-const factsOf = (text) => of(text).facts.map(({ fact, role, message }) => [fact, role, message].filter(Boolean).join(' '));
+const planOf = (text) => layout(text.includes('\n') ? text : textOf(text));
+const keyOf = (text, name) => keySentence(rowsOf(planOf(text)).keys.find((row) => row.name === name));
+const transportOf = (text) => keyOf(text, 'Transport, recorded');
+const messageOf = (text, name) => rowsOf(planOf(text)).messages.find((row) => row.name === name);
+const writerOf = (text, name) => writerSentence(messageOf(text, name));
+const againOf = (text, name) => againSentence(messageOf(text, name));
 
-test('what is mixed by each message, and by the transport', () => {
-  assert.deepEqual(rowsOf('NN'), ['nothing: clear', 'ee: ephemeral', 'ee: ephemeral']);
-  assert.deepEqual(rowsOf('XX'), ['nothing: clear', 'ee, es: ephemeral', 'ee, es, se: ephemeral', 'ee, es, se: ephemeral']);
-  assert.deepEqual(rowsOf('IK'), ['es, ss: oneStatic', 'ee, es, se, ss: ephemeral', 'ee, es, se, ss: ephemeral']);
-  assert.deepEqual(rowsOf('N'), ['es: oneStatic', 'es: oneStatic']);
-  assert.deepEqual(rowsOf('NK'), ['es: oneStatic', 'ee, es: ephemeral', 'ee, es: ephemeral']);
-  assert.deepEqual(rowsOf('NK1'), ['nothing: clear', 'ee, es: ephemeral', 'ee, es: ephemeral']);
+test('the smallest sets of private keys that are enough for some DHs', () => {
+  assert.deepEqual(waysOf(['ee']), [['initiator e'], ['responder e']]);
+  assert.deepEqual(waysOf(['ee', 'es']), [['initiator e'], ['responder e', 'responder s']]);
+  assert.deepEqual(waysOf(['ss']), [['initiator s'], ['responder s']]);
+  assert.deepEqual(waysOf(['ee', 'es', 'se']), [['initiator e', 'initiator s'], ['initiator e', 'responder e'], ['responder e', 'responder s']]);
 });
 
-test('whose static private key computes the keys', () => {
-  assert.equal(of('IK').moments[0].fact.role, 'responder');
-  assert.equal(sentence(of('IK').moments[0].fact), 'Whoever has the responder’s static private key can compute these keys.');
-  assert.equal(of('M:\n  -> s\n  <- s\n  ...\n  -> e, es, ss\n').moments[0].fact.role, 'responder');
-  assert.equal(of('M:\n  -> s\n  <- e, se\n').moments[1].fact.role, 'initiator');
-  assert.equal(of('M:\n  -> s\n  <- s, ss\n').moments[1].fact.fact, 'eitherStatic');
-  assert.equal(of('M:\n  -> e, s\n  <- e, s, es, se\n').moments[1].fact.fact, 'bothStatics');
+test('the keys of the transport need other private keys in NN, NK, XX and IK', () => {
+  assert.equal(transportOf('NN'), 'The initiator’s e, or the responder’s e.');
+  assert.equal(transportOf('NK'), 'The initiator’s e, or the responder’s e and s.');
+  assert.equal(transportOf('XX'), 'The initiator’s e and s, or both parties’ e, or the responder’s e and s.');
+  assert.equal(transportOf('IK'), 'The initiator’s e and s, or the responder’s e and s.');
+  assert.equal(transportOf('N'), 'The initiator’s e, or the responder’s s.');
+  assert.equal(transportOf('K'), 'The responder’s s, or the initiator’s e and s.');
+  assert.equal(transportOf(textOf('NN', [2])), 'The initiator’s e, or the responder’s e; and in each case the psk.');
 });
 
-test('keys that everybody can compute are warned of', () => {
-  const { moments, facts } = of('MINE:\n  -> e\n  <- e\n');
-  assert.deepEqual(moments.map(({ fact }) => fact.fact), ['clear', 'clear', 'everybody']);
-  assert.equal(sentence(moments[2].fact), 'No DH is mixed: everybody can compute these keys.');
-  assert.ok(warns(moments[2].fact) && !warns(moments[0].fact));
-  assert.deepEqual(facts.map(({ fact, role }) => `${fact} ${role}`), ['noStatic initiator', 'noStatic responder', 'replay responder']);
-  // In a pattern with a psk the first e is mixed as a key (9.2), which everybody can compute until the psk comes.
-  assert.deepEqual(of(textOf('XX', [3])).moments.map(({ fact }) => fact.fact), ['everybody', 'ephemeral', 'ephemeral', 'ephemeral']);
-  assert.deepEqual(of(textOf('NN', [0])).moments.map(({ fact }) => fact.fact), ['psk', 'ephemeral', 'ephemeral']);
+test('no two of NN, NK, XX, IX, IK and KK have the same facts', () => {
+  const all = ['NN', 'NK', 'XX', 'IX', 'IK', 'KK'].map((name) => lines(planOf(name)).join('\n'));
+  assert.equal(new Set(all).size, all.length);
 });
 
-test('what static keys show', () => {
-  assert.deepEqual(factsOf('XX'), ['replay responder 1']);
-  assert.deepEqual(factsOf('NK'), ['noStatic initiator', 'replay responder 1']);
-  assert.deepEqual(factsOf('IX'), ['shown initiator 1', 'replay responder 1']);
-  assert.deepEqual(factsOf('KN'), ['noStatic responder', 'replay responder 1']);
-  assert.deepEqual(factsOf(textOf('NN', [2])), ['onlyPsk initiator', 'onlyPsk responder', 'replay responder 1']);
-  assert.deepEqual(factsOf('MINE:\n  -> e, s\n  <- e, ee\n'), ['unmixed initiator', 'noStatic responder', 'replay responder 1']);
-  assert.deepEqual(factsOf('MINEpsk1:\n  -> e, s, psk\n  <- e, ee, se\n').slice(0, 1), ['shownToAll initiator 1']);
+test('who can compute the key at each encrypted s and payload', () => {
+  assert.equal(keyOf('XX', 'Message 2, s'), 'The initiator’s e, or the responder’s e. Who takes the initiator’s part needs only an e of its own.');
+  assert.equal(keyOf('IK', 'Message 1, s'), 'The initiator’s e, or the responder’s s.');
+  assert.equal(keyOf('IK', 'Message 1, payload'), 'The responder’s s, or the initiator’s e and s.');
+  assert.match(keyOf('XX', 'Message 3, s'), /Who takes the responder’s part needs only an e and an s of its own\.$/);
+  assert.doesNotMatch(keyOf('XK', 'Message 3, s'), /part/);
+  assert.equal(keyOf('IX', 'Message 1, s'), 'In the clear: everybody sees it.');
+  assert.equal(keyOf('NN', 'Message 1, payload'), 'In the clear: everybody sees it.');
+  assert.equal(keyOf(textOf('NN', [0]), 'Message 1, payload'), 'The psk alone.');
+  assert.equal(keyOf(textOf('XX', [3]), 'Message 1, payload'), 'No DH is mixed in: everybody can compute this key.');
 });
 
-test('what can be replayed', () => {
-  assert.deepEqual(factsOf('N').filter((it) => it.startsWith('replay')), ['replayAll responder']);
-  assert.deepEqual(factsOf('M:\n  <- e, s\n  ...\n  -> e, ee, es\n').filter((it) => it.startsWith('replay')), []);
-  assert.deepEqual(factsOf('M:\n  -> s\n  <- e, se\n').filter((it) => it.startsWith('replay')), ['replayAll initiator', 'replay responder 1']);
+test('who might have written a message', () => {
+  for (const name of ['K', 'X', 'IK', 'KK']) assert.equal(writerOf(name, 'Message 1'), 'Who has the initiator’s s, or the responder’s s.', name);
+  assert.equal(writerOf('N', 'Message 1'), 'Anyone, with an e of its own.');
+  assert.equal(writerOf('NN', 'Message 1'), 'Anyone: it has no tag.');
+  assert.equal(writerOf('XX', 'Message 3'), 'Who has the initiator’s s, or the responder’s e.');
+  assert.equal(writerOf('IK', 'Transport, initiator’s'), 'Who has the initiator’s s, or the responder’s e and s.');
+  assert.equal(writerOf('NK', 'Transport, initiator’s'), 'Anyone, with an e of its own.');
+  assert.equal(writerOf('NK', 'Transport, responder’s'), 'Who has the initiator’s e, or the responder’s s.');
+  assert.equal(writerOf(textOf('NN', [0]), 'Message 1'), 'Who has the psk.');
+  assert.equal(writerOf(textOf('XX', [3]), 'Message 1'), 'Anyone: everybody can compute the key.');
+  assert.equal(messageOf('N', 'Transport, responder’s'), undefined);
+});
+
+test('which recordings are accepted again', () => {
+  assert.equal(againOf('NN', 'Message 1'), 'Accepted again: it has no tag.');
+  assert.equal(againOf('IK', 'Message 1'), 'Accepted again: the responder puts in no e before.');
+  assert.equal(againOf('IK', 'Message 2'), 'Refused: the initiator’s e is new each time.');
+  assert.equal(againOf('N', 'Transport, initiator’s'), 'Accepted again: the responder puts in no e before.');
+  assert.equal(againOf('XX', 'Transport, initiator’s'), 'Refused: the responder’s e is new each time.');
+  assert.equal(againOf('M:\n  <- e, s\n  ...\n  -> e, ee, es\n', 'Message 1'), 'Refused: the responder’s e is new each time.');
+  assert.equal(againOf('M:\n  -> e\n  <- e\n', 'Message 2'), 'Accepted again: it has no tag.');
+  assert.equal(againOf('M:\n  -> s\n  <- e, se\n', 'Message 2'), 'Accepted again: the initiator puts in no e before.');
+});
+
+test('keys that everybody can compute, and an s that no DH mixes, are warned of', () => {
+  assert.deepEqual(warningsOf(planOf('M:\n  -> e\n  <- e\n')), ['Transport, recorded: no DH is mixed in, and everybody can compute the key.']);
+  assert.deepEqual(warningsOf(planOf('M:\n  -> e, s\n  <- e, ee\n')), ['The initiator’s s is named, and no DH mixes it: nothing shows that the initiator has its private key.']);
+  assert.deepEqual(warningsOf(planOf('MINEpsk1:\n  -> e, s, psk\n  <- e, ee, se\n')), ['Message 1, s: no DH is mixed in, and everybody can compute the key.']);
+  for (const name of FUNDAMENTAL) assert.deepEqual(warningsOf(planOf(name)), [], name);
+});
+
+test('two patterns beside each other show only what differs', () => {
+  assert.deepEqual(differencesOf(textOf('NN'), textOf('NN')), []);
+  const rows = differencesOf(textOf('NK'), textOf('NK1'));
+  assert.deepEqual(rows.find(([name]) => name === 'Message 1'), ['Message 1', '→ e, es (48 bytes)', '→ e (32 bytes)']);
+  assert.equal(rows.find(([name]) => name === 'Known before'), undefined);
+  assert.ok(rows.every(([, left, right]) => left !== right));
 });
 
 test('each sentence is filled, and the last one says what isn’t judged', () => {
@@ -71,7 +104,70 @@ test('each sentence is filled, and the last one says what isn’t judged', () =>
     }
   }
   assert.match(UNJUDGED, /7\.7 and 7\.8.*Noise Explorer/);
-  assert.ok(Object.values(TABLE).every(({ says }) => says.endsWith('.')));
+  assert.equal(mixedWords({ dhs: [], psks: 2 }), 'psk (2)');
+});
+
+/** Numbers below a bound, the same in each run (mulberry32). */
+function numbers(start) {
+  let seed = start;
+  return (most) => {
+    seed = (seed + 0x6D2B79F5) | 0;
+    let t = Math.imul(seed ^ (seed >>> 15), 1 | seed);
+    t = (t + Math.imul(t ^ (t >>> 7), 61 | t)) ^ t;
+    return ((t ^ (t >>> 14)) >>> 0) % most;
+  };
+}
+
+test('the first fault that the page reads is the library’s', () => {
+  const next = numbers(7);
+  const pick = (list) => list[next(list.length)];
+  const known = ['', '', '', '  <- s\n  ...\n', '  -> s\n  <- s\n  ...\n', '  <- e, s\n  ...\n', '  <- s\n  -> s\n  ...\n'];
+  const met = new Set();
+  for (let n = 0; n < 4000; n += 1) {
+    const names = pick([['e', 's', 'ee', 'es', 'se', 'ss'], ['e', 's', 'ee', 'es', 'se', 'ss', 'psk', 'E', 'x', '']]);
+    const message = () => Array.from({ length: 1 + next(4) }, () => pick(names)).join(', ');
+    const arrow = (at) => (next(12) ? ['  -> ', '  <- '][at % 2] : pick(['  -> ', '  <- ', ' -> ']));
+    const heading = pick(['MINE:', 'MINE:', 'MINEpsk0:', 'MINEpsk0:', 'mine']);
+    const body = Array.from({ length: next(5) }, (_, at) => `${arrow(at)}${message()}\n`).join('');
+    const text = `${heading}\n${pick(known)}${heading === 'MINEpsk0:' ? body.replace('-> ', '-> psk, ') : body}`;
+    const verdict = checkPattern(text);
+    const [first] = readingOf(text);
+    if (verdict.valid) assert.equal(first, undefined, JSON.stringify(text));
+    // Places of psk are the library's alone.
+    else if (verdict.code !== 35) assert.deepEqual({ ...first }, Object.fromEntries(Object.keys(first).map((key) => [key, verdict[key]])), JSON.stringify(text));
+    met.add(verdict.valid ? 0 : verdict.rule ?? verdict.code);
+    for (const fault of verdict.valid ? [] : faultsOf(text, verdict)) {
+      const { span, title, says } = explain(text, fault);
+      assert.ok(span[0] >= 0 && span[0] <= span[1] && span[1] <= text.length, JSON.stringify(text));
+      assert.doesNotMatch(title + says, /[{}]|undefined/, JSON.stringify(text));
+    }
+  }
+  for (const kind of [0, 30, 31, 32, 33, 34, 35, 37, 38, 1, 2, 3, 4, 5]) assert.ok(met.has(kind), `no text has the fault ${kind}`);
+});
+
+test('all faults that reading can see are told', () => {
+  const text = 'DEV:\n  -> e, es\n  <- e, ee, ee\n  -> e\n';
+  assert.deepEqual(faultsOf(text, checkPattern(text)).map((fault) => explain(text, fault).title), [
+    'Rule 1 is broken at message 1, token es', 'Rule 3 is broken at message 2, token ee', 'Rule 2 is broken at message 3, token e']);
+  const malformed = 'DEV:\n-> e\n  -> e, foo\n  -> ee\n';
+  assert.deepEqual(faultsOf(malformed, checkPattern(malformed)).map((fault) => explain(malformed, fault).title), [
+    'Line 2: no arrow at the start', 'Line 3: not a token', 'Line 4: the other party’s turn']);
+});
+
+test('no correction takes a psk away, or makes a message a key known before', () => {
+  const [text, verdict] = ['DEV:\n  -> e, psk, s\n', checkPattern('DEV:\n  -> e, psk, s\n')];
+  assert.deepEqual(mendsOf(text, verdict).map((it) => it.text), ['DEVpsk1:\n  -> e, s, psk\n']);
+  const lost = 'DEV:\n  -> s\n  -> e\n  <- e, ee, se\n';
+  assert.deepEqual(mendsOf(lost, checkPattern(lost)).filter((it) => it.text.includes('...')), []);
+  const count = (it) => it.split('\n').slice(1).join().split(/[ ,]+/).filter((word) => word === 'psk').length;
+  const next = numbers(3);
+  const pieces = ['e', 's', 'ee', 'es', 'psk', 'psk', 'x'];
+  for (let n = 0; n < 1500; n += 1) {
+    const message = () => Array.from({ length: 1 + next(4) }, () => pieces[next(pieces.length)]).join(', ');
+    const given = `${['MINE:', 'MINEpsk0:', 'MINEpsk1:', 'mine'][next(4)]}\n${Array.from({ length: 1 + next(3) }, (_, at) => `  ${at % 2 ? '<-' : '->'} ${message()}\n`).join('')}`;
+    const found = checkPattern(given);
+    for (const offer of found.valid ? [] : mendsOf(given, found)) assert.ok(count(offer.text) >= count(given), JSON.stringify([given, offer]));
+  }
 });
 
 /** What is said of a refused text, and what is offered. */
@@ -85,7 +181,6 @@ function saidOf(text) {
 test('a forgotten “...” is named, and offered', () => {
   for (const [text, mended] of [
     ['MINE:\n  <- s\n  -> e, es\n  <- e, ee\n', 'MINE:\n  <- s\n  ...\n  -> e, es\n  <- e, ee\n'],
-    ['MINE:\n  -> s\n  -> e\n  <- e, ee, se\n', 'MINE:\n  -> s\n  ...\n  -> e\n  <- e, ee, se\n'],
   ]) {
     const { says, offers } = saidOf(text);
     assert.match(says, /“\.\.\.”, and that line is missing/);
@@ -134,8 +229,7 @@ test('what the editor can mend it offers to', () => {
 
 test('an offer is right, or its fault is further on', () => {
   const pieces = ['e', 's', 'ee', 'es', 'se', 'ss', 'psk', 'E', 'x', ''];
-  let seed = 7;
-  const next = (most) => { seed = (seed * 1103515245 + 12345) % 2147483648; return seed % most; };
+  const next = numbers(5);
   const message = () => Array.from({ length: 1 + next(4) }, () => pieces[next(pieces.length)]).join(next(5) ? ', ' : ',');
   for (let n = 0; n < 2000; n += 1) {
     const arrows = ['  -> ', '  <- ', ' -> ', '  → '];

@@ -119,5 +119,6 @@ export class Pointer extends Hand {
 
   async flip(box, at) {
     await this.click(`${box} [data-at="${at}"]`);
+    await this.click(`${box} ~ .looking .flip`);
   }
 }

@@ -72,9 +72,14 @@ export class Page {
     return this.evaluate('document.querySelector("#log li").className + ": " + document.querySelector("#log li .who").textContent');
   }
 
+  /** What stands in a part of the message that is shown. */
+  shown(selector) {
+    return this.evaluate(`document.querySelector(${quoted(`#ran ${selector}`)}).textContent`);
+  }
+
   async begin() {
-    await this.click('#start');
-    await this.until('document.getElementById("all").getAttribute("aria-disabled") === "false"');
+    await this.run(`const it = document.getElementById('start'); (it.hidden ? document.getElementById('step') : it).click()`);
+    await this.until('document.getElementById("log").childElementCount === 0 && document.getElementById("all").getAttribute("aria-disabled") === "false"');
   }
 
   async passAll() {
@@ -95,12 +100,10 @@ export class Page {
 
   /** Delivers the Nth message that was written, with these bytes changed. */
   async deliver(n, flips = []) {
-    const row = `[...document.querySelectorAll('#log li.wrote')].reverse()[${n}]`;
-    await this.run(`const it = ${row}; it.hidden = false; if (!it.querySelector('.deliver')) it.querySelector('summary').click();`);
-    await this.until(`${row}.querySelector('.go') !== null`);
-    for (const at of flips) await this.run(`${row}.querySelector('[data-at="${at}"]').click()`);
-    await this.adding(1, () => this.run(`${row}.querySelector('.go').click()`));
-    for (const at of flips) await this.run(`${row}.querySelector('[data-at="${at}"]').click()`);
+    await this.run(`[...document.querySelectorAll('#log li.wrote .show')].reverse()[${n}].click()`);
+    for (const at of flips) await this.run(`document.querySelector('#current-body [data-at="${at}"]').click()`);
+    await this.adding(1, () => this.click('#current .go'));
+    for (const at of flips) await this.run(`document.querySelector('#current-body [data-at="${at}"]').click()`);
   }
 
   /** Saves the vector file of the run, and its key schedule. */

@@ -1,11 +1,11 @@
 // What of the page has no DOM besides its facts: links, the picture, and runs whose parties have other psks. node --test parts.test.mjs.
 import assert from 'node:assert/strict';
 import { before, test } from 'node:test';
-import { layout } from '../../bindings/js/layout.mjs';
 import { load } from '../../bindings/js/module.mjs';
-import { textOf } from '../../bindings/js/patterns.mjs';
 import { faultOf, isLocal, isSetup, read, readRun, write } from '../../web/link.mjs';
+import { textOf } from '../../web/patterns.mjs';
 import { picture, words } from '../../web/picture.mjs';
+import { layout } from '../../web/plan.mjs';
 import { Run } from '../../web/run.mjs';
 import { scheduleOf } from '../../web/schedule.mjs';
 import { sentenceOf } from '../../web/sentences.mjs';

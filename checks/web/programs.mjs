@@ -2,26 +2,46 @@
 // FOLDER/LANGUAGE/NUMBER/expected is what the program has to print.
 import { mkdir, writeFile } from 'node:fs/promises';
 import { join } from 'node:path';
-import { layout } from '../../bindings/js/layout.mjs';
-import { textOf } from '../../bindings/js/patterns.mjs';
+import { layout } from '../../web/plan.mjs';
+import { textOf } from '../../web/patterns.mjs';
 import { LANGUAGES, program } from '../../web/code.mjs';
 
 const [folder] = process.argv.slice(2);
 const OWN = 'MINE:\n  <- s\n  ...\n  -> e, es\n  <- e, ee\n  -> s, se\n';
 const EPHEMERAL = 'EARLY:\n  <- e, s\n  ...\n  -> e, ee, es\n';
+/** Six patterns and more, each mode with several. */
 const SETUPS = [
   { text: textOf('XX'), interval: 1000 },
-  { text: textOf('NN'), prologue: 'a "quoted" \\ text,\n\u0001 and é' },
-  { text: textOf('X', [0, 1]), interval: 1 },
-  { text: textOf('IK', [2]), mode: 'datagrams', window: 256 },
   { text: textOf('XX'), mode: 'stream', interval: 1 },
+  { text: textOf('XX'), mode: 'datagrams' },
+  { text: textOf('NN'), prologue: 'a "quoted" \\ text,\n\u0001 and é\u202e' },
+  { text: textOf('NN', [0]), mode: 'stream' },
+  { text: textOf('X', [0, 1]), interval: 1 },
   { text: textOf('N'), mode: 'stream' },
-  { text: textOf('NN', [0]) },
+  { text: textOf('IK', [2]), mode: 'datagrams', window: 256 },
+  { text: textOf('NK'), mode: 'stream' },
   { text: OWN },
-  { text: OWN, mode: 'datagrams' },
-  { text: textOf('K1K1', [0, 2]) },
+  { text: OWN, mode: 'stream' },
+  { text: textOf('K1K1', [0, 2]), mode: 'datagrams' },
   { text: EPHEMERAL, isForCAndJavaScript: true },
 ];
+/** What a program calls in each mode, and in no other. */
+const CALLS = {
+  C: { transport: /noise_seal\(/, stream: /noise_stream_write\(/, datagrams: /noise_datagram_seal\(/ },
+  Go: { transport: /\.Split\(/, stream: /noise\.Client\(/, datagrams: /\.Datagrams\(/ },
+  Rust: { transport: /\.finish\(/, stream: /Stream::/, datagrams: /\.finish_datagrams\(/ },
+  JavaScript: { transport: /\.finish\(/, stream: /NoiseSocket\.open\(/, datagrams: /\.finishDatagrams\(/ },
+  Python: { transport: /\.split\(/, stream: /connect\(/, datagrams: /\.datagrams\(/ },
+};
+/** What compares the responder's static key. */
+const COMPARES = { C: /compare\(&client, &server\.s\)/, Go: /client\.PeerStatic/, Rust: /server_public/, JavaScript: /serverKey\.publicKey/, Python: /peer_key=server_key/ };
+
+function mustFit(language, { mode, text }, program, plan) {
+  const called = Object.entries(CALLS[language]).filter(([, call]) => call.test(program)).map(([name]) => name);
+  if (called.join() !== mode) throw new Error(`the program in ${language} of ${text.split('\n')[0]} is one for ${called}, not for ${mode}`);
+  if (plan.static.responder && !COMPARES[language].test(program)) throw new Error(`the program in ${language} of ${text.split('\n')[0]} compares no key`);
+  if (/[\u202a-\u202e\u2066-\u2069]/.test(program)) throw new Error(`the program in ${language} turns its text around`);
+}
 
 for (const [number, setup] of SETUPS.entries()) {
   const { isForCAndJavaScript, ...given } = setup;
@@ -30,7 +50,8 @@ for (const [number, setup] of SETUPS.entries()) {
   for (const language of LANGUAGES) {
     if (isForCAndJavaScript && ['Go', 'Rust', 'Python'].includes(language)) continue;
     const { name, text } = program(language, plan, whole);
-    const answers = language !== 'C' && whole.mode !== 'datagrams' && !plan.oneWay;
+    mustFit(language, whole, text, plan);
+    const answers = language !== 'C' && whole.mode === 'stream' && !plan.oneWay;
     const place = join(folder, language, String(number));
     await mkdir(place, { recursive: true });
     await writeFile(join(place, name), text);

@@ -40,17 +40,19 @@ export class Walk {
   async design() {
     const { hand } = this;
     await this.page.open();
+    await this.page.run('localStorage.clear()');
+    await this.page.open();
     await hand.type('#text', FAULTY);
-    assert.match(await this.of('verdict'), /^Line 2: turn\..*that line is missing/);
+    assert.match(await this.of('verdict'), /^Line 2: “\.\.\.” is missing\. .*that line is missing/);
     await hand.press('#mends button');
     assert.equal(await this.text(), MENDED);
     assert.equal(await this.page.evaluate('document.activeElement.id'), 'text');
     assert.match(await this.of('verdict'), /^Valid: 2 messages/);
-    assert.match(await this.of('facts'), /Message 1es.*Whoever has the responder’s static private key can compute these keys/);
-    assert.match(await this.of('facts'), /No static key of the initiator takes part.*Message 1 can be replayed.*Noise Explorer/);
+    assert.match(await this.of('facts'), /Message 1, payloades.*The initiator’s e, or the responder’s s\./);
+    assert.match(await this.of('facts'), /Message 1Anyone, with an e of its own\.Accepted again: the responder puts in no e before\..*Noise Explorer/);
     await hand.type('#text', 'MINE:\n  -> e\n  <- e\n');
-    assert.match(await this.of('verdict'), /Warning: Transport: No DH is mixed: everybody can compute these keys/);
-    assert.equal(await this.page.evaluate('document.querySelectorAll("#facts tr.warns").length'), 1);
+    assert.match(await this.of('verdict'), /^Valid: 2 messages, with a warning\. Warning: Transport, recorded: no DH is mixed in, and everybody can compute the key/);
+    assert.equal(await this.page.evaluate('document.querySelectorAll("#facts tr.warns").length + document.getElementById("verdict").className'), '1warned');
     await hand.undo();
     assert.equal(await this.text(), MENDED);
   }
@@ -60,11 +62,9 @@ export class Walk {
     const { hand } = this;
     await hand.choose('#pick', 'NK');
     await hand.choose('#beside', 'NK1');
-    const rows = await this.page.evaluate('[...document.querySelectorAll("#other tbody tr")].map((it) => [it.className, ...[...it.children].map((cell) => cell.textContent)])');
-    const row = (name) => rows.find(([, head]) => head.startsWith(name));
-    assert.deepEqual(row('Known before'), ['', 'Known before', '← s', '← s']);
-    assert.deepEqual(row('Message 1'), ['other', 'Message 1 differs', '→ e, es (48 bytes)', '→ e (32 bytes)']);
-    assert.equal(row('Keys of transport')[0], '');
+    const rows = await this.page.evaluate('[...document.querySelectorAll("#other tbody tr")].map((it) => [...it.children].map((cell) => cell.textContent))');
+    assert.deepEqual(rows[0], ['Message 1', '→ e, es (48 bytes)', '→ e (32 bytes)']);
+    assert.ok(rows.every(([, left, right]) => left !== right));
     await hand.choose('#beside', '');
   }
 
@@ -85,7 +85,7 @@ export class Walk {
     await this.until(`document.getElementById("text").value === ${quoted(MENDED)}`);
     await hand.choose('#pick', 'XX');
     await hand.reach('#text');
-    await hand.choose('#pick', 'own MINE');
+    await hand.choose('#pick', `own ${MENDED}`);
     assert.equal(await this.text(), MENDED);
   }
 
@@ -100,23 +100,24 @@ export class Walk {
     await this.deliver(2);
     await this.write('responder');
     assert.equal(await this.page.newest('.fate'), 'not delivered');
-    await hand.flip('#log li:first-child .bytes', 40);
-    assert.match(await this.page.newest('.piece'), /^byte 40: static key, encrypted \(bytes 32 to 63\), changed/);
-    assert.match(await this.page.newest('.go'), /^Deliver with byte 40 changed/);
+    await hand.flip('#current-body .bytes', 40);
+    assert.match(await this.page.shown('.piece'), /^byte 40: static key, encrypted \(bytes 32 to 63\), changed/);
+    assert.match(await this.page.shown('.go'), /^Deliver with byte 40 changed/);
+    assert.equal(await this.of('step'), 'Deliver message 2 to the initiator with byte 40 changed');
     await this.deliver(4);
     assert.match(await this.of('said'), /^4\. Initiator refused message 2, token s: a tag is wrong\. Changed on the way: byte 40\. Its handshake has ended\.$/);
     assert.equal(await this.page.newest('.chip'), 'refused');
     assert.equal(await this.page.evaluate('document.querySelector("#log li:nth-child(2) .fate").textContent'), 'refused');
     assert.notEqual(await this.page.evaluate('document.activeElement.tagName'), 'BODY');
-    assert.equal(await this.page.evaluate('document.querySelector("#said").getAttribute("aria-live")'), 'polite');
-    await hand.press('#log li:nth-child(2) details.keys summary');
-    await this.until('document.querySelector("#log li:nth-child(2) .schedule tbody tr") !== null');
-    const steps = await this.page.evaluate('[...document.querySelectorAll("#log li:nth-child(2) .schedule tbody th")].map((it) => it.textContent)');
+    await this.until('document.getElementById("live").textContent === document.getElementById("said").textContent');
+    await hand.press('#current-body details.schedules summary');
+    await this.until('document.querySelector("#current-body .schedule dt") !== null');
+    const steps = await this.page.evaluate('[...document.querySelectorAll("#current-body .schedule dt")].map((it) => it.textContent)');
     assert.deepEqual(steps, ['e (MixHash)', 'ee (MixKey)', 's (EncryptAndHash)', 'es (MixKey)', 'payload (EncryptAndHash)']);
-    await hand.press('#log li:nth-child(2) details.keys .copy');
+    await hand.press('#current-body details.schedules .copy');
     assert.match(await this.clipboard(/^trace /), /^trace responder 2 0 e MixHash 0 [0-9a-f]{64} [0-9a-f]{64} [0-9a-f]{64} - 0\n/);
-    await hand.press('#log li:nth-child(2) .deliver .copy');
-    await this.until('document.getElementById("told").textContent === "Copied: message 2."');
+    await hand.press('#current .deliver .copy');
+    await this.until('document.getElementById("live").textContent === "Copied: message 2."');
     assert.match(await this.clipboard(/^[0-9a-f]*$/), /^[0-9a-f]{192,}$/);
   }
 
@@ -127,7 +128,7 @@ export class Walk {
     await hand.type('#prologue', 'walks');
     assert.equal(await this.page.count(), before);
     assert.ok(await this.page.evaluate('document.getElementById("ran").matches(".stale") && document.getElementById("back").offsetHeight > 0'));
-    assert.equal(await this.of('start'), 'Begin again with this set-up');
+    assert.equal(await this.of('step'), 'Begin again with this set-up');
     await hand.press('#back');
     assert.equal(await this.page.evaluate('document.getElementById("prologue").value + document.getElementById("ran").className'), 'walk');
     assert.equal(await this.page.count(), before);
@@ -151,7 +152,7 @@ export class Walk {
     assert.deepEqual(await entries(), first);
     assert.ok((await this.of('said')).includes(said.slice(0, 40)));
     assert.notEqual(await this.of('key-list'), keys);
-    await this.page.until('location.hash.includes("run=")');
+    await this.page.until('!location.hash.includes("run=") && sessionStorage.length > 0');
     await this.page.reload();
     await this.until('document.getElementById("log").childElementCount === 4');
     assert.deepEqual(await entries(), first);
@@ -167,7 +168,7 @@ export class Walk {
       await hand.press('#program-row .copy');
       await this.until(isCopied);
       assert.ok((await this.of('code')).includes(opening));
-      assert.ok(await this.page.evaluate('document.querySelectorAll("#code [class^=h-]").length') > 20);
+      assert.ok(await this.page.evaluate('document.querySelectorAll("#code [class^=h-]").length') > 10);
     }
   }
 
@@ -192,19 +193,18 @@ export class Walk {
     assert.match(await this.of('key-list'), /Initiator’s psk 1, a secret of this run [0-9a-f]{64} .*Responder’s psk 1, a secret/);
     assert.equal(await this.page.evaluate('document.getElementById("save-vector").getAttribute("aria-disabled")'), 'true');
     assert.equal(await isShown('no-vector'), true);
-    await this.until('/psks=own.*run=wi.*_di\\.0$/.test(location.hash)');
+    await this.until('/psks=own$/.test(location.hash) && Object.values(sessionStorage).some((it) => /_di\\.0"/.test(it))');
     await this.page.reload();
     await this.until('document.getElementById("log").childElementCount === 4');
     assert.equal(await this.page.evaluate('document.getElementById("ownPsks").checked'), true);
     await hand.tick('#ownPsks');
-    await hand.press('#start');
-    await this.until('document.getElementById("log").childElementCount === 0');
+    await this.begin();
     await this.adding(4, () => hand.press('#all'));
     assert.match(await this.of('state'), /initiator is open .*responder is open/);
     await hand.press('#keys > summary');
     await hand.press('#key-list details summary');
-    await this.until('document.querySelector("#key-list .schedule tbody tr") !== null');
-    assert.deepEqual(await this.page.evaluate('[...document.querySelectorAll("#key-list .schedule tbody th")].map((it) => it.textContent)'),
+    await this.until('document.querySelector("#key-list .schedule dt") !== null');
+    assert.deepEqual(await this.page.evaluate('[...document.querySelectorAll("#key-list .schedule dt")].map((it) => it.textContent)'),
       ['name (InitializeSymmetric)', 'prologue (MixHash)']);
     await hand.tick('#places input[value="2"]');
   }
@@ -214,9 +214,7 @@ export class Walk {
     const { hand } = this;
     await hand.choose('#pick', 'NN');
     await hand.choose('#mode', 'stream');
-    await hand.press('#start');
-    await this.until('document.getElementById("log").childElementCount === 0');
-    await this.until('document.activeElement.id === "start"');
+    await this.begin();
     await hand.press('#all');
     await this.until('document.getElementById("log").childElementCount === 4');
     await this.write('initiator');
@@ -227,22 +225,19 @@ export class Walk {
     await this.deliver(8);
     assert.match(await this.of('said'), /^8\. Responder accepted the end of the initiator’s stream .*all of it has come/);
     await this.write('responder');
-    assert.equal(await this.page.newest('.deliver label'), ' bytes of 23: the first 2 are its length');
-    await hand.type('#log li:first-child .deliver input', '9');
-    await this.adding(11, () => hand.press('#log li:first-child .deliver button:not(.go)'));
+    assert.equal(await this.page.shown('.deliver label'), ' bytes of 23: the first 2 are its length');
+    await hand.type('#current .deliver input', '9');
+    await this.adding(11, () => hand.press('#current .deliver button:not(.go)'));
     assert.match(await this.of('said'), /11\. The connection has ended\. The initiator reports a cut: .* after 0 payloads and 9 bytes of an unfinished message\./);
     assert.match(await this.of('said'), /The responder reports the end of the initiator’s stream, after all of it: 1 payload\./);
-    await hand.press('#log li:last-child summary');
-    await this.until('document.querySelector("#log li:last-child .go") !== null');
-    const going = await this.page.evaluate('[...document.querySelectorAll("#log .deliver button:not(.copy)")].map((it) => it.getAttribute("aria-disabled") + it.title)');
+    const going = await this.page.evaluate('[...document.querySelectorAll("#current .deliver button:not(.copy)")].map((it) => it.getAttribute("aria-disabled") + it.title)');
     assert.deepEqual([...new Set(going)], ['trueThe connection is closed.']);
     await this.page.save(`stream-${this.hand.name.split(' ')[1]}`);
-    await hand.press('#start');
-    await this.until('document.getElementById("log").childElementCount === 0');
+    await this.begin();
     await hand.press('#all');
     await this.until('document.getElementById("log").childElementCount === 4');
     await this.write('initiator');
-    await hand.flip('#log li:first-child .bytes', 2);
+    await hand.flip('#current-body .bytes', 2);
     await this.deliver(6);
     assert.match(await this.of('said'), /^6\. Responder refused transport message 1 of the initiator: a tag is wrong\..*sends nothing, no end either/);
     const buttons = '[...document.querySelectorAll("[data-write=responder], [data-end=responder]")]';
@@ -250,8 +245,8 @@ export class Walk {
   }
 
   async begin() {
-    await this.hand.press('#start');
-    await this.until('document.getElementById("all").getAttribute("aria-disabled") === "false"');
+    await this.hand.press(await this.page.evaluate('document.getElementById("start").hidden') ? '#step' : '#start');
+    await this.until('document.getElementById("log").childElementCount === 0 && document.getElementById("all").getAttribute("aria-disabled") === "false"');
   }
 
   async adding(count, work) {
@@ -265,7 +260,7 @@ export class Walk {
 
   /** Delivers the newest message, after which the log has so many entries. */
   async deliver(count) {
-    await this.adding(count, () => this.hand.press('#log li:first-child .go'));
+    await this.adding(count, () => this.hand.press('#current .go'));
   }
 
   /** What the clipboard has, once it is of this form. */

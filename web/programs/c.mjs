@@ -102,7 +102,16 @@ const STREAM = lines(
   '    must(code == NOISE_END, noise_text(code));    // at NOISE_MORE receive more; if the connection ends then, the stream is cut',
 ).trimEnd();
 
-function main({ psks, mode, interval, window }) {
+/** What compares the other party's static key with the one that is expected, where the pattern has one. */
+const COMPARE = `// The other party's static key has to be the one that you expect.
+static void compare(const party *p, const key_pair *expected) {
+    noise_key key;
+    must(noise_remote_static(&p->handshake, &key) == NOISE_OK && key.present, "no static key");
+    must(memcmp(key.bytes, expected->public, sizeof key.bytes) == 0, "another static key");
+}
+`;
+
+function main({ psks, mode, interval, window, has }) {
   const [finish, , , seal, open] = KINDS[mode];
   const option = mode === 'datagrams' ? window : interval;
   return lines(
@@ -119,7 +128,8 @@ function main({ psks, mode, interval, window }) {
     '        party *from = stage.writes_next ? &client : &server, *to = stage.writes_next ? &server : &client;',
     '        step(to, 0, message, step(from, 1, message, 0));    // a network comes between the two calls',
     '    }',
-    '    // Compare the other party\'s static key, by noise_remote_static, with the one that you expect.',
+    has.responder && '    compare(&client, &server.s);',
+    has.initiator && '    compare(&server, &client.s);',
     `    must(${finish}(&client.handshake, ${option}, &client.sender, &client.receiver) == NOISE_OK, "the client isn't done");`,
     `    must(${finish}(&server.handshake, ${option}, &server.sender, &server.receiver) == NOISE_OK, "the server isn't done");`,
     '    noise_wipe(&client.handshake, sizeof client.handshake);',
@@ -133,7 +143,7 @@ function main({ psks, mode, interval, window }) {
 }
 
 export function c(facts) {
-  const { section, name, isNamed, prologue, psks, mode } = facts;
+  const { section, name, isNamed, prologue, psks, mode, has } = facts;
   const [, sender, receiver] = KINDS[mode];
   const text = isNamed
     ? [`static const char pattern[] = "Noise_${section}_25519_ChaChaPoly_SHA256";`]
@@ -156,6 +166,6 @@ export function c(facts) {
     `    ${sender} sender;`,
     `    ${receiver} receiver;`,
     '} party;', '',
-    start(facts), STEP, main(facts).trimEnd(),
+    start(facts), STEP, (has.initiator || has.responder) && COMPARE, main(facts).trimEnd(),
   );
 }

@@ -50,7 +50,8 @@ const STREAM = (oneWay) => lines(
   '\tmust(conn.Close())',
 );
 
-const DATAGRAMS = (window) => lines(
+/** Messages in order, or datagrams. */
+const MESSAGES = ({ isDatagrams, window }) => lines(
   '',
   '\twriter, err := noise.NewHandshakeState(&client, true)',
   '\tmust(err)',
@@ -64,22 +65,22 @@ const DATAGRAMS = (window) => lines(
   '\t\tmust(err)',
   '\t\twriter, reader = reader, writer',
   '\t}',
-  `\tsending, _, err := initiator.Datagrams(${window})`,
+  `\tsending, _, err := initiator.${isDatagrams ? `Datagrams(${window})` : 'Split()'}`,
   '\tmust(err)',
-  `\t_, receiving, err := responder.Datagrams(${window})`,
+  `\t_, receiving, err := responder.${isDatagrams ? `Datagrams(${window})` : 'Split()'}`,
   '\tmust(err)',
-  '\tdatagram, err := sending.Seal(nil, []byte("hello"))',
+  '\tsealed, err := sending.Seal(nil, []byte("hello"))',
   '\tmust(err)',
-  '\ttext, err := receiving.Open(nil, datagram)',
+  '\ttext, err := receiving.Open(nil, sealed)',
   '\tmust(err)',
   '\tfmt.Printf("the server reads: %s\\n", text)',
 );
 
 export function go(facts) {
-  const { section, name, isNamed, prologue, psks, has, isDatagrams, interval, window, oneWay, knowsEphemeral } = facts;
+  const { section, name, isNamed, prologue, psks, has, isDatagrams, isStream, interval, oneWay, knowsEphemeral } = facts;
   if (knowsEphemeral.initiator || knowsEphemeral.responder) return `// ${section} has an ephemeral key before "...", which the package for Go has no field for. Take the program in C.\n`;
   const text = isNamed ? `"${section}"` : facts.lines.map((line) => `"${line}\\n"`).join(' +\n\t');
-  const imports = lines(psks > 0 && '\t"crypto/rand"', '\t"fmt"', !isDatagrams && '\t"io"', '\t"log"', !isDatagrams && '\t"net"', '', '\t"example.org/yulimosar/noise"');
+  const imports = lines(psks > 0 && '\t"crypto/rand"', '\t"fmt"', isStream && '\t"io"', '\t"log"', isStream && '\t"net"', '', '\t"example.org/yulimosar/noise"');
   return lines(
     `// The pattern ${section}: both parties in one program, ${name}.go. docs/GO.md has the go.mod for it.`,
     'package main', '', 'import (', imports.trimEnd(), ')', '',
@@ -94,7 +95,7 @@ export function go(facts) {
     '\t}',
     '\tclient, server := both, both',
     (config('initiator', facts) + config('responder', facts)).trimEnd() || undefined,
-    (isDatagrams ? DATAGRAMS(window) : STREAM(oneWay)).trimEnd(),
+    (isStream ? STREAM(oneWay) : MESSAGES(facts)).trimEnd(),
     '}', '',
     (has.initiator || has.responder) && ['func public(key *noise.KeyPair) *noise.Key {', '\tpublic := key.Public()', '\treturn &public', '}', ''],
     'func must(err error) {', '\tif err != nil {', '\t\tlog.Fatal(err)', '\t}', '}',

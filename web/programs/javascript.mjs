@@ -1,7 +1,8 @@
 // A pattern as a program in JavaScript, over the package of bindings/js.
+import { visible } from '../bytes.mjs';
 import { lines } from './text.mjs';
 
-const quoted = (text) => `'${JSON.stringify(text).slice(1, -1).replaceAll('\\"', '"').replaceAll("'", "\\'")}'`;
+const quoted = (text) => `'${visible(JSON.stringify(text)).slice(1, -1).replaceAll('\\"', '"').replaceAll("'", "\\'")}'`;
 
 function options(role, { has, knows, knowsEphemeral, psks }) {
   const [own, other] = role === 'initiator' ? ['client', 'server'] : ['server', 'client'];
@@ -58,8 +59,13 @@ function streams(facts) {
   );
 }
 
-function datagrams(facts) {
-  const { window } = facts;
+/** The comparison of the other party's static key, where the pattern has one. */
+const compare = (n, own, other) => `if (String(handshakes[${n}].remoteStatic) !== String(${other}Key.publicKey)) throw new Error('the ${own} expects another key');`;
+
+/** Messages in order, or datagrams. */
+function messages(facts) {
+  const { window, interval, isDatagrams, has } = facts;
+  const finish = isDatagrams ? `finishDatagrams({ window: ${window} })` : `finish(${interval > 0 ? `{ interval: ${interval} }` : ''})`;
   return lines(
     'const handshakes = [',
     `  new Handshake(${object(options('initiator', facts), '  ')}),`,
@@ -69,8 +75,9 @@ function datagrams(facts) {
     '  const [writer, reader] = handshakes[0].stage.writesNext ? handshakes : [...handshakes].reverse();',
     '  await reader.read(await writer.write());    // a network comes between the two calls',
     '}',
-    '// Compare `remoteStatic` with the key that you expect.',
-    `const [client, server] = handshakes.map((it) => it.finishDatagrams({ window: ${window} }));`,
+    has.responder && compare(0, 'client', 'server'),
+    has.initiator && compare(1, 'server', 'client'),
+    `const [client, server] = handshakes.map((it) => it.${finish});`,
     "console.log('the server reads:', text(server.open(client.seal(bytes('hello')))));",
     'client.dispose();',
     'server.dispose();',
@@ -78,9 +85,9 @@ function datagrams(facts) {
 }
 
 export function javascript(facts) {
-  const { section, name, isNamed, prologue, isDatagrams, has, knowsEphemeral } = facts;
+  const { section, name, isNamed, prologue, isStream, has, knowsEphemeral } = facts;
   const isKeyed = [has, knowsEphemeral].some((who) => who.initiator || who.responder);
-  const imported = [isDatagrams && 'Handshake', isKeyed && 'KeyPair', !isDatagrams && 'NoiseSocket', 'load'].filter(Boolean);
+  const imported = [!isStream && 'Handshake', isKeyed && 'KeyPair', isStream && 'NoiseSocket', 'load'].filter(Boolean);
   const pattern = isNamed ? `'${section}'` : `[\n${facts.lines.map((line) => `  '${line}',`).join('\n')}\n  '',\n].join('\\n')`;
   return lines(
     `// The pattern ${section}: both parties in one program, ${name}.mjs. docs/JAVASCRIPT.md says how the package is installed.`,
@@ -90,6 +97,6 @@ export function javascript(facts) {
     'await load();',
     `const both = { pattern: ${pattern}, prologue: bytes(${quoted(prologue)}) };`,
     keys(facts).trimEnd() || undefined,
-    (isDatagrams ? datagrams(facts) : streams(facts)).trimEnd(),
+    (isStream ? streams(facts) : messages(facts)).trimEnd(),
   );
 }

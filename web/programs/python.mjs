@@ -50,22 +50,24 @@ const STREAM = (oneWay) => lines(
   'thread.join()',
 );
 
-const DATAGRAMS = (window) => lines(
+/** Messages in order, or datagrams. */
+const MESSAGES = ({ isDatagrams, window }) => lines(
   '',
   'initiator, responder = Handshake(client, True), Handshake(server, False)',
   'while not initiator.done:',
   '    writer, reader = (initiator, responder) if initiator.writes_next else (responder, initiator)',
   '    reader.read(writer.write())  # a network comes between the two calls',
-  `sending, receiving = initiator.datagrams(${window}), responder.datagrams(${window})`,
+  ...(isDatagrams ? [`sending, receiving = initiator.datagrams(${window}), responder.datagrams(${window})`]
+    : ['sending, _ = initiator.split()', '_, receiving = responder.split()']),
   'print("the server reads:", receiving.open(sending.seal(b"hello")).decode())',
 );
 
 export function python(facts) {
-  const { section, name, isNamed, psks, has, isDatagrams, window, oneWay, knowsEphemeral } = facts;
+  const { section, name, isNamed, psks, has, isStream, oneWay, knowsEphemeral } = facts;
   if (knowsEphemeral.initiator || knowsEphemeral.responder) return `# ${section} has an ephemeral key before "...", which the package for Python refuses. Take the program in C.\n`;
-  const imported = ['Config', isDatagrams && 'Handshake', (has.initiator || has.responder) && 'KeyPair', !isDatagrams && 'NoiseSocket', !isDatagrams && 'accept', !isDatagrams && 'connect'];
+  const imported = ['Config', !isStream && 'Handshake', (has.initiator || has.responder) && 'KeyPair', isStream && 'NoiseSocket', isStream && 'accept', isStream && 'connect'];
   const text = isNamed ? `"${section}"` : `(\n${facts.lines.map((line) => `    "${line}\\n"\n`).join('')})`;
-  const modules = lines(psks > 0 && 'import secrets', !isDatagrams && ['import socket', 'import threading']);
+  const modules = lines(psks > 0 && 'import secrets', isStream && ['import socket', 'import threading']);
   return lines(
     `# The pattern ${section}: both parties in one program, ${name}.py. docs/PYTHON.md says how the package is installed.`,
     modules.trimEnd() || undefined,
@@ -76,6 +78,6 @@ export function python(facts) {
     keys(facts).trimEnd() || undefined,
     config('initiator', facts).trimEnd(),
     config('responder', facts).trimEnd(),
-    (isDatagrams ? DATAGRAMS(window) : STREAM(oneWay)).trimEnd(),
+    (isStream ? STREAM(oneWay) : MESSAGES(facts)).trimEnd(),
   );
 }

@@ -55,8 +55,10 @@ function streams(facts) {
   );
 }
 
-function datagrams(facts) {
-  const { window, has } = facts;
+/** Messages in order, or datagrams. */
+function messages(facts) {
+  const { window, has, isDatagrams } = facts;
+  const finish = isDatagrams ? `finish_datagrams(${window})?` : 'finish()?';
   const compare = (own, other) => `    assert_eq!(${own}.remote_static(), Some(${other}_public));`;
   return lines(
     `    let mut client = ${builder('initiator', facts)};`,
@@ -74,7 +76,7 @@ function datagrams(facts) {
     '    }',
     has.responder && compare('client', 'server'),
     has.initiator && compare('server', 'client'),
-    `    let (mut client, mut server) = (client.finish_datagrams(${window})?, server.finish_datagrams(${window})?);`,
+    `    let (mut client, mut server) = (client.${finish}, server.${finish});`,
     '    let len = client.seal(b"hello", &mut message)?;',
     '    let text = server.open(&mut message[..len])?;',
     '    println!("the server reads: {}", String::from_utf8_lossy(text));',
@@ -83,19 +85,19 @@ function datagrams(facts) {
 }
 
 export function rust(facts) {
-  const { section, name, isNamed, prologue, isDatagrams, knowsEphemeral } = facts;
+  const { section, name, isNamed, prologue, isStream, knowsEphemeral } = facts;
   if (knowsEphemeral.initiator || knowsEphemeral.responder) return `// ${section} has an ephemeral key before "...", which the crate for Rust has no call for. Take the program in C.\n`;
   const text = isNamed ? `"${section}"` : `concat!(\n${facts.lines.map((line) => `    "${line}\\n",`).join('\n')}\n)`;
   return lines(
     `// The pattern ${section}: both parties in one program, ${name}.rs. docs/RUST.md has the Cargo.toml for it.`,
-    isDatagrams ? 'use yulimosar::{Builder, Error, KeyPair, MAX_MESSAGE};'
+    !isStream ? 'use yulimosar::{Builder, Error, KeyPair, MAX_MESSAGE};'
       : ['use std::io::{self, Read, Write};', 'use std::os::unix::net::UnixStream;', 'use yulimosar::{Builder, KeyPair, Stream};'],
     '',
     `const PATTERN: &str = ${text};`,
     `const PROLOGUE: &[u8] = b${quoted(prologue, hexEscape)};`, '',
-    `fn main() -> ${isDatagrams ? 'Result<(), Error>' : 'io::Result<()>'} {`,
+    `fn main() -> ${isStream ? 'io::Result<()>' : 'Result<(), Error>'} {`,
     keys(facts).trimEnd() || undefined,
-    (isDatagrams ? datagrams(facts) : streams(facts)).trimEnd(),
+    (isStream ? streams(facts) : messages(facts)).trimEnd(),
     '}',
   );
 }
