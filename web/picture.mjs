@@ -140,7 +140,7 @@ function measure(plan, given) {
   const isNarrow = given < 620;
   const sizes = isNarrow ? NARROW : WIDE;
   const side = isNarrow ? 10 : 165;
-  const width = Math.max(given, 240);
+  const width = Math.max(given, 200);
   const room = width - (isNarrow ? 8 : 2 * side + 16);
   const wanted = plan.messages.map(({ pieces }) => ({ fixed: widthOf(pieces, 0, sizes), bytes: pieces.reduce((sum, { length }) => sum + length, 0) }));
   const scale = Math.max(sizes.byte, Math.min(2.4, ...wanted.map(({ fixed, bytes }) => (room - fixed) / Math.max(bytes, 1))));

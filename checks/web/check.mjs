@@ -222,9 +222,9 @@ try {
   await datagrams();
   if (!process.env.NEW) await long();
   if (!process.env.NEW) report(await sizes(page, top));
-  report(await links(page));
-  report(await workbench(page));
-  await walks();
+  if (!process.env.LAST) report(await links(page));
+  if (!process.env.LAST) report(await workbench(page));
+  if (!process.env.LAST) await walks();
   report(await designs(page));
   await page.resize(1100);
   await speech(page);

@@ -8,13 +8,27 @@ const FAULTY = 'DEV:\n  -> e, es\n  <- e, ee, ee\n  -> e\n';
 /** Seconds of the keystroke-level model: a key of someone who types seldom, a move of the pointer with its click, and a thought before each act. */
 const [KEY, MOVE, THOUGHT] = [0.5, 1.3, 1.35];
 
-/** A hand whose acts are counted. */
-function counted(hand) {
-  const spent = { seconds: 0 };
-  const counts = { type: (_, text) => MOVE + text.length * KEY, press: () => MOVE, tick: () => MOVE, choose: () => 2 * MOVE };
+/** The browser, which counts the keys that are pressed. */
+function counting(browser, spent) {
+  return new Proxy(browser, {
+    get(target, name) {
+      const it = target[name];
+      if (name === 'press') spent.keys += 1;
+      return typeof it === 'function' ? it.bind(target) : it;
+    },
+  });
+}
+
+/** A hand whose acts are counted: by keyboard each key, by pointer each move. */
+function counted(Hand, browser) {
+  const spent = { seconds: 0, keys: 0 };
+  const hand = new Hand(counting(browser, spent));
+  const move = Hand === Keyboard ? 0 : MOVE;
+  const counts = { type: (_, text) => move + text.length * KEY, press: () => move, tick: () => move, choose: () => 2 * move };
   const acts = Object.fromEntries(Object.entries(counts).map(([name, seconds]) => [name, async (...words) => {
-    spent.seconds += THOUGHT + seconds(...words);
+    const before = spent.keys;
     await hand[name](...words);
+    spent.seconds += THOUGHT + seconds(...words) + (spent.keys - before) * KEY;
   }]));
   return { ...acts, spent };
 }
@@ -43,7 +57,7 @@ export async function designs(page) {
   const told = [];
   for (const [Hand, width, name] of [[Pointer, 1440, 'by pointer'], [Keyboard, 1440, 'by keyboard'], [Pointer, 390, 'at 390 px']]) {
     await page.resize(width, 900);
-    const hand = counted(new Hand(page.browser));
+    const hand = counted(Hand, page.browser);
     await design(page, hand);
     const minutes = hand.spent.seconds / 60;
     assert.ok(minutes < 9, `three designs take ${minutes} minutes`);
