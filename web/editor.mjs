@@ -293,6 +293,6 @@ export class Editor {
       box.disabled = Number(box.value) > messages && !box.checked && box !== document.activeElement;
       box.parentElement.hidden = box.disabled;
     }
-    document.getElementById('forget').hidden = !own.all().some((it) => it.text === text);
+    document.getElementById('forget').hidden = !own.has(text);
   }
 }

@@ -7,20 +7,19 @@ const PLACE = 'noise-patterns';
 export const MOST = 200;
 export const LONGEST = 2000;
 let kept = [];
-let isRead = false;
 
 const isText = (text) => typeof text === 'string' && text.length <= LONGEST;
 
-/** What another page of this browser has kept since counts too. */
+/** Takes what is kept: another page of this browser may have kept more since. */
 function read() {
   try {
     const found = JSON.parse(localStorage.getItem(PLACE) ?? '[]');
     kept = Array.isArray(found) ? found.filter(isText) : [];
-  } catch {
-    if (!isRead) kept = [];
-  }
-  isRead = true;
+  } catch { /* nothing is kept here */ }
 }
+
+read();
+globalThis.addEventListener?.('storage', read);
 
 function write() {
   try { localStorage.setItem(PLACE, JSON.stringify(kept)); } catch { /* it lasts as long as the page */ }
@@ -30,7 +29,6 @@ export const nameOf = (text) => visible(text.split('\n')[0].replace(/:$/, '').sl
 
 /** All of them, each with its text, a name for a list, and an id: of several with one name the label has a number. */
 export function all() {
-  read();
   const met = new Map();
   return kept.map((text) => {
     const name = nameOf(text);
@@ -39,6 +37,7 @@ export function all() {
   });
 }
 
+export const has = (text) => kept.includes(text);
 export const textOf = (id) => kept.find((text) => text === id);
 
 /** A base that none of one's own has: MINE, MINE2, MINE3 .. */

@@ -4,6 +4,7 @@ import { Beside, showFacts } from './factsview.mjs';
 import { STYLE, picture, pieceName, words } from './picture.mjs';
 
 const at = (id) => document.getElementById(id);
+const CARET = 'The token under the caret is shown here, and in the picture.';
 const OLD = 'This is the last valid pattern, and not the text.';
 /** How many pixels a unit of the picture is: its texts grow with the browser's font. */
 const unit = () => parseFloat(getComputedStyle(document.documentElement).fontSize) / 16;
@@ -53,7 +54,7 @@ export class Shape {
     for (const it of at('picture').querySelectorAll('.under')) it.classList.remove('under');
     const message = plan?.messages[this.#under?.message];
     const pieces = message?.pieces.filter(({ token }) => token === this.#under.token) ?? [];
-    if (!pieces.length) return at('caret').replaceChildren('\u00a0');
+    if (!pieces.length) return at('caret').replaceChildren(CARET);
     for (const it of at('picture').querySelectorAll(`[data-piece="${this.#under.message}.${this.#under.token}"]`)) it.classList.add('under');
     const from = message.pieces.slice(0, message.pieces.indexOf(pieces[0])).reduce((sum, { length }) => sum + length, 0);
     const length = pieces.reduce((sum, piece) => sum + piece.length, 0);

@@ -6,6 +6,7 @@ import { join } from 'node:path';
 import { Browser } from './browser.mjs';
 import { speech } from './access.mjs';
 import { axe } from './axe.mjs';
+import { designs } from './designs.mjs';
 import { figures, weight } from './figures.mjs';
 import { links } from './links.mjs';
 import { Keyboard, Pointer } from './hands.mjs';
@@ -14,7 +15,6 @@ import { serve } from './server.mjs';
 import { sizes } from './sizes.mjs';
 import { EXPECTED, takeChannels } from './socket-server.mjs';
 import { Walk } from './walk.mjs';
-import { designs } from './designs.mjs';
 import { workbench } from './workbench.mjs';
 import { DEFERRED, FUNDAMENTAL } from '../../web/patterns.mjs';
 
@@ -177,7 +177,7 @@ async function sockets() {
 }
 
 async function pictures() {
-  const [wide, phone] = [[1100, 1010], [390, 844]];
+  const [wide, phone] = [[1440, 900], [390, 844]];
   for (const [name, [width, height], dark] of [['page-wide', wide, false], ['page-wide-dark', wide, true], ['page-phone', phone, false], ['page-phone-dark', phone, true]]) {
     await browser.send('Emulation.setDeviceMetricsOverride', { width, height, deviceScaleFactor: 1, mobile: width < 500 });
     await page.open();
@@ -215,16 +215,16 @@ async function offline() {
 
 try {
   await page.open();
-  if (!process.env.QUICK) await allPatterns();
+  await allPatterns();
   await faults();
   await ownPattern();
   await refusals();
   await datagrams();
-  if (!process.env.NEW) await long();
-  if (!process.env.NEW) report(await sizes(page, top));
-  if (!process.env.LAST) report(await links(page));
-  if (!process.env.LAST) report(await workbench(page));
-  if (!process.env.LAST) await walks();
+  await long();
+  report(await sizes(page, top));
+  report(await links(page));
+  report(await workbench(page));
+  await walks();
   report(await designs(page));
   await page.resize(1100);
   await speech(page);

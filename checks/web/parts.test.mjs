@@ -2,13 +2,16 @@
 import assert from 'node:assert/strict';
 import { before, test } from 'node:test';
 import { load } from '../../bindings/js/module.mjs';
-import { faultOf, isLocal, isSetup, read, readRun, write } from '../../web/link.mjs';
+import { visible } from '../../web/bytes.mjs';
+import { intake } from '../../web/intake.mjs';
+import { MOST_TEXT, address, faultOf, isLocal, isSetup, read, readRun, whyNot, write } from '../../web/link.mjs';
 import { textOf } from '../../web/patterns.mjs';
 import { picture, words } from '../../web/picture.mjs';
 import { layout } from '../../web/plan.mjs';
 import { Run } from '../../web/run.mjs';
 import { scheduleOf } from '../../web/schedule.mjs';
 import { sentenceOf } from '../../web/sentences.mjs';
+import { forExplorer } from '../../web/take.mjs';
 
 before(() => load());
 
@@ -46,6 +49,49 @@ test('which addresses open only on this computer', () => {
   const others = ['https://example.org/', 'https://localhost.example.org/', 'https://127.0.0.1.example.org/', 'http://192.168.1.2/', 'http://notlocalhost/'];
   for (const url of local) assert.equal(isLocal(new URL(url)), true, url);
   for (const url of others) assert.equal(isLocal(new URL(url)), false, url);
+});
+
+test('the page’s own address has no run, and nothing too long', () => {
+  assert.equal(address(SETUP), write(SETUP));
+  assert.equal(address({ ...SETUP, text: 'x'.repeat(1e6) }), '#');
+  const steps = Array(300).fill({ step: 'write', role: 'initiator', payload: new Uint8Array(2000) });
+  assert.match(whyNot(SETUP, steps), /^it would have \d+ characters, and a link can have 60000$/);
+  assert.equal(whyNot(SETUP, steps.slice(0, 14)), '');
+});
+
+test('a link that the page makes can be read', () => {
+  const setup = { ...SETUP, text: 'é'.repeat(MOST_TEXT), prologue: '\u202e&=#+% '.repeat(200) };
+  const steps = Array(14).fill({ step: 'write', role: 'responder', payload: new Uint8Array(1000) });
+  assert.equal(whyNot(setup, steps), '');
+  assert.equal(faultOf(write(setup, steps)), '');
+  assert.deepEqual(read(write(setup, steps), {}), setup);
+  assert.deepEqual(readRun(write(setup, steps)), { steps, fault: '' });
+  assert.notEqual(whyNot({ ...setup, text: 'x'.repeat(MOST_TEXT + 1) }), '');
+});
+
+test('names, comments, vector files and links are taken', () => {
+  assert.deepEqual(intake(' Noise_XX_25519_ChaChaPoly_SHA256\n').setup, { text: textOf('XX') });
+  assert.deepEqual(intake('IKpsk2').setup, { text: textOf('IK', [2]) });
+  assert.equal(intake('XXpsk9'), undefined);
+  assert.equal(intake('NNpsk5'), undefined);
+  assert.equal(intake('  -> e, ee'), undefined);
+  assert.deepEqual(intake('# ours\r\nM: # mine\r\n  -> e   # new\r\n\r\n').setup, { text: 'M:\n  -> e\n' });
+  assert.equal(intake('https://example.org/web/index.html#pattern=NN%3A&mode=stream').fragment, '#pattern=NN%3A&mode=stream');
+  const vector = 'vector 2\nprotocol Noise_M_25519_ChaChaPoly_SHA256\nM:\n  -> e\nend\nprologue ff\ninterval 3\ninitiator xor - -\nresponder xor - -\ndatagrams 256\n';
+  const { setup, says } = intake(vector);
+  assert.deepEqual(setup, { text: 'M:\n  -> e\n', interval: 3, mode: 'datagrams', window: 256, prologue: '' });
+  assert.match(says, /isn’t text/);
+  assert.match(intake('vector 1\nprotocol Noise_NK1_25519\n').says, /no pattern that the page knows/);
+});
+
+test('a text for Noise Explorer ends with an arrow alone for each party', () => {
+  assert.equal(forExplorer(layout(textOf('NN')), textOf('NN')), 'NN:\n  -> e\n  <- e, ee\n  ->\n  <-\n');
+  assert.equal(forExplorer(layout(textOf('XX')), textOf('XX')).slice(-10), '  <-\n  ->\n');
+  assert.equal(forExplorer(layout(textOf('N')), textOf('N')).slice(-5), '  ->\n');
+});
+
+test('what can’t be seen, or turns a text around, is shown as an escape', () => {
+  assert.equal(visible('a\u202eb\u2066\u200f\u0000é漢'), 'a\\u{202e}b\\u{2066}\\u{200f}\\u{0}é漢');
 });
 
 /** What the words and the picture say that the hash covers after each message. */

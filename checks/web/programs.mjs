@@ -36,11 +36,11 @@ const CALLS = {
 /** What compares the responder's static key. */
 const COMPARES = { C: /compare\(&client, &server\.s\)/, Go: /client\.PeerStatic/, Rust: /server_public/, JavaScript: /serverKey\.publicKey/, Python: /peer_key=server_key/ };
 
-function mustFit(language, { mode, text }, program, plan) {
-  const called = Object.entries(CALLS[language]).filter(([, call]) => call.test(program)).map(([name]) => name);
+function mustFit(language, { mode, text }, made, plan) {
+  const called = Object.entries(CALLS[language]).filter(([, call]) => call.test(made)).map(([name]) => name);
   if (called.join() !== mode) throw new Error(`the program in ${language} of ${text.split('\n')[0]} is one for ${called}, not for ${mode}`);
-  if (plan.static.responder && !COMPARES[language].test(program)) throw new Error(`the program in ${language} of ${text.split('\n')[0]} compares no key`);
-  if (/[\u202a-\u202e\u2066-\u2069]/.test(program)) throw new Error(`the program in ${language} turns its text around`);
+  if (plan.static.responder && !COMPARES[language].test(made)) throw new Error(`the program in ${language} of ${text.split('\n')[0]} compares no key`);
+  if (/[\u202a-\u202e\u2066-\u2069]/.test(made)) throw new Error(`the program in ${language} turns its text around`);
 }
 
 for (const [number, setup] of SETUPS.entries()) {

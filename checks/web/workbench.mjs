@@ -5,7 +5,10 @@ const quoted = JSON.stringify;
 const fragment = (pattern, more = {}) => `#${new URLSearchParams({ pattern, ...more })}`;
 const XX = 'XX:\n  -> e\n  <- e, ee, s, es\n  -> s, se\n';
 
-const box = (page, selector) => page.evaluate(`(() => { const { left, top, right, bottom } = document.querySelector(${quoted(selector)}).getBoundingClientRect(); return { left, top, right, bottom }; })()`);
+const box = (page, selector) => page.evaluate(`(() => {
+  const { left, top, right, bottom } = document.querySelector(${quoted(selector)}).getBoundingClientRect();
+  return { left, top, right, bottom };
+})()`);
 const textOf = (page) => page.evaluate('document.getElementById("text").value');
 const disabled = (page, id) => page.evaluate(`document.getElementById(${quoted(id)}).getAttribute("aria-disabled")`);
 
@@ -174,7 +177,8 @@ async function leaks(page) {
 async function said(page) {
   await page.open(fragment(XX));
   await page.evaluate('new Promise((done) => setTimeout(done, 700))');
-  await page.run(`globalThis.heard = []; new MutationObserver(() => heard.push(document.getElementById('live').textContent)).observe(document.getElementById('live'), { childList: true })`);
+  await page.run(`globalThis.heard = []; const live = document.getElementById('live');
+    new MutationObserver(() => heard.push(live.textContent)).observe(live, { childList: true })`);
   for (const text of ['DEV:\n', 'DEV:\n  -> e', 'DEV:\n  -> e, e']) await page.type('text', text);
   assert.deepEqual(await page.evaluate('heard'), []);
   await page.evaluate('new Promise((done) => setTimeout(done, 750))');
