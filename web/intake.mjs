@@ -35,7 +35,7 @@ export function intake(given) {
   const word = text.trim();
   if (/^\S+#\S*\bpattern=\S*$/.test(word) || /^#pattern=\S*$/.test(word)) return { fragment: word.slice(word.indexOf('#')), says: 'The link is followed.' };
   if (/^vector [12]\n/.test(text)) return ofVector(text);
-  const named = /^\S+$/.test(word) ? textOfName(word.replace(/:$/, '')) : undefined;
+  const named = /^Noise_\S+$/.test(word) ? textOfName(word) : undefined;
   if (named) return { setup: { text: named }, says: 'The pattern of this name is taken.' };
   const bare = withoutComments(text);
   if (/#/.test(text) && /^\S+:\n/.test(bare)) return { setup: { text: bare }, says: 'The pattern is taken, without its comments.' };

@@ -71,9 +71,9 @@ test('a link that the page makes can be read', () => {
 
 test('names, comments, vector files and links are taken', () => {
   assert.deepEqual(intake(' Noise_XX_25519_ChaChaPoly_SHA256\n').setup, { text: textOf('XX') });
-  assert.deepEqual(intake('IKpsk2').setup, { text: textOf('IK', [2]) });
-  assert.equal(intake('XXpsk9'), undefined);
-  assert.equal(intake('NNpsk5'), undefined);
+  assert.deepEqual(intake('Noise_IKpsk2_25519_ChaChaPoly_SHA256').setup, { text: textOf('IK', [2]) });
+  assert.equal(intake('Noise_NNpsk5_25519_ChaChaPoly_SHA256'), undefined);
+  assert.equal(intake('NN'), undefined, 'a word of a heading');
   assert.equal(intake('  -> e, ee'), undefined);
   assert.deepEqual(intake('# ours\r\nM: # mine\r\n  -> e   # new\r\n\r\n').setup, { text: 'M:\n  -> e\n' });
   assert.equal(intake('https://example.org/web/index.html#pattern=NN%3A&mode=stream').fragment, '#pattern=NN%3A&mode=stream');
