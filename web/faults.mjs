@@ -139,7 +139,7 @@ const sectionOf = (rule) => (rule === 5 ? '9.3' : '7.3');
 /** The token that isn't one, between quotes. */
 function whatIs(line, [from, to]) {
   const it = line.slice(from, to);
-  return it.trim() === '' ? 'What is here' : `“${visible(it)}”`;
+  return it.trim() === '' ? 'What is here' : `“${visible(it.slice(0, 40))}${it.length > 40 ? '…' : ''}”`;
 }
 
 /**

@@ -77,6 +77,7 @@ export class Shape {
     this.#beside.show(setup.text, Boolean(plan));
     at('facts').hidden = !plan;
     at('no-facts').hidden = Boolean(plan);
+    at('words').parentElement.hidden = !plan;
     if (!plan) return;
     at('words').replaceChildren(...words(plan).map((line) => element('li', '', line)));
     showFacts(at('facts'), plan);

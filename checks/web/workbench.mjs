@@ -77,6 +77,7 @@ async function oldFacts(page) {
   await page.open(fragment(XX));
   await page.type('text', 'DEV:\n  -> e, es\n  <- e, ee, ee\n  -> e\n');
   assert.equal(await page.evaluate('document.getElementById("facts").checkVisibility()'), false);
+  assert.equal(await page.evaluate('document.getElementById("words").checkVisibility()'), false);
   assert.match(await page.textOf('shape-old'), /^This is the last valid pattern/);
   assert.equal(await page.textOf('shape-of'), 'XX');
   assert.equal(await page.evaluate('document.getElementById("verdict").querySelectorAll(".title, .more li").length'), 3);
