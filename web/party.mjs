@@ -3,6 +3,8 @@ import { hex } from './bytes.mjs';
 
 export const OTHER = { initiator: 'responder', responder: 'initiator' };
 export const ROLES = ['initiator', 'responder'];
+/** The code of include/noise.h that a refused call throws. */
+export const numberOf = ({ number, code }) => number ?? code;
 
 /** A key pair that remembers what it was asked: the answers that a vector file hands in. */
 export class Asked {

@@ -2,7 +2,7 @@
 import { Handshake } from '../bindings/js/handshake.mjs';
 import { KeyPair } from '../bindings/js/keys.mjs';
 import { frame, hex, hexOrDash } from './bytes.mjs';
-import { Asked, OTHER, Party, ROLES } from './party.mjs';
+import { Asked, OTHER, Party, ROLES, numberOf } from './party.mjs';
 import { layout } from './plan.mjs';
 import { frameOf, linesOf, rawOf, reports, silence, take } from './streams.mjs';
 
@@ -129,8 +129,8 @@ export class Run {
       return this.#note(role, 'wrote', { ...item, item });
     } catch (error) {
       if (error.code === undefined) throw error;
-      this.lines.push(`${isDatagram ? 'unsealed' : 'unwritten'} ${role} ${WORDS[error.code] ?? error.name}`);
-      return this.#note(role, 'unwritten', { code: error.code });
+      this.lines.push(`${isDatagram ? 'unsealed' : 'unwritten'} ${role} ${WORDS[numberOf(error)] ?? error.name}`);
+      return this.#note(role, 'unwritten', { code: numberOf(error) });
     }
   }
 
@@ -202,8 +202,10 @@ export class Run {
     }
   }
 
-  #refuse(party, { code, token }, about) {
+  #refuse(party, error, about) {
     const { role } = party;
+    const { token } = error;
+    const code = numberOf(error);
     if (about.isDatagram) this.lines.push(`rejected ${role} ${WORDS[code]}`);
     else if (code === 10 || code === 22) this.lines.push(`left ${role} ${code === 10 ? 'your-turn' : 'silent'} ${about.length}`);
     else if (party.sealer) this.lines.push(`dropped ${role} ${WORDS[code]}`);

@@ -1,7 +1,7 @@
 // Streams with an end between the parties of a run, by the calls of bindings/js/stream.mjs: what each side reports comes from them. What a party does
 // after a refusal is the page's: it sends nothing more, no end either. No DOM here.
 import { hex, hexOrDash, joined } from './bytes.mjs';
-import { OTHER, ROLES } from './party.mjs';
+import { OTHER, ROLES, numberOf } from './party.mjs';
 
 const left = ({ held }) => ({ copyTo: (place) => place.set(held.subarray(0, place.length)) });
 
@@ -48,7 +48,7 @@ export function take(run, role, bytes) {
     } catch (error) {
       if (error.code === undefined) throw error;
       party.isBroken = true;
-      return [...outcomes, { code: error.code }];
+      return [...outcomes, { code: numberOf(error) }];
     }
   }
   return outcomes;

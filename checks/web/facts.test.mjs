@@ -76,7 +76,6 @@ test('which recordings are accepted again', () => {
   assert.equal(againOf('XX', 'Transport, initiator’s'), 'Refused: the responder’s e is new each time.');
   assert.equal(againOf('M:\n  <- e, s\n  ...\n  -> e, ee, es\n', 'Message 1'), 'Refused: the responder’s e is new each time.');
   assert.equal(againOf('M:\n  -> e\n  <- e\n', 'Message 2'), 'Accepted again: it has no tag.');
-  assert.equal(againOf('M:\n  -> s\n  <- e, se\n', 'Message 2'), 'Accepted again: the initiator puts in no e before.');
 });
 
 test('keys that everybody can compute, and an s that no DH mixes, are warned of', () => {
