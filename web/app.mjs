@@ -18,6 +18,8 @@ const READ = {
 };
 const page = { setup: link.read(location.hash, STARTED), plan: undefined, run: undefined, isStale: false, shape: undefined };
 let addressing;
+/** The state of the history's entry that is shown. */
+let entry;
 let editor;
 /** What the scripts export that come after the first verdict, and what is made of them. */
 let late;
@@ -63,7 +65,8 @@ function showRun() {
 /** The page's address has the set-up, and this tab alone keeps the run that belongs to it. */
 function keepNow() {
   const steps = page.run && !page.isStale ? page.run.steps : [];
-  history.replaceState(late.kept(history.state, link.write(page.setup), link.written(steps)), '', link.address(page.setup));
+  entry = late.kept(history.state, link.write(page.setup), link.written(steps));
+  history.replaceState(entry, '', link.address(page.setup));
 }
 
 /** Not at each key, which browsers refuse, and not before the run of a link is done again. */
@@ -141,6 +144,9 @@ function stepsOf(fragment, state, isFirst = false) {
 
 /** Takes the set-up of the page's address, and its run. Where the address has another place of the page, the set-up stays. */
 async function follow({ state }) {
+  const isKept = late && entry && page.run && !page.isStale;
+  if (isKept) late.kept(entry, link.write(page.setup), link.written(page.run.steps));    // what was done a moment ago
+  entry = state;
   if (!link.isSetup(location.hash)) return keepAddress();
   const { activeElement } = document;
   const setup = link.read(location.hash, STARTED);

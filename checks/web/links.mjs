@@ -59,7 +59,6 @@ async function backAndForward(page) {
   const xx = await page.evaluate('document.getElementById("text").value');
   await page.begin();
   await page.write('initiator');
-  await page.until('/^#pattern=XX/.test(location.hash) && Object.values(sessionStorage).some((it) => it.includes(JSON.stringify("wi.68656c6c6f")))');
   await page.run('document.querySelector("#current .go").focus(); history.back()');
   await at(NN, 2);
   assert.equal(await page.textOf('notice'), '');
