@@ -18,5 +18,24 @@ export function copyOf(value, what, length) {
   return new Uint8Array(bytesOf(value, what, length));
 }
 
-/** Whether public bytes are the same: of secret ones the time would tell where they differ. */
-export const same = (one, other) => one.length === other.length && one.every((byte, n) => byte === other[n]);
+/**
+ * Whether two keys, or other bytes, are the same: a Buffer and a Uint8Array too. The time doesn't depend on where they differ.
+ * @param {Uint8Array} one
+ * @param {Uint8Array} other
+ * @returns {boolean}
+ */
+export function equal(one, other) {
+  if (bytesOf(one, 'what is compared').length !== bytesOf(other, 'what it is compared with').length) return false;
+  let differences = 0;
+  for (let n = 0; n < one.length; n += 1) differences |= one[n] ^ other[n];
+  return differences === 0;
+}
+
+/**
+ * Bytes as hex digits, as a Map's keys for example: those of a Uint8Array and of a Buffer are the same.
+ * @param {Uint8Array} bytes
+ * @returns {string}
+ */
+export function hex(bytes) {
+  return Array.from(bytesOf(bytes, 'what is written as hex'), (byte) => byte.toString(16).padStart(2, '0')).join('');
+}

@@ -1,13 +1,13 @@
 // The check of a pattern text.
-import { NoiseError, code } from './codes.mjs';
+import { code, codeOf } from './codes.mjs';
 import { library } from './module.mjs';
 
 const encoder = new TextEncoder();
 
 /**
  * @typedef {{ valid: true, messages: number }
- *   | { valid: false, code: import('./codes.mjs').Code, name: string, line: number }
- *   | { valid: false, code: import('./codes.mjs').Code, name: string, rule: number, message: number, token: number }} Verdict
+ *   | { valid: false, code: import('./codes.mjs').Code, number: number, line: number }
+ *   | { valid: false, code: import('./codes.mjs').Code, number: number, rule: number, message: number, token: number }} Verdict
  */
 
 /**
@@ -19,11 +19,11 @@ const encoder = new TextEncoder();
 export function checkPattern(text) {
   const lib = library();
   const bytes = encoder.encode(text);
-  if (bytes.length > 65536) return { valid: false, code: code.LIMIT, name: 'NOISE_LIMIT', line: 1 };
+  if (bytes.length > 65536) return { valid: false, code: 'NOISE_LIMIT', number: code.LIMIT, line: 1 };
   const number = lib.x.noise_check_pattern(...lib.put('prologue', bytes), lib.at.result);
-  const [rule, message, token, messages] = lib.view(lib.at.result + 8n, 4);
+  const [rule, message, token, messages] = lib.view(lib.at.result + 8, 4);
   if (number === code.OK) return { valid: true, messages };
-  const fault = { valid: false, code: number, name: new NoiseError(number).name };
-  if (number !== code.RULE) return { ...fault, line: Number(lib.number(lib.at.result)) };
+  const fault = { valid: false, code: codeOf(number), number };
+  if (number !== code.RULE) return { ...fault, line: lib.size(lib.at.result) };
   return { ...fault, rule, message, token };
 }

@@ -18,7 +18,7 @@ export class CipherState {
   }
 
   #here() {
-    if (this.#place === undefined) throw new NoiseError(code.DISPOSED);
+    if (this.#place === undefined) throw new NoiseError('NOISE_DISPOSED');
     return this.#place;
   }
 
@@ -29,7 +29,7 @@ export class CipherState {
     lib.put('message', bytes);
     const number = call(this.#here(), ...words, lib.at.message, lib.at.result);
     const result = lib.result();
-    const made = number === code.OK ? lib.view(lib.at.message + BigInt(result.from), result.len).slice() : undefined;
+    const made = number === code.OK ? lib.view(lib.at.message + result.from, result.len).slice() : undefined;
     lib.wipe('message', bytes.length);
     must(number);
     return made;
@@ -43,9 +43,9 @@ export class CipherState {
    */
   encryptWithAd(ad, plaintext) {
     const { length } = bytesOf(plaintext, 'plaintext');
-    if (length > 65519) throw new NoiseError(code.TOO_LONG);
+    if (length > 65519) throw new NoiseError('NOISE_TOO_LONG');
     const { noise_cipher_encrypt: encrypt } = library().x;
-    return this.#inPlace(ad, plaintext, (place, at, count, buffer, result) => encrypt(place, at, count, buffer, BigInt(ROOM), BigInt(length), result));
+    return this.#inPlace(ad, plaintext, (place, at, count, buffer, result) => encrypt(place, at, count, buffer, ROOM, length, result));
   }
 
   /**
@@ -55,7 +55,7 @@ export class CipherState {
    * @returns {Uint8Array}
    */
   decryptWithAd(ad, message) {
-    const size = BigInt(bytesOf(message, 'message').length);
+    const size = bytesOf(message, 'message').length;
     const { noise_cipher_decrypt: decrypt } = library().x;
     return this.#inPlace(ad, message, (place, at, count, buffer, result) => decrypt(place, at, count, buffer, size, result));
   }

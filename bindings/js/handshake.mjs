@@ -1,7 +1,7 @@
 // A handshake of one party.
-import { NoiseError, code, must } from './codes.mjs';
+import { NoiseError, code, codeOf, must } from './codes.mjs';
 import { freeLater, letGo, library } from './module.mjs';
-import { bytesOf, copyOf, same } from './bytes.mjs';
+import { bytesOf, copyOf, equal } from './bytes.mjs';
 import { Ciphers } from './ciphers.mjs';
 import { Agreements, KeyPair } from './keys.mjs';
 import { OWN } from './own.mjs';
@@ -47,7 +47,7 @@ export class Handshake {
     try {
       this.#start(ephemeralKey?.publicKey ?? PLACEHOLDER);
       const lacksPsk = this.#lacksPsk();
-      if (lacksPsk !== (rest.pskFor !== undefined)) throw new NoiseError(code.PSK_COUNT);
+      if (lacksPsk !== (rest.pskFor !== undefined)) throw new NoiseError('NOISE_PSK_COUNT');
       if (lacksPsk && ephemeralKey) this.#start(ephemeralKey.publicKey);    // it was passed one
     } catch (error) {
       this.dispose();
@@ -69,7 +69,7 @@ export class Handshake {
     setup[133] = psks.length;
     psks.forEach((psk, n) => setup.set(psk, 134 + 32 * n));
     const name = patternBytes(pattern);
-    if (name.length > 512) throw new NoiseError(pattern.endsWith('\n') ? code.PATTERN : code.NAME);
+    if (name.length > 512) throw new NoiseError(pattern.endsWith('\n') ? 'NOISE_PATTERN' : 'NOISE_NAME');
     const answer = lib.x.noise_start(this.#place, ...lib.put('name', name), ...lib.put('prologue', prologue), lib.at.setup);
     lib.wipe('setup');
     must(answer);
@@ -82,13 +82,13 @@ export class Handshake {
   }
 
   #here() {
-    if (this.#place === undefined) throw new NoiseError(code.DISPOSED);
+    if (this.#place === undefined) throw new NoiseError('NOISE_DISPOSED');
     return this.#place;
   }
 
   async #alone(work) {
     this.#here();
-    if (this.#busy) throw new NoiseError(code.BUSY);
+    if (this.#busy) throw new NoiseError('NOISE_BUSY');
     this.#busy = true;
     try {
       if (!this.#started) {
@@ -122,8 +122,8 @@ export class Handshake {
     const lib = library();
     const answer = await this.#agree(ofStatic, remote);
     const place = this.#here();
-    lib.view(lib.at.result + 18n, 32).set(remote);
-    const taken = lib.x.noise_answer(place, ofStatic, lib.at.result + 18n, lib.put('answer', answer)[0]);
+    lib.view(lib.at.result + 18, 32).set(remote);
+    const taken = lib.x.noise_answer(place, ofStatic, lib.at.result + 18, lib.put('answer', answer)[0]);
     lib.wipe('answer');
     must(taken);
   }
@@ -138,14 +138,14 @@ export class Handshake {
 
   async #agree(ofStatic, remote) {
     // With the other party's ephemeral key each static key of a pattern agrees, too, in this message or a later one.
-    const next = !ofStatic && this.#opening && same(this.#opening, remote) ? this.#static : undefined;
+    const next = !ofStatic && this.#opening && equal(this.#opening, remote) ? this.#static : undefined;
     let answer;
     try {
       answer = await this.#agreements.of(ofStatic ? this.#static : this.#ephemeral, remote, next);
     } catch (cause) {
-      throw new NoiseError(code.KEY, { cause });
+      throw new NoiseError('NOISE_KEY', { cause });
     }
-    if (bytesOf(answer, 'the result of agree', 32).every((byte) => byte === 0)) throw new NoiseError(code.KEY);
+    if (bytesOf(answer, 'the result of agree', 32).every((byte) => byte === 0)) throw new NoiseError('NOISE_KEY');
     return answer;
   }
 
@@ -160,7 +160,7 @@ export class Handshake {
       const lib = library();
       const result = await this.#answered((place) => {
         const args = lib.put('payload', own);
-        const number = lib.x.noise_write(place, ...args, lib.at.message, 65535n, lib.at.result);
+        const number = lib.x.noise_write(place, ...args, lib.at.message, 65535, lib.at.result);
         lib.wipe('payload', own.length);
         return number;
       });
@@ -179,7 +179,7 @@ export class Handshake {
       const lib = library();
       this.#opening ??= own.slice(0, 32);
       const result = await this.#answered((place) => lib.x.noise_read(place, ...lib.put('message', own), lib.at.result));
-      const payload = lib.view(lib.at.message + BigInt(result.from), result.len).slice();
+      const payload = lib.view(lib.at.message + result.from, result.len).slice();
       lib.wipe('message', own.length);
       return payload;
     });
@@ -204,8 +204,8 @@ export class Handshake {
   messageLength(payloadLength) {
     if (!Number.isSafeInteger(payloadLength) || payloadLength < 0) throw new RangeError('payloadLength has to be a number of bytes');
     const lib = library();
-    must(lib.x.noise_message_len(this.#here(), BigInt(payloadLength), lib.at.number));
-    return Number(lib.number(lib.at.number));
+    must(lib.x.noise_message_len(this.#here(), payloadLength, lib.at.number));
+    return lib.size(lib.at.number);
   }
 
   /**
@@ -234,12 +234,12 @@ export class Handshake {
 
   #finished(Kind, call, ...options) {
     const place = this.#here();
-    if (this.#busy) throw new NoiseError(code.BUSY);
+    if (this.#busy) throw new NoiseError('NOISE_BUSY');
     const halves = Kind.kinds.map((kind) => library().take(kind));
     const number = call(place, ...options, ...halves);
     if (number !== code.OK) {
       Kind.kinds.forEach((kind, n) => library().free(kind, halves[n]));
-      throw new NoiseError(number);
+      throw new NoiseError(codeOf(number));
     }
     const end = new Kind(OWN, halves, { hash: this.hash, remoteStatic: this.remoteStatic });
     this.dispose();
@@ -248,10 +248,10 @@ export class Handshake {
 
   /**
    * Makes the transport, and uses this handshake up. Each direction renews its key after each `interval` of its messages; 0 is never.
-   * @param {{ interval?: bigint | number }} [options]
+   * @param {{ interval?: number }} [options]
    * @returns {Transport}
    */
-  finish({ interval = 0n } = {}) {
+  finish({ interval = 0 } = {}) {
     return this.#finished(Transport, library().x.noise_finish, intervalOf(interval));
   }
 
@@ -259,7 +259,7 @@ export class Handshake {
    * Makes the two halves of a stream with an end, in the same way.
    * @private
    */
-  finishStream({ interval = 0n } = {}) {
+  finishStream({ interval = 0 } = {}) {
     return this.#finished(Stream, library().x.noise_finish_stream, intervalOf(interval));
   }
 
@@ -277,7 +277,7 @@ export class Handshake {
    * @returns {Datagrams}
    */
   finishDatagrams({ window = 64 } = {}) {
-    if (![64, 256, 1024].includes(window)) throw new NoiseError(code.WINDOW);
+    if (![64, 256, 1024].includes(window)) throw new NoiseError('NOISE_WINDOW');
     return this.#finished(Datagrams, library().x.noise_finish_datagrams, window);
   }
 

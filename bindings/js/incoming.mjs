@@ -1,5 +1,6 @@
 // The bytes that came over a connection and aren't used yet, and what they begin with.
 import { bytesOf } from './bytes.mjs';
+import { NoiseError } from './codes.mjs';
 
 /** Bytes that came, in one piece: a chunk of its own would cost many times a byte. */
 class Held {
@@ -46,6 +47,7 @@ const GLANCE = 64;
 /** What comes, by `pull`, which gives the next bytes, or undefined once the connection has ended. */
 export class Incoming {
   #pull;
+  #pulling;    // what is under way: a call that is ended leaves it to the next
   #held = new Held();
 
   constructor(pull) {
@@ -57,22 +59,32 @@ export class Incoming {
     return this.#held.length;
   }
 
+  #pulled() {
+    if (!this.#pulling) {
+      this.#pulling = Promise.resolve(this.#pull());
+      this.#pulling.catch(() => {});    // nobody may wait for it any more
+    }
+    return this.#pulling;
+  }
+
   /**
    * What `look` makes of the first bytes, `{ value }`, or undefined where the connection has ended before that. `look(held, count)` gets these bytes,
-   * and says `wanted`, how many more it needs, or else `used` and `value`. NOISE_TOO_LONG, `tooLong`, where it needs more than `limit` in all.
+   * and says `wanted`, how many more it needs, or else `used` and `value`. NOISE_TOO_LONG where it needs more than `limit` in all. `wait` passes a promise
+   * on, and may end the waiting: no byte is lost then.
    */
-  async next(look, limit = Infinity, tooLong = undefined) {
+  async next(look, { limit = Infinity, wait = (promise) => promise } = {}) {
     const held = this.#held;
     for (let count = Math.min(held.length, GLANCE);;) {
       const { wanted, used, value } = look(held, count);
-      if ((wanted > 0 ? count + wanted : used) > limit) throw tooLong;
+      if ((wanted > 0 ? count + wanted : used) > limit) throw new NoiseError('NOISE_TOO_LONG');
       if (wanted === 0) {
         held.drop(used);
         return { value };
       }
       count += wanted;
       while (held.length < count) {
-        const chunk = await this.#pull();
+        const chunk = await wait(this.#pulled());
+        this.#pulling = undefined;
         if (chunk === undefined) return undefined;
         held.add(bytesOf(chunk, 'what comes from the stream'));
       }

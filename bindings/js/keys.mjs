@@ -1,7 +1,7 @@
 // Key pairs. A handshake asks an object with `publicKey`, 32 bytes, and `agree(remote)`, which gives the answer of X25519 or a promise of it.
 // Those that are made here are WebCrypto's: the private key stays inside the browser.
 
-import { bytesOf, same } from './bytes.mjs';
+import { bytesOf, equal } from './bytes.mjs';
 import { OWN, mustBeOwn } from './own.mjs';
 
 const NAME = 'X25519';
@@ -19,7 +19,7 @@ export class Agreements {
   #begun = [];
 
   #imported(remote) {
-    const met = this.#imports.find(({ bytes }) => same(bytes, remote));
+    const met = this.#imports.find(({ bytes }) => equal(bytes, remote));
     if (met) return met.key;
     const key = imported(remote);
     this.#imports.push({ bytes: remote, key });
@@ -27,7 +27,7 @@ export class Agreements {
   }
 
   #begin(pair, remote) {
-    const met = this.#begun.find((it) => it.pair === pair && same(it.bytes, remote));
+    const met = this.#begun.find((it) => it.pair === pair && equal(it.bytes, remote));
     if (met) return met.result;
     const result = KeyPair.agreed(OWN, pair, this.#imported(remote));
     result.catch(() => {});    // nobody may ask for it
@@ -116,7 +116,7 @@ export class KeyPair {
 
   /**
    * The pair of a CryptoKeyPair that the program keeps, in IndexedDB for example.
-   * @param {CryptoKeyPair} pair
+   * @param {{ privateKey: import('./platform.mjs').WebCryptoKey, publicKey: import('./platform.mjs').WebCryptoKey }} pair
    * @returns {Promise<KeyPair>}
    */
   static async from({ privateKey, publicKey }) {

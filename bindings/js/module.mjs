@@ -1,6 +1,6 @@
-// The WebAssembly module: how it is loaded, and where its structs are. It has 32-bit memory or 64-bit; the exports take pointers and sizes as 64-bit
-// numbers, which are BigInts here, in both.
-import { NoiseError, code, must } from './codes.mjs';
+// The WebAssembly module: how it is loaded, and where its structs are. It has 32-bit memory or 64-bit.
+import { NoiseError, must } from './codes.mjs';
+import { ofNumbers } from './numbers.mjs';
 
 const SCRATCH = { name: 512, prologue: 65536, payload: 65536, message: 65552, result: 56, setup: 422, answer: 32, key: 33, number: 16 };
 const PAGE = 65536;
@@ -12,18 +12,18 @@ class Library {
   #bytes;
   #data;
 
-  constructor(instance) {
-    this.x = instance.exports;
-    this.memory = this.x.memory;
+  constructor(memory, calls) {
+    this.x = calls;
+    this.memory = memory;
     this.sizes = {
-      handshake: Number(this.x.noise_handshake_size()),
-      sender: Number(this.x.noise_sender_size()),
-      receiver: Number(this.x.noise_receiver_size()),
-      streamSender: Number(this.x.noise_stream_sender_size()),
-      streamReceiver: Number(this.x.noise_stream_receiver_size()),
-      datagramSender: Number(this.x.noise_datagram_sender_size()),
-      datagramReceiver: Number(this.x.noise_datagram_receiver_size()),
-      cipher: Number(this.x.noise_cipher_size()),
+      handshake: this.x.noise_handshake_size(),
+      sender: this.x.noise_sender_size(),
+      receiver: this.x.noise_receiver_size(),
+      streamSender: this.x.noise_stream_sender_size(),
+      streamReceiver: this.x.noise_stream_receiver_size(),
+      datagramSender: this.x.noise_datagram_sender_size(),
+      datagramReceiver: this.x.noise_datagram_receiver_size(),
+      cipher: this.x.noise_cipher_size(),
     };
     this.unused = Object.fromEntries(Object.keys(this.sizes).map((kind) => [kind, []]));
     this.next = this.memory.buffer.byteLength;
@@ -42,7 +42,7 @@ class Library {
       this.#see();
     }
     this.next = next;
-    return BigInt(place);
+    return place;
   }
 
   /** A 32-bit memory takes a number, and so does a 64-bit one of Node 20; that of the final proposal takes a BigInt. */
@@ -63,24 +63,23 @@ class Library {
 
   /** The bytes at a place. The view holds until the next call of `take`. */
   view(place, size) {
-    const start = Number(place);
-    return this.#bytes.subarray(start, start + size);
+    return this.#bytes.subarray(place, place + size);
   }
 
-  /** The number of 8 bytes at a place. */
-  number(place) {
-    return this.#data.getBigUint64(Number(place), true);
+  /** The size at a place, which has 8 bytes. */
+  size(place) {
+    return this.#data.getUint32(place, true) + 2 ** 32 * this.#data.getUint32(place + 4, true);
   }
 
   /** Copies bytes to a place of one call, and gives the place and the length as the exports take them. */
   put(name, bytes) {
-    if (bytes.length > SCRATCH[name]) throw new NoiseError(name === 'message' ? code.TOO_LONG : code.LENGTH);
-    this.#bytes.set(bytes, Number(this.at[name]));
-    return [this.at[name], BigInt(bytes.length)];
+    if (bytes.length > SCRATCH[name]) throw new NoiseError(name === 'message' ? 'NOISE_TOO_LONG' : 'NOISE_LENGTH');
+    this.#bytes.set(bytes, this.at[name]);
+    return [this.at[name], bytes.length];
   }
 
   wipe(name, size = SCRATCH[name]) {
-    const start = Number(this.at[name]);
+    const start = this.at[name];
     this.#bytes.fill(0, start, start + size);
   }
 
@@ -97,7 +96,7 @@ class Library {
 
   /** What the last call has returned besides its code. Both numbers of 8 bytes are places in a message, below 2^32. */
   result() {
-    const start = Number(this.at.result);
+    const start = this.at.result;
     return {
       from: this.#data.getUint32(start, true),
       len: this.#data.getUint32(start + 8, true),
@@ -109,14 +108,14 @@ class Library {
 
   /** The same of a call on a stream or on a frame. */
   streamResult() {
-    const start = Number(this.at.result);
+    const start = this.at.result;
     const [from, len, used, wanted] = [0, 8, 16, 24].map((at) => this.#data.getUint32(start + at, true));
     return { from, len, used, wanted };
   }
 
   /** The other party's public key for which the last call needs a result of X25519, or a psk. */
   wanted() {
-    return this.view(this.at.result + 18n, 32).slice();
+    return this.view(this.at.result + 18, 32).slice();
   }
 
   /** The 32 bytes that a call writes to its last pointer. */
@@ -128,7 +127,7 @@ class Library {
   /** The number of 8 bytes that a call writes to its last pointer. */
   nonce(call, place) {
     must(call(place, this.at.number));
-    return this.number(this.at.number);
+    return this.#data.getBigUint64(this.at.number, true);
   }
 
   /** The public key that a call writes to its last pointer, or undefined where it isn't known. */
@@ -144,7 +143,7 @@ let loading;
 
 /** The library that `load` has made. */
 export function library() {
-  if (!loaded) throw new NoiseError(code.NOT_LOADED);
+  if (!loaded) throw new NoiseError('NOISE_NOT_LOADED');
   return loaded;
 }
 
@@ -185,14 +184,14 @@ export function hasMemory64() {
 async function libraryOf(source) {
   const { instance } = await instanceOf(source);
   if (instance.exports.noise_version?.() >>> 16 !== VERSION) throw new Error(`the module isn't version ${VERSION} of the library`);
-  return new Library(instance);
+  return new Library(instance.exports.memory, await ofNumbers(instance.exports));
 }
 
 /**
  * Loads the module, once: later calls do nothing. Without an argument it is noise_c.wasm beside this file, which has 32-bit memory. An address that is
  * relative counts from here. It throws what `fetch`, reading a file and WebAssembly throw, as a CompileError for a module with 64-bit memory where the
  * engine has none.
- * @param {string | URL | ArrayBuffer | ArrayBufferView} [source]
+ * @param {string | { readonly href: string } | ArrayBuffer | ArrayBufferView} [source]
  * @returns {Promise<void>}
  */
 export async function load(source = new URL('noise_c.wasm', import.meta.url)) {

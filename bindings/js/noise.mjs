@@ -1,6 +1,7 @@
 // The Noise Protocol Framework, revision 34, with 25519, ChaChaPoly and SHA256, on the proved library as WebAssembly. docs/JAVASCRIPT.md says how
 // it is used, and what of it is proved.
-export { NoiseError, code } from './codes.mjs';
+export { NoiseError } from './codes.mjs';
+export { equal, hex } from './bytes.mjs';
 export { hasMemory64, load } from './module.mjs';
 export { KeyPair } from './keys.mjs';
 export { checkPattern } from './check.mjs';
@@ -18,8 +19,10 @@ export { DEFERRED, FUNDAMENTAL, asText, protocolName, textOf } from './patterns.
 /** @typedef {import('./handshake.mjs').Stage} Stage */
 /** @typedef {import('./transport.mjs').Sealer} Sealer */
 /** @typedef {import('./transport.mjs').Opener} Opener */
-/** @typedef {import('./socket.mjs').NoiseSocketOptions} NoiseSocketOptions */
+/** @typedef {import('./opening.mjs').NoiseSocketOptions} NoiseSocketOptions */
+/** @typedef {import('./carriers.mjs').Connection} Connection */
 /** @typedef {import('./carriers.mjs').NodeStream} NodeStream */
+/** @typedef {import('./waiting.mjs').Signal} Signal */
 /** @typedef {import('./layout.mjs').Layout} Layout */
 /** @typedef {import('./layout.mjs').Message} Message */
 /** @typedef {import('./layout.mjs').Piece} Piece */

@@ -1,5 +1,5 @@
 // What a handshake is set up with.
-import { NoiseError, code } from './codes.mjs';
+import { NoiseError } from './codes.mjs';
 import { bytesOf, copyOf } from './bytes.mjs';
 import { protocolName } from './patterns.mjs';
 
@@ -28,9 +28,8 @@ export function patternBytes(text) {
 
 /** So many messages, as the library takes them. */
 export function intervalOf(interval) {
-  const messages = BigInt(interval);
-  if (messages < 0n || messages >= 1n << 64n) throw new RangeError('interval has to be from 0 to 2^64 - 1');
-  return messages;
+  if (!Number.isSafeInteger(interval) || interval < 0) throw new RangeError('interval has to be a number of messages, from 0 to 2^53 - 1');
+  return interval;
 }
 
 /** A key pair, or undefined where there is none. */
@@ -41,15 +40,22 @@ function keyPairOf(pair, what) {
   return pair;
 }
 
+/** The options themselves, where there are any. */
+export function optionsOf(options) {
+  if (typeof options !== 'object' || options === null) throw new TypeError("there are no options: pass at least { pattern }, as { pattern: 'XX', staticKey }");
+  return options;
+}
+
 /** Copies of the options, as far as they can be checked here: the library checks the rest. */
-export function setupOf({ pattern, responder = false, prologue = new Uint8Array(0), staticKey, ephemeralKey, remoteStatic, remoteEphemeral, psks = [], pskFor }) {
-  if (typeof pattern !== 'string') throw new TypeError('pattern has to be a name or a pattern text');
+export function setupOf(options) {
+  const { pattern, responder = false, prologue = new Uint8Array(0), staticKey, ephemeralKey, remoteStatic, remoteEphemeral, psks = [], pskFor } = optionsOf(options);
+  if (typeof pattern !== 'string') throw new TypeError('pattern has to be a name, as XX or XXpsk3, or a pattern text');
   bytesOf(prologue, 'prologue');
-  if (prologue.length > 65535) throw new NoiseError(code.LENGTH);
+  if (prologue.length > 65535) throw new NoiseError('NOISE_LENGTH');
   if (pskFor !== undefined && typeof pskFor !== 'function') throw new TypeError('pskFor has to be a function');
   if (!Array.isArray(psks)) throw new TypeError('psks has to be an array of Uint8Array');
   if (pskFor && psks.length > 0) throw new TypeError('pass either psks or pskFor');
-  if (psks.length > 9) throw new NoiseError(code.PSK_COUNT);
+  if (psks.length > 9) throw new NoiseError('NOISE_PSK_COUNT');
   const key = (bytes, what) => (bytes === undefined ? undefined : copyOf(bytes, what, 32));
   return {
     pattern: pattern.includes('\n') || pattern.startsWith('Noise_') ? pattern : protocolName(pattern),

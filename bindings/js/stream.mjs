@@ -5,12 +5,14 @@ import { bytesOf } from './bytes.mjs';
 import { Sealed } from './transport.mjs';
 
 const ROOM = 65552;    // more than the longest frame has
+/** How many bytes a payload of one frame has at most. */
+export const MOST = 65519;
 
 /** A message after its length: its frame. NOISE_LENGTH where no frame has so many bytes. */
 export function frameOf(message) {
   const lib = library();
   const room = lib.view(lib.at.message, ROOM);
-  must(lib.x.noise_frame_message(lib.at.message, BigInt(ROOM), BigInt(message.length), lib.at.result));
+  must(lib.x.noise_frame_message(lib.at.message, ROOM, message.length, lib.at.result));
   room.set(message, 2);
   return room.slice(0, lib.streamResult().len);
 }
@@ -19,11 +21,11 @@ export function frameOf(message) {
 export function findMessage(held, count) {
   const lib = library();
   held.copyTo(lib.view(lib.at.message, count));
-  const number = lib.x.noise_frame_find(lib.at.message, BigInt(count), lib.at.result);
+  const number = lib.x.noise_frame_find(lib.at.message, count, lib.at.result);
   const result = lib.streamResult();
   if (number === code.MORE) return { wanted: result.wanted };
   must(number);
-  return { wanted: 0, used: result.used, value: lib.view(lib.at.message + BigInt(result.from), result.len).slice() };
+  return { wanted: 0, used: result.used, value: lib.view(lib.at.message + result.from, result.len).slice() };
 }
 
 /** The message of a whole frame. */
@@ -36,12 +38,12 @@ export class Stream extends Sealed {
   /** @private */
   static kinds = ['streamSender', 'streamReceiver'];
 
-  /** The frame of a payload of at most 65519 bytes. Of no bytes there is none, and it is empty. */
+  /** The frame of a payload of at most MOST bytes. Of no bytes there is none, and it is empty. */
   write(payload) {
     const lib = library();
     const [sender] = this.halves;
-    if (bytesOf(payload, 'payload').length > 65519) throw new NoiseError(code.TOO_LONG);
-    const number = lib.x.noise_stream_write(sender, ...lib.put('payload', payload), lib.at.message, BigInt(ROOM), lib.at.result);
+    if (bytesOf(payload, 'payload').length > MOST) throw new NoiseError('NOISE_TOO_LONG');
+    const number = lib.x.noise_stream_write(sender, ...lib.put('payload', payload), lib.at.message, ROOM, lib.at.result);
     lib.wipe('payload', payload.length);
     must(number);
     return lib.view(lib.at.message, lib.streamResult().len).slice();
@@ -51,7 +53,7 @@ export class Stream extends Sealed {
   end() {
     const lib = library();
     const [sender] = this.halves;
-    must(lib.x.noise_stream_end(sender, lib.at.message, BigInt(ROOM), lib.at.result));
+    must(lib.x.noise_stream_end(sender, lib.at.message, ROOM, lib.at.result));
     return lib.view(lib.at.message, lib.streamResult().len).slice();
   }
 
@@ -60,13 +62,13 @@ export class Stream extends Sealed {
     const lib = library();
     const [, receiver] = this.halves;
     held.copyTo(lib.view(lib.at.message, count));
-    const number = lib.x.noise_stream_read(receiver, lib.at.message, BigInt(count), lib.at.result);
+    const number = lib.x.noise_stream_read(receiver, lib.at.message, count, lib.at.result);
     const result = lib.streamResult();
     if (number === code.MORE) return { wanted: result.wanted };
-    if (number === code.STREAM_CLOSED && !this.isCut(0)) return { wanted: 0, used: 0 };    // it came before
+    if (number === code.CLOSED && !this.isCut(0)) return { wanted: 0, used: 0 };    // it came before
     if (number === code.END) return { wanted: 0, used: result.used };
     must(number);
-    const value = lib.view(lib.at.message + BigInt(result.from), result.len).slice();
+    const value = lib.view(lib.at.message + result.from, result.len).slice();
     lib.wipe('message', count);
     return { wanted: 0, used: result.used, value };
   }
@@ -75,6 +77,6 @@ export class Stream extends Sealed {
   isCut(left) {
     const lib = library();
     const [, receiver] = this.halves;
-    return lib.x.noise_stream_is_cut(receiver, BigInt(left)) !== code.OK;
+    return lib.x.noise_stream_is_cut(receiver, left) !== code.OK;
   }
 }

@@ -1,5 +1,5 @@
 // What follows a handshake: a transport, for messages in order, datagrams, for a network that loses, repeats and reorders, or cipher states.
-import { NoiseError, code, must } from './codes.mjs';
+import { NoiseError, must } from './codes.mjs';
 import { freeLater, letGo, library } from './module.mjs';
 import { bytesOf } from './bytes.mjs';
 import { OWN, mustBeOwn } from './own.mjs';
@@ -50,7 +50,7 @@ export class Sealed {
    * @protected
    */
   get halves() {
-    if (this.#halves === undefined) throw new NoiseError(code.DISPOSED);
+    if (this.#halves === undefined) throw new NoiseError('NOISE_DISPOSED');
     return this.#halves;
   }
 
@@ -69,8 +69,8 @@ export class Sealed {
   sealBy(call, payload, overhead) {
     const lib = library();
     const [sender] = this.halves;
-    if (bytesOf(payload, 'payload').length > 65519) throw new NoiseError(code.TOO_LONG);
-    const number = call(sender, ...lib.put('payload', payload), lib.at.message, BigInt(payload.length + overhead), lib.at.result);
+    if (bytesOf(payload, 'payload').length > 65519) throw new NoiseError('NOISE_TOO_LONG');
+    const number = call(sender, ...lib.put('payload', payload), lib.at.message, payload.length + overhead, lib.at.result);
     lib.wipe('payload', payload.length);
     must(number);
     return lib.view(lib.at.message, lib.result().len).slice();
@@ -82,7 +82,7 @@ export class Sealed {
     const [, receiver] = this.halves;
     must(call(receiver, ...lib.put('message', bytesOf(message, 'message')), lib.at.result));
     const result = lib.result();
-    const payload = lib.view(lib.at.message + BigInt(result.from), result.len).slice();
+    const payload = lib.view(lib.at.message + result.from, result.len).slice();
     lib.wipe('message', message.length);
     return payload;
   }

@@ -1,13 +1,55 @@
 // Promises that settle: work in turns, and waiting that something else can end.
 
-/** Work in turns: each begins once the one before has settled. */
+/**
+ * What is used of an AbortSignal.
+ * @typedef {object} Signal
+ * @property {boolean} aborted
+ * @property {any} reason
+ * @property {(type: 'abort', listener: () => void) => void} addEventListener
+ * @property {(type: 'abort', listener: () => void) => void} removeEventListener
+ */
+
+/** Throws a signal's reason once it has aborted. */
+export function mustGoOn(signal) {
+  if (signal?.aborted) throw signal.reason;
+}
+
+/** Settles as a promise does, or rejects for a signal's reason once that aborts. */
+export function unlessAborted(promise, signal) {
+  if (!signal) return promise;
+  return new Promise((resolve, reject) => {
+    const abort = () => reject(signal.reason);
+    const settle = (how) => (value) => { signal.removeEventListener('abort', abort); how(value); };
+    signal.addEventListener('abort', abort);
+    promise.then(settle(resolve), settle(reject));
+    if (signal.aborted) abort();
+  });
+}
+
+/** Work in turns: each begins once the one before has settled, unless its signal has aborted before. */
 export class Turns {
   #last = Promise.resolve();
+  #count = 0;
 
-  take(work) {
-    const result = this.#last.then(work);
-    this.#last = result.then(() => {}, () => {});
-    return result;
+  /** Whether nothing is under way, and nothing waits. */
+  get isIdle() {
+    return this.#count === 0;
+  }
+
+  take(work, signal) {
+    this.#count += 1;
+    return new Promise((resolve, reject) => {
+      let isOver = false;
+      const abort = () => { isOver = true; reject(signal.reason); };
+      const begin = () => {
+        signal?.removeEventListener('abort', abort);
+        return isOver ? undefined : work();
+      };
+      const settle = (how) => (value) => { this.#count -= 1; how(value); };
+      signal?.addEventListener('abort', abort);
+      if (signal?.aborted) abort();
+      this.#last = this.#last.then(begin).then(settle(resolve), settle(reject));
+    });
   }
 }
 
@@ -54,3 +96,12 @@ export function within(milliseconds, promise) {
 }
 
 export const pause = (milliseconds) => new Promise((resolve) => { setTimeout(resolve, milliseconds); });
+
+/** Drops what is read until the end. */
+export async function drain(read) {
+  try {
+    while (await read());
+  } catch {
+    // It broke, and nothing is left to drop.
+  }
+}

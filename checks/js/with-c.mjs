@@ -25,7 +25,7 @@ const server = new Uint8Array(await readFile(join(folder, 'server.public')));
 const channel = await NoiseSocket.open(socket, {
   pattern: protocolName(pattern),
   prologue: bytes('example channel 1'),
-  interval: 1000n,
+  interval: 1000,
   staticKey: await KeyPair.generate(),
   remoteStatic: pattern === 'IK' ? server : undefined,
   judge: (key) => Buffer.compare(key, server) === 0,

@@ -11,11 +11,11 @@ async function echo(channel) {
     const got = await channel.receive();
     if (got.length !== length || !got.every((byte, n) => byte === sent[n])) return `other bytes came back, of ${length}`;
   }
-  const refused = await channel.send(new Uint8Array(65520)).catch((error) => error.name);
+  await channel.send(new Uint8Array(65520));
   await channel.send(Uint8Array.of(1));
-  const back = await channel.receive();
+  const back = [await channel.receive(), await channel.receive(), await channel.receive()].map(({ length }) => length);
   await channel.end();
-  return `${refused}, ${back}, and then ${await channel.receive()}`;
+  return `${back}, and then ${await channel.receive()}`;
 }
 
 /** What comes of a received message, and of a message that is sent afterwards. */
@@ -34,8 +34,8 @@ async function attempt(url, path) {
     return await (isEcho ? echo(channel) : receive(channel));
   } catch (error) {
     if (error.code === undefined) throw error;
-    const after = channel && await channel.send(Uint8Array.of(1)).catch(({ name }) => name);
-    return after ? `${error.name}, and then ${after}` : error.name;
+    const after = channel && await channel.send(Uint8Array.of(1)).catch((it) => it.code);
+    return after ? `${error.code}, and then ${after}` : error.code;
   } finally {
     await channel?.close();
   }

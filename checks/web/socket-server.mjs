@@ -13,15 +13,15 @@ const FAULTS = {
 
 /** What each path has to come to at the client. */
 export const EXPECTED = {
-  echo: 'NOISE_TOO_LONG, 1, and then undefined',
-  'echo-responder': 'NOISE_TOO_LONG, 1, and then undefined',
-  'handshake-close': 'NOISE_CLOSED',
-  'handshake-cut': 'NOISE_CLOSED',
+  echo: '65519,1,1, and then undefined',
+  'echo-responder': '65519,1,1, and then undefined',
+  'handshake-close': 'NOISE_CUT',
+  'handshake-cut': 'NOISE_CUT',
   'handshake-text': 'NOISE_SHORT',
   'handshake-long': 'NOISE_LENGTH',
   'handshake-longer': 'NOISE_LENGTH',
-  close: 'NOISE_CLOSED, and then NOISE_DISPOSED',
-  cut: 'NOISE_CLOSED, and then NOISE_DISPOSED',
+  close: 'NOISE_CUT, and then NOISE_DISPOSED',
+  cut: 'NOISE_CUT, and then NOISE_DISPOSED',
   text: 'NOISE_SHORT, and then NOISE_DISPOSED',
   long: 'NOISE_LENGTH, and then NOISE_DISPOSED',
   longer: 'NOISE_LENGTH, and then NOISE_DISPOSED',

@@ -16,7 +16,7 @@ async function overWebSockets() {
   const told = await takeChannels(server);
   assert.deepEqual(await attempts(`${url.replace('http', 'ws')}`, Object.keys(EXPECTED)), EXPECTED);
   const staticKey = await KeyPair.generate();
-  await assert.rejects(NoiseSocket.open(new WebSocket('ws://127.0.0.1:9/'), { ...OPTIONS, staticKey }), { name: 'NOISE_CLOSED' });
+  await assert.rejects(NoiseSocket.open(new WebSocket('ws://127.0.0.1:9/'), { ...OPTIONS, staticKey }), { code: 'NOISE_CUT' });
   for (let n = 0; n < 200 && told.closed < Object.keys(EXPECTED).length; n += 1) await new Promise((resolve) => { setTimeout(resolve, 10); });
   assert.deepEqual(told, { closed: Object.keys(EXPECTED).length, failed: [] });
   close();
@@ -36,9 +36,9 @@ async function pair() {
 }
 
 const FAULTS = {
-  'no end': [(socket) => socket.end(), 'NOISE_CLOSED'],
-  'half a length': [(socket) => socket.end(Buffer.of(1)), 'NOISE_CLOSED'],
-  'half a message': [(socket) => socket.end(Buffer.of(0, 20, 1, 2, 3)), 'NOISE_CLOSED'],
+  'no end': [(socket) => socket.end(), 'NOISE_CUT'],
+  'half a length': [(socket) => socket.end(Buffer.of(1)), 'NOISE_CUT'],
+  'half a message': [(socket) => socket.end(Buffer.of(0, 20, 1, 2, 3)), 'NOISE_CUT'],
   'an empty message': [(socket) => socket.write(Buffer.of(0, 0)), 'NOISE_SHORT'],
   'a message that nobody sealed': [(socket) => socket.write(Buffer.concat([Buffer.of(255, 255), Buffer.alloc(65535)])), 'NOISE_TAG'],
 };
@@ -48,14 +48,15 @@ async function overTcp() {
     const [near, far] = await pair();
     const open = async (socket, responder) => NoiseSocket.open(socket, { ...OPTIONS, responder, staticKey: await KeyPair.generate() });
     const [a, b] = await Promise.all([open(near, false), open(far, true)]);
-    for (const length of [1, 65519]) {
+    for (const length of [1, 65519, 65536]) {
       await a.send(new Uint8Array(length).fill(5));
-      await b.send(await b.receive());
-      assert.deepEqual(await a.receive(), new Uint8Array(length).fill(5));
+      for (let left = length; left > 0; left -= 65519) {
+        await b.send(await b.receive());
+        assert.deepEqual(await a.receive(), new Uint8Array(Math.min(left, 65519)).fill(5));
+      }
     }
-    await assert.rejects(a.send(new Uint8Array(65520)), { name: 'NOISE_TOO_LONG' });
     commit(far);
-    assert.equal(await a.receive().then(String, ({ name }) => name), expected, fault);
+    assert.equal(await a.receive().then(String, (error) => error.code), expected, fault);
     await Promise.all([a.close(), b.close()]);
     near.destroy();
     far.destroy();
@@ -63,7 +64,7 @@ async function overTcp() {
   const [near, far] = await pair();
   const opened = NoiseSocket.open(near, { ...OPTIONS, staticKey: await KeyPair.generate() });
   far.once('data', () => far.end(Buffer.of(0, 96, 1)));
-  await assert.rejects(opened, { name: 'NOISE_CLOSED' });
+  await assert.rejects(opened, { code: 'NOISE_CUT' });
   far.destroy();
 }
 
@@ -71,7 +72,7 @@ async function otherStreams() {
   const texts = { readable: new ReadableStream({ start: (it) => it.enqueue('text') }), writable: new WritableStream() };
   await assert.rejects(NoiseSocket.open(texts, { ...OPTIONS, responder: true, staticKey: await KeyPair.generate() }), TypeError);
   const broken = { readable: new ReadableStream({ start: (it) => it.error(new Error('broken')) }), writable: new WritableStream() };
-  await assert.rejects(NoiseSocket.open(broken, { ...OPTIONS, staticKey: await KeyPair.generate() }), { name: 'NOISE_CLOSED' });
+  await assert.rejects(NoiseSocket.open(broken, { ...OPTIONS, staticKey: await KeyPair.generate() }), { code: 'NOISE_CUT' });
 }
 
 await load();

@@ -6,7 +6,7 @@ import { fileURLToPath } from 'node:url';
 import { NoiseError, NoiseSocket } from '../noise.mjs';
 
 export const text = (s) => new TextEncoder().encode(s);
-export const refused = (number) => (error) => error instanceof NoiseError && error.code === number;
+export const refused = (code) => (error) => error instanceof NoiseError && error.code === code;
 export const NN = { pattern: 'NN', acceptAnyKey: true };
 
 /** Both ends of a connection over TCP. */
@@ -100,11 +100,11 @@ export function channels([near, far], client = NN, server = client) {
   return Promise.all([NoiseSocket.open(near, client), NoiseSocket.open(far, { ...server, responder: true })]);
 }
 
-/** What becomes of a promise: its value, or the name of its error, or 'pending' after so many milliseconds. */
+/** What becomes of a promise: its value, or the code or name of its error, or 'pending' after so many milliseconds. */
 export async function outcome(promise, milliseconds = 60000) {
   let timer;
   const late = new Promise((resolve) => { timer = setTimeout(() => resolve('pending'), milliseconds); });
-  const settled = promise.then((value) => value, ({ name }) => name);
+  const settled = promise.then((value) => value, (error) => (error instanceof NoiseError ? error.code : error.name));
   try {
     return await Promise.race([settled, late]);
   } finally {

@@ -2,7 +2,7 @@
 import test from 'node:test';
 import assert from 'node:assert/strict';
 import { once } from 'node:events';
-import { Handshake, KeyPair, NoiseSocket, code, load } from '../noise.mjs';
+import { Handshake, KeyPair, NoiseSocket, load } from '../noise.mjs';
 import { NN, apart, channels, openSockets, outcome, overTcp, pair, refused, text } from './connections.mjs';
 
 const roomy = () => pair({ highWaterMark: 1e6 }, { highWaterMark: 1e6 });
@@ -39,8 +39,8 @@ test('ends', { timeout: 300000 }, async (t) => {
       for await (const payload of b) got.push(payload);
       assert.deepEqual(got, [text('one')]);
       assert.equal(await b.receive(), undefined);
-      await assert.rejects(a.send(text('x')), refused(code.DISPOSED));
-      await assert.rejects(a.receive(), refused(code.DISPOSED));
+      await assert.rejects(a.send(text('x')), refused('NOISE_DISPOSED'));
+      await assert.rejects(a.receive(), refused('NOISE_DISPOSED'));
       await b.close();
     });
 
@@ -48,8 +48,8 @@ test('ends', { timeout: 300000 }, async (t) => {
       const [a, b] = await channels(await connect());
       await a.end();
       assert.equal(await b.receive(), undefined);
-      await assert.rejects(a.send(text('x')), refused(code.STREAM_CLOSED));
-      await assert.rejects(a.end(), refused(code.STREAM_CLOSED));
+      await assert.rejects(a.send(text('x')), refused('NOISE_CLOSED'));
+      await assert.rejects(a.end(), refused('NOISE_CLOSED'));
       await b.send(text('late'));
       await b.close();
       assert.deepEqual(await a.receive(), text('late'));
@@ -91,7 +91,7 @@ test('ends', { timeout: 300000 }, async (t) => {
           got.push(payload);
           end(far);
         }
-      }, refused(code.CLOSED));
+      }, refused('NOISE_CUT'));
       assert.deepEqual(got, [text('one')]);
       assert.equal(near.destroyed, true);
     }
@@ -101,8 +101,8 @@ test('ends', { timeout: 300000 }, async (t) => {
     const [near, far] = openSockets();
     const [a, b] = await channels([near, far]);
     far.close();
-    await assert.rejects(a.receive(), refused(code.CLOSED));
-    await assert.rejects(b.receive(), refused(code.CLOSED));
+    await assert.rejects(a.receive(), refused('NOISE_CUT'));
+    await assert.rejects(b.receive(), refused('NOISE_CUT'));
   });
 
   await t.test('after a refusal nothing is sent, and nothing else is received', async () => {
@@ -119,9 +119,9 @@ test('ends', { timeout: 300000 }, async (t) => {
       const name = wrong === FORGED ? 'NOISE_TAG' : 'NOISE_SHORT';
       assert.deepEqual(await Promise.all(calls), [name, name, name]);
       const before = came;
-      await assert.rejects(a.send(text('x')), (error) => error.code === code.DISPOSED && error.cause.name === name);
-      await assert.rejects(a.end(), refused(code.DISPOSED));
-      await assert.rejects(a.receive(), refused(code.DISPOSED));
+      await assert.rejects(a.send(text('x')), (error) => error.code === 'NOISE_DISPOSED' && error.cause.code === name);
+      await assert.rejects(a.end(), refused('NOISE_DISPOSED'));
+      await assert.rejects(a.receive(), refused('NOISE_DISPOSED'));
       await a.close();
       if (!far.closed) await once(far, 'close');
       assert.equal(came, before);
@@ -137,7 +137,7 @@ test('ends', { timeout: 300000 }, async (t) => {
     await a.close();
     assert.deepEqual(await b.receive(), text('one'));
     assert.equal(await b.receive(), undefined);
-    await assert.rejects(b.send(text('x')), refused(code.ONE_WAY));
+    await assert.rejects(b.send(text('x')), refused('NOISE_ONE_WAY'));
     await b.close();
   });
 
@@ -163,7 +163,7 @@ test('ends', { timeout: 300000 }, async (t) => {
       const [a] = await channels(ends);
       const sends = Array.from({ length: 200 }, () => outcome(a.send(MEGABYTES)));
       assert.equal(await outcome(a.close({ timeout: 300 })), undefined);
-      assert.ok((await Promise.all(sends)).every((it) => it === undefined || it === 'NOISE_CLOSED'));
+      assert.ok((await Promise.all(sends)).every((it) => it === undefined || it === 'NOISE_CUT'));
       if (kind === 'TCP') ends.forEach((it) => it.destroy());
     });
   }

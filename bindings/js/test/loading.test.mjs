@@ -3,7 +3,7 @@ import test from 'node:test';
 import assert from 'node:assert/strict';
 import { spawnSync } from 'node:child_process';
 import { readFile } from 'node:fs/promises';
-import { checkPattern, code, hasMemory64, load } from '../noise.mjs';
+import { checkPattern, hasMemory64, load } from '../noise.mjs';
 import { refused } from './connections.mjs';
 
 const MEMORY64 = new URL('../../../dist/noise_c.wasm', import.meta.url);
@@ -15,14 +15,14 @@ function printed(script) {
   return stdout.trim() || stderr;
 }
 
-test('before load each call is refused', () => assert.throws(() => checkPattern('NN:\n'), refused(code.NOT_LOADED)));
+test('before load each call is refused', () => assert.throws(() => checkPattern('NN:\n'), refused('NOISE_NOT_LOADED')));
 
 test('what is no module, or no file, is refused, and load can be tried again', async () => {
   await assert.rejects(load(new Uint8Array(8)), WebAssembly.CompileError);
   await assert.rejects(load(Uint8Array.of(0, 97, 115, 109, 1, 0, 0, 0)), /version 1/u);
   await assert.rejects(load('nothing.wasm'), { code: 'ENOENT' });
   await assert.rejects(load('http://127.0.0.1:1/noise_c.wasm'), TypeError);
-  assert.throws(() => checkPattern('NN:\n'), refused(code.NOT_LOADED));
+  assert.throws(() => checkPattern('NN:\n'), refused('NOISE_NOT_LOADED'));
 });
 
 test('Node loads the module without a flag, also by its address or its bytes', async () => {

@@ -4,9 +4,10 @@ import assert from 'node:assert/strict';
 import { readFile } from 'node:fs/promises';
 import { setFlagsFromString } from 'node:v8';
 import { runInNewContext } from 'node:vm';
+import { code } from '../codes.mjs';
 import { library } from '../module.mjs';
 import { Incoming } from '../incoming.mjs';
-import { CipherState, Ciphers, Datagrams, Handshake, KeyPair, NoiseError, NoiseSocket, Transport, code, load } from '../noise.mjs';
+import { CipherState, Ciphers, Datagrams, Handshake, KeyPair, NoiseError, NoiseSocket, Transport, load } from '../noise.mjs';
 
 /** Both parties of NN, after its messages. */
 async function passed() {
@@ -58,9 +59,13 @@ test('memory', async (t) => {
   await t.test('the codes are those of include/noise.h', async () => {
     const header = await readFile(new URL('../../../include/noise.h', import.meta.url), 'utf8');
     const codes = /enum noise_code \{([^}]*)\}/u.exec(header)[1];
-    const there = Object.fromEntries([...codes.matchAll(/NOISE_(\w+) = (\d+)/gu)].map(([, name, number]) => [name === 'CLOSED' ? 'STREAM_CLOSED' : name, Number(number)]));
-    assert.deepEqual(Object.fromEntries(Object.entries(code).filter(([, number]) => number >= 0)), there);
-    for (const [name, number] of Object.entries(code)) if (number !== 0) assert.doesNotMatch(new NoiseError(number).message, /^code /u, name);
+    const there = Object.fromEntries([...codes.matchAll(/NOISE_(\w+) = (\d+)/gu)].map(([, name, number]) => [name, Number(number)]));
+    assert.deepEqual({ ...code }, there);
+    for (const [name, number] of Object.entries(there)) {
+      const error = new NoiseError(`NOISE_${name}`);
+      assert.deepEqual([error.code, error.number, error.name], [`NOISE_${name}`, number, 'NoiseError']);
+      if (number !== 0) assert.doesNotMatch(error.message, /^NOISE_/u, name);
+    }
   });
 
   await t.test('what other calls make has no constructor that makes anything', async () => {

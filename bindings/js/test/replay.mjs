@@ -66,7 +66,7 @@ export async function replay(file) {
   const print = (...words) => lines.push(words.join(' '));
 
   const open = (end) => {
-    if (end.handshake?.stage.done) { end.transport = end.handshake.finish({ interval: BigInt(file.interval) }); end.handshake = undefined; }
+    if (end.handshake?.stage.done) { end.transport = end.handshake.finish({ interval: Number(file.interval) }); end.handshake = undefined; }
   };
   async function write(role, payload) {
     const end = ends[role];
@@ -79,7 +79,7 @@ export async function replay(file) {
       return frame;
     } catch (error) {
       if (error.code === undefined) throw error;
-      print('unwritten', role, WORDS[error.code] ?? error.name);
+      print('unwritten', role, WORDS[error.number] ?? error.code);
     }
     return undefined;
   }
@@ -92,10 +92,10 @@ export async function replay(file) {
       open(end);
     } catch (error) {
       if (error.code === undefined) throw error;
-      if (error.code === 10) print('left', role, 'your-turn', frame.length);
-      else if (error.code === 22) print('left', role, 'silent', frame.length);
-      else if (end.transport) print('dropped', role, WORDS[error.code]);
-      else { end.ended = true; print('refused', role, error.token, WORDS[error.code]); }
+      if (error.number === 10) print('left', role, 'your-turn', frame.length);
+      else if (error.number === 22) print('left', role, 'silent', frame.length);
+      else if (end.transport) print('dropped', role, WORDS[error.number]);
+      else { end.ended = true; print('refused', role, error.token, WORDS[error.number]); }
     }
     return undefined;
   }
@@ -114,11 +114,15 @@ export async function replay(file) {
       print('datagrams', role);
       for (const it of Object.values(ends)) { it.handshake = undefined; it.sealed = it.later; }
     } else if (word === 'seal') {
-      try { print('sealed', role, end.datagrams.push(end.sealed.seal(bytes(value))) - 1, hex(end.datagrams.at(-1))); } catch (error) { print('unsealed', role, WORDS[error.code]); }
+      try {
+        print('sealed', role, end.datagrams.push(end.sealed.seal(bytes(value))) - 1, hex(end.datagrams.at(-1)));
+      } catch (error) {
+        print('unsealed', role, WORDS[error.number]);
+      }
     } else {
       const datagram = word === 'foreign' ? bytes(value) : ends[OTHER[role]].datagrams[value];
       if (!datagram) return print('missing', role, value);
-      try { print('payload', role, hex(end.sealed.open(datagram))); } catch (error) { print('rejected', role, WORDS[error.code]); }
+      try { print('payload', role, hex(end.sealed.open(datagram))); } catch (error) { print('rejected', role, WORDS[error.number]); }
     }
     return undefined;
   }

@@ -2,4 +2,16 @@
 export function bytesOf(value: any, what: any, length: any): any;
 /** A copy of its own: `slice` of a Buffer makes none. */
 export function copyOf(value: any, what: any, length: any): Uint8Array;
-export function same(one: any, other: any): any;
+/**
+ * Whether two keys, or other bytes, are the same: a Buffer and a Uint8Array too. The time doesn't depend on where they differ.
+ * @param {Uint8Array} one
+ * @param {Uint8Array} other
+ * @returns {boolean}
+ */
+export function equal(one: Uint8Array, other: Uint8Array): boolean;
+/**
+ * Bytes as hex digits, as a Map's keys for example: those of a Uint8Array and of a Buffer are the same.
+ * @param {Uint8Array} bytes
+ * @returns {string}
+ */
+export function hex(bytes: Uint8Array): string;

@@ -1,21 +1,26 @@
 /** The carrier that these make. */
 export function carrierOf(it: any): {
-    ready: () => Promise<void>;
-    write: (frame: any) => Promise<void>;
+    ready: () => any;
+    write: (frames: any) => Promise<void>;
     pull: () => any;
     discard: () => void;
     close: () => Promise<void>;
     destroy: (reason: any) => void;
 } | {
     ready: () => Promise<void>;
-    write: (frame: any) => Promise<any>;
+    write: (frames: any) => Promise<void>;
     pull: () => any;
     discard: () => void;
-    close: () => Promise<void>;
+    close: (isOver: any) => Promise<void>;
+    destroy: (reason: any) => void;
+} | {
+    ready: () => Promise<void>;
+    write: (frames: any) => Promise<any>;
+    pull: () => any;
+    discard: () => void;
+    close: (isOver: any) => Promise<void>;
     destroy: () => void;
 };
-/** What may wait until the last message of a handshake has come, in bytes. */
-export const EARLY: number;
 /**
  * What is used of a stream of Node, as a socket of TCP.
  */
@@ -28,8 +33,32 @@ export type NodeStream = AsyncIterable<Uint8Array> & {
     readonly destroyed?: boolean | undefined;
     readonly errored?: Error | null | undefined;
     allowHalfOpen?: boolean | undefined;
+    setNoDelay?: ((isOn: boolean) => unknown) | undefined;
     on: (event: 'error', listener: (error: Error) => void) => unknown;
     write: (bytes: Uint8Array, done: (error?: Error | null) => void) => boolean;
     end: (done: () => void) => unknown;
     destroy: () => unknown;
 };
+/**
+ * What is used of a pair of WHATWG streams of bytes, and of a WebSocketStream.
+ */
+export type StreamPair = {
+    readable: {
+        getReader: () => any;
+    };
+    writable: {
+        getWriter: () => any;
+    };
+};
+/**
+ * What is used of a pair of WHATWG streams of bytes, and of a WebSocketStream.
+ */
+export type WebSocketStreamLike = {
+    opened: Promise<any>;
+    closed: Promise<any>;
+    close: () => void;
+};
+/**
+ * What is used of a pair of WHATWG streams of bytes, and of a WebSocketStream.
+ */
+export type Connection = import('./websocket.mjs').WebSocketLike | WebSocketStreamLike | StreamPair | NodeStream;

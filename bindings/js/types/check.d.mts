@@ -1,7 +1,7 @@
 /**
  * @typedef {{ valid: true, messages: number }
- *   | { valid: false, code: import('./codes.mjs').Code, name: string, line: number }
- *   | { valid: false, code: import('./codes.mjs').Code, name: string, rule: number, message: number, token: number }} Verdict
+ *   | { valid: false, code: import('./codes.mjs').Code, number: number, line: number }
+ *   | { valid: false, code: import('./codes.mjs').Code, number: number, rule: number, message: number, token: number }} Verdict
  */
 /**
  * Checks a pattern text, and gives its number of messages, or what is wrong and where: the line of a text that isn't well formed, from 1 on; or else the
@@ -16,12 +16,12 @@ export type Verdict = {
 } | {
     valid: false;
     code: import('./codes.mjs').Code;
-    name: string;
+    number: number;
     line: number;
 } | {
     valid: false;
     code: import('./codes.mjs').Code;
-    name: string;
+    number: number;
     rule: number;
     message: number;
     token: number;

@@ -1,6 +1,6 @@
-/** Throws unless the code is OK. */
+/** Throws unless the number is that of OK. */
 export function must(number: any, token: any): void;
-/** The codes by name: those of include/noise.h, where STREAM_CLOSED is NOISE_CLOSED, and below 0 those of this package. */
+/** The numbers of include/noise.h. */
 export const code: Readonly<{
     OK: 0;
     NAME: 1;
@@ -43,33 +43,30 @@ export const code: Readonly<{
     WANTED_PSK: 40;
     END: 41;
     MORE: 42;
-    STREAM_CLOSED: 43;
+    CLOSED: 43;
     CUT: 44;
-    BUSY: -1;
-    DISPOSED: -2;
-    NOT_LOADED: -4;
-    KEY: -5;
-    CLOSED: -6;
-    REFUSED: -7;
-    UNAUTHENTICATED: -8;
-    BACKLOG: -9;
 }>;
-/** @typedef {(typeof code)[keyof typeof code]} Code One of `code`. */
+export function codeOf(number: any): string;
 /** What a refused call throws. */
 export class NoiseError extends Error {
     /**
-     * @param {Code} number
+     * @param {Code} name
      * @param {{ token?: number, cause?: unknown }} [more]
      */
-    constructor(number: Code, { token, cause }?: {
+    constructor(name: Code, { token, cause }?: {
         token?: number | undefined;
         cause?: unknown;
     } | undefined);
     /**
-     * One of `code`.
+     * For example NOISE_TAG.
      * @type {Code}
      */
     code: Code;
+    /**
+     * The number of `code` in include/noise.h; the codes of this package alone have none.
+     * @type {number | undefined}
+     */
+    number: number | undefined;
     /**
      * At NOISE_SHORT and NOISE_TAG of `Handshake.read`: the token at which the message was refused, from 0 on; the payload comes after the last.
      * @type {number | undefined}
@@ -77,6 +74,59 @@ export class NoiseError extends Error {
     token: number | undefined;
 }
 /**
- * One of `code`.
+ * What a call was refused for, by the name of include/noise.h, or of this package.
  */
-export type Code = (typeof code)[keyof typeof code];
+export type Code = `NOISE_${keyof typeof TEXTS}`;
+/** What each means; from BUSY on they are this package's own. */
+declare const TEXTS: Readonly<{
+    NAME: "no protocol name of a fundamental pattern with 25519, ChaChaPoly and SHA256, or a psk place beyond its messages";
+    PATTERN: "a pattern text that spells no valid pattern: checkPattern says where";
+    EPHEMERAL_MISSING: "the pattern has a token e of this party, and no ephemeral key was passed";
+    STATIC_MISSING: "the pattern has a token s of this party: pass staticKey";
+    REMOTE_MISSING: "a key of the other party's pre-message is missing: pass remoteStatic or remoteEphemeral";
+    REMOTE_UNEXPECTED: "a key was passed that isn't in the other party's pre-message: leave it out";
+    PSK_COUNT: "not one secret for each psk token: pass psks, or pskFor";
+    NOT_YOUR_TURN: "the other party is to write, or at read this one is";
+    TOO_LONG: "the message or datagram would have, or has, more bytes than it may have";
+    DONE: "all messages of the handshake have passed: finish";
+    ENDED: "the handshake was ended by a refused message: start anew";
+    AGREEMENT: "the opaque struct was changed";
+    SHORT: "the message has too few bytes";
+    TAG: "a tag is wrong: something differs between the parties, or the message was changed";
+    EXHAUSTED: "no more messages under this key: start anew";
+    ROOM: "the place for the message is too short";
+    NOT_DONE: "messages of the handshake are still due";
+    WANTED: "the call needs a result of X25519";
+    FULL: "the handshake has 8 results of X25519 already";
+    ONE_WAY: "a one-way pattern: the responder seals nothing, and nothing comes to the initiator";
+    STRUCT: "the opaque struct holds no state that a call could have made";
+    LENGTH: "more than 65535 bytes were passed";
+    WINDOW: "a window other than 64, 256 and 1024";
+    RESERVED: "the datagram has the nonce 2^64 - 1, which none has: drop it";
+    OLD: "the datagram is further below the greatest opened one than the window reaches: drop it";
+    REPEATED: "a datagram of this nonce was opened: drop it";
+    NOT_DUE: "write wouldn't write a payload of this length now";
+    HEADING: "the first line isn't a base, its modifiers in order, and a colon";
+    ARROW: "the line doesn't begin with two spaces, an arrow and a space";
+    TOKEN: "something between the commas is no token";
+    PRE_MESSAGE: "a line before \"...\" has other tokens than e, s or \"e, s\", or it or \"...\" is in the wrong place";
+    TURN: "it is the other party's turn";
+    PSK_PLACE: "the psk tokens aren't where the heading says";
+    NAME_TAKEN: "the base is that of a fundamental pattern, and this is another";
+    LIMIT: "a ninth message, no token but psk, or more than eight others";
+    ENDING: "the line has no line feed, or there is no message";
+    RULE: "the pattern breaks a rule";
+    WANTED_PSK: "a psk token comes before the other party's static key, by which pskFor would choose: pass psks";
+    END: "the other party has ended its stream, and all of it came";
+    MORE: "the frame isn't complete";
+    CLOSED: "the stream was ended before, or has refused something";
+    CUT: "the connection ended before the other party has ended its stream, or in the handshake, or was never made: cause is its error, if it had one";
+    BUSY: "another call on this handshake is under way: await it first";
+    DISPOSED: "this object is used up";
+    NOT_LOADED: "await load() first";
+    KEY: "X25519 fails for the other party's public key, or gives all zeros: close";
+    REFUSED: "judge didn't return true for the other party's static key, and the connection was closed";
+    UNAUTHENTICATED: "nothing says who may be the other party: pass judge, remoteStatic, psks or pskFor, or acceptAnyKey: true";
+    BACKLOG: "more came over the WebSocket than may wait until it is received, and the connection was closed";
+}>;
+export {};

@@ -55,11 +55,11 @@ export class Handshake {
     get ephemeralPublicKey(): Uint8Array | undefined;
     /**
      * Makes the transport, and uses this handshake up. Each direction renews its key after each `interval` of its messages; 0 is never.
-     * @param {{ interval?: bigint | number }} [options]
+     * @param {{ interval?: number }} [options]
      * @returns {Transport}
      */
     finish({ interval }?: {
-        interval?: number | bigint | undefined;
+        interval?: number | undefined;
     } | undefined): Transport;
     /**
      * Makes the two halves of a stream with an end, in the same way.

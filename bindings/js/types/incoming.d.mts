@@ -5,9 +5,13 @@ export class Incoming {
     get left(): number;
     /**
      * What `look` makes of the first bytes, `{ value }`, or undefined where the connection has ended before that. `look(held, count)` gets these bytes,
-     * and says `wanted`, how many more it needs, or else `used` and `value`. NOISE_TOO_LONG, `tooLong`, where it needs more than `limit` in all.
+     * and says `wanted`, how many more it needs, or else `used` and `value`. NOISE_TOO_LONG where it needs more than `limit` in all. `wait` passes a promise
+     * on, and may end the waiting: no byte is lost then.
      */
-    next(look: any, limit?: number, tooLong?: undefined): Promise<{
+    next(look: any, { limit, wait }?: {
+        limit?: number | undefined;
+        wait?: ((promise: any) => any) | undefined;
+    }): Promise<{
         value: any;
     } | undefined>;
     #private;

@@ -31,10 +31,13 @@ export class KeyPair {
     static fromSecret(bytes: Uint8Array): Promise<KeyPair>;
     /**
      * The pair of a CryptoKeyPair that the program keeps, in IndexedDB for example.
-     * @param {CryptoKeyPair} pair
+     * @param {{ privateKey: import('./platform.mjs').WebCryptoKey, publicKey: import('./platform.mjs').WebCryptoKey }} pair
      * @returns {Promise<KeyPair>}
      */
-    static from({ privateKey, publicKey }: CryptoKeyPair): Promise<KeyPair>;
+    static from({ privateKey, publicKey }: {
+        privateKey: import('./platform.mjs').WebCryptoKey;
+        publicKey: import('./platform.mjs').WebCryptoKey;
+    }): Promise<KeyPair>;
     /** @private */
     private constructor();
     /**

@@ -12,7 +12,9 @@ export function hasMemory64(): boolean;
  * Loads the module, once: later calls do nothing. Without an argument it is noise_c.wasm beside this file, which has 32-bit memory. An address that is
  * relative counts from here. It throws what `fetch`, reading a file and WebAssembly throw, as a CompileError for a module with 64-bit memory where the
  * engine has none.
- * @param {string | URL | ArrayBuffer | ArrayBufferView} [source]
+ * @param {string | { readonly href: string } | ArrayBuffer | ArrayBufferView} [source]
  * @returns {Promise<void>}
  */
-export function load(source?: string | ArrayBuffer | ArrayBufferView | URL | undefined): Promise<void>;
+export function load(source?: string | ArrayBuffer | ArrayBufferView | {
+    readonly href: string;
+} | undefined): Promise<void>;

@@ -1,21 +1,13 @@
 /** The bytes of a pattern: most handshakes have that of the one before. */
 export function patternBytes(text: any): Uint8Array;
 /** So many messages, as the library takes them. */
-export function intervalOf(interval: any): bigint;
+export function intervalOf(interval: any): any;
+/** The options themselves, where there are any. */
+export function optionsOf(options: any): any;
 /** Copies of the options, as far as they can be checked here: the library checks the rest. */
-export function setupOf({ pattern, responder, prologue, staticKey, ephemeralKey, remoteStatic, remoteEphemeral, psks, pskFor }: {
-    pattern: any;
-    responder?: boolean | undefined;
-    prologue?: Uint8Array | undefined;
-    staticKey: any;
-    ephemeralKey: any;
-    remoteStatic: any;
-    remoteEphemeral: any;
-    psks?: any[] | undefined;
-    pskFor: any;
-}): {
+export function setupOf(options: any): {
     pattern: string;
-    responder: boolean;
+    responder: any;
     prologue: Uint8Array;
     pskFor: any;
     staticKey: any;

@@ -12,11 +12,13 @@ export function findMessage(held: any, count: any): {
 };
 /** The message of a whole frame. */
 export function messageOf(frame: any): any;
+/** How many bytes a payload of one frame has at most. */
+export const MOST: 65519;
 /** Both directions of a stream. */
 export class Stream extends Sealed {
     /** @private */
     private static kinds;
-    /** The frame of a payload of at most 65519 bytes. Of no bytes there is none, and it is empty. */
+    /** The frame of a payload of at most MOST bytes. Of no bytes there is none, and it is empty. */
     write(payload: any): any;
     /** The frame of the end. */
     end(): any;

@@ -1,8 +1,24 @@
+/**
+ * What is used of an AbortSignal.
+ * @typedef {object} Signal
+ * @property {boolean} aborted
+ * @property {any} reason
+ * @property {(type: 'abort', listener: () => void) => void} addEventListener
+ * @property {(type: 'abort', listener: () => void) => void} removeEventListener
+ */
+/** Throws a signal's reason once it has aborted. */
+export function mustGoOn(signal: any): void;
+/** Settles as a promise does, or rejects for a signal's reason once that aborts. */
+export function unlessAborted(promise: any, signal: any): any;
 /** Waits until a promise settles, at most so many milliseconds. */
 export function within(milliseconds: any, promise: any): Promise<any>;
-/** Work in turns: each begins once the one before has settled. */
+/** Drops what is read until the end. */
+export function drain(read: any): Promise<void>;
+/** Work in turns: each begins once the one before has settled, unless its signal has aborted before. */
 export class Turns {
-    take(work: any): Promise<void>;
+    /** Whether nothing is under way, and nothing waits. */
+    get isIdle(): boolean;
+    take(work: any, signal: any): Promise<any>;
     #private;
 }
 /** Waits for promises, until it is ended: whatever waits rejects then, for that reason, and so does what would wait later. */
@@ -14,3 +30,12 @@ export class Waiting {
     #private;
 }
 export function pause(milliseconds: any): Promise<any>;
+/**
+ * What is used of an AbortSignal.
+ */
+export type Signal = {
+    aborted: boolean;
+    reason: any;
+    addEventListener: (type: 'abort', listener: () => void) => void;
+    removeEventListener: (type: 'abort', listener: () => void) => void;
+};

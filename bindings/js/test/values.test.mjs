@@ -1,0 +1,81 @@
+// What calls take and give: numbers, keys, options and errors.
+import test from 'node:test';
+import assert from 'node:assert/strict';
+import { readFile } from 'node:fs/promises';
+import { inspect } from 'node:util';
+import * as noise from '../noise.mjs';
+import { library } from '../module.mjs';
+import { channels, openSockets, pair, text } from './connections.mjs';
+
+const { Handshake, KeyPair, NoiseError, NoiseSocket, checkPattern, equal, hex, load } = noise;
+
+test('values', async (t) => {
+  await load();
+  await t.test('the library is called with numbers, and only nonces are BigInts', async () => {
+    const lib = library();
+    const isNumber = (value) => typeof value === 'number';
+    assert.ok([lib.x.noise_handshake_size(), ...Object.values(lib.at), ...lib.put('name', text('NN')), lib.take('handshake')].every(isNumber));
+    const module = new WebAssembly.Module(await readFile(new URL('../noise_c.wasm', import.meta.url)));
+    const functions = WebAssembly.Module.exports(module).filter(({ kind }) => kind === 'function').map(({ name }) => name);
+    const inPlace = ['noise_seal_in_place', 'noise_datagram_seal_in_place'];    // no call here uses them
+    assert.deepEqual(Object.keys(lib.x).sort(), functions.filter((name) => !inPlace.includes(name)).sort());
+    for (const interval of [2n, -1, 1.5, NaN, '2', null, 2 ** 53]) assert.throws(() => new Handshake({ pattern: 'NN' }).finish({ interval }), RangeError);
+  });
+
+  await t.test('the largest interval, and sizes of more than 31 bits, are passed as they are', async () => {
+    const lib = library();
+    const place = lib.take('handshake');
+    assert.equal(lib.x.noise_frame_message(lib.at.message, 65552, 0xffffffff, lib.at.result), 24);    // NOISE_LENGTH, and not a frame of 2^32 - 1 bytes
+    lib.free('handshake', place);
+    for (const interval of [0, 1, 2 ** 53 - 1]) {
+      const [a, b] = [new Handshake({ pattern: 'NN' }), new Handshake({ pattern: 'NN', responder: true })];
+      await b.read(await a.write());
+      await a.read(await b.write());
+      const [one, two] = [a.finish({ interval }), b.finish({ interval })];
+      for (let n = 0; n < 3; n += 1) assert.deepEqual(two.open(one.seal(text(`${n}`))), text(`${n}`));
+      assert.deepEqual([one.nonces.send, two.nonces.receive].map((it) => typeof it), ['bigint', 'bigint']);
+    }
+  });
+
+  await t.test('an error has its code as Node has it', async () => {
+    const error = await new Handshake({ pattern: 'NN', responder: true }).read(new Uint8Array(3)).catch((it) => it);
+    assert.deepEqual([error.code, error.name, error.number, error.token], ['NOISE_SHORT', 'NoiseError', 15, 0]);
+    assert.ok(error instanceof NoiseError);
+    assert.equal(Object.keys(error).includes('name'), false);
+    assert.match(inspect(error), /^NoiseError: the message has too few bytes\n[^]*code: 'NOISE_SHORT'/u);
+    assert.equal(noise.code, undefined);
+    assert.deepEqual(checkPattern('mine:\n  -> e\n'), { valid: false, code: 'NOISE_HEADING', number: 30, line: 1 });
+  });
+
+  await t.test('NOISE_CLOSED and NOISE_CUT are those of the header', async () => {
+    const [near, far] = openSockets();
+    const [a, b] = await channels([near, far]);
+    await a.end();
+    await assert.rejects(a.send(text('x')), (error) => error.code === 'NOISE_CLOSED' && error.number === 43);
+    near.close();
+    await b.receive();
+    await assert.rejects(a.receive(), (error) => error.code === 'NOISE_CUT' && error.number === 44);
+  });
+
+  await t.test('without options a sentence says what is missing', async () => {
+    for (const options of [undefined, null, 'XX', 5]) {
+      assert.throws(() => new Handshake(options), { name: 'TypeError', message: /there are no options: pass at least \{ pattern \}/u });
+      await assert.rejects(NoiseSocket.open(pair()[0], options), { name: 'TypeError', message: /there are no options/u });
+    }
+    assert.throws(() => new Handshake({}), { name: 'TypeError', message: /pattern has to be a name, as XX/u });
+  });
+
+  await t.test('keys are compared, and are a Map’s keys, whatever array has them', async () => {
+    const { publicKey } = await KeyPair.generate();
+    const other = Buffer.from(publicKey);
+    assert.ok(equal(publicKey, other) && equal(other, publicKey));
+    for (let n = 0; n < 32; n += 1) assert.equal(equal(publicKey, publicKey.with(n, publicKey[n] ^ 128)), false);
+    assert.equal(equal(publicKey, publicKey.slice(1)), false);
+    assert.equal(equal(new Uint8Array(0), Buffer.alloc(0)), true);
+    for (const wrong of ['a text', undefined, [1]]) assert.throws(() => equal(publicKey, wrong), TypeError);
+    assert.equal(hex(Uint8Array.of(0, 10, 255)), '000aff');
+    const secrets = new Map([[other.toString('hex'), 'secret']]);
+    assert.deepEqual([secrets.get(hex(publicKey)), secrets.get(hex(other))], ['secret', 'secret']);
+    assert.throws(() => hex('00'), TypeError);
+  });
+});
