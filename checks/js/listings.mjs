@@ -5,7 +5,12 @@ import { join } from 'node:path';
 
 // The types of Debian's TypeScript lack it.
 const TIMEOUT = '/** @type {{ timeout(milliseconds: number): AbortSignal }} */ (/** @type {unknown} */ (AbortSignal)).timeout';
-const IMPORTS = "import { connect } from 'node:net';\nimport { Handshake, NoiseSocket } from 'yulimosar';\n";
+const IMPORTS = [
+  "import { createReadStream } from 'node:fs';",
+  "import { connect } from 'node:net';",
+  "import { pipeline } from 'node:stream/promises';",
+  "import { Handshake, NoiseSocket, hex } from 'yulimosar';",
+].map((line) => `${line}\n`).join('');
 
 const [folder, ...pages] = process.argv.slice(2);
 const texts = await Promise.all(pages.map((page) => readFile(page, 'utf8')));

@@ -16,6 +16,12 @@ declare module 'node:fs/promises' {
   export function readFile(path: string, encoding: 'utf8'): Promise<string>;
   export function writeFile(path: string, data: Uint8Array, options?: { mode?: number; flag?: string }): Promise<void>;
 }
+declare module 'node:fs' {
+  export function createReadStream(path: string): AsyncIterable<Buffer>;
+}
+declare module 'node:stream/promises' {
+  export function pipeline(from: AsyncIterable<Uint8Array>, to: WritableStream): Promise<void>;
+}
 declare module 'node:net' {
   export interface Socket extends AsyncIterable<any> {
     readonly connecting: boolean;

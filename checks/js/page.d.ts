@@ -7,3 +7,4 @@ declare const [staticKey, key]: import('yulimosar').KeyPair[];
 declare const other: Buffer;
 declare const judge: (remoteStatic: Uint8Array) => boolean;
 declare const socket: WebSocket;
+declare const channel: import('yulimosar').NoiseSocket;

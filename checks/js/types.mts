@@ -1,7 +1,7 @@
 // The package as a program in TypeScript uses it. It is only checked, against the package's types, and never run.
 import {
-  CipherState, Code, DH, Datagrams, Handshake, HandshakeOptions, KeyPair, NoiseError, NoiseSocket, NoiseSocketOptions, Opener, Sealer, Transport,
-  checkPattern, code, hasMemory64, layout, load, protocolName,
+  CipherState, Code, Connection, DH, Datagrams, Handshake, HandshakeOptions, KeyPair, NoiseError, NoiseSocket, NoiseSocketOptions, Opener, Sealer,
+  Transport, checkPattern, equal, hasMemory64, hex, layout, load, protocolName,
 } from 'yulimosar';
 
 await load();
@@ -10,8 +10,8 @@ await load(new Uint8Array(8));
 const isWide: boolean = hasMemory64();
 console.log(isWide);
 const staticKey: KeyPair = await KeyPair.generate();
-const kept: KeyPair = await KeyPair.fromSecret(new Uint8Array(32).fill(7));
-console.log(kept.publicKey.length);
+const fromBytes: KeyPair = await KeyPair.fromSecret(new Uint8Array(32).fill(7));
+console.log(fromBytes.publicKey.length);
 const handshake = new Handshake({ pattern: protocolName('XX'), staticKey, psks: [new Uint8Array(32)] });
 const late = new Handshake({ pattern: 'XXpsk3', responder: true, staticKey, pskFor: async (remoteStatic) => remoteStatic.slice(0, 32) });
 late.dispose();
@@ -19,9 +19,9 @@ const message: Uint8Array = await handshake.write(new Uint8Array(3));
 try {
   await handshake.read(message);
 } catch (error) {
-  if (error instanceof NoiseError && error.code === code.TAG) console.log(error.token, error.cause);
+  if (error instanceof NoiseError && error.code === 'NOISE_TAG') console.log(error.token, error.cause);
 }
-const transport: Transport = handshake.finish({ interval: 3n });
+const transport: Transport = handshake.finish({ interval: 3 });
 const [sender, receiver]: [Sealer, Opener] = transport.split();
 receiver.open(sender.seal(message));
 const datagrams: Datagrams = handshake.finishDatagrams({ window: 64 });
@@ -50,15 +50,29 @@ await channel.close({ timeout: 100 });
 await NoiseSocket.open(new WebSocket('wss://example.org/'), {
   pattern: 'NN', acceptAnyKey: true, signal: new AbortController().signal, handshakeLimit: 100, backlog: 1 << 20,
 });
-// @ts-expect-error: no such code
-console.log(code.CUTT);
-// @ts-expect-error: no such code
-console.log(new NoiseError(-100));
-const number: Code = code.CLOSED;
-console.log(number);
+await channel.send(new Uint8Array(1 << 20), { signal: new AbortController().signal });
+const got: Uint8Array | undefined = await channel.receive({ signal: new AbortController().signal });
+await channel.flush();
+await channel.readable.pipeTo(new WritableStream<Uint8Array>());
+await new Blob([]).stream().pipeTo(channel.writable);
+console.log(equal(channel.hash, hash), hex(got ?? hash).length);
+const name: Code = 'NOISE_CUT';
+console.log(name, new NoiseError(name).number);
 declare const refused: NoiseError;
-// @ts-expect-error: no code is 99
-console.log(refused.code === 99);
+// @ts-expect-error: no such code
+console.log(refused.code === 'NOISE_CUTT');
+// @ts-expect-error: no such code
+console.log(new NoiseError('NOISE_GONE'));
+// @ts-expect-error: codes are texts
+console.log(refused.code === 16);
+declare const connection: Connection;
+await NoiseSocket.open(connection, more);
+declare const kept: CryptoKeyPair;
+const again: KeyPair = await KeyPair.from(kept);
+console.log(again);
+declare global { interface SymbolConstructor { readonly asyncDispose: unique symbol } }    // as of TypeScript 5.2
+const disposed: Promise<void> = channel[Symbol.asyncDispose]();
+await disposed;
 // @ts-expect-error: other calls make them
 console.log(new KeyPair());
 // @ts-expect-error: other calls make them

@@ -1,24 +1,9 @@
-// node relay.mjs: two ends with a relay between them that flips, cuts, repeats or drops at each byte, or over a WebSocket at each message, whatever the order in which
-// they end. What an end reports has to be what the law allows: it has the first payloads that the other has written, in order; it reports an end only if
-// the other has ended and all of it came; and else it throws. After a refusal it sends nothing. X25519 is a toy, as in checks/c-library/relay.py: the
-// result of two public keys is their xor.
+// node relay.mjs: two ends with a relay between them that flips, cuts, repeats or drops at each byte, or over a WebSocket at each message, whatever the order
+// in which they end. What an end reports has to be what the law allows.
 import assert from 'node:assert/strict';
-import { NoiseError, NoiseSocket, load } from '../noise.mjs';
-import { openSockets, text } from './connections.mjs';
-
-const TEXTS = [['a first text', 'b', 'the last of the client'].map(text), ['1', 'what the server has to say', 'and good bye'].map(text)];
-/** When each end ends its stream: at once, once the other's has ended, or, without receiving at all, by close. */
-const ORDERS = [['ends', 'ends'], ['waits', 'ends'], ['ends', 'waits'], ['closes', 'ends'], ['ends', 'closes'], ['closes', 'closes']];
-const NOTHING = { kind: 'nothing' };
-
-function keyOf(role, ofStatic) {
-  const publicKey = Uint8Array.from({ length: 32 }, (_, i) => (17 + 60 * role + 101 * ofStatic + 7 * i) % 256);
-  return { publicKey, agree: (remote) => publicKey.map((byte, i) => byte ^ remote[i]) };
-}
-const OPTIONS = [0, 1].map((role) => ({
-  pattern: 'XX', responder: role === 1, interval: 2, staticKey: keyOf(role, 1), ephemeralKey: keyOf(role, 0),
-  judge: (key) => Buffer.compare(key, keyOf(1 - role, 1).publicKey) === 0,
-}));
+import { load } from '../noise.mjs';
+import { openSockets } from './connections.mjs';
+import { NOTHING, ORDERS, check, damaged, party } from './law.mjs';
 
 let seed = 20261126;
 /** A number from 1 to `most`, the same in each run. */
@@ -70,15 +55,6 @@ function overStreams(faults, acted) {
   return { ends, sent: (role) => pipes[role].sent, break: () => pipes.forEach((it) => it.close()) };
 }
 
-/** What a fault makes of a message, as several messages, or undefined where it cuts the connection. */
-function damaged(message, { kind, at, bit }, from, number) {
-  const isInside = at >= from && at < from + message.length;
-  if (kind === 'flip' && isInside) return [message.map((byte, n) => (n === at - from ? byte ^ (1 << bit) : byte))];
-  if (at !== number) return [message];
-  if (kind === 'cut') return undefined;
-  return { drop: [], repeat: [message, message], shorten: [message.slice(0, -1)], lengthen: [Uint8Array.of(...message, 0)] }[kind] ?? [message];
-}
-
 function overWebSockets(faults, acted) {
   const ends = openSockets();
   const [sent, count] = [[0, 0], [0, 0]];
@@ -94,36 +70,6 @@ function overWebSockets(faults, acted) {
     };
   }
   return { ends, sent: (role) => sent[role], messages: (role) => count[role], break: end };
-}
-
-/** Sends what an end has to send, and ends it, unless the other party's end comes first, or `close` is to do it. */
-async function sendAll(channel, texts, order, report) {
-  try {
-    for (const it of texts) await channel.send(it);
-    report.hasEnded = order !== 'waits';
-    if (order === 'ends') await channel.end();
-  } catch (error) {
-    report.unsent = error;    // what came can still be received
-  }
-}
-
-/** What one end does, and what it reports. */
-async function party(link, role, order) {
-  const report = { got: [], hasEnded: false, gotEnd: false };
-  try {
-    const channel = await NoiseSocket.open(link.ends[role], OPTIONS[role]);
-    await sendAll(channel, TEXTS[role], order, report);
-    if (order !== 'closes') {
-      for await (const payload of channel) report.got.push(payload);
-      report.gotEnd = true;
-      report.hasEnded = !report.unsent;
-    }
-    await channel.close();
-  } catch (error) {
-    report.error = error;
-    report.sent = link.sent(role);
-  }
-  return report;
 }
 
 const tick = () => new Promise((resolve) => { setImmediate(resolve); });
@@ -143,15 +89,6 @@ async function session(connect, orders, faults) {
   }
   await running;
   return { link, reports };
-}
-
-/** Whether an end's report is one that the law allows. */
-function check({ link, reports }, role, order) {
-  const [mine, other, written] = [reports[role], reports[1 - role], TEXTS[1 - role]];
-  assert.deepEqual(mine.got, written.slice(0, mine.got.length), 'what was received is a front of what was written');
-  if (mine.gotEnd) assert.ok(other.hasEnded && mine.got.length === written.length, 'an end, and not all of it came');
-  else if (order !== 'closes') assert.ok(mine.error instanceof NoiseError, `neither an end nor a refusal: ${mine.error}`);
-  if (mine.error) assert.equal(link.sent(role), mine.sent, 'something is sent after a refusal');
 }
 
 /** All sessions over one kind of connection, of which each direction is damaged once at each of `places(link, role, kind)`. */

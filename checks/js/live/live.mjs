@@ -67,7 +67,7 @@ async function sendAll(channel, size, order, report) {
     report.ended = order !== 'waits';
     if (order === 'ends') await channel.end();
   } catch (error) {
-    report.unsent = error.name;    // what came can still be received
+    report.unsent = error.code;    // what came can still be received
     report.ended = false;
   }
 }
@@ -91,7 +91,7 @@ async function party(carrier, setup, { order: [order], size }) {
     await channel.close();
   } catch (error) {
     assert.ok(error instanceof NoiseError, error);
-    report.error = error.name;
+    report.error = error.code;
   }
   return { ...report, sum: report.hash.digest('hex') };
 }
@@ -129,7 +129,8 @@ async function run(peer, session, between) {
 async function whole(peer, session, between) {
   const { reports, what } = await run(peer, session, between);
   for (const n of [0, 1]) if (session.order[n] !== 'closes' && session.order[1 - n] !== 'closes') assert.ok(reports[n].otherEnded && !reports[n].error, what);
-  // One that closes without reading may break the connection before all has come.
+  // A close of JavaScript loses nothing. A peer that closes without reading may break the connection before all has come.
+  if (session.order[0] === 'closes' && session.order[1] !== 'closes') assert.ok(reports[1].otherEnded && reports[1].count === session.size, what);
   for (const n of [0, 1]) if (session.order[n] !== 'closes') assert.ok(reports[n].otherEnded || reports[n].error, `${what}: neither an end nor a refusal`);
 }
 

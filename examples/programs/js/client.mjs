@@ -18,7 +18,7 @@ const channel = await NoiseSocket.open(connect(4043, '127.0.0.1'), {
   signal: AbortSignal.timeout(30000),
 });
 try {
-  await channel.send(new TextEncoder().encode(text));    // at most 65519 bytes at once
+  await channel.send(new TextEncoder().encode(text));
   await channel.end();    // the client sends no more
   const parts = [];
   for await (const payload of channel) parts.push(payload);    // until the server has ended its stream; a cut throws

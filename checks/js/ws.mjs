@@ -1,0 +1,21 @@
+// The package ws of Debian: both ends of its WebSockets.
+import { once } from 'node:events';
+import { createRequire } from 'node:module';
+
+const { WebSocket, WebSocketServer } = createRequire(import.meta.url)('/usr/share/nodejs/ws');
+
+/** A server on 127.0.0.1, `accept`, which gives the next socket of a client, and `connect`, which makes a client. */
+export async function webSockets() {
+  const server = new WebSocketServer({ port: 0, host: '127.0.0.1', perMessageDeflate: false });
+  await once(server, 'listening');
+  const waiting = [];
+  server.on('connection', (socket) => waiting.shift()(socket));
+  const url = `ws://127.0.0.1:${server.address().port}`;
+  /** Both ends of a connection. */
+  const pair = async () => {
+    const accepted = new Promise((resolve) => { waiting.push(resolve); });
+    const client = new WebSocket(url, { perMessageDeflate: false });
+    return [client, await accepted];
+  };
+  return { pair, close: () => server.close() };
+}
