@@ -4,7 +4,7 @@ export { NoiseError } from './codes.mjs';
 export { equal, hex } from './bytes.mjs';
 export { hasMemory64, load } from './module.mjs';
 export { KeyPair } from './keys.mjs';
-export { checkPattern } from './check.mjs';
+export { checkPattern } from './verdict.mjs';
 export { Handshake } from './handshake.mjs';
 export { Datagrams, Transport } from './transport.mjs';
 export { CipherState, Ciphers } from './ciphers.mjs';
@@ -14,7 +14,7 @@ export { DEFERRED, FUNDAMENTAL, asText, protocolName, textOf } from './patterns.
 
 /** @typedef {import('./codes.mjs').Code} Code */
 /** @typedef {import('./keys.mjs').DH} DH */
-/** @typedef {import('./check.mjs').Verdict} Verdict */
+/** @typedef {import('./verdict.mjs').Verdict} Verdict */
 /** @typedef {import('./setup.mjs').HandshakeOptions} HandshakeOptions */
 /** @typedef {import('./handshake.mjs').Stage} Stage */
 /** @typedef {import('./transport.mjs').Sealer} Sealer */

@@ -23,7 +23,7 @@ const cut = (cause) => new NoiseError('NOISE_CUT', { cause });
 /** What a WebSocket may have taken and not sent, in bytes: at more a write waits. */
 const UNSENT = 1 << 20;
 /** At more bytes that wait to be pulled a WebSocket that can be paused is, until less than the half wait. */
-const ENOUGH = 1 << 18;
+const ENOUGH = 1 << 16;
 /** What a message that waits costs beside its bytes. */
 const EACH = 256;
 /** What may wait until the last message of a handshake has come, in bytes. */

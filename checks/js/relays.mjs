@@ -66,7 +66,8 @@ async function session(connect, faults) {
 async function all(connect, kinds, places) {
   const whole = await session(connect, [NOTHING, NOTHING]);
   assert.ok(whole.reports.every(({ gotEnd, error }) => gotEnd && !error), 'without a fault');
-  const runs = [0, 1].flatMap((direction) => kinds.flatMap((kind) => Array.from({ length: places(whole.link, direction, kind) }, (_, at) => ({ direction, kind, at, bit: at % 8 }))));
+  const faults = (direction, kind) => Array.from({ length: places(whole.link, direction, kind) }, (_, at) => ({ direction, kind, at, bit: at % 8 }));
+  const runs = [0, 1].flatMap((direction) => kinds.flatMap((kind) => faults(direction, kind)));
   const last = runs.map(({ direction, kind }) => places(whole.link, direction, kind) - 1);
   let next = 0;
   const worker = async () => {
@@ -85,7 +86,10 @@ async function all(connect, kinds, places) {
 
 await load();
 const words = process.argv.slice(2);
-if (words.includes('tcp')) console.log(`js: ${await all(byTcp, ['flip', 'cut', 'repeat', 'drop'], (link, role) => link.sent(role))} channels over TCP behind a relay that damages one byte`);
+if (words.includes('tcp')) {
+  const count = await all(byTcp, ['flip', 'cut', 'repeat', 'drop'], (link, role) => link.sent(role));
+  console.log(`js: ${count} channels over TCP behind a relay that damages one byte`);
+}
 if (words.includes('ws')) {
   const { webSockets } = await import('./ws.mjs');
   const { pair, close } = await webSockets();

@@ -1,29 +1,19 @@
-/**
- * @typedef {{ valid: true, messages: number }
- *   | { valid: false, code: import('./codes.mjs').Code, number: number, line: number }
- *   | { valid: false, code: import('./codes.mjs').Code, number: number, rule: number, message: number, token: number }} Verdict
- */
-/**
- * Checks a pattern text, and gives its number of messages, or what is wrong and where: the line of a text that isn't well formed, from 1 on; or else the
- * rule of include/noise.h, the message, from 1 on, and the token, from 0 on.
- * @param {string} text
- * @returns {Verdict}
- */
-export function checkPattern(text: string): Verdict;
-export type Verdict = {
-    valid: true;
-    messages: number;
+/** What the library finds, with the number of include/noise.h as `code`, and its name. */
+export function checkPattern(text: any): {
+    valid: boolean;
+    messages: any;
 } | {
-    valid: false;
-    code: import('./codes.mjs').Code;
-    number: number;
-    line: number;
+    line: any;
+    valid: boolean;
+    code: any;
+    name: string;
+    messages?: undefined;
 } | {
-    valid: false;
-    code: import('./codes.mjs').Code;
-    number: number;
-    rule: number;
-    message: number;
-    token: number;
+    rule: any;
+    message: any;
+    token: any;
+    valid: boolean;
+    code: any;
+    name: string;
+    messages?: undefined;
 };
-import { code } from "./codes.mjs";

@@ -1,12 +1,12 @@
 export { NoiseError } from "./codes.mjs";
 export { KeyPair } from "./keys.mjs";
-export { checkPattern } from "./check.mjs";
+export { checkPattern } from "./verdict.mjs";
 export { Handshake } from "./handshake.mjs";
 export { NoiseSocket } from "./socket.mjs";
 export { layout } from "./layout.mjs";
 export type Code = import('./codes.mjs').Code;
 export type DH = import('./keys.mjs').DH;
-export type Verdict = import('./check.mjs').Verdict;
+export type Verdict = import('./verdict.mjs').Verdict;
 export type HandshakeOptions = import('./setup.mjs').HandshakeOptions;
 export type Stage = import('./handshake.mjs').Stage;
 export type Sealer = import('./transport.mjs').Sealer;
