@@ -116,7 +116,7 @@ export class KeyPair {
 
   /**
    * The pair of a CryptoKeyPair that the program keeps, in IndexedDB for example.
-   * @param {{ privateKey: import('./platform.mjs').WebCryptoKey, publicKey: import('./platform.mjs').WebCryptoKey }} pair
+   * @param {{ privateKey: import('./platform.js').WebCryptoKey, publicKey: import('./platform.js').WebCryptoKey }} pair
    * @returns {Promise<KeyPair>}
    */
   static async from({ privateKey, publicKey }) {

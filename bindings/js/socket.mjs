@@ -61,7 +61,7 @@ export class NoiseSocket {
    * at once after this call, or else soon after it.
    * @param {import('./carriers.mjs').Connection} connection
    * @param {import('./opening.mjs').NoiseSocketOptions} options
-   * @returns {Promise<NoiseSocket & import('./platform.mjs').Disposes>}
+   * @returns {Promise<NoiseSocket & import('./platform.js').Disposes>}
    */
   static async open(connection, options) {
     return new NoiseSocket(OWN, await opened(connection, options));
@@ -214,7 +214,7 @@ export class NoiseSocket {
 
   /**
    * What comes, as a stream of WHATWG, for `pipeTo` and Node's `pipeline`. Who cancels it closes the connection, as Symbol.asyncDispose does.
-   * @returns {import('./platform.mjs').PayloadReadable}
+   * @returns {import('./platform.js').PayloadReadable}
    */
   get readable() {
     this.#readable ??= new ReadableStream({
@@ -230,7 +230,7 @@ export class NoiseSocket {
 
   /**
    * What is sent, as a stream of WHATWG: closing it is `end`, and aborting it is `destroy`.
-   * @returns {import('./platform.mjs').PayloadWritable}
+   * @returns {import('./platform.js').PayloadWritable}
    */
   get writable() {
     this.#writable ??= new WritableStream({

@@ -4,18 +4,18 @@ import { createRequire } from 'node:module';
 
 const { WebSocket, WebSocketServer } = createRequire(import.meta.url)('/usr/share/nodejs/ws');
 
-/** A server on 127.0.0.1, `accept`, which gives the next socket of a client, and `connect`, which makes a client. */
+/** A server on 127.0.0.1 at `url`: `accept` gives the next socket that connects, and `pair` both ends of a connection. */
 export async function webSockets() {
   const server = new WebSocketServer({ port: 0, host: '127.0.0.1', perMessageDeflate: false });
   await once(server, 'listening');
   const waiting = [];
   server.on('connection', (socket) => waiting.shift()(socket));
   const url = `ws://127.0.0.1:${server.address().port}`;
-  /** Both ends of a connection. */
+  const accept = () => new Promise((resolve) => { waiting.push(resolve); });
   const pair = async () => {
-    const accepted = new Promise((resolve) => { waiting.push(resolve); });
+    const accepted = accept();
     const client = new WebSocket(url, { perMessageDeflate: false });
     return [client, await accepted];
   };
-  return { pair, close: () => server.close() };
+  return { accept, pair, url, close: () => server.close() };
 }

@@ -31,12 +31,12 @@ export class KeyPair {
     static fromSecret(bytes: Uint8Array): Promise<KeyPair>;
     /**
      * The pair of a CryptoKeyPair that the program keeps, in IndexedDB for example.
-     * @param {{ privateKey: import('./platform.mjs').WebCryptoKey, publicKey: import('./platform.mjs').WebCryptoKey }} pair
+     * @param {{ privateKey: import('./platform.js').WebCryptoKey, publicKey: import('./platform.js').WebCryptoKey }} pair
      * @returns {Promise<KeyPair>}
      */
     static from({ privateKey, publicKey }: {
-        privateKey: import('./platform.mjs').WebCryptoKey;
-        publicKey: import('./platform.mjs').WebCryptoKey;
+        privateKey: import('./platform.js').WebCryptoKey;
+        publicKey: import('./platform.js').WebCryptoKey;
     }): Promise<KeyPair>;
     /** @private */
     private constructor();

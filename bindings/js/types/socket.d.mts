@@ -10,9 +10,9 @@ export class NoiseSocket implements AsyncIterable<Uint8Array> {
      * at once after this call, or else soon after it.
      * @param {import('./carriers.mjs').Connection} connection
      * @param {import('./opening.mjs').NoiseSocketOptions} options
-     * @returns {Promise<NoiseSocket & import('./platform.mjs').Disposes>}
+     * @returns {Promise<NoiseSocket & import('./platform.js').Disposes>}
      */
-    static open(connection: import('./carriers.mjs').Connection, options: import('./opening.mjs').NoiseSocketOptions): Promise<NoiseSocket & import('./platform.mjs').Disposes>;
+    static open(connection: import('./carriers.mjs').Connection, options: import('./opening.mjs').NoiseSocketOptions): Promise<NoiseSocket & import('./platform.js').Disposes>;
     /** @private */
     private constructor();
     /**
@@ -62,14 +62,14 @@ export class NoiseSocket implements AsyncIterable<Uint8Array> {
     } | undefined): Promise<Uint8Array | undefined>;
     /**
      * What comes, as a stream of WHATWG, for `pipeTo` and Node's `pipeline`. Who cancels it closes the connection, as Symbol.asyncDispose does.
-     * @returns {import('./platform.mjs').PayloadReadable}
+     * @returns {import('./platform.js').PayloadReadable}
      */
-    get readable(): import("./platform.mjs").PayloadReadable;
+    get readable(): import("./platform.js").PayloadReadable;
     /**
      * What is sent, as a stream of WHATWG: closing it is `end`, and aborting it is `destroy`.
-     * @returns {import('./platform.mjs').PayloadWritable}
+     * @returns {import('./platform.js').PayloadWritable}
      */
-    get writable(): import("./platform.mjs").PayloadWritable;
+    get writable(): import("./platform.js").PayloadWritable;
     /**
      * Ends what this party sends, unless it is ended, and closes the connection once all is sent and the other party has ended its stream or closed the
      * connection, or after `timeout` milliseconds. It never rejects: `end` does where the end can't be sent. What still comes is dropped, and calls that
