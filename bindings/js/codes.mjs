@@ -4,7 +4,7 @@
 export const code = Object.freeze({
   OK: 0, NAME: 1, PATTERN: 2, EPHEMERAL_MISSING: 4, STATIC_MISSING: 5, REMOTE_MISSING: 6, REMOTE_UNEXPECTED: 7, PSK_COUNT: 8,
   NOT_YOUR_TURN: 10, TOO_LONG: 11, DONE: 12, ENDED: 13, AGREEMENT: 14, SHORT: 15, TAG: 16, EXHAUSTED: 17, ROOM: 18, NOT_DONE: 19,
-  WANTED: 20, FULL: 21, ONE_WAY: 22, STRUCT: 23, LENGTH: 24, WINDOW: 25, RESERVED: 26, OLD: 27, REPEATED: 28, NOT_DUE: 29, HEADING: 30,
+  WANTED: 20, ONE_WAY: 22, STRUCT: 23, LENGTH: 24, WINDOW: 25, RESERVED: 26, OLD: 27, REPEATED: 28, NOT_DUE: 29, HEADING: 30,
   ARROW: 31, TOKEN: 32, PRE_MESSAGE: 33, TURN: 34, PSK_PLACE: 35, NAME_TAKEN: 36, LIMIT: 37, ENDING: 38, RULE: 39, WANTED_PSK: 40, END: 41,
   MORE: 42, CLOSED: 43, CUT: 44,
 });
@@ -21,7 +21,7 @@ const TEXTS = Object.freeze({
   NOT_YOUR_TURN: 'the other party is to write, or at read this one is',
   TOO_LONG: 'the message or datagram would have, or has, more bytes than it may have',
   DONE: 'all messages of the handshake have passed: finish',
-  ENDED: 'the handshake was ended by a refused message: start anew',
+  ENDED: 'the handshake was ended by a refused message, or has been finished: start anew',
   AGREEMENT: 'the opaque struct was changed',
   SHORT: 'the message has too few bytes',
   TAG: 'a tag is wrong: something differs between the parties, or the message was changed',
@@ -29,7 +29,6 @@ const TEXTS = Object.freeze({
   ROOM: 'the place for the message is too short',
   NOT_DONE: 'messages of the handshake are still due',
   WANTED: 'the call needs a result of X25519',
-  FULL: 'the handshake has 8 results of X25519 already',
   ONE_WAY: 'a one-way pattern: the responder seals nothing, and nothing comes to the initiator',
   STRUCT: 'the opaque struct holds no state that a call could have made',
   LENGTH: 'more than 65535 bytes were passed',

@@ -5,7 +5,7 @@ import { bytesOf, copyOf, equal } from './bytes.mjs';
 import { Ciphers } from './ciphers.mjs';
 import { Agreements, KeyPair } from './keys.mjs';
 import { OWN } from './own.mjs';
-import { intervalOf, patternBytes, setupOf } from './setup.mjs';
+import { intervalOf, setupOf, start } from './setup.mjs';
 import { Stream } from './stream.mjs';
 import { Datagrams, Transport } from './transport.mjs';
 
@@ -57,22 +57,7 @@ export class Handshake {
   }
 
   #start(ephemeral) {
-    const lib = library();
-    const { pattern, responder, prologue, remoteStatic, remoteEphemeral, psks } = this.#options;
-    const setup = lib.view(lib.at.setup, 422).fill(0);
-    setup[0] = responder ? 1 : 0;
-    for (const [key, place] of [[ephemeral, 1], [this.#static?.publicKey, 34], [remoteEphemeral, 67], [remoteStatic, 100]]) {
-      if (!key) continue;
-      setup[place] = 1;
-      setup.set(key, place + 1);
-    }
-    setup[133] = psks.length;
-    psks.forEach((psk, n) => setup.set(psk, 134 + 32 * n));
-    const name = patternBytes(pattern);
-    if (name.length > 512) throw new NoiseError(pattern.endsWith('\n') ? 'NOISE_PATTERN' : 'NOISE_NAME');
-    const answer = lib.x.noise_start(this.#place, ...lib.put('name', name), ...lib.put('prologue', prologue), lib.at.setup);
-    lib.wipe('setup');
-    must(answer);
+    must(start(this.#place, this.#options, ephemeral, this.#static?.publicKey));
   }
 
   /** Whether a psk token lacks its secret. If so this passes one, and the handshake has to be started again. */
@@ -174,11 +159,31 @@ export class Handshake {
    * @returns {Promise<Uint8Array>}
    */
   async read(message) {
+    return this.#readBy(library().x.noise_read, message);
+  }
+
+  /**
+   * As `read`, but NOISE_TAG and NOISE_SHORT leave the handshake as it was, so that it can read another message: for those that a stranger can send.
+   * @param {Uint8Array} message
+   * @returns {Promise<Uint8Array>}
+   */
+  async tryRead(message) {
+    const opening = this.#opening;
+    try {
+      return await this.#readBy(library().x.noise_try_read, message);
+    } catch (error) {
+      // Nothing is kept of what was refused.
+      if (this.#agreements && (error.code === 'NOISE_TAG' || error.code === 'NOISE_SHORT')) [this.#opening, this.#agreements] = [opening, new Agreements()];
+      throw error;
+    }
+  }
+
+  async #readBy(call, message) {
     const own = copyOf(message, 'message');
     return this.#alone(async () => {
       const lib = library();
       this.#opening ??= own.slice(0, 32);
-      const result = await this.#answered((place) => lib.x.noise_read(place, ...lib.put('message', own), lib.at.result));
+      const result = await this.#answered((place) => call(place, ...lib.put('message', own), lib.at.result));
       const payload = lib.view(lib.at.message + result.from, result.len).slice();
       lib.wipe('message', own.length);
       return payload;

@@ -5,8 +5,8 @@
  * Each export's parameters and result: p is a pointer or a size, c a count of messages, n a nonce, i a number of 32 bits or less.
  */
 const EXPORTS = {
-  noise_version: '>i', noise_check_pattern: 'ppp>i', noise_start: 'pppppp>i', noise_write: 'pppppp>i', noise_read: 'pppp>i', noise_answer: 'pipp>i',
-  noise_set_psk: 'pp>i', noise_stage: 'pp>i', noise_message_len: 'ppp>i', noise_hash: 'pp>i', noise_remote_static: 'pp>i',
+  noise_version: '>i', noise_check_pattern: 'ppp>i', noise_start: 'pppppp>i', noise_write: 'pppppp>i', noise_read: 'pppp>i', noise_try_read: 'pppp>i',
+  noise_answer: 'pipp>i', noise_set_psk: 'pp>i', noise_stage: 'pp>i', noise_message_len: 'ppp>i', noise_hash: 'pp>i', noise_remote_static: 'pp>i',
   noise_finish: 'pcpp>i', noise_finish_stream: 'pcpp>i', noise_finish_datagrams: 'pipp>i', noise_finish_ciphers: 'ppp>i',
   noise_seal: 'pppppp>i', noise_open: 'pppp>i', noise_sender_nonce: 'pp>i', noise_receiver_nonce: 'pp>i',
   noise_datagram_seal: 'pppppp>i', noise_datagram_open: 'pppp>i', noise_datagram_sender_nonce: 'pp>i',

@@ -1,6 +1,7 @@
 // What a handshake is set up with.
 import { NoiseError } from './codes.mjs';
 import { bytesOf, copyOf } from './bytes.mjs';
+import { library } from './module.mjs';
 import { protocolName } from './patterns.mjs';
 
 /**
@@ -21,7 +22,7 @@ const encoder = new TextEncoder();
 let lastPattern = { text: '', bytes: new Uint8Array(0) };
 
 /** The bytes of a pattern: most handshakes have that of the one before. */
-export function patternBytes(text) {
+function patternBytes(text) {
   if (text !== lastPattern.text) lastPattern = { text, bytes: encoder.encode(text) };
   return lastPattern.bytes;
 }
@@ -64,4 +65,24 @@ export function setupOf(options) {
     remoteStatic: key(remoteStatic, 'remoteStatic'), remoteEphemeral: key(remoteEphemeral, 'remoteEphemeral'),
     psks: psks.map((psk) => copyOf(psk, 'a psk', 32)),
   };
+}
+
+/** Starts a handshake at a place, and gives the library's answer. `options` are those of `setupOf`. */
+export function start(place, options, ephemeral, staticKey) {
+  const lib = library();
+  const { pattern, responder, prologue, remoteStatic, remoteEphemeral, psks } = options;
+  const setup = lib.view(lib.at.setup, 422).fill(0);
+  setup[0] = responder ? 1 : 0;
+  for (const [key, at] of [[ephemeral, 1], [staticKey, 34], [remoteEphemeral, 67], [remoteStatic, 100]]) {
+    if (!key) continue;
+    setup[at] = 1;
+    setup.set(key, at + 1);
+  }
+  setup[133] = psks.length;
+  psks.forEach((psk, n) => setup.set(psk, 134 + 32 * n));
+  const name = patternBytes(pattern);
+  if (name.length > 512) throw new NoiseError(pattern.endsWith('\n') ? 'NOISE_PATTERN' : 'NOISE_NAME');
+  const answer = lib.x.noise_start(place, ...lib.put('name', name), ...lib.put('prologue', prologue), lib.at.setup);
+  lib.wipe('setup');
+  return answer;
 }

@@ -1,11 +1,11 @@
-// What calls take and give: numbers, keys, options and errors.
+// What calls take and give: numbers, keys, options, errors, and messages that are tried.
 import test from 'node:test';
 import assert from 'node:assert/strict';
 import { readFile } from 'node:fs/promises';
 import { inspect } from 'node:util';
 import * as noise from '../noise.mjs';
 import { library } from '../module.mjs';
-import { channels, openSockets, pair, text } from './connections.mjs';
+import { channels, openSockets, pair, refused, text } from './connections.mjs';
 
 const { Handshake, KeyPair, NoiseError, NoiseSocket, checkPattern, equal, hex, load } = noise;
 
@@ -17,8 +17,8 @@ test('values', async (t) => {
     assert.ok([lib.x.noise_handshake_size(), ...Object.values(lib.at), ...lib.put('name', text('NN')), lib.take('handshake')].every(isNumber));
     const module = new WebAssembly.Module(await readFile(new URL('../noise_c.wasm', import.meta.url)));
     const functions = WebAssembly.Module.exports(module).filter(({ kind }) => kind === 'function').map(({ name }) => name);
-    const inPlace = ['noise_seal_in_place', 'noise_datagram_seal_in_place'];    // no call here uses them
-    assert.deepEqual(Object.keys(lib.x).sort(), functions.filter((name) => !inPlace.includes(name)).sort());
+    const unused = ['noise_seal_in_place', 'noise_datagram_seal_in_place', 'noise_sentence'];
+    assert.deepEqual(Object.keys(lib.x).sort(), functions.filter((name) => !unused.includes(name)).sort());
     for (const interval of [2n, -1, 1.5, NaN, '2', null, 2 ** 53]) assert.throws(() => new Handshake({ pattern: 'NN' }).finish({ interval }), RangeError);
   });
 
@@ -77,5 +77,23 @@ test('values', async (t) => {
     const secrets = new Map([[other.toString('hex'), 'secret']]);
     assert.deepEqual([secrets.get(hex(publicKey)), secrets.get(hex(other))], ['secret', 'secret']);
     assert.throws(() => hex('00'), TypeError);
+  });
+
+  await t.test('a message that is tried, and refused, leaves the handshake as it was', async () => {
+    const [one, two] = [await KeyPair.generate(), await KeyPair.generate()];
+    const it = { initiator: new Handshake({ pattern: 'XX', staticKey: one }), responder: new Handshake({ pattern: 'XX', staticKey: two, responder: true }) };
+    await it.responder.tryRead(await it.initiator.write());
+    const message = await it.responder.write();
+    for (let n = 0; n < 12; n += 1) {
+      const forged = message.slice();
+      forged[n * 8] ^= 1;    // also in the ephemeral key
+      await assert.rejects(it.initiator.tryRead(forged), refused('NOISE_TAG'));
+      await assert.rejects(it.initiator.tryRead(forged.slice(0, 50)), refused('NOISE_SHORT'));
+      assert.equal(it.initiator.stage.ended, false);
+    }
+    assert.deepEqual(await it.initiator.tryRead(message), text(''));
+    await it.responder.read(await it.initiator.write(text('last')));
+    assert.deepEqual(it.initiator.hash, it.responder.hash);
+    assert.deepEqual(it.initiator.remoteStatic, two.publicKey);
   });
 });

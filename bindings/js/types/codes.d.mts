@@ -21,7 +21,6 @@ export const code: Readonly<{
     ROOM: 18;
     NOT_DONE: 19;
     WANTED: 20;
-    FULL: 21;
     ONE_WAY: 22;
     STRUCT: 23;
     LENGTH: 24;
@@ -89,7 +88,7 @@ declare const TEXTS: Readonly<{
     NOT_YOUR_TURN: "the other party is to write, or at read this one is";
     TOO_LONG: "the message or datagram would have, or has, more bytes than it may have";
     DONE: "all messages of the handshake have passed: finish";
-    ENDED: "the handshake was ended by a refused message: start anew";
+    ENDED: "the handshake was ended by a refused message, or has been finished: start anew";
     AGREEMENT: "the opaque struct was changed";
     SHORT: "the message has too few bytes";
     TAG: "a tag is wrong: something differs between the parties, or the message was changed";
@@ -97,7 +96,6 @@ declare const TEXTS: Readonly<{
     ROOM: "the place for the message is too short";
     NOT_DONE: "messages of the handshake are still due";
     WANTED: "the call needs a result of X25519";
-    FULL: "the handshake has 8 results of X25519 already";
     ONE_WAY: "a one-way pattern: the responder seals nothing, and nothing comes to the initiator";
     STRUCT: "the opaque struct holds no state that a call could have made";
     LENGTH: "more than 65535 bytes were passed";

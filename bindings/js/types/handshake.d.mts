@@ -28,6 +28,12 @@ export class Handshake {
      */
     read(message: Uint8Array): Promise<Uint8Array>;
     /**
+     * As `read`, but NOISE_TAG and NOISE_SHORT leave the handshake as it was, so that it can read another message: for those that a stranger can send.
+     * @param {Uint8Array} message
+     * @returns {Promise<Uint8Array>}
+     */
+    tryRead(message: Uint8Array): Promise<Uint8Array>;
+    /**
      * How far it is.
      * @returns {Stage}
      */

@@ -1,5 +1,3 @@
-/** The bytes of a pattern: most handshakes have that of the one before. */
-export function patternBytes(text: any): Uint8Array;
 /** So many messages, as the library takes them. */
 export function intervalOf(interval: any): any;
 /** The options themselves, where there are any. */
@@ -16,6 +14,8 @@ export function setupOf(options: any): {
     remoteEphemeral: Uint8Array | undefined;
     psks: Uint8Array[];
 };
+/** Starts a handshake at a place, and gives the library's answer. `options` are those of `setupOf`. */
+export function start(place: any, options: any, ephemeral: any, staticKey: any): any;
 export type HandshakeOptions = {
     /**
      * A protocol name, the name of a pattern alone, as XXpsk3, or a pattern text whose lines end with a line feed.
