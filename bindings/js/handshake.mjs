@@ -190,10 +190,7 @@ export class Handshake {
     });
   }
 
-  /**
-   * How far it is.
-   * @returns {Stage}
-   */
+  /** @returns {Stage} How far it is. */
   get stage() {
     const lib = library();
     must(lib.x.noise_stage(this.#here(), lib.at.number));
@@ -260,10 +257,7 @@ export class Handshake {
     return this.#finished(Transport, library().x.noise_finish, intervalOf(interval));
   }
 
-  /**
-   * Makes the two halves of a stream with an end, in the same way.
-   * @private
-   */
+  /** @private Makes the two halves of a stream with an end, in the same way. */
   finishStream({ interval = 0 } = {}) {
     return this.#finished(Stream, library().x.noise_finish_stream, intervalOf(interval));
   }

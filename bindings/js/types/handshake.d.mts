@@ -33,10 +33,7 @@ export class Handshake {
      * @returns {Promise<Uint8Array>}
      */
     tryRead(message: Uint8Array): Promise<Uint8Array>;
-    /**
-     * How far it is.
-     * @returns {Stage}
-     */
+    /** @returns {Stage} How far it is. */
     get stage(): Stage;
     /**
      * How many bytes the next message has with a payload of this length.
@@ -67,10 +64,7 @@ export class Handshake {
     finish({ interval }?: {
         interval?: number | undefined;
     } | undefined): Transport;
-    /**
-     * Makes the two halves of a stream with an end, in the same way.
-     * @private
-     */
+    /** @private Makes the two halves of a stream with an end, in the same way. */
     private finishStream;
     /**
      * Makes the two cipher states (Split: Noise, 5.2), both at nonce 0, and uses this handshake up.
