@@ -113,7 +113,10 @@ function endBy(signal, waiting) {
  */
 /** @typedef {import('./setup.mjs').HandshakeOptions & SocketOptions} NoiseSocketOptions The set-up of a handshake, and of a channel. */
 
-/** Passes a handshake over a connection: the carrier, what came over it, the stream, and the frames that are kept back. */
+/**
+ * Passes a handshake over a connection: the carrier, what came over it, the stream, the frames that are kept back, and whether the other party sends nothing
+ * (Noise, 7.4).
+ */
 export async function opened(connection, options) {
   const carrier = carrierOf(connection);
   const waiting = new Waiting();
@@ -132,7 +135,8 @@ export async function opened(connection, options) {
     const kept = await pass({ carrier, incoming, handshake, judge: isJudged ? bound.asking(judge) : undefined, limit, waiting, bound });
     carrier.overflowed = undefined;    // the next call of receive throws it
     bound.hasLast();
-    return { carrier, incoming, stream: handshake.finishStream({ interval }), kept };
+    const isSilent = handshake.stage.messages === 1 && !setup.responder;
+    return { carrier, incoming, stream: handshake.finishStream({ interval }), kept, isSilent };
   } catch (error) {
     waiting.end(error);
     carrier.destroy(error);

@@ -25,7 +25,7 @@ export class NoiseSocket {
   #receives = new Turns();
   #sends = new Turns();
   #hasEnded = false;    // this party
-  #isEnded = false;    // by the other
+  #isEnded;    // by the other, or it sends nothing
   #closing;
   #isDestroyed = false;
   #readable;
@@ -34,11 +34,12 @@ export class NoiseSocket {
   /** @private */
   constructor(mark, parts) {
     mustBeOwn(mark);
-    const { carrier, incoming, stream, kept } = parts;
+    const { carrier, incoming, stream, kept, isSilent } = parts;
     this.#carrier = carrier;
     this.#incoming = incoming;
     this.#stream = stream;
     this.#kept = kept;
+    this.#isEnded = isSilent;
     /**
      * The handshake hash.
      * @readonly

@@ -6,7 +6,7 @@ import { mkdtemp, readFile, rm, writeFile } from 'node:fs/promises';
 import { tmpdir } from 'node:os';
 import { join } from 'node:path';
 import { pipeline } from 'node:stream/promises';
-import { load } from '../noise.mjs';
+import { KeyPair, load } from '../noise.mjs';
 import { channels, openSockets, outcome, overTcp, pair, refused, text } from './connections.mjs';
 
 const roomy = () => pair({ highWaterMark: 1e6 }, { highWaterMark: 1e6 });
@@ -57,6 +57,12 @@ test('sending', { timeout: 120000 }, async (t) => {
     const [c, d] = await channels(await overTcp());
     assert.equal(await outcome(c.close({ timeout: 200 }), 100), 'pending');
     await d.close();
+    const staticKey = await KeyPair.generate();
+    const [e, f] = await channels(await overTcp(), { pattern: 'N', remoteStatic: staticKey.publicKey }, { pattern: 'N', staticKey, acceptAnyKey: true });
+    await e.send(text('all'));
+    assert.equal(await outcome(e.close(), 2000), undefined);    // nothing comes to it
+    assert.deepEqual(await received(f), text('all'));
+    f.destroy();
   });
 
   for (const [kind, connect] of Object.entries(KINDS)) {

@@ -13,7 +13,10 @@
  * `judge` or `pskFor` is asked 1 MiB more than what waits then.
  */
 /** @typedef {import('./setup.mjs').HandshakeOptions & SocketOptions} NoiseSocketOptions The set-up of a handshake, and of a channel. */
-/** Passes a handshake over a connection: the carrier, what came over it, the stream, and the frames that are kept back. */
+/**
+ * Passes a handshake over a connection: the carrier, what came over it, the stream, the frames that are kept back, and whether the other party sends nothing
+ * (Noise, 7.4).
+ */
 export function opened(connection: any, options: any): Promise<{
     carrier: {
         ready: () => any;
@@ -40,6 +43,7 @@ export function opened(connection: any, options: any): Promise<{
     incoming: Incoming;
     stream: any;
     kept: any[];
+    isSilent: boolean;
 }>;
 export type SocketOptions = {
     /**
