@@ -2,7 +2,7 @@
 import { NoiseError, must } from './codes.mjs';
 import { ofNumbers } from './numbers.mjs';
 
-const SCRATCH = { name: 512, prologue: 65536, payload: 65536, message: 65552, result: 56, setup: 422, answer: 32, key: 33, number: 16 };
+const SCRATCH = { name: 512, prologue: 65536, payload: 65536, message: 65552, result: 56, setup: 422, answer: 32, key: 33, number: 16, info: 95, layout: 140 };
 const PAGE = 65536;
 /** The major version of the library. */
 const VERSION = 1;

@@ -10,7 +10,7 @@ export { Datagrams, Transport } from './transport.mjs';
 export { CipherState, Ciphers } from './ciphers.mjs';
 export { NoiseSocket } from './socket.mjs';
 export { layout } from './layout.mjs';
-export { DEFERRED, FUNDAMENTAL, asText, protocolName, textOf } from './patterns.mjs';
+export { protocolName } from './setup.mjs';
 
 /** @typedef {import('./codes.mjs').Code} Code */
 /** @typedef {import('./keys.mjs').DH} DH */

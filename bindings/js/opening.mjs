@@ -3,7 +3,7 @@ import { NoiseError } from './codes.mjs';
 import { carrierOf } from './carriers.mjs';
 import { Handshake } from './handshake.mjs';
 import { Incoming } from './incoming.mjs';
-import { layout } from './layout.mjs';
+import { staticKeysOf } from './layout.mjs';
 import { optionsOf } from './setup.mjs';
 import { findMessage, frameOf } from './stream.mjs';
 import { Waiting } from './waiting.mjs';
@@ -15,7 +15,7 @@ import { EARLY } from './websocket.mjs';
  */
 function hasToJudge({ pattern, responder, remoteStatic, psks = [], pskFor }, judge, acceptAnyKey) {
   if (judge !== undefined && typeof judge !== 'function') throw new TypeError('judge has to be a function');
-  const isKeyed = layout(pattern).static[responder ? 'initiator' : 'responder'];
+  const isKeyed = staticKeysOf(pattern)[responder ? 'initiator' : 'responder'];
   if (acceptAnyKey !== true) {
     if (judge && !isKeyed) throw new TypeError('judge would never be called: the other party has no static key in this pattern');
     if (!judge && !remoteStatic && !pskFor && psks.length === 0) throw new NoiseError('NOISE_UNAUTHENTICATED');

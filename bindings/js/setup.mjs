@@ -2,7 +2,6 @@
 import { NoiseError } from './codes.mjs';
 import { bytesOf, copyOf } from './bytes.mjs';
 import { library } from './module.mjs';
-import { protocolName } from './patterns.mjs';
 
 /**
  * @typedef {object} HandshakeOptions
@@ -21,8 +20,20 @@ import { protocolName } from './patterns.mjs';
 const encoder = new TextEncoder();
 let lastPattern = { text: '', bytes: new Uint8Array(0) };
 
+/**
+ * The protocol name of a pattern's name.
+ * @param {string} section
+ * @returns {string}
+ */
+export function protocolName(section) {
+  return `Noise_${section}_25519_ChaChaPoly_SHA256`;
+}
+
+/** A pattern as the library takes it: a protocol name or a text. */
+export const wholePattern = (pattern) => (pattern.includes('\n') || pattern.startsWith('Noise_') ? pattern : protocolName(pattern));
+
 /** The bytes of a pattern: most handshakes have that of the one before. */
-function patternBytes(text) {
+export function patternBytes(text) {
   if (text !== lastPattern.text) lastPattern = { text, bytes: encoder.encode(text) };
   return lastPattern.bytes;
 }
@@ -59,7 +70,7 @@ export function setupOf(options) {
   if (psks.length > 9) throw new NoiseError('NOISE_PSK_COUNT');
   const key = (bytes, what) => (bytes === undefined ? undefined : copyOf(bytes, what, 32));
   return {
-    pattern: pattern.includes('\n') || pattern.startsWith('Noise_') ? pattern : protocolName(pattern),
+    pattern: wholePattern(pattern),
     responder, prologue: copyOf(prologue, 'prologue'), pskFor,
     staticKey: keyPairOf(staticKey, 'staticKey'), ephemeralKey: keyPairOf(ephemeralKey, 'ephemeralKey'),
     remoteStatic: key(remoteStatic, 'remoteStatic'), remoteEphemeral: key(remoteEphemeral, 'remoteEphemeral'),

@@ -8,6 +8,7 @@ import { KeyPair, NoiseSocket, layout, load, protocolName } from '../../bindings
 
 const [name, secret, peer, psks, address] = process.argv.slice(2);
 const pattern = name.includes('\n') ? name : protocolName(name);
+await load();
 const plan = layout(pattern);
 const [role, other] = address.startsWith('@') ? ['responder', 'initiator'] : ['initiator', 'responder'];
 const bytes = (digits) => new Uint8Array(Buffer.from(digits, 'hex'));
@@ -56,7 +57,6 @@ function secrets() {
   return { pskFor: (key) => bytes(table.get(Buffer.from(key).toString('hex'))) };
 }
 
-await load();
 const channel = await NoiseSocket.open(await connection(), {
   pattern,
   responder: role === 'responder',

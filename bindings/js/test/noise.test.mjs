@@ -1,6 +1,7 @@
 import test from 'node:test';
 import assert from 'node:assert/strict';
-import { DEFERRED, FUNDAMENTAL, Handshake, KeyPair, NoiseError, NoiseSocket, checkPattern, layout, load, protocolName, textOf } from '../noise.mjs';
+import { Handshake, KeyPair, NoiseError, NoiseSocket, checkPattern, layout, load, protocolName } from '../noise.mjs';
+import { DEFERRED, FUNDAMENTAL } from './patterns.mjs';
 
 const text = (s) => new TextEncoder().encode(s);
 const other = (role) => (role === 'initiator' ? 'responder' : 'initiator');
@@ -33,8 +34,8 @@ async function pass({ plan, ...ends }) {
 test('with the module loaded', async (t) => {
   await load();
   const all = [
-    ...FUNDAMENTAL.map((base) => [base, protocolName(base)]), ...DEFERRED.map((base) => [base, textOf(base)]),
-    ['XXpsk3', protocolName('XXpsk3')], ['NNpsk0+psk2', protocolName('NNpsk0+psk2')], ['NK1psk0', textOf('NK1', [0])],
+    ...FUNDAMENTAL.map((base) => [base, protocolName(base)]), ...DEFERRED,
+    ['XXpsk3', protocolName('XXpsk3')], ['NNpsk0+psk2', protocolName('NNpsk0+psk2')], ['NK1psk0', DEFERRED.get('NK1').replace('NK1', 'NK1psk0').replace('-> e', '-> psk, e')],
   ];
   for (const [base, pattern] of all) {
     await t.test(`${base} from its first message to transport messages`, async () => {
@@ -61,11 +62,10 @@ test('with the module loaded', async (t) => {
     assert.deepEqual(calls.map((mock) => mock.callCount()), [4, 6]);
   });
 
-  await t.test("the tables have the library's patterns: another under a fundamental name is refused", () => {
-    for (const base of [...FUNDAMENTAL, ...DEFERRED]) {
-      assert.deepEqual(checkPattern(textOf(base)), { valid: true, messages: layout(base).messages.length });
-    }
-    assert.equal(checkPattern(textOf('XX1').replace('XX1', 'XX')).code, 'NOISE_NAME_TAKEN');
+  await t.test('another pattern under a fundamental name is refused', () => {
+    assert.deepEqual([FUNDAMENTAL.length, DEFERRED.size], [15, 23]);
+    for (const text_ of DEFERRED.values()) assert.deepEqual(checkPattern(text_), { valid: true, messages: layout(text_).messages.length });
+    assert.equal(checkPattern(DEFERRED.get('XX1').replace('XX1', 'XX')).code, 'NOISE_NAME_TAKEN');
   });
 
   await t.test('each rule, and each malformed line, is reported with its place', () => {

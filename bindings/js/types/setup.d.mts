@@ -1,10 +1,18 @@
+/**
+ * The protocol name of a pattern's name.
+ * @param {string} section
+ * @returns {string}
+ */
+export function protocolName(section: string): string;
+/** The bytes of a pattern: most handshakes have that of the one before. */
+export function patternBytes(text: any): Uint8Array;
 /** So many messages, as the library takes them. */
 export function intervalOf(interval: any): any;
 /** The options themselves, where there are any. */
 export function optionsOf(options: any): any;
 /** Copies of the options, as far as they can be checked here: the library checks the rest. */
 export function setupOf(options: any): {
-    pattern: string;
+    pattern: any;
     responder: any;
     prologue: Uint8Array;
     pskFor: any;
@@ -16,6 +24,7 @@ export function setupOf(options: any): {
 };
 /** Starts a handshake at a place, and gives the library's answer. `options` are those of `setupOf`. */
 export function start(place: any, options: any, ephemeral: any, staticKey: any): any;
+export function wholePattern(pattern: any): any;
 export type HandshakeOptions = {
     /**
      * A protocol name, the name of a pattern alone, as XXpsk3, or a pattern text whose lines end with a line feed.
