@@ -180,7 +180,7 @@ test('ends', { timeout: 300000 }, async (t) => {
   await t.test('what was written before a close comes whole', async () => {
     const [a, b] = await channels(await overTcp());
     for (let n = 0; n < 100; n += 1) a.send(MEGABYTES);
-    const closed = a.close();
+    const closed = a.close({ timeout: 60000 });
     let size = 0;
     for await (const { length } of b) size += length;
     assert.equal(size, 100 * MEGABYTES.length);
@@ -196,7 +196,7 @@ test('ends', { timeout: 300000 }, async (t) => {
     far.end();    // as AsyncStream of Rust does
     await new Promise((resolve) => { setTimeout(resolve, 50); });
     a.send(text('late'));
-    const closed = a.close();
+    const closed = a.close({ timeout: 60000 });
     let size = 0;
     for await (const { length } of b) size += length;
     assert.equal(size, 100 * MEGABYTES.length + 4);

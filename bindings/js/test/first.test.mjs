@@ -11,7 +11,7 @@ function counted() {
   return { counts, ends: [{ readable: pipes[1].readable, writable: pipes[0].writable }, { readable: pipes[0].readable, writable: pipes[1].writable }] };
 }
 
-test('first messages', { timeout: 60000 }, async (t) => {
+test('first messages', { timeout: 300000 }, async (t) => {
   await load();
   const [one, two] = [await KeyPair.generate(), await KeyPair.generate()];
   const XX = [{ pattern: 'XX', staticKey: one, acceptAnyKey: true }, { pattern: 'XX', staticKey: two, responder: true, acceptAnyKey: true }];
@@ -58,8 +58,8 @@ test('first messages', { timeout: 60000 }, async (t) => {
   // acknowledgement of another, each connection takes 40 ms or more.
   await t.test('a first connection by XX over TCP waits for no acknowledgement', () => {
     const { stdout, stderr } = apart('connects.mjs');
-    const [least, middle] = stdout.split(' ').map(Number);
-    assert.ok(least > 0 && least < 30, `${stdout}${stderr}`);
+    const [least, middle, inMemory] = stdout.split(' ').map(Number);
+    assert.ok(least > 0 && least < 20 + 3 * inMemory, `${stdout}${stderr}`);    // also on a machine that has much else to do
     t.diagnostic(`from ${least} ms, in the middle ${middle} ms`);
   });
 });

@@ -53,7 +53,7 @@ function socketStreams() {
   });
 }
 
-test('WebSockets', { timeout: 60000 }, async (t) => {
+test('WebSockets', { timeout: 300000 }, async (t) => {
   await load();
   await t.test('one that can be paused waits for a slow reader, and all comes', async () => {
     const [near, far] = openSockets();
