@@ -1,0 +1,76 @@
+"""Runs the suite with a Noise in Python that makes one mistake after another: each has to fail a test whose flag names it, and without a mistake those
+tests have to pass.
+
+    mistakes.py SUITE.json
+"""
+
+from __future__ import annotations
+
+import json
+import sys
+from pathlib import Path
+from typing import Any
+
+TOP = Path(__file__).resolve().parent.parent.parent
+sys.path[:0] = [str(TOP / "tools" / "vectors"), str(TOP / "examples" / "vectors-runners" / "python")]
+
+import mistaken  # noqa: E402
+import runner  # noqa: E402
+
+
+def kind_of(mistake: str) -> Any:
+    """A party with a mistake, as the runner wants it."""
+
+    class Party(mistaken.Party):
+        REFUSALS = (mistaken.Refused,)
+
+        def __init__(self, setup: dict, role: str) -> None:
+            super().__init__(setup, role, mistake)
+
+        @classmethod
+        def bare(cls) -> Any:
+            """A party without keys, for its frames alone."""
+            party = cls.__new__(cls)
+            party.mistake = mistake
+            return party
+
+        @staticmethod
+        def place(_: Exception) -> None:
+            return None
+
+        frame = staticmethod(lambda message: mistaken.Party.frame(Party.bare(), message))
+        unframe = staticmethod(lambda data: mistaken.Party.unframe(Party.bare(), data))
+
+    return Party
+
+
+def failing(tests: list[tuple[dict, dict]], mistake: str, most: int) -> list[dict]:
+    """The tests that a party with a mistake fails, up to so many."""
+    kind, found = kind_of(mistake), []
+    for group, test in tests:
+        if runner.outcome(group, test, kind)[0] == "failed":
+            found.append(test)
+            if len(found) == most:
+                break
+    return found
+
+
+def main(words: list[str]) -> int:
+    groups = json.loads(Path(words[0]).read_text("ascii"))["testGroups"]
+    faults, accepted = [], 0
+    for mistake in mistaken.MISTAKES:
+        tests = [(group, test) for group in groups for test in group["tests"] if mistake in test["flags"]]
+        caught = failing(tests, mistake, 1)
+        if not caught:
+            faults.append(f"{mistake} isn't caught by the {len(tests)} tests of its flag")
+        accepted += any(test["result"] == "invalid" for test in caught)
+        if wrong := failing(tests[:20], "", 1):
+            faults.append(f"{mistake}: test {wrong[0]['tcId']} fails without a mistake")
+    print("\n".join(f"mistakes: {it}" for it in faults), end="\n" if faults else "")
+    print(f"mistakes: {len(mistaken.MISTAKES) - len(faults)} of {len(mistaken.MISTAKES)} are caught by a test of their flag, {accepted} first by one that has "
+          "to be refused")  # fmt: skip
+    return int(bool(faults))
+
+
+if __name__ == "__main__":
+    sys.exit(main(sys.argv[1:]))

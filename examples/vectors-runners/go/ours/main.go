@@ -1,0 +1,107 @@
+// Command ours runs the suite with the package of bindings/go. Copy this file, and have it call your Noise.
+package main
+
+import (
+	"bytes"
+	"crypto/rand"
+	"errors"
+	"fmt"
+	"strings"
+
+	"example.org/vectors/suite"
+	"example.org/yulimosar/noise"
+)
+
+type party struct {
+	handshake     *noise.HandshakeState
+	hash          []byte
+	send, receive *noise.CipherState
+}
+
+func keyOf(b suite.Bytes) (key noise.Key) {
+	copy(key[:], b.Data)
+	return key
+}
+
+func start(g *suite.Group, role string) (suite.Party, error) {
+	keys, name := g.Keys(role), strings.Split(g.Protocol, "_")[1]
+	if strings.HasPrefix(g.Before("initiator"), "e") || strings.HasPrefix(g.Before("responder"), "e") {
+		return nil, fmt.Errorf("%w: ephemeral keys in pre-messages", suite.ErrNotSupported)
+	}
+	config := &noise.Config{
+		Pattern: name + ":\n  " + strings.Join(g.Pattern, "\n  ") + "\n", Prologue: g.Prologue.Data, InsecureAcceptAnyKey: true,
+	}
+	for _, it := range g.PSKs {
+		config.PSKs = append(config.PSKs, keyOf(it))
+	}
+	if len(keys.RS.Data) > 0 {
+		key := keyOf(keys.RS)
+		config.PeerStatic = &key
+	}
+	if len(keys.S.Data) > 0 {
+		pair, err := noise.NewKeyPair(keyOf(keys.S))
+		if err != nil {
+			return nil, err
+		}
+		config.Static = pair
+	}
+	if len(keys.E.Data) > 0 { // the handshake draws its ephemeral key from here
+		rand.Reader = bytes.NewReader(keys.E.Data)
+	} else {
+		rand.Reader = bytes.NewReader(make([]byte, 32))
+	}
+	h, err := noise.NewHandshakeState(config, role == "initiator")
+	return &party{handshake: h}, err
+}
+
+// passed makes the cipher states after the last message.
+func (p *party) passed(err error) error {
+	if err == nil && p.handshake.Done() {
+		hash := p.handshake.HandshakeHash()
+		p.hash = hash[:]
+		p.send, p.receive, err = p.handshake.CipherStates()
+	}
+	return err
+}
+
+func (p *party) Write(payload []byte) ([]byte, error) {
+	if p.send != nil {
+		return p.send.Encrypt(nil, nil, payload)
+	}
+	message, err := p.handshake.WriteMessage(nil, payload)
+	return message, p.passed(err)
+}
+
+func (p *party) Read(message []byte) ([]byte, error) {
+	if p.receive != nil {
+		return p.receive.Decrypt(nil, nil, message)
+	}
+	payload, err := p.handshake.ReadMessage(nil, message)
+	return payload, p.passed(err)
+}
+
+func (p *party) cipher(direction string) *noise.CipherState {
+	if direction == "send" {
+		return p.send
+	}
+	return p.receive
+}
+
+func (p *party) Rekey(direction string) error { return p.cipher(direction).Rekey() }
+
+func (p *party) SetNonce(direction string, nonce uint64) error {
+	return p.cipher(direction).SetNonce(nonce)
+}
+
+func (p *party) Hash() []byte { return p.hash }
+
+// Place returns the token that the error names.
+func (p *party) Place(err error) string {
+	var refused *noise.HandshakeError
+	if errors.As(err, &refused) {
+		return refused.Token
+	}
+	return ""
+}
+
+func main() { suite.Main("yulimosar for Go", start) }

@@ -1,0 +1,299 @@
+// Package suite runs the suite of test vectors with a Noise in Go. A program calls Main with a function that starts a party: see the folders beside this.
+package suite
+
+import (
+	"bytes"
+	"crypto/sha256"
+	"encoding/hex"
+	"encoding/json"
+	"errors"
+	"fmt"
+	"os"
+	"strconv"
+	"strings"
+)
+
+// ErrNotSupported is what a party returns where its Noise doesn't claim to do something: the test isn't run.
+var ErrNotSupported = errors.New("not supported")
+
+// Bytes are given as hex digits, by a rule (byte and count), or of a long message by its digest.
+type Bytes struct {
+	Data   []byte
+	SHA256 string
+}
+
+// UnmarshalJSON reads any of the three.
+func (b *Bytes) UnmarshalJSON(text []byte) (err error) {
+	var rule struct {
+		Byte, SHA256 string
+		Count        int
+	}
+	var digits string
+	if text[0] == '"' {
+		if err = json.Unmarshal(text, &digits); err == nil {
+			b.Data, err = hex.DecodeString(digits)
+		}
+		return err
+	}
+	if err = json.Unmarshal(text, &rule); err != nil {
+		return err
+	}
+	b.SHA256 = rule.SHA256
+	one, err := hex.DecodeString(rule.Byte)
+	b.Data = bytes.Repeat(one, rule.Count)
+	return err
+}
+
+// is reports whether these are the bytes.
+func (b *Bytes) is(data []byte) bool {
+	if b.SHA256 != "" {
+		return fmt.Sprintf("%x", sha256.Sum256(data)) == b.SHA256
+	}
+	return bytes.Equal(b.Data, data)
+}
+
+// Keys are a party's private keys, and the public ones of the other party's pre-message.
+type Keys struct{ E, S, RE, RS Bytes }
+
+// Group is a set-up, the right conversation, and the tests.
+type Group struct {
+	Type, Protocol       string
+	Pattern              []string
+	Prologue             Bytes
+	PSKs                 []Bytes
+	Initiator, Responder Keys
+	Hash                 Bytes
+	Messages             []struct{ Payload, Message Bytes }
+	Tests                []*Test
+}
+
+// Keys returns those of a role.
+func (g *Group) Keys(role string) *Keys {
+	if role == "initiator" {
+		return &g.Initiator
+	}
+	return &g.Responder
+}
+
+// Before returns the tokens of a role's pre-message, joined by commas.
+func (g *Group) Before(role string) string {
+	arrow := map[string]string{"initiator": "-> ", "responder": "<- "}[role]
+	for i, line := range g.Pattern {
+		if line == "..." {
+			for _, line := range g.Pattern[:i] {
+				if strings.HasPrefix(line, arrow) {
+					return line[3:]
+				}
+			}
+		}
+	}
+	return ""
+}
+
+// Tokens returns the tokens of each message of the handshake.
+func (g *Group) Tokens() (messages [][]string) {
+	for _, line := range g.Pattern {
+		if line == "..." {
+			messages = nil
+		} else {
+			messages = append(messages, strings.Split(line[3:], ", "))
+		}
+	}
+	return messages
+}
+
+// Test is a test, and what came of it.
+type Test struct {
+	ID                    int `json:"tcId"`
+	Comment, Result, Role string
+	Flags                 []string
+	Steps                 []Step
+	Message, Frame        Bytes
+
+	outcome, why string
+}
+
+// Step is a step of a test.
+type Step struct {
+	Do, Role, Direction, Nonce, Refused, At string
+	Message, Cut                            *int
+	XOR                                     []int
+	Append                                  Bytes
+	Bytes, Is, Payload                      *Bytes
+}
+
+// Party is one party of a Noise. An error of a call is a refusal. After the handshake, Write and Read are of transport messages.
+type Party interface {
+	Write(payload []byte) ([]byte, error)
+	Read(message []byte) ([]byte, error)
+	Rekey(direction string) error
+	SetNonce(direction string, nonce uint64) error
+	Hash() []byte
+	// Place returns the token at which a message was refused; nothing if the Noise doesn't say so.
+	Place(err error) string
+}
+
+// Start starts a party of a group.
+type Start func(group *Group, role string) (Party, error)
+
+// run is a test that is being run.
+type run struct {
+	group   *Group
+	test    *Test
+	start   Start
+	parties map[string]Party
+	written map[int][]byte
+}
+
+func (r *run) party(role string) (Party, error) {
+	if p := r.parties[role]; p != nil {
+		return p, nil
+	}
+	p, err := r.start(r.group, role)
+	r.parties[role] = p
+	return p, err
+}
+
+// received returns the bytes that a step reads, with the step's change.
+func (r *run) received(s *Step) []byte {
+	if s.Bytes != nil {
+		return append([]byte{}, s.Bytes.Data...)
+	}
+	data := r.group.Messages[*s.Message].Message.Data
+	if r.group.Messages[*s.Message].Message.SHA256 != "" {
+		data = r.written[*s.Message]
+	}
+	if s.Cut != nil {
+		data = data[:*s.Cut]
+	}
+	data = append(append([]byte{}, data...), s.Append.Data...)
+	if s.XOR != nil {
+		data[s.XOR[0]] ^= byte(s.XOR[1])
+	}
+	return data
+}
+
+// call makes the call of a step, and returns what it has to give.
+func (r *run) call(p Party, s *Step) (got []byte, wanted *Bytes, err error) {
+	switch s.Do {
+	case "write":
+		payload := s.Payload
+		if payload == nil {
+			payload = &r.group.Messages[*s.Message].Payload
+		}
+		got, err = p.Write(payload.Data)
+		if s.Message != nil {
+			r.written[*s.Message] = got
+			wanted = &r.group.Messages[*s.Message].Message
+		}
+		if s.Is != nil {
+			wanted = s.Is
+		}
+	case "read":
+		if wanted = s.Payload; wanted == nil && s.Message != nil {
+			wanted = &r.group.Messages[*s.Message].Payload
+		}
+		got, err = p.Read(r.received(s))
+	case "rekey":
+		wanted, err = &Bytes{}, p.Rekey(s.Direction)
+	case "nonce":
+		nonce, _ := strconv.ParseUint(s.Nonce, 10, 64)
+		wanted, err = &Bytes{}, p.SetNonce(s.Direction, nonce)
+	case "hash":
+		got, wanted = p.Hash(), &r.group.Hash
+	}
+	return got, wanted, err
+}
+
+// step takes a step: whether the test goes on, and what is wrong.
+func (r *run) step(s *Step) (on bool, fault error) {
+	role := s.Role
+	if role == "" {
+		role = r.test.Role
+	}
+	p, err := r.party(role)
+	if err != nil {
+		return false, err
+	}
+	got, wanted, err := r.call(p, s)
+	switch {
+	case errors.Is(err, ErrNotSupported):
+		return false, err
+	case err != nil && s.Refused == "" && r.test.Result == "acceptable":
+		return false, nil
+	case err != nil && s.Refused == "":
+		return false, fmt.Errorf("%s was refused: %v", s.Do, err)
+	case err != nil:
+		if at := p.Place(err); at != "" && at != s.At {
+			return false, fmt.Errorf("refused at %s, in place of %s", at, s.At)
+		}
+		return true, nil
+	case s.Refused != "":
+		return false, fmt.Errorf("%s was accepted, and has to be refused: %s %s", s.Do, s.Refused, s.At)
+	case wanted == nil || !wanted.is(got):
+		return false, fmt.Errorf("%s: other bytes: %.40x", s.Do, got)
+	}
+	return true, nil
+}
+
+// pass runs a test.
+func (t *Test) pass(g *Group, start Start) {
+	defer func() {
+		if r := recover(); r != nil {
+			t.outcome, t.why = "failed", fmt.Sprint("crashed: ", r)
+		}
+	}()
+	t.outcome = "passed"
+	if g.Type != "NoiseHandshake" {
+		t.outcome, t.why = "not run", "frames are the caller's"
+		return
+	}
+	r := &run{g, t, start, map[string]Party{}, map[int][]byte{}}
+	for i := range t.Steps {
+		on, err := r.step(&t.Steps[i])
+		if errors.Is(err, ErrNotSupported) {
+			t.outcome, t.why = "not run", err.Error()
+		} else if err != nil {
+			t.outcome, t.why = "failed", fmt.Sprintf("step %d: %v", i, err)
+		}
+		if !on {
+			return
+		}
+	}
+}
+
+// Main runs the suite of the file os.Args[1], and reports; os.Args[2] is a file for JUnit's XML. The status is 0 if no test failed.
+func Main(name string, start Start) {
+	if len(os.Args) < 2 {
+		fmt.Fprintf(os.Stderr, "usage: %s SUITE.json [JUNIT.xml]\n", name)
+		os.Exit(2)
+	}
+	text, err := os.ReadFile(os.Args[1])
+	var suite struct {
+		Groups []*Group `json:"testGroups"`
+	}
+	if err == nil {
+		err = json.Unmarshal(text, &suite)
+	}
+	if err != nil {
+		fmt.Fprintln(os.Stderr, err)
+		os.Exit(2)
+	}
+	var tests []*Test
+	for _, g := range suite.Groups {
+		for _, t := range g.Tests {
+			t.pass(g, start)
+			tests = append(tests, t)
+		}
+	}
+	failed := printReport(tests)
+	if len(os.Args) > 2 {
+		if err := writeJUnit(os.Args[2], name, tests); err != nil {
+			fmt.Fprintln(os.Stderr, err)
+			os.Exit(2)
+		}
+	}
+	if failed {
+		os.Exit(1)
+	}
+}

@@ -1,0 +1,66 @@
+// The package of bindings/js, for runner.mjs. Copy this file, and have it call your Noise.
+import { Handshake, KeyPair, NoiseError, load } from '../../../bindings/js/noise.mjs';
+
+const bytes = (digits) => (digits === undefined ? undefined : Buffer.from(digits, 'hex'));
+
+/** One party. */
+export class Party {
+  /** Starts a party of a group: its own keys are private ones, `rs` and `re` those of the other party's pre-message. */
+  static async start(setup, role) {
+    await load();
+    const own = setup[role];
+    const pair = async (digits) => (digits === undefined ? undefined : KeyPair.fromSecret(bytes(digits)));
+    const party = new Party();
+    party.handshake = new Handshake({
+      pattern: `${setup.protocol.split('_')[1]}:\n${setup.pattern.map((line) => `  ${line}\n`).join('')}`,
+      responder: role === 'responder',
+      prologue: setup.prologue,
+      psks: setup.psks.map(bytes),
+      staticKey: await pair(own.s),
+      ephemeralKey: await pair(own.e),
+      remoteStatic: bytes(own.rs),
+      remoteEphemeral: bytes(own.re),
+    });
+    return party;
+  }
+
+  /** Whether an error is a refusal of your Noise; anything else is reported as a crash. */
+  static isRefusal(error) {
+    return error instanceof NoiseError;
+  }
+
+  passed() {
+    if (this.handshake.stage.done) this.ciphers = this.handshake.finishCiphers();
+  }
+
+  async write(payload) {
+    if (this.ciphers) return this.ciphers.send.encryptWithAd(new Uint8Array(0), payload);
+    const message = await this.handshake.write(payload);
+    this.passed();
+    return message;
+  }
+
+  async read(message) {
+    if (this.ciphers) return this.ciphers.receive.decryptWithAd(new Uint8Array(0), message);
+    const payload = await this.handshake.read(message);
+    this.passed();
+    return payload;
+  }
+
+  rekey(direction) {
+    this.ciphers[direction].rekey();
+  }
+
+  setNonce(direction, nonce) {
+    this.ciphers[direction].nonce = nonce;
+  }
+
+  hash() {
+    return this.ciphers.hash;
+  }
+
+  /** The number of the token at which a message was refused, if your Noise says so. */
+  token(error) {
+    return error.token;
+  }
+}

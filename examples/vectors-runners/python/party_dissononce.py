@@ -1,0 +1,96 @@
+"""dissononce, for runner.py: its `GuardedHandshakeState`, which checks whose turn it is."""
+
+from __future__ import annotations
+
+import logging
+from typing import Any
+
+from dissononce.cipher.chachapoly import ChaChaPolyCipher
+from dissononce.dh.x25519.private import PrivateKey
+from dissononce.dh.x25519.public import PublicKey
+from dissononce.dh.x25519.x25519 import X25519DH
+from dissononce.exceptions.decrypt import DecryptFailedException
+from dissononce.extras.dh.dangerous.dh_nogen import NoGenDH
+from dissononce.extras.processing.handshakestate_guarded import GuardedHandshakeState
+from dissononce.hash.sha256 import SHA256Hash
+from dissononce.processing.handshakepatterns.handshakepattern import HandshakePattern
+from dissononce.processing.impl.cipherstate import CipherState
+from dissononce.processing.impl.handshakestate import HandshakeState
+from dissononce.processing.impl.symmetricstate import SymmetricState
+from runner import NotSupported
+
+logging.disable(logging.CRITICAL)
+
+
+def key_pair(secret: str) -> Any:
+    return X25519DH().generate_keypair(PrivateKey(bytes.fromhex(secret)))
+
+
+def pattern_of(setup: dict[str, Any]) -> HandshakePattern:
+    lines = setup["pattern"]
+    at = lines.index("...") if "..." in lines else 0
+    before = {line[:2]: tuple(line[3:].split(", ")) for line in lines[:at]}
+    messages = tuple(tuple(line[3:].split(", ")) for line in lines[at + bool(at) :])
+    return HandshakePattern(setup["protocol"].split("_")[1], messages, before.get("->"), before.get("<-"))
+
+
+class Party:
+    """One party. What dissononce raises where it refuses: its own exception of a tag, and Python's of values and of the order of calls."""
+
+    REFUSALS = (DecryptFailedException, ValueError, AssertionError)
+
+    def __init__(self, setup: dict[str, Any], role: str) -> None:
+        own, self.is_initiator = setup[role], role == "initiator"
+        pattern = pattern_of(setup)
+        dh = NoGenDH(X25519DH(), PrivateKey(bytes.fromhex(own["e"]))) if "e" in own else X25519DH()
+        self.inner = HandshakeState(SymmetricState(CipherState(ChaChaPolyCipher()), SHA256Hash()), dh)
+        self.handshake = GuardedHandshakeState(self.inner)
+        mine = pattern.initiator_pre_message_pattern if self.is_initiator else pattern.responder_pre_message_pattern
+        self.handshake.initialize(
+            pattern,
+            self.is_initiator,
+            setup["prologue"],
+            s=key_pair(own["s"]) if "s" in own else None,
+            e=key_pair(own["e"]) if "e" in mine else None,
+            rs=PublicKey(bytes.fromhex(own["rs"])) if "rs" in own else None,
+            re=PublicKey(bytes.fromhex(own["re"])) if "re" in own else None,
+            psks=[bytes.fromhex(it) for it in setup["psks"]] or None,
+        )
+        self.is_one_way = len(pattern.message_patterns) == 1
+        self.ciphers: Any = None
+
+    def split(self, ciphers: Any) -> None:
+        if ciphers:
+            self.ciphers = ciphers if self.is_initiator else ciphers[::-1]
+
+    def cipher(self, direction: str) -> CipherState:
+        if self.is_one_way and self.is_initiator == (direction == "receive"):
+            raise NotSupported("the second cipher state of a one-way pattern is the caller's to discard")
+        return self.ciphers[direction == "receive"]
+
+    def write(self, payload: bytes) -> bytes:
+        if self.ciphers:
+            return self.cipher("send").encrypt_with_ad(b"", payload)
+        message = bytearray()
+        self.split(self.handshake.write_message(payload, message))
+        return bytes(message)
+
+    def read(self, message: bytes) -> bytes:
+        if self.ciphers:
+            return self.cipher("receive").decrypt_with_ad(b"", message)
+        payload = bytearray()
+        self.split(self.handshake.read_message(message, payload))
+        return bytes(payload)
+
+    def rekey(self, direction: str) -> None:
+        self.cipher(direction).rekey()
+
+    def set_nonce(self, direction: str, nonce: int) -> None:
+        self.cipher(direction).set_nonce(nonce)
+
+    def hash(self) -> bytes:
+        return self.inner.symmetricstate.get_handshake_hash()
+
+    @staticmethod
+    def place(_: Exception) -> str | None:
+        return None

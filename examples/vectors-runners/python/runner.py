@@ -1,0 +1,182 @@
+#!/usr/bin/env python3
+"""Runs the suite of test vectors with a Noise in Python.
+
+    runner.py PARTY SUITE.json [JUNIT.xml]
+
+PARTY is a module beside this file, as `party_yulimosar`, with a class `Party`: copy that file, and have it call your Noise. The report has a line for
+each flag; JUNIT.xml gets each test. The status is 0 if no test failed.
+"""
+
+from __future__ import annotations
+
+import hashlib
+import importlib
+import json
+import sys
+from collections import Counter
+from typing import Any
+from xml.sax.saxutils import quoteattr
+
+
+class NotSupported(Exception):
+    """What the Noise doesn't claim to do: the test isn't run."""
+
+
+class Failed(Exception):
+    """What is wrong."""
+
+
+def data_of(value: Any) -> bytes:
+    return bytes.fromhex(value) if isinstance(value, str) else bytes.fromhex(value["byte"]) * value["count"]
+
+
+class Run:
+    """A test of a group, with the parties that take part in it."""
+
+    def __init__(self, group: dict, test: dict, kind: Any) -> None:
+        self.group, self.test, self.kind = group, test, kind
+        self.parties: dict[str, Any] = {}
+        self.written: dict[int, bytes] = {}
+
+    def party(self, role: str) -> Any:
+        if role not in self.parties:
+            self.parties[role] = self.kind(self.group | {"prologue": data_of(self.group["prologue"])}, role)
+        return self.parties[role]
+
+    def received(self, step: dict) -> bytes:
+        """The bytes that a step reads, with the step's change."""
+        if "bytes" in step:
+            return data_of(step["bytes"])
+        message = self.group["messages"][step["message"]]["message"]
+        data = self.written[step["message"]] if isinstance(message, dict) else bytes.fromhex(message)
+        data = data[: step.get("cut", len(data))] + bytes.fromhex(step.get("append", ""))
+        if "xor" in step:
+            at, mask = step["xor"]
+            data = data[:at] + bytes([data[at] ^ mask]) + data[at + 1 :]
+        return data
+
+    def call(self, party: Any, step: dict) -> bytes | None:
+        if step["do"] == "write":
+            return party.write(data_of(step["payload"] if "payload" in step else self.group["messages"][step["message"]]["payload"]))
+        if step["do"] == "read":
+            return party.read(self.received(step))
+        if step["do"] == "rekey":
+            return party.rekey(step["direction"])
+        if step["do"] == "nonce":
+            return party.set_nonce(step["direction"], int(step["nonce"]))
+        return party.hash()
+
+    def compare(self, step: dict, got: bytes | None) -> None:
+        """Compares what a step gave with what the suite says."""
+        message = self.group["messages"][step["message"]] if "message" in step else {}
+        if step["do"] == "write":
+            wanted = step.get("is", message["message"])
+            self.written[step["message"]] = got
+            if isinstance(wanted, dict):
+                wanted, got = bytes.fromhex(wanted["sha256"]), hashlib.sha256(got).digest()
+            else:
+                wanted = bytes.fromhex(wanted)
+        elif step["do"] == "read":
+            wanted = data_of(step["payload"] if "payload" in step else message["payload"])
+        else:
+            wanted = bytes.fromhex(self.group["hash"]) if step["do"] == "hash" else None
+        if got != wanted:
+            raise Failed(f"{step['do']}: {got.hex()[:80]} in place of {wanted.hex()[:80]}")
+
+    def step(self, step: dict) -> bool:
+        """Takes a step; whether the test goes on after it."""
+        party = self.party(step.get("role", self.test["role"]))
+        try:
+            got = self.call(party, step)
+        except self.kind.REFUSALS as refusal:
+            if "refused" not in step:
+                if self.test["result"] == "acceptable":
+                    return False
+                raise Failed(f"{step['do']} was refused: {refusal!r}") from refusal
+            at = party.place(refusal)
+            if at is not None and at != step.get("at", at):
+                raise Failed(f"refused at {at}, in place of {step['at']}") from refusal
+            return True
+        if "refused" in step:
+            raise Failed(f"{step['do']} was accepted, and has to be refused: {step['refused']}" + (f" at {step['at']}" if "at" in step else ""))
+        self.compare(step, got)
+        return True
+
+    def run(self) -> None:
+        for number, step in enumerate(self.test["steps"]):
+            try:
+                if not self.step(step):
+                    return
+            except Failed as why:
+                raise Failed(f"step {number}: {why}") from why
+
+
+def run_frame(test: dict, kind: Any) -> None:
+    """A test of a frame: a whole one is the message with its length; of one that isn't whole nothing is read."""
+    if not hasattr(kind, "frame"):
+        raise NotSupported("frames are the caller's")
+    message, frame = bytes.fromhex(test["message"]), bytes.fromhex(test["frame"])
+    is_whole = test["result"] == "valid"
+    if is_whole and kind.frame(message) != frame:
+        raise Failed(f"the frame is {kind.frame(message).hex()[:80]}")
+    if kind.unframe(frame) != (message if is_whole else None):
+        raise Failed("another message is read from the frame")
+
+
+def outcome(group: dict, test: dict, kind: Any) -> tuple[str, str]:
+    """What comes of a test, `passed`, `failed` or `not run`, and why."""
+    try:
+        if group["type"] == "NoiseFrame":
+            run_frame(test, kind)
+        else:
+            Run(group, test, kind).run()
+    except NotSupported as why:
+        return "not run", str(why)
+    except Failed as why:
+        return "failed", str(why)
+    except Exception as error:  # a crash, and no refusal
+        return "failed", f"crashed: {error!r}"
+    return "passed", ""
+
+
+def text_report(rows: list[tuple[dict, str, str]]) -> str:
+    """A line for each flag, the tests that failed, and why some weren't run."""
+    counts = Counter((flag, what) for test, what, _ in rows for flag in test["flags"])
+    flags = dict.fromkeys(flag for test, _, _ in rows for flag in test["flags"])
+    lines = [f"{'flag':28} {'passed':>7} {'failed':>7} {'not run':>7}"]
+    lines += [f"{it:28} {counts[it, 'passed']:7} {counts[it, 'failed']:7} {counts[it, 'not run']:7}" for it in flags]
+    lines += [f"failed {test['tcId']} {','.join(test['flags'])}: {test['comment']}: {why}" for test, what, why in rows if what == "failed"]
+    lines += [f"not run {count}: {why}" for why, count in Counter(why for _, what, why in rows if what == "not run").items()]
+    total = Counter(what for _, what, _ in rows)
+    return "\n".join([*lines, f"{total['passed']} passed, {total['failed']} failed, {total['not run']} not run"]) + "\n"
+
+
+def junit_report(name: str, rows: list[tuple[dict, str, str]]) -> str:
+    """JUnit's XML: a test case for each test, whose class is its first flag."""
+    lines = []
+    for test, what, why in rows:
+        inside = {"passed": "", "failed": f"<failure message={quoteattr(why)}/>", "not run": f"<skipped message={quoteattr(why)}/>"}[what]
+        names = f"classname={quoteattr(test['flags'][0])} name={quoteattr(str(test['tcId']) + ' ' + test['comment'])}"
+        lines.append(f"  <testcase {names}>{inside}</testcase>")
+    total = Counter(what for _, what, _ in rows)
+    head = f"<testsuite name={quoteattr(name)} tests=\"{len(rows)}\" failures=\"{total['failed']}\" skipped=\"{total['not run']}\">"
+    return "\n".join(['<?xml version="1.0" encoding="UTF-8"?>', head, *lines, "</testsuite>"]) + "\n"
+
+
+def main(words: list[str]) -> int:
+    if len(words) not in (2, 3):
+        print(__doc__, file=sys.stderr)
+        return 2
+    kind = importlib.import_module(words[0]).Party
+    with open(words[1], encoding="ascii") as file:
+        groups = json.load(file)["testGroups"]
+    rows = [(test, *outcome(group, test, kind)) for group in groups for test in group["tests"]]
+    sys.stdout.write(text_report(rows))
+    if len(words) == 3:
+        with open(words[2], "w", encoding="utf-8") as file:
+            file.write(junit_report(words[0], rows))
+    return int(any(what == "failed" for _, what, _ in rows))
+
+
+if __name__ == "__main__":
+    sys.exit(importlib.import_module("runner").main(sys.argv[1:]))  # the same module that parties import

@@ -1,0 +1,89 @@
+#!/usr/bin/env python3
+"""Prints a test of the suite as a vector file, which `noise test`, `explain`, `trace` and `compare` read.
+
+    case.py PROGRAM NUMBER [MESSAGE]
+
+PROGRAM is the command `noise`, and NUMBER the test's. The file has what the tested party writes and gets, the public keys and DH results, and the right
+output. MESSAGE, hex digits, is the last message that your Noise wrote: it takes the place of the right one, and `noise test` says where the two differ.
+A test with other nonces, or with bytes that no frame can carry, has no vector file.
+"""
+
+from __future__ import annotations
+
+import json
+import sys
+from pathlib import Path
+from typing import Any
+
+from command import Command
+from group import Group, Message
+from patterns import ROLES, protocol_of
+from steps import data_of, event
+
+SUITE = Path(__file__).resolve().parent.parent.parent / "vectors" / "25519_ChaChaPoly_SHA256.json"
+
+
+class Told(Group):
+    """A group that the suite tells, in place of one whose conversation the command says."""
+
+    def converse(self) -> None:
+        pass
+
+
+def group_of(command: Command, told: dict[str, Any]) -> Group:
+    section = told["protocol"].split("_")[1]
+    protocol = protocol_of("\n".join([f"{section}:", *told["pattern"]]), "")
+    keys = {role: {it: bytes.fromhex(told[role][it]) for it in "es" if it in told[role]} for role in ROLES}
+    psks = [bytes.fromhex(it) for it in told["psks"]]
+    group = Told(command, "", protocol, [], data_of(told["prologue"]), interval=told.get("interval", 0), psks=psks, keys=keys)
+    for it in told["messages"]:
+        data = b"" if isinstance(it["message"], dict) else bytes.fromhex(it["message"])
+        group.messages.append(Message(it["from"], data_of(it["payload"]), data))
+    for number, message in enumerate(group.messages[: group.handshake]):
+        if "e" in protocol.messages[number] and "e" not in keys[message.sender]:  # a key that nobody has
+            keys[message.sender]["e"] = bytes(32)
+            group.bad[message.sender] = message.data[:32]
+    return group
+
+
+def met(group: Group, steps: list[dict]) -> list[bytes]:
+    """What a changed message has in the place of keys."""
+    changed = [it for it in steps if it["do"] == "read" and it.keys() & {"bytes", "xor", "append"}]
+    data = [bytes.fromhex(event(group, "", it).split(" ")[2])[2:] for it in changed]
+    return [it[at : at + 32] for it in data for at in (0, 32) if len(it) >= at + 32]
+
+
+def vector_of(command: Command, told: dict[str, Any], test: dict[str, Any], written: str) -> str:
+    group, role = group_of(command, told), test["role"]
+    if role == "both":
+        events = [f"say {it.sender} {it.payload.hex() or '-'} -" for it in group.messages]
+    else:
+        events = [it for it in (event(group, role, step) for step in test["steps"]) if it]
+    keys = {} if role == "both" else {role: met(group, test["steps"])}
+    head = group.head(group.setup, keys).replace("vector 2", "vector 1", 1)
+    lines = command.run("convert", head + "".join(f"{it}\n" for it in events))
+    if written:
+        last = max(number for number, line in enumerate(lines) if line.startswith(f"expect wrote {role} "))
+        lines[last] = " ".join([*lines[last].split(" ")[:4], f"{len(written) // 2:04x}{written}"])
+    return "\n".join(lines) + "\n"
+
+
+def main(words: list[str]) -> int:
+    if len(words) not in (2, 3):
+        print(__doc__, file=sys.stderr)
+        return 2
+    for told in json.loads(SUITE.read_text("ascii"))["testGroups"]:
+        for test in told["tests"]:
+            if test["tcId"] == int(words[1]):
+                steps = test.get("steps", [{"do": "frame"}])
+                if any(it["do"] in ("nonce", "frame") or it.get("refused") == "too-long" for it in steps):
+                    print("case: this test has no vector file", file=sys.stderr)
+                    return 1
+                sys.stdout.write(vector_of(Command(words[0]), told, test, words[2] if len(words) == 3 else ""))
+                return 0
+    print("case: there is no such test", file=sys.stderr)
+    return 1
+
+
+if __name__ == "__main__":
+    sys.exit(main(sys.argv[1:]))

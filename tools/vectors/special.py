@@ -1,0 +1,96 @@
+"""The tests of public keys that are no right ones, of lengths, and of frames."""
+
+from __future__ import annotations
+
+from typing import Any
+
+from command import Command
+from group import Group, draw, other
+from mistaken import public_of
+from patterns import ROLES, Protocol
+from steps import Step, add, judged, right
+
+PRIME = 2**255 - 19
+TOP = 2**255
+# The points of small order: any DH of them is zeros.
+SMALL = (
+    0,
+    1,
+    325606250916557431795983626356110631294008115727848805560023387167927233504,
+    39382357235489614581723060781553021112529911719440698176882885853963445705823,
+    PRIME - 1,
+    PRIME,
+    PRIME + 1,
+)
+ZEROS = "12.1: the DH result is all zeros; to refuse the key is allowed"
+OTHER_FORM = "12.1: the key isn't the least number of its point; to refuse it is allowed"
+
+
+def low_order(command: Command, protocol: Protocol) -> list[Group]:
+    return [bad_key(command, protocol, key, "LowOrderKey", ZEROS) for point in SMALL for key in (point, point + TOP) if key < 2**256]
+
+
+def other_form(command: Command, protocol: Protocol) -> list[Group]:
+    found = [PRIME + it for it in (2, 3, 9, 18)]
+    found.append(int.from_bytes(public_of(draw(32, protocol.section, "top bit")), "little") | TOP)
+    return [bad_key(command, protocol, key, "NonCanonicalKey", OTHER_FORM) for key in found]
+
+
+def bad_key(command: Command, protocol: Protocol, key: int, flag: str, why: str) -> Group:
+    """A party's ephemeral key is this one. Its other DH results are those of the party that is tested."""
+    data = key.to_bytes(32, "little")
+    role = "initiator" if key % 2 or protocol.is_one_way else "responder"
+    group = Group(command, f"{protocol.section} {data.hex()}", protocol, [flag], b"", (2,), (4, 4), bad={role: data})
+    steps = right(group, other(role), len(group.messages))
+    add(group, other(role), f"{protocol.section}: the {role}'s e is {data.hex()}; {why}", [flag], steps, result="acceptable")
+    return group
+
+
+def rule(count: int) -> dict[str, Any]:
+    return {"byte": "aa", "count": count}
+
+
+def too_long(group: Group) -> None:
+    """A message has at most 65535 bytes (3). What the command can't be asked of the handshake: its frames carry no more."""
+    for number in range(group.handshake + 2):
+        sender, reader = group.messages[number].sender, other(group.messages[number].sender)
+        overhead = len(group.messages[number].data) - len(group.messages[number].payload)
+        step: Step = {"do": "write", "payload": rule(65536 - overhead)}
+        steps = [*right(group, sender, number), step, {"do": "write", "message": number}]
+        add(group, sender, f"a payload that makes 65536 bytes of message {number + 1}; then the right one", ["LongMessageTaken"], judged(group, sender, steps))
+        steps = [*right(group, reader, number), {"do": "read", "bytes": rule(65536), "refused": "too-long"}]
+        add(group, reader, f"65536 bytes in place of message {number + 1}", ["LongMessageTaken"], steps)
+    for role in ROLES:
+        events = [f"say {it.sender} {it.payload.hex() or '-'} -" for it in group.messages[: group.handshake]]
+        events += ["datagrams 64", f"foreign {role} {bytes(8).hex()}{'aa' * 65536}"]
+        assert f"rejected {role} too-long" in group.replay(events)
+
+
+def frames(group: Group, number: int) -> dict[str, Any]:
+    """Frames of messages (13): whole ones, ones that aren't, and those with wrong lengths."""
+    tests: list[dict[str, Any]] = []
+    for message in group.messages:
+        frame = f"{len(message.data):04x}{message.data.hex()}"
+        tests.append(frame_test(f"a message of {len(message.data)} bytes", ["Frame"], "valid", message.data.hex(), frame))
+    message = group.messages[number]
+    data = message.data
+    cut = [(0, "no byte"), (1, "half of its length"), (2, "its length alone"), (3, "one byte of it"), (len(data) + 1, "all but its last byte")]
+    for length, what in cut:
+        tests.append(open_frame(group, number, f"{what} has come", ["FrameCut"], (len(data).to_bytes(2, "big") + data)[:length]))
+    counted, little = (len(data) + 2).to_bytes(2, "big") + data, len(data).to_bytes(2, "little") + data
+    tests.append(open_frame(group, number, "the length counts itself", ["FrameCountsItself"], counted))
+    tests.append(open_frame(group, number, "the length is little-endian", ["FrameLittleEndian"], little))
+    return {"type": "NoiseFrame", "comment": "a length in 2 big-endian bytes before each message (13)", "tests": tests}
+
+
+def frame_test(comment: str, flags: list[str], result: str, message: str, frame: str) -> dict[str, Any]:
+    return {"tcId": 0, "comment": comment, "flags": flags, "result": result, "message": message, "frame": frame}
+
+
+def open_frame(group: Group, number: int, comment: str, flags: list[str], frame: bytes) -> dict[str, Any]:
+    """A frame that isn't whole: by the command, all its bytes are held, and nothing is read."""
+    reader = other(group.messages[number].sender)
+    events = [f"say {it.sender} {it.payload.hex() or '-'} -" for it in group.messages[:number]]
+    lines = group.replay([*events, f"raw {reader} {frame.hex() or '-'}"])[2 * number :]
+    assert lines[0].startswith(f"held {reader} {len(frame)}" if frame else "state"), lines
+    return frame_test(comment, flags, "invalid", "", frame.hex()) | {"after": "waiting"}
