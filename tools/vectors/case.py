@@ -1,10 +1,11 @@
 #!/usr/bin/env python3
 """Prints a test of the suite as a vector file, which `noise test`, `explain`, `trace` and `compare` read.
 
-    case.py PROGRAM NUMBER [MESSAGE]
+    case.py PROGRAM NUMBER [STEP MESSAGE]
 
 PROGRAM is the command `noise`, and NUMBER the test's. The file has what the tested party writes and gets, the public keys and DH results, and the right
-output. MESSAGE, hex digits, is the last message that your Noise wrote: it takes the place of the right one, and `noise test` says where the two differ.
+output. MESSAGE, hex digits, is what your Noise wrote in the step STEP, from 0: it takes the place of the right one, and `noise test` says where the two
+differ.
 A test with other nonces, or with bytes that no frame can carry, has no vector file.
 """
 
@@ -53,7 +54,7 @@ def met(group: Group, steps: list[dict]) -> list[bytes]:
     return [it[at : at + 32] for it in data for at in (0, 32) if len(it) >= at + 32]
 
 
-def vector_of(command: Command, told: dict[str, Any], test: dict[str, Any], written: str) -> str:
+def vector_of(command: Command, told: dict[str, Any], test: dict[str, Any], yours: list[str]) -> str:
     group, role = group_of(command, told), test["role"]
     if role == "both":
         events = [f"say {it.sender} {it.payload.hex() or '-'} -" for it in group.messages]
@@ -62,14 +63,16 @@ def vector_of(command: Command, told: dict[str, Any], test: dict[str, Any], writ
     keys = {} if role == "both" else {role: met(group, test["steps"])}
     head = group.head(group.setup, keys).replace("vector 2", "vector 1", 1)
     lines = command.run("convert", head + "".join(f"{it}\n" for it in events))
-    if written:
-        last = max(number for number, line in enumerate(lines) if line.startswith(f"expect wrote {role} "))
-        lines[last] = " ".join([*lines[last].split(" ")[:4], f"{len(written) // 2:04x}{written}"])
+    if yours:
+        step, message = int(yours[0]), yours[1]
+        count = sum(it["do"] == "write" and "refused" not in it for it in test["steps"][:step])
+        at = [number for number, line in enumerate(lines) if line.startswith(f"expect wrote {role} ")][count]
+        lines[at] = " ".join([*lines[at].split(" ")[:4], f"{len(message) // 2:04x}{message}"])
     return "\n".join(lines) + "\n"
 
 
 def main(words: list[str]) -> int:
-    if len(words) not in (2, 3):
+    if len(words) not in (2, 4):
         print(__doc__, file=sys.stderr)
         return 2
     for told in json.loads(SUITE.read_text("ascii"))["testGroups"]:
@@ -79,7 +82,7 @@ def main(words: list[str]) -> int:
                 if any(it["do"] in ("nonce", "frame") or it.get("refused") == "too-long" for it in steps):
                     print("case: this test has no vector file", file=sys.stderr)
                     return 1
-                sys.stdout.write(vector_of(Command(words[0]), told, test, words[2] if len(words) == 3 else ""))
+                sys.stdout.write(vector_of(Command(words[0]), told, test, words[2:]))
                 return 0
     print("case: there is no such test", file=sys.stderr)
     return 1

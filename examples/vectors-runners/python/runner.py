@@ -81,7 +81,7 @@ class Run:
         else:
             wanted = bytes.fromhex(self.group["hash"]) if step["do"] == "hash" else None
         if got != wanted:
-            raise Failed(f"{step['do']}: {got.hex()[:80]} in place of {wanted.hex()[:80]}")
+            raise Failed(f"{step['do']}: {got.hex()[:400]} in place of {wanted.hex()[:400]}")
 
     def step(self, step: dict) -> bool:
         """Takes a step; whether the test goes on after it."""
