@@ -5,6 +5,7 @@
 # make uninstall removes what `make install` installs
 # make prove     proves the library and the command from the sources, and compares what comes out with dist/; needs `rt`
 # make web       puts the page, for any static server, into out/web
+# make vectors   packs the test vectors and their runners into packaging/out
 # make clean     removes what `make` built, and no proofs
 # The gate is ./check. In a tree that can't be written, name another folder by OUT.
 PREFIX ?= /usr/local
@@ -74,4 +75,7 @@ clean:
 
 FORCE:
 
-.PHONY: all noisecat install uninstall check prove web clean FORCE
+.PHONY: all noisecat install uninstall check prove web clean FORCE vectors
+
+vectors:
+	@$(top)packaging/vectors $(OUT)

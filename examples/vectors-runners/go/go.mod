@@ -2,16 +2,12 @@ module example.org/vectors
 
 go 1.19
 
+require github.com/flynn/noise v1.0.0
+
 require (
-	example.org/yulimosar/noise v1.0.0
-	github.com/flynn/noise v1.0.0
+	golang.org/x/crypto v0.4.0 // indirect
+	golang.org/x/sys v0.3.0 // indirect
 )
-
-require golang.org/x/crypto v0.4.0
-
-require golang.org/x/sys v0.3.0 // indirect
-
-replace example.org/yulimosar/noise => ../../../bindings/go
 
 // Debian's packages, without a network.
 replace (
