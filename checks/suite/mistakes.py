@@ -55,9 +55,26 @@ def failing(tests: list[tuple[dict, dict]], mistake: str, most: int) -> list[dic
     return found
 
 
+def with_zeros(groups: list[dict]) -> list[str]:
+    """The tests of keys that may be refused, with a Noise that refuses none, and goes on with zeros (12.1): all bytes have to be right."""
+    agreement = mistaken.agreement
+
+    def or_zeros(private: bytes, public: bytes) -> bytes:
+        try:
+            return agreement(private, public)
+        except ValueError:
+            return bytes(32)
+
+    mistaken.agreement = or_zeros
+    tests = [(group, test | {"result": "valid"}) for group in groups for test in group["tests"] if test["result"] == "acceptable"]
+    wrong = failing(tests, "", 1)
+    mistaken.agreement = agreement
+    return [f"test {it['tcId']} fails where zeros are taken" for it in wrong] + ([] if tests else ["no test is acceptable"])
+
+
 def main(words: list[str]) -> int:
     groups = json.loads(Path(words[0]).read_text("ascii"))["testGroups"]
-    faults, accepted = [], 0
+    faults, accepted = with_zeros(groups), 0
     for mistake in mistaken.MISTAKES:
         tests = [(group, test) for group in groups for test in group["tests"] if mistake in test["flags"]]
         caught = failing(tests, mistake, 1)

@@ -12,6 +12,7 @@ A test with other nonces, or with bytes that no frame can carry, has no vector f
 from __future__ import annotations
 
 import json
+import re
 import sys
 from pathlib import Path
 from typing import Any
@@ -40,11 +41,17 @@ def group_of(command: Command, told: dict[str, Any]) -> Group:
     for it in told["messages"]:
         data = b"" if isinstance(it["message"], dict) else bytes.fromhex(it["message"])
         group.messages.append(Message(it["from"], data_of(it["payload"]), data))
-    for number, message in enumerate(group.messages[: group.handshake]):
-        if "e" in protocol.messages[number] and "e" not in keys[message.sender]:  # a key that nobody has
-            keys[message.sender]["e"] = bytes(32)
-            group.bad[message.sender] = message.data[:32]
+    for role in ROLES:
+        for letter in protocol.own(role) - keys[role].keys():  # a public key that nobody has the private one of
+            group.bad[role, letter] = public_in(told, role, letter)
+            keys[role][letter] = bytes(32)
     return group
+
+
+def public_in(told: dict[str, Any], role: str, letter: str) -> bytes:
+    """A public key whose comment tells it: that of a test of keys that are no right ones."""
+    found = re.search(f"the {role}'s {letter} is ([0-9a-f]{{64}})", told["tests"][0]["comment"])
+    return bytes.fromhex(found[1]) if found else bytes(32)
 
 
 def met(group: Group, steps: list[dict]) -> list[bytes]:

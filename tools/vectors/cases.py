@@ -50,9 +50,8 @@ def positive(group: Group) -> None:
     count = len(group.messages)
     is_long = any(len(it.data) >= 600 for it in group.messages)
     for role in ("both",) if is_long else ROLES:
-        if role not in group.bad:
-            who = "both parties" if role == "both" else f"the {role}"
-            add(group, role, f"{group.name}: {who}", group.flags, with_hash(group, role, right(group, role, count)))
+        who = "both parties" if role == "both" else f"the {role}"
+        add(group, role, f"{group.name}: {who}", group.flags, with_hash(group, role, right(group, role, count)))
 
 
 def with_hash(group: Group, role: str, steps: list[Step]) -> list[Step]:

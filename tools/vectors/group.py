@@ -63,8 +63,8 @@ class Setup:
 
 @dataclass
 class Group:
-    """`name` is of the seed: the keys and payloads are drawn by it. `bad` are public keys in place of a party's own, `interval` the messages of a
-    direction after which its key is renewed."""
+    """`name` is of the seed: the keys and payloads are drawn by it. `bad` are public keys in place of a party's own, by role and letter. After `interval`
+    messages of a direction its key is renewed."""
 
     command: Command
     name: str
@@ -75,7 +75,7 @@ class Group:
     transport: tuple[int, ...] = TRANSPORT
     interval: int = 0
     also: list[str] = field(default_factory=list)  # flags of all tests of the group
-    bad: dict[str, bytes] = field(default_factory=dict)
+    bad: dict[tuple[str, str], bytes] = field(default_factory=dict)
     byte: bytes = b""  # a payload's only byte, or none for drawn ones
     psks: list[bytes] = field(default_factory=list)
     keys: dict[str, dict[str, bytes]] = field(default_factory=dict)
@@ -99,8 +99,8 @@ class Group:
         return Setup(self.protocol, self.prologue, self.psks)
 
     def public(self, role: str, letter: str) -> bytes:
-        if letter == "e" and role in self.bad:
-            return self.bad[role]
+        if (role, letter) in self.bad:
+            return self.bad[role, letter]
         return public_of(self.keys[role][letter])
 
     def sender(self, number: int) -> str:
@@ -114,9 +114,9 @@ class Group:
 
     def dh(self, role: str, letter: str, remote: bytes) -> bytes:
         """The DH result of a key of a party; of a party with a bad key that of the other."""
-        if letter == "e" and role in self.bad:
+        if (role, letter) in self.bad:
             theirs = next(it for it in "es" if it in self.keys[other(role)] and self.public(other(role), it) == remote)
-            return self.dh(other(role), theirs, self.bad[role])
+            return self.dh(other(role), theirs, self.bad[role, letter])
         try:
             return agreement(self.keys[role][letter], remote)
         except ValueError:
@@ -151,7 +151,7 @@ class Group:
         self.hash = lines[-1].split(" ")[5]
 
     def party_json(self, role: str) -> dict[str, str]:
-        made = {it: key.hex() for it, key in self.keys[role].items() if not (it == "e" and role in self.bad)}
+        made = {it: key.hex() for it, key in self.keys[role].items() if (role, it) not in self.bad}
         made |= {f"r{it}": self.public(other(role), it).hex() for it in self.protocol.before(other(role))}
         return made
 

@@ -28,6 +28,8 @@ from group import Group, draw
 from patterns import Protocol
 
 Made = list[dict[str, Any]]
+# The pattern that the other party has in its place.
+OTHERS = dict(N="X", K="N", X="N", NN="NX", NK="XK", NX="NN", KN="KX", KK="IK", KX="KN", XN="IN", XK="IK", XX="IX", IN="XN", IK="KK", IX="XX")
 NAME, SHARED_NAME = "25519_ChaChaPoly_SHA256.json", "25519_ChaChaPoly_SHA256_shared.json"
 SIZES = (0, 1, 2, 15, 16, 17, 31, 32, 33, 63, 64, 65, 127, 128, 129, 255, 256, 257, 511, 512, 1024, 4096, 16384, 32767, 32768, 65518, 65519)
 
@@ -81,9 +83,8 @@ class Plan:
 
     def plain(self, first: list[Protocol], one: list[Protocol], two: list[Protocol], later: list[Protocol]) -> None:
         """Each pattern twice: without prologue and payloads, and with both. The second has the tests of messages that are refused."""
-        others = {"XX": "IX", "IX": "XX", "NN": "NX", "IK": "KK", "KK": "IK", "XK": "IK", "XN": "IN", "IN": "XN", "NK": "XK", "KN": "KX", "KX": "KN"}
         for protocol in first:
-            swapped = self.by_name.get(others.get(protocol.section, ""))
+            swapped = self.by_name.get(OTHERS.get(protocol.section, ""))
             pattern = [lambda group, it=swapped: cases.other_pattern(group, it)] if swapped else []
             self.add(cases.positive, name=protocol.section, protocol=protocol, flags=[protocol.kind, "EmptyPrologue"])
             also = [transport.one_way] if protocol.is_one_way else []
@@ -144,9 +145,9 @@ class Plan:
         for section in ("NN", "XX", "IKpsk2"):
             self.add(transport.nonces, name=f"{section}, nonces", protocol=by[section], flags=["HighNonce"], transport=())
             self.add(special.too_long, name=f"{section}, 65536 bytes", protocol=by[section], flags=["LongMessageTaken"], transport=(1, 1))
-        for section in ("NN", "XX", "IX", "IKpsk2"):
-            self.jobs.append(lambda it=by[section]: [group.as_json() for group in special.low_order(self.command, it)])
-            self.jobs.append(lambda it=by[section]: [group.as_json() for group in special.other_form(self.command, it)])
+        for section, role, letter in special.TRIED:
+            what = self.command, by[section], role, letter
+            self.jobs.append(lambda it=what: [group.as_json() for group in special.bad_keys(*it)])
         self.jobs.append(lambda: [special.frames(self.group("XX, frames", by["XX"], [], lengths=(3,)), 1)])
 
     @staticmethod

@@ -22,27 +22,40 @@ SMALL = (
     PRIME,
     PRIME + 1,
 )
+# Whose key is one of them: in messages in the clear, encrypted, and known beforehand.
+TRIED = (
+    ("NN", "initiator", "e"),
+    ("NN", "responder", "e"),
+    ("XX", "responder", "e"),
+    ("IKpsk2", "initiator", "e"),
+    ("IX", "initiator", "s"),
+    ("XX", "responder", "s"),
+    ("NK", "responder", "s"),
+    ("KN", "initiator", "s"),
+)
 ZEROS = "12.1: the DH result is all zeros; to refuse the key is allowed"
 OTHER_FORM = "12.1: the key isn't the least number of its point; to refuse it is allowed"
 
 
-def low_order(command: Command, protocol: Protocol) -> list[Group]:
-    return [bad_key(command, protocol, key, "LowOrderKey", ZEROS) for point in SMALL for key in (point, point + TOP) if key < 2**256]
+def keys(protocol: Protocol) -> list[tuple[int, str, str]]:
+    """The keys that are tried: the points of small order, and other forms of points; with the flag and the sentence of each."""
+    made = [(key, "LowOrderKey", ZEROS) for point in SMALL for key in (point, point + TOP) if key < 2**256]
+    made += [(PRIME + it, "NonCanonicalKey", OTHER_FORM) for it in (2, 3, 9, 18)]
+    top = int.from_bytes(public_of(draw(32, protocol.section, "top bit")), "little") | TOP
+    return [*made, (top, "NonCanonicalKey", OTHER_FORM)]
 
 
-def other_form(command: Command, protocol: Protocol) -> list[Group]:
-    found = [PRIME + it for it in (2, 3, 9, 18)]
-    found.append(int.from_bytes(public_of(draw(32, protocol.section, "top bit")), "little") | TOP)
-    return [bad_key(command, protocol, key, "NonCanonicalKey", OTHER_FORM) for key in found]
+def bad_keys(command: Command, protocol: Protocol, role: str, letter: str) -> list[Group]:
+    """A party's ephemeral or static key is each of these. Its other DH results are those of the party that is tested."""
+    return [bad_key(command, protocol, (role, letter), *it) for it in keys(protocol)]
 
 
-def bad_key(command: Command, protocol: Protocol, key: int, flag: str, why: str) -> Group:
-    """A party's ephemeral key is this one. Its other DH results are those of the party that is tested."""
-    data = key.to_bytes(32, "little")
-    role = "initiator" if key % 2 or protocol.is_one_way else "responder"
-    group = Group(command, f"{protocol.section} {data.hex()}", protocol, [flag], b"", (2,), (4, 4), bad={role: data})
-    steps = right(group, other(role), len(group.messages))
-    add(group, other(role), f"{protocol.section}: the {role}'s e is {data.hex()}; {why}", [flag], steps, result="acceptable")
+def bad_key(command: Command, protocol: Protocol, whose: tuple[str, str], key: int, flag: str, why: str) -> Group:
+    role, letter = whose
+    data, tested = key.to_bytes(32, "little"), other(role)
+    group = Group(command, f"{protocol.section} {data.hex()}", protocol, [flag], b"", (2,), (4, 4), bad={whose: data})
+    steps = right(group, tested, len(group.messages))
+    add(group, tested, f"{protocol.section}: the {role}'s {letter} is {data.hex()}; {why}", [flag], steps, result="acceptable")
     return group
 
 
