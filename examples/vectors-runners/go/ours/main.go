@@ -18,9 +18,28 @@ type party struct {
 	send, receive *noise.CipherState
 }
 
-func keyOf(b suite.Bytes) (key noise.Key) {
+// keyOf returns a key of the type that is wanted.
+func keyOf[T ~[32]byte](b suite.Bytes) (key T) {
 	copy(key[:], b.Data)
 	return key
+}
+
+// setKey sets a key of a Config, if there is one.
+func setKey[T ~[32]byte](to **T, b suite.Bytes) {
+	if len(b.Data) > 0 {
+		key := keyOf[T](b)
+		*to = &key
+	}
+}
+
+func setPSKs[T ~[32]byte](to *[]T, psks []suite.Bytes) {
+	for _, it := range psks {
+		*to = append(*to, keyOf[T](it))
+	}
+}
+
+func pairOf[T ~[32]byte](pair func(T) (*noise.KeyPair, error), b suite.Bytes) (*noise.KeyPair, error) {
+	return pair(keyOf[T](b))
 }
 
 func start(g *suite.Group, role string) (suite.Party, error) {
@@ -31,15 +50,10 @@ func start(g *suite.Group, role string) (suite.Party, error) {
 	config := &noise.Config{
 		Pattern: name + ":\n  " + strings.Join(g.Pattern, "\n  ") + "\n", Prologue: g.Prologue.Data, InsecureAcceptAnyKey: true,
 	}
-	for _, it := range g.PSKs {
-		config.PSKs = append(config.PSKs, keyOf(it))
-	}
-	if len(keys.RS.Data) > 0 {
-		key := keyOf(keys.RS)
-		config.PeerStatic = &key
-	}
+	setPSKs(&config.PSKs, g.PSKs)
+	setKey(&config.PeerStatic, keys.RS)
 	if len(keys.S.Data) > 0 {
-		pair, err := noise.NewKeyPair(keyOf(keys.S))
+		pair, err := pairOf(noise.NewKeyPair, keys.S)
 		if err != nil {
 			return nil, err
 		}
