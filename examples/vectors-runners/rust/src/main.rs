@@ -55,7 +55,8 @@ fn start(setup: &Setup) -> Result<Box<dyn Party>, Fault> {
         builder = builder.psk(psk);
     }
     SECRET.with(|it| it.set(setup.e.unwrap_or([1; 32])));
-    let handshake = if setup.responder { builder.responder() } else { builder.initiator() }.map_err(refused)?;
+    let handshake =
+        if setup.responder { builder.responder_with() } else { builder.initiator_with() }.map_err(refused)?;
     Ok(Box::new(Ours { handshake: Some(handshake), ciphers: None, hash: [0; 32] }))
 }
 
