@@ -30,7 +30,9 @@ def configs(pattern: str, toy: bool = True, **words: object) -> tuple[Config, Co
     count = layout(pattern).psks
     words = {"psks": [bytes([n + 1] * 32) for n in range(count)], "prologue": b"test", **words}
     made = []
-    for own, other in (keys, keys[::-1]):
+    for index, (own, other) in enumerate((keys, keys[::-1])):
         peer = {"peer_key": other.public} if other else {"accept_any_key": True}
-        made.append(Config(pattern=pattern, key=own, **peer, **({"ephemeral": Xor} if toy else {}), **words))
+        mine = [payload if number % 2 == index else b"" for number, payload in enumerate(words.get("payloads", ()))]
+        made.append(Config(pattern=pattern, key=own, **peer, **({"ephemeral": Xor} if toy else {}),
+                           **{**words, "payloads": mine[:len(layout(pattern).messages)]}))
     return made[0], made[1]

@@ -10,12 +10,13 @@ from typing import Any, TypeAlias, TypeVar
 from ._noise import ffi, lib
 from .codes import MAX_PAYLOAD, STREAM_OVERHEAD, Code
 from .config import Config
-from .errors import CallError, ChannelCut, MessageRefused
+from .errors import FORKED, CallError, ChannelCut, MessageRefused
 from .handshake import Handshake, Steps
-from .memory import Buffer, Struct
+from .memory import Buffer, Struct, refuse_text, shared
 from .pattern import layout
 
 T = TypeVar("T")
+CLOSED_HERE = "this party has closed the channel"
 
 
 @dataclass(frozen=True, slots=True)
@@ -76,6 +77,13 @@ class Channel:
         self._eof = self._reads_no_more = False
         self._to_send: list[bytes] = []
         self._events: _Events[None] = self._run()
+        shared.add(self)
+
+    def _in_child(self) -> None:
+        """In a forked process nothing is given out or sent; a thread that isn't in it may hold the locks."""
+        self._in, self._out = threading.RLock(), threading.RLock()
+        self._to_send.clear()
+        self._fault = CallError(None, FORKED)
 
     @property
     def agreed(self) -> Agreed | None:
@@ -94,6 +102,7 @@ class Channel:
 
     def receive_data(self, data: Buffer) -> None:
         """Takes bytes that came over the connection. After the end of the other's stream they are dropped."""
+        refuse_text(data)
         with self._in:
             if self._fault is None and not self._reads_no_more:
                 self._came.add(data)
@@ -114,7 +123,7 @@ class Channel:
             except StopIteration:
                 return None
             except BaseException as fault:
-                self._break(fault if isinstance(fault, Exception) else CallError(None))
+                self._break(fault if isinstance(fault, Exception) else CallError(None, CLOSED_HERE))
                 raise
 
     def answer(self, result: Any) -> None:
@@ -127,6 +136,7 @@ class Channel:
 
     def write(self, payload: Buffer) -> None:
         """Writes to the stream, once the handshake is done: `data_to_send` has the frames."""
+        refuse_text(payload)
         with self._out, ffi.from_buffer(payload) as data:
             sender = self._sends()
             result, start, size = ffi.new("noise_stream_result *"), 0, len(data)
@@ -155,7 +165,7 @@ class Channel:
         if self._sender is None:
             raise CallError(Code.NOT_DONE)
         if self._sender._at is None:
-            raise CallError(None)
+            raise self._sender._gone()
         return self._sender._at[0]
 
     def data_to_send(self) -> bytes:
@@ -169,7 +179,7 @@ class Channel:
         """Overwrites the keys. What `data_to_send` hasn't returned yet can still be sent."""
         with self._in, self._out:
             if self._fault is None:
-                self._fault = CallError(None)
+                self._fault = CallError(None, CLOSED_HERE)
             if not self._events.gi_running:    # else a function of the Config calls this
                 self._events.close()
             self._came.drop()
@@ -277,7 +287,7 @@ class Channel:
                 raise ChannelCut
             else:
                 return
-        raise CallError(None)
+        raise CallError(None, CLOSED_HERE)
 
 
 class _Came:

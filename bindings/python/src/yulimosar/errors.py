@@ -1,9 +1,18 @@
-"""What the package raises."""
+"""What the package raises. Each error can be pickled, as a pool of processes does."""
+from __future__ import annotations
+
+import pickle
+from typing import Any
+
 from .codes import Code
 
 
 class NoiseError(Exception):
     """What all errors of this package have in common."""
+
+    #: Of a Reader's `read()`, `readline`, `readexactly` and `readuntil`: what came before the fault, and is given out
+    #: here, as that of asyncio.IncompleteReadError.
+    partial: bytes = b""
 
 
 class ConfigError(NoiseError, ValueError):
@@ -18,15 +27,21 @@ class ConfigError(NoiseError, ValueError):
         return f"Config.{self.field}: {self.fault!s}"
 
 
-class CallError(NoiseError, RuntimeError):
-    """A call that can't be made now, as a write out of turn. It has changed nothing. `code` is None after `close`."""
+CLOSED = "it is closed"
+FORKED = "this is a forked process, which has no keys: run the handshake in it"
 
-    def __init__(self, code: Code | None) -> None:
-        super().__init__(code)
+
+class CallError(NoiseError, RuntimeError):
+    """A call that can't be made now, as a write out of turn. It has changed nothing. `code` is None after `close`, and
+    in a forked process."""
+
+    def __init__(self, code: Code | None, text: str = CLOSED) -> None:
+        super().__init__(code, text)
         self.code = code
+        self.text = text if code is None else str(code)
 
     def __str__(self) -> str:
-        return "it is closed, or was used up, or this is a forked process" if self.code is None else str(self.code)
+        return self.text
 
 
 class MessageRefused(NoiseError, ConnectionError):
@@ -38,32 +53,59 @@ class MessageRefused(NoiseError, ConnectionError):
     """
 
     def __init__(self, message: int | None, token: str | None, cause: Code | BaseException) -> None:
-        super().__init__(message, token, cause)
         self.message = message
         self.token = token
         self.cause = cause
+        super().__init__(self._text())    # three words would be an errno, its text and a file's name
 
-    def __str__(self) -> str:
+    def _text(self) -> str:
         where = "" if self.token is None else f", token {self.token}"
         if self.message is None:
+            if self.cause == Code.TAG:
+                return ("a message was refused: its tag is wrong. It was changed, repeated or injected, one before it "
+                        "was lost, or the parties have different intervals")
             return f"a message was refused: {self.cause!s}"
         if self.message == 0:
-            return f"before the handshake's first message: {self.cause!s}"
-        return f"handshake message {self.message}{where}: {self.cause!s}"
+            return f"before the handshake's first message: {self._reason()}"
+        return f"handshake message {self.message}{where}: {self._reason()}"
+
+    def _reason(self) -> str:
+        """The cause; a name before the words of an error of another package, as KeyError's."""
+        if isinstance(self.cause, (Code, NoiseError)):
+            return str(self.cause)
+        return f"{type(self.cause).__name__}: {self.cause!s}"
+
+    def __repr__(self) -> str:
+        return f"MessageRefused(message={self.message!r}, token={self.token!r}, cause={self.cause!r})"
+
+    def __reduce__(self) -> Any:
+        return type(self), (self.message, self.token, _carried(self.cause)), {"partial": self.partial}
+
+
+def _carried(cause: Code | BaseException) -> Code | BaseException:
+    """A cause that comes through pickle: another's error that doesn't is a RuntimeError of its words."""
+    if isinstance(cause, (Code, NoiseError)):
+        return cause
+    try:
+        pickle.loads(pickle.dumps(cause))
+    except Exception:
+        return RuntimeError(repr(cause))
+    return cause
 
 
 class ChannelCut(NoiseError, ConnectionResetError):
-    """The connection was lost before the other party had ended its stream, or in the handshake."""
+    """The connection was lost before the other party had ended its stream, or in the handshake; or before all of this
+    party's stream was sent."""
 
-    def __init__(self) -> None:
-        super().__init__("the connection was lost before the end of the stream")
+    def __init__(self, text: str = "the connection was lost before the end of the stream") -> None:
+        super().__init__(text)
 
 
 class HandshakeTimeout(NoiseError, TimeoutError):
     """The handshake took longer than Config.handshake_timeout."""
 
-    def __init__(self) -> None:
-        super().__init__("the handshake took too long")
+    def __init__(self, text: str = "the handshake took too long") -> None:
+        super().__init__(text)
 
 
 class PeerRefused(NoiseError):
@@ -73,8 +115,8 @@ class PeerRefused(NoiseError):
 class LowOrderKey(NoiseError):
     """X25519 of the other party's public key is zeros (Noise, 12.1)."""
 
-    def __init__(self) -> None:
-        super().__init__("X25519 of the other party's public key is zeros")
+    def __init__(self, text: str = "X25519 of the other party's public key is zeros") -> None:
+        super().__init__(text)
 
 
 class PskWanted(NoiseError):

@@ -51,11 +51,11 @@ class Handshake(Struct):
     """Runs a handshake message by message. The parties write in turn, the initiator first.
 
     After the last message one of `split`, `datagrams` and `ciphers` uses it up; `hash` and `peer_key` stay. A refused
-    message, or another party that isn't accepted, ends it. If the Config has neither `psks` nor `psk_for`, `set_psk`
-    passes the secrets.
+    message, or another party that isn't accepted, ends it, but in `try_read`. If the Config has neither `psks` nor
+    `psk_for`, `set_psk` passes the secrets.
     """
 
-    __slots__ = ("config", "initiator", "_layout", "_result", "_stage", "_ephemeral", "_judged", "_agreed")
+    __slots__ = ("config", "initiator", "_layout", "_result", "_stage", "_ephemeral", "_judged", "_agreed", "_kept")
 
     def __init__(self, config: Config, initiator: bool, *, late_psks: bool = True) -> None:
         self._layout = config.checked(initiator, late_psks)
@@ -63,6 +63,7 @@ class Handshake(Struct):
         self.initiator = initiator
         self._agreed: tuple[bytes, bytes | None] | None = None    # the hash and the key, once it is used up
         self._judged = False    # whether the other party's static key was, if it is known from the start
+        self._kept: Any = None  # in `try_read`, the struct as it was before
         self._result = ffi.new("noise_result *")
         self._stage = ffi.new("noise_stage_result *")
         draws = any(message.initiator == initiator and "e" in message.tokens for message in self._layout.messages)
@@ -92,8 +93,16 @@ class Handshake(Struct):
 
     def _open(self) -> Any:
         if self._at is None:
-            raise CallError(None)
+            raise self._gone()
         return self._at[0]
+
+    def _refuse(self) -> None:
+        """Ends the handshake; in `try_read`, leaves it as it was before."""
+        if self._kept is None:
+            self._why = "the handshake has ended, since a message or the other party was refused"
+            self._overwrite()
+        elif self._at is not None:
+            self._at[0][0] = self._kept[0]
 
     def _overwrite(self) -> None:
         super()._overwrite()
@@ -169,6 +178,21 @@ class Handshake(Struct):
         with self._lock:
             return run(self.reading(message))
 
+    def try_read(self, message: Buffer) -> bytes:
+        """Reads the message that is due, if it is the right one: its payload. Any error leaves the handshake as it was,
+        and the right message can still be read. For messages that a stranger can send, as over UDP."""
+        with self._lock:
+            at = self._open()
+            self._kept = ffi.new("noise_handshake *", at[0])    # a refusal gives back room for results of X25519, too
+            try:
+                return run(self.reading(message))
+            except BaseException:
+                self._refuse()
+                raise
+            finally:
+                lib.noise_wipe(self._kept, ffi.sizeof(self._kept[0]))
+                self._kept = None
+
     def set_psk(self, psk: bytes) -> None:
         """Passes the secret of the first psk token that has none. Later calls can't replace it."""
         if len(psk) != KEY_LEN:
@@ -211,7 +235,7 @@ class Handshake(Struct):
         """Ends the handshake at a message."""
         tokens = (*self._layout.messages[index].tokens, "payload")
         token = tokens[self._result.token] if code in (Code.SHORT, Code.TAG) else None
-        self._overwrite()
+        self._refuse()
         return MessageRefused(index + 1, token, Code(code))
 
     def _called(self, call: Callable[..., int], *words: Any) -> Steps[int]:
@@ -234,10 +258,10 @@ class Handshake(Struct):
         except (PskWanted, CallError):
             raise
         except Exception as cause:
-            self._overwrite()
+            self._refuse()
             raise MessageRefused(message, None, cause) from cause
         except BaseException:
-            self._overwrite()
+            self._refuse()
             raise
 
     def _supply(self) -> Steps[None]:
@@ -265,8 +289,8 @@ class Handshake(Struct):
     def _judge_first(self) -> Steps[None]:
         """Decides whether a static key of the other party that is known from the start is accepted."""
         if not self._judged and self._layout.knows(self.initiator):
-            self._judged = True
             yield from self._judge(0)
+            self._judged = True
 
     def _judge(self, message: int) -> Steps[None]:
         yield from self._guarded(self._judging(), message)
@@ -290,6 +314,7 @@ class Handshake(Struct):
             if code := call(self._open(), *words, *places):
                 raise CallError(Code(code))
             self._agreed = self.hash, self.peer_key
+            self._why = "it was used up by split, datagrams or ciphers"
             self._overwrite()
 
     def split(self) -> tuple[Sender, Receiver]:

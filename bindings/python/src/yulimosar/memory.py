@@ -5,10 +5,10 @@ import os
 import threading
 import weakref
 from types import TracebackType
-from typing import Any, NoReturn, Self, TypeAlias
+from typing import Any, NoReturn, Protocol, Self, TypeAlias
 
 from ._noise import ffi, lib
-from .errors import CallError
+from .errors import CLOSED, FORKED, CallError
 
 Buffer: TypeAlias = bytes | bytearray | memoryview
 
@@ -26,8 +26,15 @@ def pointer(data: Buffer) -> tuple[Any, int]:
     """What a call of the library takes for bytes, without a copy, and how many they are."""
     if type(data) is bytes:
         return data, len(data)
+    refuse_text(data)
     there = ffi.from_buffer(data)
     return there, len(there)
+
+
+def refuse_text(data: Buffer) -> None:
+    """Raises a TypeError that says what is wrong with a str."""
+    if isinstance(data, str):
+        raise TypeError("a bytes-like object is wanted, not a str: encode it first")
 
 
 def copied(data: Buffer) -> tuple[Any, int]:
@@ -42,12 +49,13 @@ class Struct:
     """Structs of the library with one owner. They are overwritten by `close`, at the end of a `with`, when Python frees
     them, and in a process that is forked: a key must not seal two messages with one nonce. Threads may share one."""
 
-    __slots__ = ("_lock", "_at", "_spare", "__weakref__")
+    __slots__ = ("_lock", "_at", "_spare", "_why", "__weakref__")
 
     def __init__(self, *types: str) -> None:
         self._lock = threading.RLock()
         self._at: tuple[Any, ...] | None = tuple(ffi.new(f"{name} *") for name in types)
         self._spare: Any = None     # a buffer of SMALL bytes
+        self._why = CLOSED          # why it has no keys, once it has none
         _all.add(self)
 
     def _room(self, size: int) -> Any:
@@ -79,9 +87,13 @@ class Struct:
         """Whether it was closed, or used up."""
         return self._at is None
 
+    def _gone(self) -> CallError:
+        """What a call raises that needs the keys, where there are none."""
+        return CallError(None, self._why)
+
     def __enter__(self) -> Self:
         if self._at is None:
-            raise CallError(None)
+            raise self._gone()
         return self
 
     def __exit__(
@@ -97,11 +109,25 @@ class Struct:
         raise TypeError(f"a {type(self).__name__} isn't copied: two would seal with one key and nonce")
 
 
+class Shared(Protocol):
+    """What a forked process has a copy of."""
+
+    def _in_child(self) -> None:
+        """Gives up, in a process that was forked, what is the parent's."""
+
+
+shared: weakref.WeakSet[Shared] = weakref.WeakSet()    # channels: their locks, and what they have sealed
+
+
 def _close_in_child() -> None:
     """Closes everything in a process that was forked: the keys are the parent's."""
     for struct in list(_all):
         struct._lock = threading.RLock()    # a thread that isn't in this process may hold it
+        if struct._at is not None:
+            struct._why = FORKED
         struct._overwrite()
+    for it in list(shared):
+        it._in_child()
 
 
 if hasattr(os, "register_at_fork"):

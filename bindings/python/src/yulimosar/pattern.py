@@ -118,7 +118,7 @@ class Layout:
 
 def pattern_text(pattern: str) -> str:
     """What the library gets: a pattern text, or a protocol name."""
-    if pattern.endswith("\n") or pattern.startswith("Noise_"):
+    if "\n" in pattern or pattern.startswith("Noise_"):
         return pattern
     return f"Noise_{pattern}{SUITE}"
 
@@ -130,7 +130,7 @@ def layout(pattern: str) -> Layout:
     ConfigError: the library doesn't accept it.
     """
     text = pattern_text(pattern)
-    if text.endswith("\n"):
+    if "\n" in text:
         if fault := check_pattern(text):
             raise ConfigError("pattern", str(fault))
         heading, *lines = text[:-1].split("\n")

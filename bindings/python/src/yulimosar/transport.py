@@ -47,7 +47,7 @@ class Sender(Struct):
         with self._lock:
             at = self._at
             if at is None:
-                raise CallError(None)
+                raise self._gone()
             room = self._spare if self._spare and length <= SMALL else self._room(length)
             if code := _seal(at[0], data, size, room, length, self._result):
                 raise _unsealed(code)
@@ -59,7 +59,7 @@ class Sender(Struct):
             raise ValueError("a negative size")
         with self._lock, ffi.from_buffer(buffer, require_writable=True) as room:
             if self._at is None:
-                raise CallError(None)
+                raise self._gone()
             code = _seal_in_place(self._at[0], room, len(room), size, self._result)
             if code:
                 raise _unsealed(code)
@@ -86,7 +86,7 @@ class Receiver(Struct):
         with self._lock:
             at = self._at
             if at is None:
-                raise CallError(None)
+                raise self._gone()
             room = self._spare if self._spare and size <= SMALL else self._room(size)
             if code := _open_copy(at[0], data, size, room, self._result):
                 raise _unopened(code)
@@ -96,7 +96,7 @@ class Receiver(Struct):
         """Opens a message where it is, without a copy: the payload is a view of it."""
         with self._lock, ffi.from_buffer(message, require_writable=True) as room:
             if self._at is None:
-                raise CallError(None)
+                raise self._gone()
             code = _open(self._at[0], room, len(room), self._result)
             if code:
                 raise _unopened(code)
@@ -113,7 +113,7 @@ def _nonce(struct: Struct, call: Any) -> int:
     number = ffi.new("uint64_t *")
     with struct._lock:
         if struct._at is None:
-            raise CallError(None)
+            raise struct._gone()
         if code := call(struct._at[0], number):
             raise CallError(Code(code))
     return number[0]    # type: ignore[no-any-return]
@@ -135,7 +135,7 @@ class Datagrams(Struct):
         with self._lock:
             at = self._at
             if at is None:
-                raise CallError(None)
+                raise self._gone()
             room = self._spare if self._spare and length <= SMALL else self._room(length)
             if code := _datagram_seal(at[0], data, size, room, length, self._result):
                 raise _unsealed(code)
@@ -147,7 +147,7 @@ class Datagrams(Struct):
         with self._lock:
             at = self._at
             if at is None:
-                raise CallError(None)
+                raise self._gone()
             room = self._spare if self._spare and size <= SMALL else self._room(size)
             if code := _datagram_open_copy(at[1], data, size, room, self._result):
                 raise _unopened(code)
@@ -174,7 +174,7 @@ class CipherState(Struct):
         ad_data, ad_size = pointer(ad)
         with self._lock:
             if self._at is None:
-                raise CallError(None)
+                raise self._gone()
             room = self._room(size + TAG_LEN)
             ffi.memmove(room, data, size)
             code = _encrypt(self._at[0], ad_data, ad_size, room, size + TAG_LEN, size, self._result)
@@ -188,7 +188,7 @@ class CipherState(Struct):
         ad_data, ad_size = pointer(ad)
         with self._lock:
             if self._at is None:
-                raise CallError(None)
+                raise self._gone()
             room = self._room(size)
             ffi.memmove(room, data, size)
             code = _decrypt(self._at[0], ad_data, ad_size, room, size, self._result)
@@ -212,6 +212,6 @@ class CipherState(Struct):
     def _change(self, call: Any, *words: int) -> None:
         with self._lock:
             if self._at is None:
-                raise CallError(None)
+                raise self._gone()
             if code := call(self._at[0], *words):
                 raise CallError(Code(code))
