@@ -5,9 +5,25 @@ import gc
 import logging
 import os
 
+import pytest
 from toys import configs
 
 from yulimosar import memory, open_connection, start_server
+
+LOOPS = ["asyncio", "uvloop"]
+factories = [None]    # that of the loop of this test
+
+
+@pytest.fixture(autouse=True, params=LOOPS)
+def each_loop(request):
+    """Runs a test with asyncio's loop, and with uvloop's."""
+    if request.param == "uvloop":
+        uvloop = pytest.importorskip("uvloop", reason="python3-uvloop isn't installed")
+        factories.append(uvloop.new_event_loop)
+        with asyncio.Runner(loop_factory=uvloop.new_event_loop) as first:    # which opens what all later ones share
+            first.run(asyncio.sleep(0))
+    yield request.param
+    del factories[1:]
 
 
 def descriptors():
@@ -56,7 +72,7 @@ def run(main, *, faults=0, seconds=120, debug=True):
         logger.setLevel(logging.INFO if debug else logging.WARNING)
         logger.propagate = False    # pytest would keep the lines
     try:
-        with asyncio.Runner(debug=debug) as runner:
+        with asyncio.Runner(debug=debug, loop_factory=factories[-1]) as runner:
             loop = runner.get_loop()
             loop.slow_callback_duration = 60
             loop.set_exception_handler(lambda _loop, context: caught.append(context))

@@ -7,12 +7,13 @@ import socket
 import tracemalloc
 
 import pytest
-from loops import connected, descriptors, echo, open_keys, run, server_of, settle, until
+from loops import connected, descriptors, each_loop, echo, open_keys, run, server_of, settle, until
 from toys import Xor, configs
 
 from yulimosar import (CallError, ChannelCut, Code, Config, ConfigError, HandshakeTimeout, KeyPair, MessageRefused,
                        PeerRefused, open_connection, streams)
 
+assert each_loop    # a fixture of each test here
 CONNECTIONS = int(os.environ.get("NOISE_CONNECTIONS", 300))
 STEP = int(os.environ.get("NOISE_RELAY_STEP", 11))
 
@@ -424,7 +425,9 @@ def test_close_gives_up_on_a_peer_that_takes_nothing(monkeypatch):
         async with connected("NN", handler) as (_reader, writer):
             writer.write(bytes(30_000_000))
             writer.close()
-            await writer.wait_closed()
+            with pytest.raises(ChannelCut) as caught:
+                await writer.wait_closed()
+            assert "bytes were left" in str(caught.value)
             done.set()
     run(main)
 

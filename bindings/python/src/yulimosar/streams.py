@@ -2,17 +2,19 @@
 from __future__ import annotations
 
 import asyncio
+import copy
 import logging
 import warnings
+from asyncio.trsock import TransportSocket
 from collections.abc import Awaitable, Callable, Iterable
 from types import TracebackType
-from typing import Any, Self
+from typing import Any, Self, cast
 
-from .channel import Agreed, Channel, Data, Event, Pending
+from .channel import CLOSED_HERE, Agreed, Channel, Data, Event, Pending
 from .codes import Code
 from .config import Config
-from .errors import CallError, ChannelCut, HandshakeTimeout
-from .memory import Buffer
+from .errors import CallError, ChannelCut, ConfigError, HandshakeTimeout, MessageRefused, NoiseError
+from .memory import Buffer, shared
 
 LIMIT = 2 ** 16        # of a reader's buffer, as asyncio's
 CLOSE_TIMEOUT = 30.0   # in seconds: how long `close` waits for a peer that takes nothing, as asyncio's does with TLS
@@ -22,7 +24,8 @@ logger = logging.getLogger("yulimosar")
 
 class Reader(asyncio.StreamReader):
     """A StreamReader. It gives out all that came before a fault; then each call raises the fault, and `at_eof` stays
-    False. b"" is the end that the other party has sent; where this party has closed before, CallError is raised."""
+    False. b"" is the end that the other party has sent; where this party has closed before, CallError is raised.
+    What `read()`, `readline`, `readexactly` and `readuntil` have when they raise a NoiseError is its `partial`."""
 
     def __init__(self, limit: int, loop: asyncio.AbstractEventLoop) -> None:
         super().__init__(limit=limit, loop=loop)
@@ -31,10 +34,12 @@ class Reader(asyncio.StreamReader):
 
     def feed_eof(self) -> None:
         if self._fault is None and (self._below is None or not self._below.ended):
-            self._fault = CallError(None)    # this party has closed: for asyncio that is an end, too
+            self._fault = CallError(None, CLOSED_HERE)    # for asyncio that is an end, too
         super().feed_eof()
 
     def set_exception(self, exc: Exception) -> None:
+        if self._below is not None and self._below.ended:
+            return    # all had come before the connection was lost: that is the writer's to tell
         self._fault = exc
         self.feed_eof()
 
@@ -45,33 +50,59 @@ class Reader(asyncio.StreamReader):
         return self._fault is None and super().at_eof()
 
     async def read(self, n: int = -1) -> bytes:
+        if n < 0:
+            return await self._read_all()
         data = await super().read(n)
         if not data and n:
             self._raise()
         return data
 
+    async def _read_all(self) -> bytes:
+        """Reads to the end. What a cancelled call has is left to the next one."""
+        parts, own = [], cast(Any, self)
+        try:
+            while part := await super().read(own._limit):
+                parts.append(part)
+        except asyncio.CancelledError:
+            own._buffer[:0] = b"".join(parts)
+            raise
+        data = b"".join(parts)
+        self._raise(data)
+        return data
+
     async def readexactly(self, n: int) -> bytes:
         try:
             return await super().readexactly(n)
-        except asyncio.IncompleteReadError:
-            self._raise()
+        except asyncio.IncompleteReadError as error:
+            self._raise(error.partial)
             raise
 
     async def readuntil(self, separator: bytes = b"\n") -> bytes:
         try:
             return await super().readuntil(separator)
-        except asyncio.IncompleteReadError:
-            self._raise()
+        except asyncio.IncompleteReadError as error:
+            self._raise(error.partial)
             raise
 
-    def _raise(self) -> None:
-        if self._fault is not None:
-            raise self._fault.with_traceback(None) from None
+    def _raise(self, partial: bytes = b"") -> None:
+        """Raises the fault, if there is one; each time another error, since each has a `partial` of its own."""
+        fault = self._fault
+        if isinstance(fault, NoiseError):
+            cause, fault = fault.__cause__, copy.copy(fault)
+            fault.partial = partial
+            raise fault from cause
+        if fault is not None:
+            raise fault.with_traceback(None)
 
 
 class Writer(asyncio.StreamWriter):
     """A StreamWriter. `close` sends the end of the stream, unless something went wrong; `abort` doesn't, so that the
     other party gets ChannelCut. As an asynchronous context manager it closes, or aborts after an exception."""
+
+    @property
+    def noise(self) -> Agreed:
+        """What the handshake has agreed on."""
+        return cast(Agreed, self.get_extra_info("noise"))
 
     def abort(self) -> None:
         """Closes the connection at once, without the end of the stream."""
@@ -112,8 +143,7 @@ class _Transport(asyncio.Transport):
         return self._below.transport.get_extra_info(name, default)
 
     def set_protocol(self, protocol: asyncio.BaseProtocol) -> None:
-        assert isinstance(protocol, asyncio.Protocol)
-        self._below.above = protocol
+        self._below.above = cast(asyncio.Protocol, protocol)
 
     def get_protocol(self) -> asyncio.BaseProtocol:
         return self._below.above
@@ -184,10 +214,15 @@ class _Below(asyncio.Protocol):
         self._ready: Callable[[_Transport], None] | None = ready
         self._timer: asyncio.TimerHandle | None = None
         self._asking: asyncio.Task[None] | None = None    # what waits for an asynchronous function of the Config
+        self._forked = False
+        shared.add(self)
+
+    def _in_child(self) -> None:
+        """In a forked process the connection, and the loop's selector, are the parent's."""
+        self.over = self._forked = True
 
     def connection_made(self, transport: asyncio.BaseTransport) -> None:
-        assert isinstance(transport, asyncio.Transport)
-        self.transport = transport
+        self.transport = cast(asyncio.Transport, transport)    # that of another loop, as uvloop's, isn't a subclass
         if self._timeout is not None:
             self._timer = self.loop.call_later(self._timeout, lambda: self.break_off(HandshakeTimeout()))
         self.pump()
@@ -268,6 +303,8 @@ class _Below(asyncio.Protocol):
 
     def abort(self) -> None:
         """Closes the connection without the end of the stream."""
+        if self._forked:
+            return
         if not self.over:
             self.over = True
             self.channel.close()
@@ -290,6 +327,7 @@ class _Below(asyncio.Protocol):
             if now < left:
                 self._watch(now)
             else:
+                self._fault = ChannelCut(f"closed before all was sent: {now} bytes were left, with the end")
                 self.transport.abort()
         self._timer = self.loop.call_later(CLOSE_TIMEOUT, look)
 
@@ -328,6 +366,8 @@ class _Below(asyncio.Protocol):
     def connection_lost(self, exc: Exception | None) -> None:
         if not self.over:    # gives out what came before
             self.paused = False
+            if exc is not None:
+                self._receive_rest()
             self.channel.receive_eof()
             self.pump()
         self.over, self._ready = True, None
@@ -342,6 +382,20 @@ class _Below(asyncio.Protocol):
             self.above.connection_lost(fault)
         else:
             self._failed(fault or ChannelCut())
+
+    def _receive_rest(self) -> None:
+        """Takes what the system has received and asyncio hasn't: it doesn't look after a write that has failed. Other
+        loops have closed the descriptor by then."""
+        sock = self.transport.get_extra_info("socket")
+        if not isinstance(sock, TransportSocket) or self.transport.get_extra_info("sslcontext") is not None:
+            return
+        try:
+            with sock.dup() as rest:
+                rest.setblocking(False)
+                while data := rest.recv(1 << 16):
+                    self.channel.receive_data(data)
+        except OSError:
+            pass    # that was all
 
 
 async def open_connection(
@@ -385,8 +439,8 @@ async def start_server(
     """Listens, and runs the handshake as the responder with each client. `handler` is called once that is done. If it
     raises, the connection is aborted. The other words are those of loop.create_server.
 
-    A handshake that fails, and a handler that ends with a ConnectionError, give a line at level INFO of the logger
-    "yulimosar".
+    A handshake that fails, and a handler that ends with the loss of its channel, give a line at level INFO of the
+    logger "yulimosar"; at level ERROR, with a traceback, where a function of the Config has failed.
     """
     config.check(False)
     loop = asyncio.get_running_loop()
@@ -402,7 +456,7 @@ async def start_server(
             task.add_done_callback(tasks.discard)
 
         def failed(fault: Exception) -> None:
-            logger.info("handshake with %s: %s", below.transport.get_extra_info("peername"), fault)
+            _report("handshake", below.transport.get_extra_info("peername"), fault)
 
         below = reader._below = _Below(Channel(config, False), above, config.handshake_timeout, ready, failed)
         return below
@@ -417,13 +471,23 @@ async def _serve(handler: Handler, reader: Reader, writer: Writer) -> None:
         result = handler(reader, writer)
         if result is not None:
             await result
-    except ConnectionError as fault:
-        writer.abort()
-        logger.info("channel with %s: %s", writer.get_extra_info("peername"), fault)
     except Exception as error:
+        is_lost = writer.is_closing()
         writer.abort()
+        if isinstance(error, ConnectionError) and (is_lost or isinstance(error, NoiseError)):
+            _report("channel", writer.get_extra_info("peername"), error)
+            return
         words = {"message": "Unhandled exception in a handler of yulimosar.start_server", "exception": error}
         asyncio.get_running_loop().call_exception_handler(words)
     except BaseException:
         writer.abort()
         raise
+
+
+def _report(what: str, peer: Any, fault: Exception) -> None:
+    """A line of the log: at INFO for what the network or the other party does, at ERROR for what this program does."""
+    cause = fault.cause if isinstance(fault, MessageRefused) else fault
+    if isinstance(cause, Code) or isinstance(cause, (NoiseError, OSError)) and not isinstance(cause, ConfigError):
+        logger.info(f"{what} with %s: %s", peer, fault)
+    else:
+        logger.error(f"{what} with %s: %s", peer, fault, exc_info=cause)
