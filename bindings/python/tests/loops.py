@@ -14,7 +14,7 @@ LOOPS = ["asyncio", "uvloop"]
 factories = [None]    # that of the loop of this test
 
 
-@pytest.fixture(autouse=True, params=LOOPS)
+@pytest.fixture(params=LOOPS)
 def each_loop(request):
     """Runs a test with asyncio's loop, and with uvloop's."""
     if request.param == "uvloop":

@@ -10,7 +10,8 @@ from toys import Xor, configs
 
 from yulimosar import CallError, ChannelCut, Config, MessageRefused, open_connection, streams
 
-assert each_loop    # a fixture of each test here
+assert each_loop
+pytestmark = pytest.mark.usefixtures("each_loop")
 
 
 async def says_bye_and_closes(reader, writer):

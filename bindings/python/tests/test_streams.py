@@ -13,7 +13,8 @@ from toys import Xor, configs
 from yulimosar import (CallError, ChannelCut, Code, Config, ConfigError, HandshakeTimeout, KeyPair, MessageRefused,
                        PeerRefused, open_connection, streams)
 
-assert each_loop    # a fixture of each test here
+assert each_loop
+pytestmark = pytest.mark.usefixtures("each_loop")
 CONNECTIONS = int(os.environ.get("NOISE_CONNECTIONS", 300))
 STEP = int(os.environ.get("NOISE_RELAY_STEP", 11))
 

@@ -1,89 +1,72 @@
-"""Datagrams: udp.py serve, and then udp.py ping. The handshake is NNpsk0, so both have a file `secret` of 32 bytes.
+"""Datagrams: udp.py serve [PORT], and then udp.py ping [PORT]. The handshake is NNpsk0, so both have a file `secret` of
+32 bytes.
 
-A datagram begins with its kind: 0 and 1 are messages of the handshake, 2 is what comes after it. A lost message of the
-handshake is sent again; each is read once, on a new handshake, so that a stranger's can't end another's.
+DatagramProtocol sees to the handshake: its messages may be lost, repeated or late, and anybody may send others. What
+comes after it may be lost, too, and is given out at most once: so the client asks again.
 """
 import asyncio
 import sys
 from pathlib import Path
 
-from yulimosar import Config, Datagrams, Handshake, NoiseError
-
-PORT = 4045
-Address = tuple[str, int]
+from yulimosar import Config, DatagramPeer, DatagramProtocol
 
 
 def config() -> Config:
     """What both parties start from."""
-    return Config(pattern="NNpsk0", prologue=b"udp 1", psks=[Path("secret").read_bytes()])
+    return Config(pattern="NNpsk0", prologue=b"udp 2", psks=[Path("secret").read_bytes()])
 
 
-class Server(asyncio.DatagramProtocol):
-    """Sends back what it opens."""
+class Server(DatagramProtocol):
+    """Sends back what it gets."""
 
-    transport: asyncio.DatagramTransport
+    def peer_connected(self, peer: DatagramPeer) -> None:
+        print(f"udp: a client at {peer.address[0]}", file=sys.stderr)
 
-    def __init__(self) -> None:
-        self.peers: dict[Address, Datagrams] = {}  # only of those that know the secret
-
-    def connection_made(self, transport: asyncio.DatagramTransport) -> None:  # type: ignore[override]
-        self.transport = transport
-
-    def datagram_received(self, data: bytes, addr: Address) -> None:
-        try:
-            if data[:1] == b"\0":
-                with Handshake(config(), initiator=False) as handshake:
-                    handshake.read(data[1:])
-                    self.transport.sendto(b"\1" + handshake.write(), addr)
-                    self.peers[addr] = handshake.datagrams()
-            elif data[:1] == b"\2" and addr in self.peers:
-                peer = self.peers[addr]
-                self.transport.sendto(b"\2" + peer.seal(peer.open(data[1:])), addr)
-        except NoiseError as fault:
-            print(f"udp: from {addr[0]}: {fault}", file=sys.stderr)
+    def payload_received(self, peer: DatagramPeer, payload: bytes) -> None:
+        peer.send(payload)
 
 
-class Client(asyncio.DatagramProtocol):
+class Client(DatagramProtocol):
     """Puts what comes into a queue."""
 
     def __init__(self) -> None:
+        super().__init__(config(), initiator=True)
         self.came: asyncio.Queue[bytes] = asyncio.Queue()
 
-    def datagram_received(self, data: bytes, addr: Address) -> None:
-        self.came.put_nowait(data)
+    def payload_received(self, peer: DatagramPeer, payload: bytes) -> None:
+        self.came.put_nowait(payload)
 
 
-async def exchange(transport: asyncio.DatagramTransport, client: Client, message: bytes, kind: bytes) -> bytes:
-    """Sends a message, at most ten times, until one of this kind comes."""
-    for _ in range(10):
-        transport.sendto(message)
+async def ask(client: Client, peer: DatagramPeer, number: int, text: bytes) -> bytes:
+    """The answer to a text. Its number tells it from an answer to an earlier one that comes late."""
+    for _ in range(20):
+        peer.send(bytes([number]) + text)
         try:
-            async with asyncio.timeout(0.5):
-                while (data := await client.came.get())[:1] != kind:
+            async with asyncio.timeout(1):
+                while (answer := await client.came.get())[0] != number:
                     pass
-                return data[1:]
+                return answer[1:]
         except TimeoutError:
             pass
     raise TimeoutError("the server doesn't answer")
 
 
-async def ping() -> None:
-    """Shakes hands, and sends three datagrams."""
-    address = ("127.0.0.1", PORT)
-    transport, client = await asyncio.get_running_loop().create_datagram_endpoint(Client, remote_addr=address)
-    with Handshake(config(), initiator=True) as handshake:
-        handshake.read(await exchange(transport, client, b"\0" + handshake.write(), b"\1"))
-        with handshake.datagrams(window=64) as datagrams:
-            for text in (b"one", b"two", b"three"):
-                answer = await exchange(transport, client, b"\2" + datagrams.seal(text), b"\2")
-                print(f"udp: the server says: {datagrams.open(answer).decode()}")
+async def ping(port: int) -> None:
+    """Shakes hands, and sends three texts."""
+    transport, client = await asyncio.get_running_loop().create_datagram_endpoint(
+        Client, remote_addr=("127.0.0.1", port))
+    peer = await client.connected
+    for number, text in enumerate((b"one", b"two", b"three")):
+        answer = await ask(client, peer, number, text)
+        print(f"udp: the server says: {answer.decode()}")
     transport.close()
 
 
-async def serve() -> None:
+async def serve(port: int) -> None:
     """Serves for ever."""
-    await asyncio.get_running_loop().create_datagram_endpoint(Server, local_addr=("127.0.0.1", PORT))
+    await asyncio.get_running_loop().create_datagram_endpoint(
+        lambda: Server(config(), initiator=False), local_addr=("127.0.0.1", port))
     await asyncio.Event().wait()
 
 
-asyncio.run({"serve": serve, "ping": ping}[sys.argv[1]]())
+asyncio.run({"serve": serve, "ping": ping}[sys.argv[1]](int(sys.argv[2]) if len(sys.argv) > 2 else 4045))

@@ -1,7 +1,7 @@
 """Secure channels by the Noise Protocol Framework (revision 34, with 25519, ChaChaPoly and SHA256).
 
-open_connection and start_server are for asyncio, connect and accept for sockets, Channel for anything else. Below them
-are Handshake, Sender, Receiver, Datagrams and CipherState.
+open_connection and start_server are for asyncio, connect and accept for sockets, Channel for anything else; and
+DatagramProtocol and DatagramChannel for UDP. Below them are Handshake, Sender, Receiver, Datagrams and CipherState.
 """
 from __future__ import annotations
 
@@ -11,6 +11,7 @@ from ._noise import ffi, lib
 from .channel import Agreed, Channel, Data, End, Event, Pending
 from .codes import MAX_DATAGRAM, MAX_MESSAGE, MAX_PAYLOAD, Code
 from .config import Config
+from .datagrams import DatagramChannel
 from .errors import (
     CallError, ChannelCut, ConfigError, HandshakeTimeout, LowOrderKey, MessageRefused, NoiseError, PeerRefused,
     PskWanted,
@@ -23,18 +24,20 @@ from .transport import CipherState, Datagrams, Receiver, Sender
 if TYPE_CHECKING:
     from .sockets import NoiseSocket, accept, connect
     from .streams import Reader, Writer, open_connection, start_server
+    from .udp import DatagramPeer, DatagramProtocol
 
 __version__ = "1.0.0"
 __all__ = [
     "Agreed", "CallError", "Channel", "ChannelCut", "CipherState", "Code", "Config", "ConfigError", "DH", "Data",
-    "Datagrams", "End", "Event", "Fault", "Handshake", "HandshakeTimeout", "KeyPair", "Layout", "LowOrderKey",
-    "MAX_DATAGRAM", "MAX_MESSAGE", "MAX_PAYLOAD", "Message", "MessageRefused", "NoiseError", "NoiseSocket",
-    "PeerRefused", "Pending", "Piece", "PskWanted", "Reader", "Receiver", "Sender", "Writer", "accept",
-    "check_pattern", "connect", "layout", "open_connection", "start_server",
+    "DatagramChannel", "DatagramPeer", "DatagramProtocol", "Datagrams", "End", "Event", "Fault", "Handshake",
+    "HandshakeTimeout", "KeyPair", "Layout", "LowOrderKey", "MAX_DATAGRAM", "MAX_MESSAGE", "MAX_PAYLOAD", "Message",
+    "MessageRefused", "NoiseError", "NoiseSocket", "PeerRefused", "Pending", "Piece", "PskWanted", "Reader",
+    "Receiver", "Sender", "Writer", "accept", "check_pattern", "connect", "layout", "open_connection", "start_server",
 ]
 
 _STREAMS = {"Reader", "Writer", "open_connection", "start_server"}
 _SOCKETS = {"NoiseSocket", "accept", "connect"}
+_UDP = {"DatagramPeer", "DatagramProtocol"}
 _STRUCTS = ("handshake", "stream_sender", "stream_receiver", "sender", "receiver", "datagram_sender",
             "datagram_receiver", "cipher")
 
@@ -47,6 +50,9 @@ def __getattr__(name: str) -> Any:
     if name in _SOCKETS:
         from . import sockets
         return getattr(sockets, name)
+    if name in _UDP:
+        from . import udp
+        return getattr(udp, name)
     raise AttributeError(f"module {__name__!r} has no attribute {name!r}")
 
 
