@@ -1,4 +1,4 @@
-"""python3 -m yulimosar connect, listen and keygen."""
+"""python3 -m yulimosar connect, listen, keygen and public."""
 import concurrent.futures
 import contextlib
 import os
@@ -62,6 +62,18 @@ def test_keygen(tmp_path):
     assert stat.S_IMODE(path.stat().st_mode) == 0o600 and len(KeyPair.from_file(path).public) == 32
     again = command("keygen", "-o", path)
     assert again.returncode == 1 and b"exists" in again.stderr
+
+
+def test_public(tmp_path, keys):
+    """The public key of a file; and what isn't such a file."""
+    for path, public in keys.values():
+        done = command("public", path)
+        assert (done.returncode, done.stdout.decode(), done.stderr) == (0, f"{public}\n", b"")
+    wrong = tmp_path / "wrong"
+    wrong.write_text("12")
+    for path in (wrong, tmp_path / "missing"):
+        done = command("public", path)
+        assert done.returncode == 1 and done.stderr.startswith(b"yulimosar: ") and not done.stdout
 
 
 @pytest.mark.parametrize("words", [[], ["keygen", "extra"], ["connect"], ["connect", "nowhere"], ["talk"],
