@@ -67,6 +67,23 @@ def test_a_try_that_the_config_refuses_changes_nothing():
     assert initiator.hash == responder.hash
 
 
+def test_a_try_by_a_stranger_who_claims_anothers_key():
+    """The secret that `psk_for` chose for the claimed key isn't kept for the party that has it."""
+    first, second = configs("IKpsk1")
+    secrets = {first.key.public: first.psks[0], bytes(32): bytes(32)}
+    words = {"pattern": "IKpsk1", "key": second.key, "prologue": b"test", "ephemeral": Xor}
+    responder = Handshake(Config(**words, verify=lambda key: True, psk_for=lambda key: [secrets[key]]), False)
+    for _ in range(12):
+        words = {"pattern": "IKpsk1", "key": Xor(bytes(32)), "prologue": b"test", "ephemeral": Xor}
+        stranger = Config(**words, psks=[bytes([9] * 32)], peer_key=second.key.public)
+        with pytest.raises(MessageRefused):
+            responder.try_read(Handshake(stranger, True).write())
+    initiator = Handshake(first, True)
+    responder.try_read(initiator.write())
+    initiator.try_read(responder.write())
+    assert initiator.hash == responder.hash
+
+
 def test_a_try_out_of_turn():
     initiator, responder = pair("NN")
     with pytest.raises(CallError) as caught:

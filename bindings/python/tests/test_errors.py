@@ -117,10 +117,10 @@ def test_why_a_call_cannot_be_made():
     first.read(second.write())
     sender, receiver = first.split()
     sender.close()
-    for call, words in ((lambda: sender.seal(b""), "closed"), (first.write, "used up")):
+    for call, words, code in ((lambda: sender.seal(b""), "closed", None), (first.write, "used up", Code.ENDED)):
         with pytest.raises(CallError) as caught:
             call()
-        assert caught.value.code is None and words in str(caught.value)
+        assert caught.value.code == code and words in str(caught.value)
         assert not ("closed" in str(caught.value) and "used up" in str(caught.value))
     other = Handshake(configs("NN")[1], False)
     with pytest.raises(MessageRefused):

@@ -206,7 +206,13 @@ def test_calls_out_of_turn_change_nothing():
     with pytest.raises(CallError):
         responder.read(b"")
     initiator.split()
-    for call in (initiator.split, initiator.ciphers, initiator.write, lambda: initiator.message):
+    for call in (initiator.split, initiator.ciphers, initiator.datagrams, initiator.write, lambda: initiator.read(b"")):
+        with pytest.raises(CallError) as caught:
+            call()
+        assert caught.value.code == Code.ENDED and "used up" in str(caught.value)
+    assert initiator.closed and initiator.done and initiator.message == 3 and initiator.hash == responder.hash
+    initiator.close()
+    for call in (initiator.split, initiator.write, lambda: initiator.message, lambda: initiator.hash):
         with pytest.raises(CallError) as caught:
             call()
         assert caught.value.code is None

@@ -207,8 +207,9 @@ class Channel:
                 else:
                     payloads.append((yield from self._read_message(handshake)))
             self._sender, self._receiver = handshake.stream()
+            self._agreed = Agreed(handshake.protocol, self._initiator, handshake.hash, handshake.peer_key,
+                                  tuple(payloads))
         self._handshake = None
-        self._agreed = Agreed(handshake.protocol, self._initiator, handshake.hash, handshake.peer_key, tuple(payloads))
         self._reads_no_more = self._initiator and self.one_way
         yield self._agreed
         if not self._reads_no_more:

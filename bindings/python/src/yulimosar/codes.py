@@ -26,7 +26,6 @@ class Code(IntEnum):
     ROOM = 18
     NOT_DONE = 19
     WANTED = 20
-    FULL = 21
     ONE_WAY = 22
     STRUCT = 23
     LENGTH = 24

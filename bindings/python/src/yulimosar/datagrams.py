@@ -139,6 +139,7 @@ class DatagramChannel:
                               tuple(self._payloads))
         self._datagrams = handshake.datagrams(self._window)
         self._handshake = None
+        handshake.close()
 
     def _answer(self) -> None:
         """Sends the message after the last one that was read; after the last of all, an empty payload."""

@@ -35,10 +35,10 @@ class CallError(NoiseError, RuntimeError):
     """A call that can't be made now, as a write out of turn. It has changed nothing. `code` is None after `close`, and
     in a forked process."""
 
-    def __init__(self, code: Code | None, text: str = CLOSED) -> None:
+    def __init__(self, code: Code | None, text: str | None = None) -> None:
         super().__init__(code, text)
         self.code = code
-        self.text = text if code is None else str(code)
+        self.text = text or (CLOSED if code is None else str(code))
 
     def __str__(self) -> str:
         return self.text

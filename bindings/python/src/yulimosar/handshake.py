@@ -50,20 +50,22 @@ def _refuse(steps: Steps[T], error: BaseException) -> T:
 class Handshake(Struct):
     """Runs a handshake message by message. The parties write in turn, the initiator first.
 
-    After the last message one of `split`, `datagrams` and `ciphers` uses it up; `hash` and `peer_key` stay. A refused
+    After the last message one of `split`, `datagrams` and `ciphers` uses it up; `hash` and `peer_key` go on. A refused
     message, or another party that isn't accepted, ends it, but in `try_read`. If the Config has neither `psks` nor
     `psk_for`, `set_psk` passes the secrets.
     """
 
-    __slots__ = ("config", "initiator", "_layout", "_result", "_stage", "_ephemeral", "_judged", "_agreed", "_kept")
+    __slots__ = ("config", "initiator", "_layout", "_result", "_stage", "_ephemeral", "_judged", "_used", "_tries",
+                 "_kept")
 
     def __init__(self, config: Config, initiator: bool, *, late_psks: bool = True) -> None:
         self._layout = config.checked(initiator, late_psks)
         self.config = config
         self.initiator = initiator
-        self._agreed: tuple[bytes, bytes | None] | None = None    # the hash and the key, once it is used up
         self._judged = False    # whether the other party's static key was, if it is known from the start
-        self._kept: Any = None  # in `try_read`, the struct as it was before
+        self._used = False      # whether `split`, `datagrams`, `ciphers` or `stream` has used it up
+        self._tries = False     # whether `try_read` runs
+        self._kept: Any = None  # then the struct as it was before, if the Config has to decide something
         self._result = ffi.new("noise_result *")
         self._stage = ffi.new("noise_stage_result *")
         draws = any(message.initiator == initiator and "e" in message.tokens for message in self._layout.messages)
@@ -96,16 +98,29 @@ class Handshake(Struct):
             raise self._gone()
         return self._at[0]
 
+    @property
+    def closed(self) -> bool:
+        """Whether it was closed, or used up."""
+        return self._at is None or self._used
+
+    def _unmade(self, code: int) -> CallError:
+        """What a call raises that the library refuses."""
+        used = "the handshake was used up by split, datagrams or ciphers"
+        return CallError(Code(code), used if self._used and code == Code.ENDED else None)
+
     def _refuse(self) -> None:
         """Ends the handshake; in `try_read`, leaves it as it was before."""
-        if self._kept is None:
+        if not self._tries:
             self._why = "the handshake has ended, since a message or the other party was refused"
             self._overwrite()
-        elif self._at is not None:
+        elif self._kept is not None and self._at is not None:
             self._at[0][0] = self._kept[0]
 
     def _overwrite(self) -> None:
         super()._overwrite()
+        self._forget_ephemeral()
+
+    def _forget_ephemeral(self) -> None:
         ephemeral, self._ephemeral = self._ephemeral, None
         if isinstance(ephemeral, KeyPair):
             ephemeral.close()
@@ -147,8 +162,6 @@ class Handshake(Struct):
     @property
     def hash(self) -> bytes:
         """The handshake hash so far. After the last message it is the same at both parties (Noise, 11.2)."""
-        if self._agreed is not None:
-            return self._agreed[0]
         hash_ = ffi.new("char[]", KEY_LEN)
         with self._lock:
             code = lib.noise_hash(self._open(), hash_)
@@ -159,8 +172,6 @@ class Handshake(Struct):
     @property
     def peer_key(self) -> bytes | None:
         """The other party's static key; None if it isn't known, or not yet."""
-        if self._agreed is not None:
-            return self._agreed[1]
         key = ffi.new("noise_key *")
         with self._lock:
             code = lib.noise_remote_static(self._open(), key)
@@ -183,15 +194,28 @@ class Handshake(Struct):
         and the right message can still be read. For messages that a stranger can send, as over UDP."""
         with self._lock:
             at = self._open()
-            self._kept = ffi.new("noise_handshake *", at[0])    # a refusal gives back room for results of X25519, too
+            self._tries = True
+            if self._decides():
+                self._kept = ffi.new("noise_handshake *", at[0])
             try:
                 return run(self.reading(message))
+            except PskWanted:
+                raise
             except BaseException:
                 self._refuse()
                 raise
             finally:
-                lib.noise_wipe(self._kept, ffi.sizeof(self._kept[0]))
-                self._kept = None
+                self._tries = False
+                if self._kept is not None:
+                    lib.noise_wipe(self._kept, ffi.sizeof(self._kept[0]))
+                    self._kept = None
+
+    def _decides(self) -> bool:
+        """Whether the Config has to do with the next message what the library can't take back: it judges a key that the
+        message has, after it was accepted, or it chooses secrets by a key that a stranger has claimed."""
+        config = self.config
+        judges = config.verify is not None or config.peer_key is not None
+        return config.psk_for is not None or judges and self.message == self._layout.learns(self.initiator)
 
     def set_psk(self, psk: bytes) -> None:
         """Passes the secret of the first psk token that has none. Later calls can't replace it."""
@@ -211,19 +235,21 @@ class Handshake(Struct):
         room = ffi.new("char[]", size[0])
         code = yield from self._called(lib.noise_write, data, length, room, size[0])
         if code:
-            raise CallError(Code(code))
+            raise self._unmade(code)
         return ffi.unpack(room, self._result.len)    # type: ignore[no-any-return]
 
     def reading(self, message: Buffer) -> Steps[bytes]:
         """`read`, where functions of the Config may be asynchronous."""
         index = self.message
+        if self._used:
+            raise self._unmade(Code.ENDED)
         if self.done:
             raise CallError(Code.DONE)
         if self.writes_next:
             raise CallError(Code.NOT_YOUR_TURN)
         yield from self._judge_first()
         room, size = copied(message)
-        code = yield from self._called(lib.noise_read, room, size)
+        code = yield from self._called(lib.noise_try_read if self._tries else lib.noise_read, room, size)
         if code:
             raise self._refused(index, code)
         payload: bytes = ffi.unpack(room + getattr(self._result, "from"), self._result.len)
@@ -312,10 +338,9 @@ class Handshake(Struct):
         places = [place for it in structs for place in it._at or ()]
         with self._lock:
             if code := call(self._open(), *words, *places):
-                raise CallError(Code(code))
-            self._agreed = self.hash, self.peer_key
-            self._why = "it was used up by split, datagrams or ciphers"
-            self._overwrite()
+                raise self._unmade(code)
+            self._used = True
+            self._forget_ephemeral()
 
     def split(self) -> tuple[Sender, Receiver]:
         """The two directions, for messages in order. Keys are renewed after each `interval` messages of a direction."""
