@@ -1,4 +1,4 @@
-"""python3 -m yulimosar connect, listen, keygen and public."""
+"""python3 -m yulimosar connect, listen, keygen and pubkey."""
 import concurrent.futures
 import contextlib
 import os
@@ -64,15 +64,15 @@ def test_keygen(tmp_path):
     assert again.returncode == 1 and b"exists" in again.stderr
 
 
-def test_public(tmp_path, keys):
+def test_pubkey(tmp_path, keys):
     """The public key of a file; and what isn't such a file."""
     for path, public in keys.values():
-        done = command("public", path)
+        done = command("pubkey", path)
         assert (done.returncode, done.stdout.decode(), done.stderr) == (0, f"{public}\n", b"")
     wrong = tmp_path / "wrong"
     wrong.write_text("12")
     for path in (wrong, tmp_path / "missing"):
-        done = command("public", path)
+        done = command("pubkey", path)
         assert done.returncode == 1 and done.stderr.startswith(b"yulimosar: ") and not done.stdout
 
 

@@ -1,4 +1,4 @@
-"""Joins standard input and output to a channel: python3 -m yulimosar connect or listen; and keygen, public.
+"""Joins standard input and output to a channel: python3 -m yulimosar connect or listen; and keygen, pubkey.
 
 The status is 0 if both parties have ended their streams, 1 after a fault, with a sentence on standard error, and 2
 after wrong options.
@@ -26,7 +26,7 @@ AT_ONCE = 64      # how many handshakes of a listener run at once, so that silen
 
 EXAMPLES = """
   python3 -m yulimosar keygen -o server.key        prints the public key, too
-  python3 -m yulimosar public server.key           prints it again
+  python3 -m yulimosar pubkey server.key           prints it again
   python3 -m yulimosar listen :9000 --key server.key --peer THE_CLIENTS_KEY
   python3 -m yulimosar connect host:9000 --key client.key --peer THE_SERVERS_KEY
 """
@@ -38,7 +38,7 @@ def main() -> None:
     try:
         if options.what == "keygen":
             _keygen(options.output)
-        elif options.what == "public":
+        elif options.what == "pubkey":
             print(KeyPair.from_file(options.file).public.hex())
         else:
             _join(options)
@@ -58,8 +58,8 @@ def _parser() -> argparse.ArgumentParser:
     kinds = parser.add_subparsers(dest="what", required=True)
     keygen = kinds.add_parser("keygen", help="make a static key; the public key goes to standard error")
     keygen.add_argument("-o", dest="output", metavar="FILE", help="write it to this new file")
-    public = kinds.add_parser("public", help="print the public key of a key file")
-    public.add_argument("file", metavar="FILE", help="the static key that keygen wrote")
+    pubkey = kinds.add_parser("pubkey", help="print the public key of a key file")
+    pubkey.add_argument("file", metavar="FILE", help="the static key that keygen wrote")
     for name, text in (("connect", "connect to HOST:PORT"),
                        ("listen", "take the first connection at [HOST]:PORT whose handshake succeeds")):
         kind = kinds.add_parser(name, help=text)
