@@ -1,12 +1,16 @@
-"""Times this package beside dissononce and beside plain asyncio streams, in turns, in time of the processor: the least
-of each counts. It is no check. PYTHONPATH has the package: checks/python/figures.py."""
+"""Times this package beside dissononce, beside ChaCha20Poly1305 of `cryptography` in a loop, beside the library from C,
+and beside plain asyncio streams, in turns, in time of the processor: the least of each counts. It is no check.
+PYTHONPATH has the package: checks/python/figures.py."""
 import asyncio
 import os
 import statistics
 import subprocess
 import sys
+import tempfile
 import time
+from pathlib import Path
 
+from cryptography.hazmat.primitives.ciphers.aead import ChaCha20Poly1305
 from dissononce.cipher.chachapoly import ChaChaPolyCipher
 from dissononce.dh.x25519.x25519 import X25519DH
 from dissononce.hash.sha256 import SHA256Hash
@@ -17,6 +21,57 @@ from dissononce.processing.impl.symmetricstate import SymmetricState
 
 from yulimosar import Config, Handshake, KeyPair, open_connection, start_server
 
+SOURCES = Path(__file__).resolve().parent.parent.parent / "bindings/python/src"
+# Both ends of NN, with results of X25519 that are the xor of the public keys; then the least time of a message, in ns.
+LOOP = r"""
+#include "noise.h"
+#include <stdio.h>
+#include <stdlib.h>
+#include <time.h>
+
+static int xor_of(void *own, uint8_t of_static, const uint8_t remote[32], uint8_t result[32]) {
+    (void)of_static;
+    for (int i = 0; i < 32; i++) result[i] = (uint8_t)(((uint8_t *)own)[i] ^ remote[i]);
+    return 1;
+}
+
+static double now(void) {
+    struct timespec at;
+    clock_gettime(CLOCK_PROCESS_CPUTIME_ID, &at);
+    return at.tv_sec * 1e9 + at.tv_nsec;
+}
+
+int main(int count, char **words) {
+    static uint8_t keys[2][32] = {{1}, {2}}, room[65535];
+    size_t size = (size_t)atoi(words[count - 1]);
+    noise_handshake ends[2];
+    noise_sender senders[2];
+    noise_receiver receivers[2];
+    noise_result result;
+    uint32_t codes = 0;
+    for (int i = 0; i < 2; i++) {
+        noise_setup setup = {.responder = (uint8_t)i, .e = {.present = 1, .bytes = {(uint8_t)(i + 1)}}};
+        codes |= noise_start(&ends[i], (const uint8_t *)"Noise_NN_25519_ChaChaPoly_SHA256", 32, NULL, 0, &setup);
+    }
+    for (int i = 0; i < 2; i++) {
+        codes |= noise_write_with(&ends[i], NULL, 0, room, sizeof room, &result, xor_of, keys[i]);
+        codes |= noise_read_with(&ends[1 - i], room, result.len, &result, xor_of, keys[1 - i]);
+    }
+    for (int i = 0; i < 2; i++) codes |= noise_finish(&ends[i], 0, &senders[i], &receivers[i]);
+    double least = 1e18;
+    for (int round = 0; round < 30; round++) {
+        double start = now();
+        for (int i = 0; i < 200; i++) {
+            codes |= noise_seal_in_place(&senders[0], room, sizeof room, size, &result);
+            codes |= noise_open(&receivers[1], room, size + 16, &result);
+        }
+        double taken = (now() - start) / 200;
+        if (taken < least) least = taken;
+    }
+    printf("%f\n", least);
+    return codes != 0;
+}
+"""
 ROUNDS = 30
 KEY = KeyPair.generate()
 CONFIG = Config(pattern="XX", key=KEY, accept_any_key=True)
@@ -56,9 +111,32 @@ def turns(calls, count):
 
 
 def messages(size):
-    (sender, receiver), (sealing, opening), payload = ours(), theirs(), bytes(size)
-    return turns([lambda: receiver.open(sender.seal(payload)),
-                  lambda: opening.decrypt_with_ad(b"", sealing.encrypt_with_ad(b"", payload))], 200)
+    """A message, sealed and opened: with copies, in place, by dissononce, and by a user's own loop over a cipher."""
+    (sender, receiver), (placing, taking), (sealing, opening), payload = ours(), ours(), theirs(), bytes(size)
+    cipher, count, room = ChaCha20Poly1305(bytes(32)), 0, bytearray(size + 16)
+
+    def in_place():
+        placing.seal_in_place(room, size)
+        taking.open_in_place(room)
+
+    def own_loop():
+        nonlocal count
+        nonce = bytes(4) + count.to_bytes(8, "little")
+        count += 1
+        cipher.decrypt(nonce, cipher.encrypt(nonce, payload, b""), b"")
+
+    return turns([lambda: receiver.open(sender.seal(payload)), in_place,
+                  lambda: opening.decrypt_with_ad(b"", sealing.encrypt_with_ad(b"", payload)), own_loop], 200)
+
+
+def from_c(sizes):
+    """The least time of a message in a loop in C, in seconds."""
+    with tempfile.TemporaryDirectory() as room:
+        source, program = Path(room, "loop.c"), Path(room, "loop")
+        source.write_text(LOOP)
+        words = ["-O2", f"-I{SOURCES}", f"-Wa,-I{SOURCES / 'assembly'}", source, SOURCES / "assembly.S"]
+        subprocess.run(["gcc", *words, "-o", program], check=True)
+        return [float(subprocess.check_output([program, str(size)])) / 1e9 for size in sizes]
 
 
 async def echo(reader, writer):
@@ -108,10 +186,11 @@ def imports():
 def main():
     own, other = turns([ours, theirs], 5)
     print(f"XX, both ends: {own * 1e3:.2f} ms, dissononce {other * 1e3:.2f} ms: {other / own:.1f} times")
-    for size in (64, 1024, 16384):
-        own, other = messages(size)
-        ratio = f"{other / own:.1f} times"
-        print(f"{size} bytes, sealed and opened: {own * 1e6:.2f} us, dissononce {other * 1e6:.2f} us: {ratio}")
+    sizes = (64, 1024, 16384)
+    for size, least in zip(sizes, from_c(sizes)):
+        own, placed, other, loop = messages(size)
+        print(f"{size} bytes, sealed and opened: {own * 1e6:.2f} us, {other / own:.1f} times as fast as dissononce, "
+              f"{loop / own:.1f} as cryptography in a loop; in place {placed * 1e6:.2f} us, {placed / least:.2f} of C")
     own, plain = streams()
     print(f"16 KiB through asyncio: {own / 1e6:.0f} MB/s, plain streams {plain / 1e6:.0f} MB/s: {own / plain:.2f}")
     least, median = imports()

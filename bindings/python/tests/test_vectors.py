@@ -18,7 +18,7 @@ COMMAND = os.environ.get("NOISE_COMMAND")
 # Handshakes that this package refuses before they begin, a key pair without an answer, and a file with a wrong line.
 LEFT_OUT = {"no-answer", "no-ephemeral-key", "psk-place", "rule", "leading-zero"}
 FILES = [path for path in sorted((TOP / "examples/vectors").glob("*.vector")) if path.stem not in LEFT_OUT]
-FOREIGN = sorted(Path(os.environ["NOISE_VECTORS"]).glob("*.vector")) if "NOISE_VECTORS" in os.environ else []
+FOREIGN = sorted(Path(os.environ["NOISE_VECTORS"]).glob("*.vector")) if os.environ.get("NOISE_VECTORS") else []
 WORDS = {Code.NOT_YOUR_TURN: "not-your-turn", Code.TOO_LONG: "too-long", Code.ONE_WAY: "one-way", None: "ended",
          Code.SHORT: "short", Code.TAG: "tag", Code.RESERVED: "reserved", Code.OLD: "old", Code.REPEATED: "repeated"}
 
@@ -224,7 +224,10 @@ def read_configs(lines, text):
 
 def recorded():
     """The outputs on examples/README.md, by file."""
-    page, outputs = (TOP / "examples/README.md").read_text(), {}
+    page, outputs = TOP / "examples/README.md", {}
+    if not page.exists():
+        return outputs
+    page = page.read_text()
     for words, block in re.findall(r"^    \$ \./noise (?:talk|replay) (\S+)\n((?:    .*\n)+)", page, re.M):
         lines = [line[4:] for line in block.split("\n") if line]
         outputs[words] = [line for line in lines if not line.startswith(("standard error", "status"))]

@@ -12,7 +12,7 @@ from .codes import MAX_PAYLOAD, STREAM_OVERHEAD, Code
 from .config import Config
 from .errors import FORKED, CallError, ChannelCut, MessageRefused
 from .handshake import Handshake, Steps
-from .memory import Buffer, Struct, refuse_text, shared
+from .memory import Buffer, Struct, refuse_text, shared, uncleared
 from .pattern import layout
 
 T = TypeVar("T")
@@ -141,12 +141,11 @@ class Channel:
             sender = self._sends()
             result, start, size = ffi.new("noise_stream_result *"), 0, len(data)
             while start < size:
-                frame = bytearray(min(size - start, MAX_PAYLOAD) + STREAM_OVERHEAD)
-                with ffi.from_buffer(frame) as room:
-                    code = lib.noise_stream_write(sender, data + start, size - start, room, len(room), result)
-                if code:
+                most = min(size - start, MAX_PAYLOAD) + STREAM_OVERHEAD
+                room = uncleared("char[]", most)
+                if code := lib.noise_stream_write(sender, data + start, size - start, room, most, result):
                     raise CallError(Code(code))
-                self._to_send.append(bytes(frame) if result.len == len(frame) else bytes(frame[:result.len]))
+                self._to_send.append(ffi.unpack(room, result.len))
                 start += result.used
 
     def write_eof(self) -> None:

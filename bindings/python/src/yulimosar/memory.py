@@ -16,7 +16,7 @@ SMALL = 2048    # how many bytes of a buffer stay from call to call
 
 _size_of = ffi.sizeof
 _CHARS = ffi.typeof("char[]")
-_new = ffi.new_allocator(should_clear_after_alloc=False)    # what isn't written isn't read
+uncleared = _new = ffi.new_allocator(should_clear_after_alloc=False)    # what isn't written isn't read
 _wipe = lib.noise_wipe
 _wipe_stack = lib.wipe_stack
 _all: weakref.WeakSet[Struct] = weakref.WeakSet()

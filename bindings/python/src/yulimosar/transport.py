@@ -11,6 +11,8 @@ from .memory import SMALL, Buffer, Struct, pointer
 _REFUSALS = {Code.SHORT, Code.TAG, Code.TOO_LONG, Code.LENGTH, Code.RESERVED, Code.OLD, Code.REPEATED}
 
 _unpack = ffi.unpack
+_from_buffer = ffi.from_buffer
+_CHARS = ffi.typeof("char[]")
 _seal = lib.noise_seal
 _seal_in_place = lib.noise_seal_in_place
 _open = lib.noise_open
@@ -57,13 +59,14 @@ class Sender(Struct):
         """Seals the first `size` bytes of a buffer where they are, without a copy. The message is 16 bytes longer."""
         if size < 0:
             raise ValueError("a negative size")
-        with self._lock, ffi.from_buffer(buffer, require_writable=True) as room:
-            if self._at is None:
+        room = _from_buffer(_CHARS, buffer, True)
+        with self._lock:
+            at = self._at
+            if at is None:
                 raise self._gone()
-            code = _seal_in_place(self._at[0], room, len(room), size, self._result)
-            if code:
+            if code := _seal_in_place(at[0], room, len(room), size, self._result):
                 raise _unsealed(code)
-            return self._result.len    # type: ignore[no-any-return]
+            return size + TAG_LEN
 
     @property
     def nonce(self) -> int:
@@ -94,14 +97,16 @@ class Receiver(Struct):
 
     def open_in_place(self, message: bytearray | memoryview) -> memoryview:
         """Opens a message where it is, without a copy: the payload is a view of it."""
-        with self._lock, ffi.from_buffer(message, require_writable=True) as room:
-            if self._at is None:
+        room = _from_buffer(_CHARS, message, True)
+        size = len(room)
+        with self._lock:
+            at = self._at
+            if at is None:
                 raise self._gone()
-            code = _open(self._at[0], room, len(room), self._result)
-            if code:
+            if code := _open(at[0], room, size, self._result):
                 raise _unopened(code)
-            start = getattr(self._result, "from")
-            return memoryview(message).cast("B")[start:start + self._result.len]
+            view = memoryview(message)
+            return (view if view.format == "B" else view.cast("B"))[:size - TAG_LEN]
 
     @property
     def nonce(self) -> int:
