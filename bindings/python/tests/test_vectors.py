@@ -234,7 +234,7 @@ def recorded():
     return outputs
 
 
-@pytest.mark.parametrize("path", FILES + FOREIGN, ids=lambda path: path.stem)
+@pytest.mark.parametrize("path", FILES + FOREIGN, ids=lambda path: getattr(path, "stem", "none"))
 def test_vectors(path):
     text = path.read_text()
     said, compared = Run(text).said, 0
