@@ -1,5 +1,5 @@
-"""A device of ESPHome, by dissononce: esphome_device.py PORT KEY serves clients one after another. A client with another
-key than its own it refuses with the text that ESPHome's devices send."""
+"""A device of ESPHome, by dissononce: esphome_device.py PORT KEY serves one client after another. A client with another
+key is refused with the text that ESPHome's devices send."""
 import base64
 import socket
 import struct

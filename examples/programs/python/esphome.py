@@ -1,6 +1,6 @@
 """Asks a device of ESPHome for its name: esphome.py HOST[:PORT] KEY. KEY is that of `encryption:` under its `api:`.
 
-The native API has frames of its own: the byte 1, the length in 2 bytes, and the content. The handshake is NNpsk0, and its
+The native API has frames of its own: the byte 1, the length in 2 bytes, and the content. The handshake is NNpsk0; its
 messages stand in frames after a 0. A message after it is its type and its length, 2 bytes each, and a protobuf.
 """
 import base64
