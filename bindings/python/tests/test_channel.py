@@ -7,11 +7,10 @@ import threading
 import pytest
 from hypothesis import HealthCheck, given, settings
 from hypothesis import strategies as st
-from toys import Xor, configs
+from toys import FUNDAMENTAL, Xor, configs
 
 from yulimosar import (Agreed, CallError, Channel, ChannelCut, Code, Config, ConfigError, Data, End,
                        MessageRefused, PeerRefused, Pending, layout)
-from yulimosar.pattern import FUNDAMENTAL
 
 NO_LIMIT = settings(deadline=None, max_examples=int(os.environ.get("NOISE_EXAMPLES", 60)),
                     suppress_health_check=list(HealthCheck))

@@ -8,11 +8,10 @@ import threading
 from pathlib import Path
 
 import pytest
-from toys import Xor, configs, with_static
+from toys import FUNDAMENTAL, Xor, configs, with_static
 
-from yulimosar import (CallError, Code, Config, ConfigError, Handshake, KeyPair, LowOrderKey, MessageRefused,
+from yulimosar import (CallError, Code, Config, ConfigError, Handshake, KeyPair, LowOrderKey, MessageRefused, Needs,
                        PeerRefused, PskWanted, check_pattern, layout)
-from yulimosar.pattern import FUNDAMENTAL
 
 TOP = Path(os.environ.get("NOISE_TOP") or Path(__file__).resolve().parents[3])
 TEXTS = {path.stem: path.read_text() for path in sorted((TOP / "examples/patterns").glob("*.pattern"))}
@@ -134,6 +133,11 @@ def test_layout_of_xxpsk3():
         ("e", 0, 32, False), ("ee", 32, 0, False), ("s", 32, 32, True), ("tag", 64, 16, False), ("es", 80, 0, False),
         ("payload", 80, 0, True), ("tag", 80, 16, False)]
     assert read.messages[0].length == 48    # a psk handshake encrypts its first payload, too
+    assert (read.psks, read.one_way, read.initiator_before, read.responder_before) == (1, False, (), ())
+    assert read.needs(True) == read.needs(False) == Needs(True, True, False, False)
+    read = layout("K")
+    assert (read.one_way, read.initiator_before, read.responder_before) == (True, ("s",), ("s",))
+    assert read.needs(True) == Needs(True, True, False, True) and read.needs(False) == Needs(False, True, False, True)
 
 
 @pytest.mark.parametrize("name", ["", "XY", "Noise_XX_25519_AESGCM_SHA256", "XXpsk9", "XX\x00", "\ud800", "x" * 10000])

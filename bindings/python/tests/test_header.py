@@ -29,6 +29,12 @@ def test_sizes(header):
         assert getattr(codes, name) == int(number), name
 
 
+def test_tokens(header):
+    named = re.search(r"enum noise_token \{(.*?)\}", header, re.S)[1]
+    assert {int(number): name.lower() for name, number in re.findall(r"NOISE_TOKEN_(\w+)\s*=\s*(\d+)", named)} \
+        == {number: name for number, name in enumerate(codes.TOKENS) if number}
+
+
 def test_sentences(header):
     for name, sentence in re.findall(r'case NOISE_(\w+): return "(.*?)";', header):
         assert str(Code[name]) == sentence

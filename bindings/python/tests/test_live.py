@@ -7,9 +7,9 @@ import threading
 
 import pytest
 from loops import run
+from toys import FUNDAMENTAL
 
 from yulimosar import ChannelCut, Config, KeyPair, accept, connect, layout, open_connection
-from yulimosar.pattern import FUNDAMENTAL
 
 pytest.importorskip("dissononce", reason="python3-dissononce isn't installed")
 

@@ -6,6 +6,10 @@ import os
 from yulimosar import Config, DH, KeyPair, layout
 
 
+# Noise, 7.4 and 7.5
+FUNDAMENTAL = ("N", "K", "X", "NN", "NK", "NX", "XN", "XK", "XX", "KN", "KK", "KX", "IN", "IK", "IX")
+
+
 class Xor:
     """A key pair whose X25519 is the xor of the public keys, as in the vector files' lines `xor`."""
 

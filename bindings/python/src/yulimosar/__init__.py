@@ -18,7 +18,7 @@ from .errors import (
 )
 from .handshake import Handshake
 from .keys import DH, KeyPair
-from .pattern import Fault, Layout, Message, Piece, check_pattern, layout
+from .pattern import Fault, Layout, Message, Needs, Piece, check_pattern, layout
 from .transport import CipherState, Datagrams, Receiver, Sender
 
 if TYPE_CHECKING:
@@ -31,7 +31,7 @@ __all__ = [
     "Agreed", "CallError", "Channel", "ChannelCut", "CipherState", "Code", "Config", "ConfigError", "DH", "Data",
     "DatagramChannel", "DatagramPeer", "DatagramProtocol", "Datagrams", "End", "Event", "Fault", "Handshake",
     "HandshakeTimeout", "KeyPair", "Layout", "LowOrderKey", "MAX_DATAGRAM", "MAX_MESSAGE", "MAX_PAYLOAD", "Message",
-    "MessageRefused", "NoiseError", "NoiseSocket", "PeerRefused", "Pending", "Piece", "PskWanted", "Reader",
+    "MessageRefused", "Needs", "NoiseError", "NoiseSocket", "PeerRefused", "Pending", "Piece", "PskWanted", "Reader",
     "Receiver", "Sender", "Writer", "accept", "check_pattern", "connect", "layout", "open_connection", "start_server",
 ]
 

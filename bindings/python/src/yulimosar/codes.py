@@ -55,6 +55,7 @@ class Code(IntEnum):
         return sentence.decode()
 
 
+TOKENS = ("", "e", "s", "ee", "es", "se", "ss", "psk", "payload")    # by number
 KEY_LEN = 32
 TAG_LEN = 16
 STREAM_OVERHEAD = 18

@@ -75,7 +75,7 @@ class Config:
 
     def _check_keys(self, read: Layout, initiator: bool, known: bool) -> None:
         has_key = known or read.learns(initiator) is not None
-        if "e" in read.initiator_before + read.responder_before:
+        if read.of_initiator.remote_ephemeral or read.of_responder.remote_ephemeral:
             raise ConfigError("pattern", "it has an ephemeral key before \"...\", which this package doesn't support")
         if self.peer_key is not None and len(self.peer_key) != KEY_LEN:
             raise ConfigError("peer_key", "not 32 bytes")
@@ -85,7 +85,7 @@ class Config:
             raise ConfigError("peer_key", Code.REMOTE_MISSING)
         if self.verify is not None and not has_key and not self.accept_any_key:
             raise ConfigError("verify", "the other party has no static key in this pattern")
-        if self.key is None and _needs_key(read, initiator):
+        if self.key is None and read.needs(initiator).static:
             raise ConfigError("key", Code.STATIC_MISSING)
         longest = max(message.length for message in read.messages)
         if self.handshake_limit is not None and self.handshake_limit < longest:
@@ -167,10 +167,3 @@ class _Types:
             self._refuse("key", "a key pair, with `public` and `agree`,")
         if not isinstance(key.public, (bytes, bytearray, memoryview)) or len(key.public) != KEY_LEN:
             raise ConfigError("key", "its `public` isn't 32 bytes")
-
-
-def _needs_key(read: Layout, initiator: bool) -> bool:
-    """Whether a party has a static key in a pattern, or it is known beforehand."""
-    before = read.initiator_before if initiator else read.responder_before
-    own = (token for message in read.messages if message.initiator == initiator for token in message.tokens)
-    return "s" in before or "s" in own

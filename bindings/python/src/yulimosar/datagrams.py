@@ -28,8 +28,9 @@ class DatagramChannel:
 
     def __init__(self, config: Config, initiator: bool, window: int = 64) -> None:
         config.check(initiator)
-        messages = layout(config.pattern).messages
-        if len(messages) == 1:
+        read = layout(config.pattern)
+        messages = read.messages
+        if read.one_way:
             raise ConfigError("pattern", "in a one-way pattern nobody could say that the first datagram came")
         if window not in (64, 256, 1024):
             raise CallError(Code.WINDOW)

@@ -68,7 +68,7 @@ class Handshake(Struct):
         self._kept: Any = None  # then the struct as it was before, if the Config has to decide something
         self._result = ffi.new("noise_result *")
         self._stage = ffi.new("noise_stage_result *")
-        draws = any(message.initiator == initiator and "e" in message.tokens for message in self._layout.messages)
+        draws = self._layout.needs(initiator).ephemeral
         self._ephemeral: DH | None = (config.ephemeral or KeyPair.generate)() if draws else None
         super().__init__("noise_handshake")
         self._start()

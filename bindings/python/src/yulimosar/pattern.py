@@ -1,34 +1,15 @@
-"""What a pattern's messages consist of. The library alone decides which pattern is valid; the tests compare each length
-here with that of the message that the library writes."""
+"""What a pattern's messages consist of, as the library says."""
 from __future__ import annotations
 
 from dataclasses import dataclass
 from functools import lru_cache
+from typing import Any
 
 from ._noise import ffi, lib
-from .codes import KEY_LEN, TAG_LEN, Code
+from .codes import TAG_LEN, TOKENS, Code
 from .errors import ConfigError
 
 SUITE = "_25519_ChaChaPoly_SHA256"
-
-# The fundamental patterns (Noise, 7.4 and 7.5) as pattern texts without heading; a semicolon ends a line.
-FUNDAMENTAL = {
-    "N": "<- s; ...; -> e, es",
-    "K": "-> s; <- s; ...; -> e, es, ss",
-    "X": "<- s; ...; -> e, es, s, ss",
-    "NN": "-> e; <- e, ee",
-    "NK": "<- s; ...; -> e, es; <- e, ee",
-    "NX": "-> e; <- e, ee, s, es",
-    "XN": "-> e; <- e, ee; -> s, se",
-    "XK": "<- s; ...; -> e, es; <- e, ee; -> s, se",
-    "XX": "-> e; <- e, ee, s, es; -> s, se",
-    "KN": "-> s; ...; -> e; <- e, ee, se",
-    "KK": "-> s; <- s; ...; -> e, es, ss; <- e, ee, se",
-    "KX": "-> s; ...; -> e; <- e, ee, se, s, es",
-    "IN": "-> e, s; <- e, ee, se",
-    "IK": "<- s; ...; -> e, es, s, ss; <- e, ee, se",
-    "IX": "-> e, s; <- e, ee, se, s, es",
-}
 
 
 @dataclass(frozen=True, slots=True)
@@ -80,6 +61,16 @@ class Message:
 
 
 @dataclass(frozen=True, slots=True)
+class Needs:
+    """The keys that a party has to have when the handshake begins."""
+
+    ephemeral: bool
+    static: bool
+    remote_ephemeral: bool
+    remote_static: bool
+
+
+@dataclass(frozen=True, slots=True)
 class Layout:
     """A pattern: what each party knows beforehand, and the messages."""
 
@@ -88,15 +79,17 @@ class Layout:
     responder_before: tuple[str, ...]
     messages: tuple[Message, ...]
     psks: int                          # how many psk tokens there are
+    one_way: bool                      # whether only the initiator sends
+    of_initiator: Needs
+    of_responder: Needs
 
-    @property
-    def one_way(self) -> bool:
-        """Whether only the initiator sends."""
-        return len(self.messages) == 1
+    def needs(self, initiator: bool) -> Needs:
+        """The keys that a party has to have when the handshake begins."""
+        return self.of_initiator if initiator else self.of_responder
 
     def knows(self, initiator: bool) -> bool:
         """Whether a party has to know the other's static key beforehand."""
-        return "s" in (self.responder_before if initiator else self.initiator_before)
+        return self.needs(initiator).remote_static
 
     def learns(self, initiator: bool) -> int | None:
         """The message, counted from 0, that gives a party the other's static key."""
@@ -130,71 +123,41 @@ def layout(pattern: str) -> Layout:
     ConfigError: the library doesn't accept it.
     """
     text = pattern_text(pattern)
-    if "\n" in text:
-        if fault := check_pattern(text):
-            raise ConfigError("pattern", str(fault))
-        heading, *lines = text[:-1].split("\n")
-        return _parsed(heading.removesuffix(":"), lines, [])
-    if not _is_name(text):
-        raise ConfigError("pattern", Code.NAME)
-    name = text.split("_")[1]
-    base, *places = name.replace("+", "").split("psk")
-    return _parsed(name, FUNDAMENTAL[base].split(";"), [int(place) for place in places])
+    if "\n" in text and (fault := check_pattern(text)):    # also of a text without its last line feed
+        raise ConfigError("pattern", str(fault))
+    data = text.encode("utf-8", "replace")
+    info, result = ffi.new("noise_pattern_info *"), ffi.new("noise_pattern_result *")
+    if code := lib.noise_pattern(data, len(data), info, result):
+        raise ConfigError("pattern", Code(code))
+    heading, ends, _ = text.partition(":")
+    return Layout(
+        f"Noise_{heading}{SUITE}" if ends else text, _names(info.pre_messages[0]), _names(info.pre_messages[1]),
+        tuple(_message(data, index, _names(info.tokens[index])) for index in range(info.messages)),
+        info.psks, bool(info.one_way), _needs(info.needed[0]), _needs(info.needed[1]))
 
 
-def _is_name(text: str) -> bool:
-    """Whether the library knows a protocol name."""
-    name, setup = text.encode("utf-8", "replace"), ffi.new("noise_setup *")
-    code = lib.noise_start(ffi.new("noise_handshake *"), name, len(name), b"", 0, setup)
-    return bool(code != Code.NAME)
+def _names(tokens: Any) -> tuple[str, ...]:
+    """The names of tokens' numbers, up to a 0."""
+    return tuple(TOKENS[token] for token in tokens if token)
 
 
-def _parsed(name: str, lines: list[str], places: list[int]) -> Layout:
-    """Reads the lines of a valid pattern, and adds psk tokens at these places (Noise, 9.4)."""
-    rows = [line.strip().split(" ", 1) for line in lines]
-    dots = rows.index(["..."]) if ["..."] in rows else -1
-    before = {arrow: tuple(tokens.split(", ")) for arrow, tokens in rows[:max(dots, 0)]}
-    messages = [tokens.split(", ") for _, tokens in rows[dots + 1:]]
-    for place in places:
-        if place == 0:
-            messages[0].insert(0, "psk")
-        else:
-            messages[place - 1].append("psk")
-    psks = sum(tokens.count("psk") for tokens in messages)
-    measured = _measured(messages, psks > 0)
-    return Layout(f"Noise_{name}{SUITE}", before.get("->", ()), before.get("<-", ()), measured, psks)
+def _needs(needed: Any) -> Needs:
+    return Needs(bool(needed.e), bool(needed.s), bool(needed.remote_e), bool(needed.remote_s))
 
 
-def _measured(messages: list[list[str]], has_psk: bool) -> tuple[Message, ...]:
-    made, keyed = [], False
-    for index, tokens in enumerate(messages):
-        pieces, keyed = _pieces(tokens, keyed, has_psk)
-        made.append(Message(index % 2 == 0, tuple(tokens), pieces, sum(piece.length for piece in pieces)))
-    return tuple(made)
+def _message(pattern: bytes, index: int, tokens: tuple[str, ...]) -> Message:
+    """A message with an empty payload."""
+    made = ffi.new("noise_message_layout *")
+    if code := lib.noise_layout(pattern, len(pattern), index + 1, 0, made):
+        raise ConfigError("pattern", Code(code))
+    pieces = [piece for number in range(made.count) for piece in _pieces(made.pieces[number])]
+    return Message(index % 2 == 0, tokens, tuple(pieces), made.len)
 
 
-def _pieces(tokens: list[str], keyed: bool, has_psk: bool) -> tuple[tuple[Piece, ...], bool]:
-    """The pieces of a message; `keyed` is whether there is a key before it, and in the result, after it."""
-    pieces: list[Piece] = []
-    offset = 0
-
-    def add(name: str, length: int, encrypted: bool) -> None:
-        nonlocal offset
-        pieces.append(Piece(name, offset, length, encrypted))
-        offset += length
-
-    for token in tokens:
-        if token == "e":
-            add(token, KEY_LEN, False)
-            keyed = keyed or has_psk
-        elif token == "s":
-            add(token, KEY_LEN, keyed)
-            if keyed:
-                add("tag", TAG_LEN, False)
-        else:
-            add(token, 0, False)
-            keyed = True
-    add("payload", 0, keyed)
-    if keyed:
-        add("tag", TAG_LEN, False)
-    return tuple(pieces), keyed
+def _pieces(piece: Any) -> list[Piece]:
+    """A piece, and its tag apart."""
+    start, length = getattr(piece, "from"), piece.len
+    if not piece.encrypted:
+        return [Piece(TOKENS[piece.token], start, length, False)]
+    size = length - TAG_LEN
+    return [Piece(TOKENS[piece.token], start, size, True), Piece("tag", start + size, TAG_LEN, False)]
