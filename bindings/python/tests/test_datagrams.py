@@ -442,7 +442,7 @@ def test_limits(each_loop, monkeypatch):
 
     async def main(_result):
         first, second = configs("XX")
-        async with server_behind(second, most_peers=2, idle=0.6) as (server, address):
+        async with server_behind(second, most_peers=2, idle=4) as (server, address):
             async with contextlib.AsyncExitStack() as stack:
                 for _ in range(3):
                     client = await stack.enter_async_context(client_at(address, first))

@@ -1,5 +1,6 @@
 """The reader and the writer of asyncio at an end, a cut, a cancelled call, a fork, and what the log says."""
 import asyncio
+import contextlib
 import logging
 import os
 
@@ -100,10 +101,15 @@ def test_a_fault_keeps_what_came(call, words, partial, fault):
             writer.write(b"a line\nhalf a line")
             await writer.drain()
             await reader.readexactly(1)
+            asked.set()    # all has been sent, and is taken by the same loop
             if fault is MessageRefused:
                 writer.transport._below.transport.write(b"\x00\x14" + bytes(20))
-            await asyncio.sleep(0.02)
+            if fault is not ChannelCut:
+                with contextlib.suppress(ConnectionError):
+                    await reader.read()
             writer.abort()
+
+        asked = asyncio.Event()
 
         async with connected("NN", handler, limit=12) as (reader, writer):
             if call != "read":
@@ -112,6 +118,7 @@ def test_a_fault_keeps_what_came(call, words, partial, fault):
             await asyncio.sleep(0.02)
             writer.write(b"x")
             if fault is CallError:
+                await asked.wait()
                 await asyncio.sleep(0.02)
                 writer.close()
             with pytest.raises(fault) as caught:

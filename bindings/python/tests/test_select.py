@@ -180,7 +180,7 @@ def test_recv_with_kept_bytes_times_out_and_takes_what_comes():
         started = time.monotonic()
         with pytest.raises(TimeoutError):
             client.recv(10)
-        assert 0.05 < time.monotonic() - started < 5 and client.unsent() > 0
+        assert 0.05 < time.monotonic() - started < LONG and client.unsent() > 0
         server.sendall(b"come")
         assert client.recv(10) == b"come" and client.unsent() > 0
         client.abort()
@@ -242,7 +242,7 @@ def in_child(call):
             status = 0
         finally:
             os._exit(status)
-    for _ in range(500):
+    for _ in range(100 * LONG):
         done, status = os.waitpid(child, os.WNOHANG)
         if done:
             return os.waitstatus_to_exitcode(status)
