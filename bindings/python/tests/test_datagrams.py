@@ -408,6 +408,30 @@ def test_a_handshake_from_the_same_address_replaces_the_peer_once_it_opens(each_
     run(main)
 
 
+def test_strangers_do_not_displace_a_handshake_that_is_done(each_loop):
+    """The client has all it needs, and the server hasn't heard of it, while others begin more handshakes than it holds."""
+    async def main(_result):
+        first, second = configs("XX", handshake_timeout=60)
+        async with server_behind(second) as (server, address):
+            loop = asyncio.get_running_loop()
+            transport, raw = await loop.create_datagram_endpoint(lambda: Recorder([]), remote_addr=address)
+            channel = DatagramChannel(first, True)
+            while channel.agreed is None:
+                for datagram in channel.datagrams_to_send():
+                    transport.sendto(datagram)
+                channel.receive(await raw.came.get())
+            channel.datagrams_to_send()    # it doesn't come
+            for number in range(1, 201):
+                transport.sendto(b"\0" + number.to_bytes(32, "big"))
+                await asyncio.sleep(0.001)
+            await until(lambda: len(server._begun) == udp.MOST_BEGUN)
+            channel.send(b"text")
+            assert await raw.answer(channel) == b"text" and len(server.peers) == 1
+            channel.close()
+            transport.close()
+    run(main)
+
+
 class Recorder(asyncio.DatagramProtocol):
     """A client's socket without a protocol."""
 

@@ -64,6 +64,11 @@ class DatagramChannel:
         """Whether a message of the other party was accepted."""
         return bool(self._others)
 
+    @property
+    def done(self) -> bool:
+        """Whether all messages of the handshake have passed here."""
+        return self._result is not None
+
     def receive(self, datagram: Buffer) -> bytes | None:
         """Takes a datagram. Its payload; None if it has none, or isn't accepted."""
         came = bytes(datagram)

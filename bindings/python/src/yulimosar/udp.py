@@ -3,6 +3,7 @@ from __future__ import annotations
 
 import asyncio
 import logging
+from collections import Counter
 from typing import Any, cast
 
 from .channel import Agreed
@@ -13,7 +14,7 @@ from .errors import ConfigError, HandshakeTimeout, MessageRefused, NoiseError
 from .memory import Buffer
 
 RESEND = 0.25       # in seconds: after which what isn't answered is sent again
-MOST_BEGUN = 64     # how many handshakes that aren't done a responder has at once: the oldest gives way
+MOST_BEGUN = 64     # how many handshakes without a peer a responder has at once
 
 logger = logging.getLogger("yulimosar")
 
@@ -122,10 +123,17 @@ class DatagramProtocol(asyncio.DatagramProtocol):
                 channel.close()
                 return
         if len(self._begun) >= MOST_BEGUN:
-            self._begun.pop(next(iter(self._begun)))[0].close()
+            self._begun.pop(self._least())[0].close()
         self._begun[address, first] = channel, self.loop.time()
         self._flush(channel, address)
         self._wait()
+
+    def _least(self) -> tuple[Any, bytes]:
+        """The handshake that gives way to a new one: of the address that has the most, the oldest that isn't done. One
+        that is done has shown more than a stranger can, and the other party may rely on it already."""
+        open_ones = [key for key, (channel, _) in self._begun.items() if not channel.done] or list(self._begun)
+        counts = Counter(address for address, _ in open_ones)
+        return max(open_ones, key=lambda key: counts[key[0]])
 
     def _take(self, channel: DatagramChannel, address: Any, data: bytes, key: tuple[Any, bytes] | None = None) -> bool:
         """Gives a datagram to a channel; whether it opened it."""
