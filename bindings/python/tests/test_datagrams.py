@@ -409,7 +409,7 @@ def test_a_handshake_from_the_same_address_replaces_the_peer_once_it_opens(each_
 
 
 def test_strangers_do_not_displace_a_handshake_that_is_done(each_loop):
-    """The client has all it needs, and the server hasn't heard of it, while others begin more handshakes than it holds."""
+    """The client has all it needs, and the server hasn't heard of it, while others begin more than it holds."""
     async def main(_result):
         first, second = configs("XX", handshake_timeout=60)
         async with server_behind(second) as (server, address):
