@@ -163,8 +163,8 @@ func TestDeadlinesInEachMessage(t *testing.T) {
 	}
 }
 
-// TestWriteDeadline fills a connection until a deadline passes, in the handshake and after it: what Write says it has taken comes, once, and Close sends
-// no end unless a later Write has gone well.
+// TestWriteDeadline fills a connection until a deadline passes, in the handshake and after it. A Write counts what it has sent; a later one continues there,
+// and what was sealed isn't sealed again. Close sends no end unless a later Write has gone well.
 func TestWriteDeadline(t *testing.T) {
 	for _, goesOn := range []bool{false, true} {
 		client, server := configs(t, "NN")
@@ -180,32 +180,27 @@ func TestWriteDeadline(t *testing.T) {
 		errC, errS := both(c, s)
 		must(t, errC, errS)
 		sent := bytes.Repeat([]byte("0123456789"), 20000)
-		n := 0
-		for wait := 20 * time.Millisecond; n == 0; wait *= 4 { // a slow machine seals nothing until the deadline
+		for wait := 20 * time.Millisecond; c.owed == nil; wait *= 4 { // a slow machine seals nothing until the deadline
 			c.SetWriteDeadline(time.Now().Add(wait))
-			n, err = c.Write(sent)
+			n, err := c.Write(sent)
 			wants(t, err, os.ErrDeadlineExceeded)
-		}
-		if n != MaxMessage-TagLen {
-			t.Errorf("%d bytes are sealed", n)
-		}
-		m, err := c.Write(sent[n:])
-		wants(t, err, os.ErrDeadlineExceeded)
-		if m != 0 {
-			t.Errorf("%d bytes are sealed after the deadline", m)
+			if n != 0 {
+				t.Errorf("%d bytes are counted, and none was read", n)
+			}
 		}
 		c.SetWriteDeadline(time.Time{})
 		failed := goes(func() error {
-			defer c.Close()
 			if !goesOn {
+				wants(t, c.Close(), ErrNoEnd)
 				return nil
 			}
-			_, err := c.Write(sent[n:])
+			_, err := c.Write(sent)
+			must(t, c.Close())
 			return err
 		})
 		got, err := readAll(s)
 		must(t, <-failed)
-		if goesOn && (err != io.EOF || !bytes.Equal(got, sent)) || !goesOn && (!errors.Is(err, ErrCut) || len(got) > n) {
+		if goesOn && (err != io.EOF || !bytes.Equal(got, sent)) || !goesOn && (!errors.Is(err, ErrCut) || len(got) > 0) {
 			t.Errorf("%v: %d bytes, %v", goesOn, len(got), err)
 		}
 	}
@@ -219,11 +214,11 @@ func asking(t *testing.T, call func(ctx context.Context) error) map[string][2]*C
 		switch name {
 		case "PSKFor":
 			psks := server.PSKs
-			server.PSKs, server.PSKFor = nil, func(ctx context.Context, _ Key) ([]Key, error) { return psks, call(ctx) }
+			server.PSKs, server.PSKFor = nil, func(ctx context.Context, _ PublicKey) ([]PSK, error) { return psks, call(ctx) }
 		case "DH":
 			server.Static = &calling{server.Static, call}
 		default:
-			server.VerifyPeer = func(ctx context.Context, _ Key) error { return call(ctx) }
+			server.VerifyPeer = func(ctx context.Context, _ Peer) error { return call(ctx) }
 		}
 		all[name] = [2]*Config{client, server}
 	}
@@ -236,7 +231,7 @@ type calling struct {
 	call func(context.Context) error
 }
 
-func (c *calling) Agree(ctx context.Context, remote Key) (answer Key, err error) {
+func (c *calling) Agree(ctx context.Context, remote PublicKey) (answer Secret, err error) {
 	if err := c.call(ctx); err != nil {
 		return answer, err
 	}
@@ -309,7 +304,7 @@ func TestTimeoutOfACall(t *testing.T) {
 func TestPanicOfVerifyPeer(t *testing.T) {
 	for _, pattern := range []string{"XX", "KK"} {
 		client, server := configs(t, pattern)
-		server.VerifyPeer = func(context.Context, Key) error { panic("no database") }
+		server.VerifyPeer = func(context.Context, Peer) error { panic("no database") }
 		c, s := connected(t, client, server)
 		go c.Handshake()
 		func() {
@@ -350,7 +345,7 @@ func TestListenerGoesOn(t *testing.T) {
 		fails := true
 		server.ErrorLog = log.New(lines(said), "", 0)
 		server.HandshakeTimeout = time.Second
-		server.VerifyPeer = func(context.Context, Key) error {
+		server.VerifyPeer = func(context.Context, Peer) error {
 			if fails {
 				return away
 			}
@@ -408,7 +403,7 @@ func expect(t *testing.T, said chan string, from net.Conn, why string) {
 
 func TestAcceptDrawsAndAsksNothing(t *testing.T) {
 	client, server := configs(t, "KK")
-	server.VerifyPeer = func(context.Context, Key) error { t.Error("VerifyPeer was called"); return nil }
+	server.VerifyPeer = func(context.Context, Peer) error { t.Error("VerifyPeer was called"); return nil }
 	l, err := Listen("tcp", "127.0.0.1:0", server)
 	must(t, err)
 	defer l.Close()
@@ -474,7 +469,7 @@ func TestReset(t *testing.T) {
 	}
 	_, err := s.Write([]byte("x"))
 	wants(t, err, ErrCut)
-	must(t, s.Close())
+	wants(t, s.Close(), ErrNoEnd)
 }
 
 func TestAbort(t *testing.T) {

@@ -22,6 +22,29 @@ type CipherState struct {
 func (c *CipherState) Encrypt(dst, ad, plaintext []byte) ([]byte, error) {
 	c.mutex.Lock()
 	defer c.mutex.Unlock()
+	return c.encrypt(dst, ad, plaintext)
+}
+
+// EncryptNext is Encrypt with associated data that a function makes of the nonce, for packets whose header has it: also with other goroutines that encrypt,
+// the message is encrypted at that nonce. The function mustn't call the CipherState. After an error the nonce isn't used up. EncryptNext doesn't call it after
+// Close and where there is no key.
+func (c *CipherState) EncryptNext(dst, plaintext []byte, ad func(nonce uint64) []byte) ([]byte, error) {
+	c.mutex.Lock()
+	defer c.mutex.Unlock()
+	switch {
+	case c.closed:
+		return dst, ErrClosed
+	case c.receives:
+		return dst, ErrDirection
+	}
+	nonce, err := c.nonce()
+	if err != nil {
+		return dst, err
+	}
+	return c.encrypt(dst, ad(nonce), plaintext)
+}
+
+func (c *CipherState) encrypt(dst, ad, plaintext []byte) ([]byte, error) {
 	switch {
 	case c.closed:
 		return dst, ErrClosed
@@ -46,6 +69,30 @@ func (c *CipherState) Encrypt(dst, ad, plaintext []byte) ([]byte, error) {
 func (c *CipherState) Decrypt(dst, ad, message []byte) ([]byte, error) {
 	c.mutex.Lock()
 	defer c.mutex.Unlock()
+	return c.decrypt(dst, ad, message)
+}
+
+// DecryptAt is Decrypt at this nonce, whatever the next nonce is, also with other goroutines that decrypt. The caller refuses nonces that have come before.
+// At an error nothing changes.
+func (c *CipherState) DecryptAt(nonce uint64, dst, ad, message []byte) ([]byte, error) {
+	c.mutex.Lock()
+	defer c.mutex.Unlock()
+	if c.closed || !c.receives {
+		return c.decrypt(dst, ad, message)
+	}
+	was, err := c.nonce()
+	if err != nil {
+		return dst, err
+	}
+	C.noise_cipher_set_nonce(&c.memory.opaque, C.uint64_t(nonce))
+	whole, err := c.decrypt(dst, ad, message)
+	if err != nil {
+		C.noise_cipher_set_nonce(&c.memory.opaque, C.uint64_t(was))
+	}
+	return whole, err
+}
+
+func (c *CipherState) decrypt(dst, ad, message []byte) ([]byte, error) {
 	switch {
 	case c.closed:
 		return dst, ErrClosed
@@ -65,14 +112,24 @@ func (c *CipherState) Decrypt(dst, ad, message []byte) ([]byte, error) {
 	return whole[:len(dst)+int(m.result.len)], nil
 }
 
-// Nonce returns the nonce of the next message; 0 after Close, and if there is no key.
+// nonce returns the nonce of the next message.
+func (c *CipherState) nonce() (uint64, error) {
+	if code := C.noise_cipher_nonce(&c.memory.opaque, &c.memory.nonce); code != C.NOISE_OK {
+		return 0, Code(code)
+	}
+	return uint64(c.memory.nonce), nil
+}
+
+// Nonce returns the nonce of the next message; 0 after Close, and if there is no key. Where several goroutines encrypt, the next message may have another:
+// EncryptNext hands it on.
 func (c *CipherState) Nonce() uint64 {
 	c.mutex.Lock()
 	defer c.mutex.Unlock()
-	if c.closed || C.noise_cipher_nonce(&c.memory.opaque, &c.memory.nonce) != C.NOISE_OK {
+	if c.closed {
 		return 0
 	}
-	return uint64(c.memory.nonce)
+	nonce, _ := c.nonce()
+	return nonce
 }
 
 // SetNonce sets the nonce of the next message (the framework's 11.4). Who encrypts must never set it back: whoever sees two messages of one nonce learns the

@@ -6,6 +6,7 @@ import (
 	"context"
 	"errors"
 	"log"
+	"net"
 	"strings"
 	"time"
 )
@@ -21,24 +22,28 @@ type Config struct {
 	Static DH
 	// PeerStatic is the other party's static key; nil if it isn't known. If the pattern needs the key beforehand, the handshake starts with it. If a
 	// message of the handshake has the key, the two are compared, and ErrPeerKey ends the handshake.
-	PeerStatic *Key
-	// VerifyPeer is called with the other party's static key as soon as that is known, before anything else is read or written; a key that is known from
-	// the start, before the first message is written, or once it has come. An error ends the handshake. It isn't called in a handshake without such a
-	// key. The context ends with that of HandshakeContext, at the time limit, and when the connection is closed.
-	VerifyPeer func(ctx context.Context, key Key) error
+	PeerStatic *PublicKey
+	// VerifyPeer is called with the other party's static key as soon as that is known, before anything else is read or written: with the message that has
+	// the key, and that message's payload, which may have a certificate of it; or with a key that is known from the start, before the first message is
+	// written, or once it has come. An error ends the handshake. It isn't called in a handshake without such a key. The context ends with that of
+	// HandshakeContext, at the time limit, and when the connection is closed.
+	VerifyPeer func(ctx context.Context, peer Peer) error
 	// InsecureAcceptAnyKey lets a party talk to anybody, if neither VerifyPeer nor PeerStatic nor PSKs nor PSKFor say who may be the other party.
 	InsecureAcceptAnyKey bool
 	// PSKs has one pre-shared key for each psk token of the pattern, in their order.
-	PSKs []Key
+	PSKs []PSK
 	// PSKFor, in place of PSKs, returns those that this party shares with the owner of a static key. It is called at the first psk token, before which
 	// that key has to be known. The other party hasn't shown yet that it has the secret key: so choose the psks, and do nothing else. At XXpsk3, where the token is in the message that has the key, VerifyPeer is called after PSKFor, once that message is accepted. An error ends the
 	// handshake, and nothing more is sent; 32 random bytes for a key that you don't know, in place of an error, don't tell which keys you know. The
 	// context is that of VerifyPeer.
-	PSKFor func(ctx context.Context, key Key) ([]Key, error)
+	PSKFor func(ctx context.Context, key PublicKey) ([]PSK, error)
 	// Interval is the number of messages after which each direction renews its key; 0 is never. The same at both parties.
 	Interval uint64
 	// Payloads are those of the handshake: Payloads[0] goes with message 1 of the pattern, Payloads[1] with message 2, if this party writes that message.
 	Payloads [][]byte
+	// PayloadFor, in place of Payloads, returns the payload of the message after peer.Message. It is called once for each message that a Conn writes. An
+	// error ends the handshake. The context is that of VerifyPeer.
+	PayloadFor func(ctx context.Context, peer Peer) ([]byte, error)
 	// MaxHandshakeMessage is how many bytes a message of the handshake may have that a Conn reads; 0 is 4096 more than it has without a payload.
 	MaxHandshakeMessage int
 	// HandshakeTimeout is how long the handshake of a Conn may take, from the first call that runs it; 0 is 10 seconds at what a listener of this
@@ -46,6 +51,14 @@ type Config struct {
 	HandshakeTimeout time.Duration
 	// ErrorLog gets a line for each handshake of a Conn that has failed, with the other party's address; nil: no lines.
 	ErrorLog *log.Logger
+}
+
+// Peer is what is known of the other party in a handshake.
+type Peer struct {
+	Static  PublicKey // its static key; zeros if that isn't known yet
+	Message int       // its last message that was read, counted from 1; 0 if there is none
+	Payload []byte    // that message's payload
+	Addr    net.Addr  // the address of the connection below; nil if there is no Conn
 }
 
 const suite = "_25519_ChaChaPoly_SHA256"
@@ -74,6 +87,7 @@ func (c *Config) protocolName() string {
 var (
 	errNil        = errors.New("the Config is nil")
 	errTwo        = errors.New("set either PSKs or PSKFor")
+	errTwoOf      = errors.New("set either Payloads or PayloadFor")
 	errNoKey      = errors.New("the other party has no static key in this pattern")
 	errPSKTooLate = errors.New("the other party's static key isn't known before the first psk token")
 	errTooSmall   = errors.New("less than a message of the pattern has")
@@ -95,6 +109,8 @@ func (c *Config) check(p *pattern, initiator, isLate bool) error {
 		return &ConfigError{"VerifyPeer", errNoKey}
 	case len(c.PSKs) > MaxPSKs:
 		return &ConfigError{"PSKs", ErrPSKCount}
+	case c.PayloadFor != nil && c.Payloads != nil:
+		return &ConfigError{"PayloadFor", errTwoOf}
 	case c.PSKFor != nil && c.PSKs != nil:
 		return &ConfigError{"PSKFor", errTwo}
 	case c.PSKFor != nil && p.psks == 0:

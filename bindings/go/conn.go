@@ -4,6 +4,7 @@ package noise
 import "C"
 
 import (
+	"bytes"
 	"context"
 	"errors"
 	"io"
@@ -18,11 +19,13 @@ import (
 // Conn is a secure channel over another connection. One goroutine may read while another writes. The first Read or Write runs the handshake, or
 // Handshake does.
 //
-// After a refused message, or once the connection below was lost, nothing more is written, and the end of this party's stream isn't sent.
+// After a refused message, or once the connection below was lost, nothing more is written, and the end of this party's stream isn't sent: Close returns
+// ErrNoEnd then.
 type Conn struct {
 	conn        net.Conn
 	config      *Config
 	isFirst     bool          // the initiator
+	isOneWay    bool          // only the initiator can write
 	isMute      bool          // the other party can't write: the initiator of a one-way pattern
 	limit       time.Duration // for the handshake; 0 is none
 	closed      atomic.Bool
@@ -46,14 +49,17 @@ type Conn struct {
 	came     received
 	rest     []byte // opened, and not read yet
 	inErr    error
+	isStuck  atomic.Bool // the last Read has failed, and nothing has shown since that the caller goes on
 
 	out           sync.Mutex
 	sender        streamSenderMemory
 	pending       []byte // sealed, and not sent yet
 	pendingRoom   *room
+	owed          []byte // payload that is sealed, and that no Write has counted
 	outErr        error
-	isUnfinished  bool         // the last Write has failed, or is running
-	writeDeadline atomic.Int64 // in nanoseconds of Unix; 0 is none
+	isUnfinished  bool // the last Write has failed, or is running
+	isEnded       bool // the end is sent
+	writeDeadline atomic.Pointer[time.Time]
 }
 
 // ConnectionState is what a handshake has agreed on.
@@ -62,7 +68,7 @@ type ConnectionState struct {
 	ProtocolName      string       // for example Noise_XX_25519_ChaChaPoly_SHA256
 	Initiator         bool         // this party wrote the first message
 	HandshakeHash     [KeyLen]byte // the same at both parties: to bind other data to the channel (the framework's 11.2)
-	PeerStatic        *Key         // the other party's static key; nil if the handshake has none
+	PeerStatic        *PublicKey   // the other party's static key; nil if the handshake has none
 	Payloads          [][]byte     // those of the messages that this party has read, Payloads[0] that of message 1; nil at its own
 }
 
@@ -87,29 +93,48 @@ func newConn(conn net.Conn, config *Config, initiator bool, limit time.Duration)
 	if config.HandshakeTimeout != 0 {
 		limit = config.HandshakeTimeout
 	}
+	isOneWay := patternOf(config.pattern()).oneWay()
 	return &Conn{
-		conn: conn, config: config, isFirst: initiator, limit: limit,
-		isMute:  initiator && patternOf(config.pattern()).oneWay(),
+		conn: conn, config: config, isFirst: initiator, limit: limit, isOneWay: isOneWay, isMute: initiator && isOneWay,
 		closing: make(chan struct{}), handshaking: make(chan struct{}, 1),
 		state: ConnectionState{ProtocolName: config.protocolName(), Initiator: initiator},
 	}
 }
 
-// ConnectionState returns what the handshake has agreed on so far. It doesn't wait for a handshake that is running.
+// ConnectionState returns what the handshake has agreed on so far, in memory of the caller's own. It doesn't wait for a handshake that is running.
 func (c *Conn) ConnectionState() ConnectionState {
 	c.stateMutex.Lock()
 	defer c.stateMutex.Unlock()
-	return c.state
+	state := c.state
+	if state.PeerStatic != nil {
+		key := *state.PeerStatic
+		state.PeerStatic = &key
+	}
+	state.Payloads = make([][]byte, len(c.state.Payloads))
+	for i, payload := range c.state.Payloads {
+		state.Payloads[i] = append([]byte(nil), payload...)
+		if payload != nil && state.Payloads[i] == nil {
+			state.Payloads[i] = []byte{}
+		}
+	}
+	return state
 }
 
 // Read reads what the other party has written. It returns io.EOF once that party has sent the end of its stream.
 //
 // A refused message (ErrTag, ErrShort) and a lost connection (ErrCut) end the channel: the connection below is closed, and nothing more can be read or
-// written. A deadline that passes doesn't: a later Read continues with what has arrived.
+// written. A deadline that passes doesn't: a later Read continues with what has arrived. After an error other than io.EOF, Close is Abort, until a later
+// Read succeeds or the deadline is set anew: a request of which only a part has come isn't answered by an end.
 func (c *Conn) Read(b []byte) (int, error) {
 	if err := c.Handshake(); err != nil {
 		return 0, err
 	}
+	n, err := c.read(b)
+	c.isStuck.Store(err != nil && err != io.EOF && !c.isMute)
+	return n, err
+}
+
+func (c *Conn) read(b []byte) (int, error) {
 	c.in.Lock()
 	defer c.in.Unlock()
 	for !c.closed.Load() && len(c.rest) == 0 {
@@ -189,10 +214,10 @@ func (c *Conn) closeBelow() error {
 	return c.closeErr
 }
 
-// Write writes b, in messages of at most 65519 bytes, and returns how many of its bytes it has sealed.
+// Write writes b, in messages of at most 65519 bytes, and returns how many of its bytes it has sent.
 //
-// After a deadline that has passed, a later Write, or CloseWrite, first sends what was sealed and isn't sent yet, and then continues. After another
-// error nothing more can be written.
+// After a deadline that has passed, a later Write has to continue where that one stopped, with b[n:]: what was sealed of it is then sent, and counted, and
+// not sealed again. If its bytes are others, Write returns ErrOtherBytes, and sends nothing. After another error nothing more can be written.
 func (c *Conn) Write(b []byte) (int, error) {
 	if err := c.Handshake(); err != nil {
 		return 0, err
@@ -204,16 +229,35 @@ func (c *Conn) Write(b []byte) (int, error) {
 		if err := c.mayWrite(); err != nil {
 			return written, err
 		}
-		n, err := c.seal(b[written:])
-		written += n
+		n, err := c.countOwed(b[written:])
+		if written += n; err == nil && (written < len(b) || len(b) == 0) {
+			n, err = c.seal(b[written:])
+			written += n
+		}
 		if err != nil {
 			return written, err
 		}
 		if written == len(b) {
-			c.isUnfinished = false
+			c.isUnfinished = len(c.owed) > 0
 			return written, nil
 		}
 	}
+}
+
+// countOwed returns how many first bytes of a payload an earlier Write has sealed and not counted. All of them are sent by now.
+func (c *Conn) countOwed(payload []byte) (int, error) {
+	n := len(c.owed)
+	if n > len(payload) {
+		n = len(payload)
+	}
+	if !bytes.Equal(payload[:n], c.owed[:n]) {
+		return 0, ErrOtherBytes
+	}
+	wipe(c.owed[:n])
+	if c.owed = c.owed[n:]; len(c.owed) == 0 {
+		c.owed = nil
+	}
+	return n, nil
 }
 
 // mayWrite sends what is sealed and not sent yet, and says whether more may be sealed.
@@ -226,7 +270,7 @@ func (c *Conn) mayWrite() error {
 		return *broken
 	case c.outErr != nil:
 		return c.outErr
-	case deadline != 0 && time.Now().UnixNano() >= deadline:
+	case deadline != nil && !time.Now().Before(*deadline):
 		return os.ErrDeadlineExceeded
 	}
 	return c.flush()
@@ -234,7 +278,7 @@ func (c *Conn) mayWrite() error {
 
 var errEnded = errors.New("noise: a Write after CloseWrite")
 
-// seal seals the first bytes of a payload, sends them, and returns how many it has sealed.
+// seal seals the first bytes of a payload, sends them, and returns how many it has sent.
 func (c *Conn) seal(payload []byte) (int, error) {
 	room, result := roomFor(len(payload)+C.NOISE_STREAM_OVERHEAD), &c.sender.result
 	code := C.noise_stream_write(&c.sender.opaque, place(payload), C.size_t(len(payload)), place(room.bytes), C.size_t(len(room.bytes)), result)
@@ -245,7 +289,13 @@ func (c *Conn) seal(payload []byte) (int, error) {
 		}
 		return 0, Code(code)
 	}
-	return int(result.used), c.send(room, int(result.len))
+	used := int(result.used)
+	err := c.send(room, int(result.len))
+	if err != nil {
+		c.owed = append([]byte(nil), payload[:used]...)
+		return 0, err
+	}
+	return used, nil
 }
 
 // send sends the first bytes of a room.
@@ -260,15 +310,7 @@ func (c *Conn) flush() error {
 		n, err := c.conn.Write(c.pending)
 		c.pending = c.pending[n:]
 		if err != nil {
-			if broken := c.broken.Load(); broken != nil {
-				err = *broken
-			} else if c.closed.Load() {
-				err = net.ErrClosed
-			}
-			if !isDeadline(err) {
-				c.outErr = err
-			}
-			return err
+			return c.failed(err)
 		}
 	}
 	if c.pendingRoom != nil {
@@ -278,7 +320,23 @@ func (c *Conn) flush() error {
 	return nil
 }
 
-// CloseWrite sends the end of this party's stream: the other party's Read returns io.EOF. What that party writes can still be read.
+// failed returns why nothing more was sent, after an error of the connection below.
+func (c *Conn) failed(err error) error {
+	if broken := c.broken.Load(); broken != nil {
+		err = *broken
+	} else if c.closed.Load() {
+		err = net.ErrClosed
+	} else if errors.Is(err, io.EOF) { // that of the other party's stream alone is io.EOF
+		err = &lostError{err}
+	}
+	if !isDeadline(err) {
+		c.outErr = err
+	}
+	return err
+}
+
+// CloseWrite sends the end of this party's stream: the other party's Read returns io.EOF. What that party writes can still be read. After a Write that has
+// failed at a deadline, and has sealed bytes that it hasn't counted, it returns ErrOtherBytes, and sends no end, until a Write has counted them.
 func (c *Conn) CloseWrite() error {
 	if err := c.Handshake(); err != nil {
 		return err
@@ -287,6 +345,9 @@ func (c *Conn) CloseWrite() error {
 	defer c.out.Unlock()
 	if err := c.mayWrite(); err != nil {
 		return err
+	}
+	if len(c.owed) > 0 {
+		return ErrOtherBytes
 	}
 	return c.sendEnd()
 }
@@ -303,25 +364,58 @@ func (c *Conn) sendEnd() error {
 		return Code(code)
 	}
 	c.isUnfinished = false
-	return c.send(room, int(result.len))
+	err := c.send(room, int(result.len))
+	c.isEnded = err == nil
+	return err
 }
 
-// Close sends the end of the stream, for which it waits at most 5 seconds, closes the connection below, and overwrites the keys. It sends no end if the
-// last Write has failed or is running, or after what Conn says. If the stream isn't whole for another reason, call Abort.
+// endTime is how long Close waits until the end is sent.
+const endTime = 5 * time.Second
+
+// Close sends the end of the stream, for which it waits at most 5 seconds, closes the connection below, and overwrites the keys. It sends no end, and
+// returns ErrNoEnd, if the last Write has failed or is running, if the last Read has failed, or after what Conn says; the other party's Read returns ErrCut
+// then. After a CloseWrite that has succeeded, and where there was no handshake, it returns only what closing the connection below returns. If the stream
+// isn't whole for another reason, call Abort.
 func (c *Conn) Close() error {
 	if c.closed.Swap(true) {
 		return net.ErrClosed
 	}
-	if c.handshakeDone.Load() && c.out.TryLock() {
-		if c.broken.Load() == nil && c.outErr == nil && !c.isUnfinished {
-			c.conn.SetWriteDeadline(time.Now().Add(5 * time.Second))
-			if c.flush() == nil {
-				c.sendEnd()
-			}
-		}
-		c.out.Unlock()
+	err := c.end()
+	if closing := c.shut(); err == nil {
+		err = closing
 	}
-	return c.shut()
+	return err
+}
+
+// end sends the end of the stream for Close.
+func (c *Conn) end() error {
+	if !c.handshakeDone.Load() {
+		return nil
+	}
+	if !c.out.TryLock() {
+		return ErrNoEnd
+	}
+	defer c.out.Unlock()
+	broken := c.broken.Load()
+	switch {
+	case c.isEnded || !c.isFirst && c.isOneWay:
+		return nil
+	case broken != nil:
+		return &noEndError{*broken}
+	case c.outErr != nil:
+		return &noEndError{c.outErr}
+	case c.isUnfinished || c.isStuck.Load():
+		return ErrNoEnd
+	}
+	c.conn.SetWriteDeadline(time.Now().Add(endTime))
+	err := c.flush()
+	if err == nil {
+		err = c.sendEnd()
+	}
+	if err != nil {
+		return &noEndError{err}
+	}
+	return nil
 }
 
 // Abort closes the connection below, and overwrites the keys. It sends no end, so the other party's Read returns ErrCut.
@@ -367,8 +461,9 @@ func (c *Conn) wipe() {
 	c.sender.wipe()
 	c.receiver.wipe()
 	c.came.drop()
+	wipe(c.owed)
 	c.rest, c.inErr = nil, net.ErrClosed
-	c.pending, c.pendingRoom, c.outErr = nil, nil, net.ErrClosed
+	c.pending, c.pendingRoom, c.owed, c.outErr = nil, nil, nil, net.ErrClosed
 }
 
 // LocalAddr returns that of the connection below.
@@ -380,14 +475,21 @@ func (c *Conn) RemoteAddr() net.Addr { return c.conn.RemoteAddr() }
 // SetDeadline sets both deadlines.
 func (c *Conn) SetDeadline(t time.Time) error {
 	err := c.conn.SetDeadline(t)
+	c.isStuck.Store(false)
 	c.keepWriteDeadline(t)
 	return err
 }
 
-// SetReadDeadline sets the deadline of Read. After one that has passed the channel is still usable, also if it has passed in the handshake.
-func (c *Conn) SetReadDeadline(t time.Time) error { return c.conn.SetReadDeadline(t) }
+// SetReadDeadline sets the deadline of Read, also for messages of the handshake that a Read or a Write waits for. After one that has passed the channel is
+// still usable, also if it has passed in the handshake.
+func (c *Conn) SetReadDeadline(t time.Time) error {
+	err := c.conn.SetReadDeadline(t)
+	c.isStuck.Store(false)
+	return err
+}
 
-// SetWriteDeadline sets the deadline of Write. After one that has passed the channel is still usable.
+// SetWriteDeadline sets the deadline of Write, also for messages of the handshake that a Read or a Write sends: it doesn't limit how long a Write waits for
+// the other party's messages of the handshake, as SetReadDeadline and Config.HandshakeTimeout do. After one that has passed the channel is still usable.
 func (c *Conn) SetWriteDeadline(t time.Time) error {
 	err := c.conn.SetWriteDeadline(t)
 	c.keepWriteDeadline(t)
@@ -396,10 +498,10 @@ func (c *Conn) SetWriteDeadline(t time.Time) error {
 
 func (c *Conn) keepWriteDeadline(t time.Time) {
 	if t.IsZero() {
-		c.writeDeadline.Store(0)
+		c.writeDeadline.Store(nil)
 		return
 	}
-	c.writeDeadline.Store(t.UnixNano())
+	c.writeDeadline.Store(&t)
 }
 
 // NetConn returns the connection below. To read from it or write to it breaks the channel.

@@ -175,6 +175,7 @@ func (c *Conn) begin() (*HandshakeState, error) {
 		if err != nil {
 			return nil, err
 		}
+		h.below = c.conn
 		c.handshake = h
 	}
 	return c.handshake, nil
@@ -185,9 +186,9 @@ func (c *Conn) writeMessage(ctx context.Context) error {
 	if err != nil {
 		return err
 	}
-	var payload []byte
-	if index := h.MessageIndex(); index < len(c.config.Payloads) {
-		payload = c.config.Payloads[index]
+	payload, err := c.payload(ctx, h)
+	if err != nil {
+		return h.end("", err)
 	}
 	frame, err := h.WriteMessageContext(ctx, make([]byte, 2, 256), payload)
 	if err != nil {
@@ -200,6 +201,23 @@ func (c *Conn) writeMessage(ctx context.Context) error {
 	c.pending = frame[:result.len]
 	c.keepPayload(nil)
 	return nil
+}
+
+// payload returns that of the message that is due.
+func (c *Conn) payload(ctx context.Context, h *HandshakeState) ([]byte, error) {
+	index := h.MessageIndex()
+	if c.config.PayloadFor == nil {
+		if index < len(c.config.Payloads) {
+			return c.config.Payloads[index], nil
+		}
+		return nil, nil
+	}
+	peer := Peer{Message: index, Addr: c.conn.RemoteAddr()}
+	peer.Static, _ = h.PeerStatic()
+	if index > 0 {
+		peer.Payload = c.ConnectionState().Payloads[index-1]
+	}
+	return c.config.PayloadFor(ctx, peer)
 }
 
 func (c *Conn) readMessage(ctx context.Context) error {

@@ -5,6 +5,7 @@ package noise
 import (
 	"errors"
 	"fmt"
+	"io"
 	"os"
 	"strings"
 )
@@ -75,9 +76,15 @@ func asError(code uint32) error {
 var (
 	// ErrClosed is returned by what was closed.
 	ErrClosed = errors.New("noise: closed")
-	// ErrCut is returned if the connection was lost before the end of the other party's stream, or in the handshake. If the connection below had an
-	// error, as ECONNRESET, errors.Is finds that too.
-	ErrCut = errors.New("noise: the connection was cut before the end of the stream")
+	// ErrCut is returned if the connection was lost before the end of the other party's stream, or in the handshake. It is an io.ErrUnexpectedEOF, and
+	// never an io.EOF. If the connection below had an error, as ECONNRESET, errors.Is finds that too.
+	ErrCut error = cut{}
+	// ErrNoEnd is returned by Close if the end of this party's stream wasn't sent: the other party's Read returns ErrCut, though it may have read all. If
+	// an error has prevented it, errors.Is finds that too.
+	ErrNoEnd = errors.New("noise: closed without the end of the stream")
+	// ErrOtherBytes is returned by Write and CloseWrite after a Write that has failed at a deadline, if they don't continue where it stopped: what was
+	// sealed of it can't be taken back.
+	ErrOtherBytes = errors.New("noise: after a deadline the next Write has to continue with the bytes that weren't counted")
 	// ErrUnauthenticated is returned if nothing says who may be the other party.
 	ErrUnauthenticated = errors.New("noise: nothing says who may be the other party: set VerifyPeer, PeerStatic, PSKs or PSKFor, or InsecureAcceptAnyKey")
 	// ErrPeerKey is returned if the other party's static key isn't Config.PeerStatic.
@@ -97,12 +104,54 @@ func (tooSlow) Timeout() bool        { return true }
 func (tooSlow) Temporary() bool      { return false }
 func (tooSlow) Is(target error) bool { return target == os.ErrDeadlineExceeded }
 
+type cut struct{}
+
+func (cut) Error() string        { return "noise: the connection was cut before the end of the stream" }
+func (cut) Is(target error) bool { return target == io.ErrUnexpectedEOF }
+
 // lostError is ErrCut with the error of the connection below.
 type lostError struct{ cause error }
 
 func (e *lostError) Error() string        { return ErrCut.Error() + ": " + e.cause.Error() }
-func (e *lostError) Is(target error) bool { return target == ErrCut }
-func (e *lostError) Unwrap() error        { return e.cause }
+func (e *lostError) Is(target error) bool { return target == ErrCut || target == io.ErrUnexpectedEOF }
+func (e *lostError) Unwrap() error        { return withoutEOF(e.cause) }
+
+// noEndError is ErrNoEnd with what has prevented the end.
+type noEndError struct{ cause error }
+
+func (e *noEndError) Error() string        { return ErrNoEnd.Error() + ": " + withoutName(e.cause) }
+func (e *noEndError) Is(target error) bool { return target == ErrNoEnd }
+func (e *noEndError) Unwrap() error        { return withoutEOF(e.cause) }
+
+// withoutEOF returns an error of which errors.Is finds all but io.EOF, which says of a stream that it is whole.
+func withoutEOF(err error) error {
+	if errors.Is(err, io.EOF) {
+		return notEOF{err}
+	}
+	return err
+}
+
+type notEOF struct{ cause error }
+
+func (e notEOF) Error() string        { return e.cause.Error() }
+func (e notEOF) Is(target error) bool { return target != io.EOF && errors.Is(e.cause, target) }
+func (e notEOF) As(target any) bool   { return errors.As(e.cause, target) }
+
+// overError says why a handshake is over, other than a refusal. It is an ErrEnded.
+type overError struct {
+	text     string
+	isClosed bool // it is an ErrClosed too
+}
+
+func (e *overError) Error() string { return e.text }
+func (e *overError) Is(target error) bool {
+	return target == ErrEnded || e.isClosed && target == ErrClosed
+}
+
+var (
+	errHandshakeClosed = &overError{"noise: the handshake was closed", true}
+	errUsedUp          = &overError{"noise: the handshake is used up: its keys were handed on", false}
+)
 
 // HandshakeError says what is wrong with a message of a handshake. Unwrap returns the cause, as ErrTag or the error of VerifyPeer.
 type HandshakeError struct {
@@ -129,12 +178,12 @@ func (e *HandshakeError) Error() string {
 	return "noise: " + place + ": " + withoutName(e.Err)
 }
 
-// Unwrap returns the cause.
-func (e *HandshakeError) Unwrap() error { return e.Err }
+// Unwrap returns the cause, of which errors.Is finds all but io.EOF.
+func (e *HandshakeError) Unwrap() error { return withoutEOF(e.Err) }
 
 // WantedPSKError says that the message that is due needs a psk, which SetPSK passes. The handshake is as it was.
 type WantedPSKError struct {
-	PeerStatic *Key // the other party's static key, of which it hasn't shown yet that it has the secret key; nil if it isn't known
+	PeerStatic *PublicKey // the other party's static key, of which it hasn't shown yet that it has the secret key; nil if it isn't known
 }
 
 // Error returns what is needed.

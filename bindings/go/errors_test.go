@@ -11,7 +11,7 @@ var errDevice = errors.New("the device is away")
 // away is a key in a device that has been taken away.
 type away struct{ DH }
 
-func (away) Agree(context.Context, Key) (result Key, err error) { return result, errDevice }
+func (away) Agree(context.Context, PublicKey) (result Secret, err error) { return result, errDevice }
 
 // TestErrorsNameMessageAndToken ends handshakes at each kind of token, and looks at the message, from 1 on, the token and the text.
 func TestErrorsNameMessageAndToken(t *testing.T) {
@@ -30,9 +30,9 @@ func TestErrorsNameMessageAndToken(t *testing.T) {
 		{"XX", 2, flip(90), "payload", "noise: message 2, payload: " + differ + " or the prologue"},
 		{"IK", 1, func(client, _ *Config, _ *[]byte) { client.PeerStatic = key(pair(t)) }, "s",
 			"noise: message 1, token s: " + differ + ", the prologue or a static key known beforehand"},
-		{"NNpsk0", 1, func(client, _ *Config, _ *[]byte) { client.PSKs = []Key{pskOf(9)} }, "payload",
+		{"NNpsk0", 1, func(client, _ *Config, _ *[]byte) { client.PSKs = []PSK{pskOf(9)} }, "payload",
 			"noise: message 1, payload: " + differ + ", the prologue or a psk"},
-		{"NKpsk2", 2, func(client, _ *Config, _ *[]byte) { client.PSKs = []Key{pskOf(9)} }, "payload",
+		{"NKpsk2", 2, func(client, _ *Config, _ *[]byte) { client.PSKs = []PSK{pskOf(9)} }, "payload",
 			"noise: message 2, payload: " + differ + ", the prologue, a psk or a static key known beforehand"},
 		{"XXpsk3", 2, flip(90), "payload", "noise: message 2, payload: " + differ + " or the prologue"},
 		{"IK", 1, func(_, _ *Config, message *[]byte) { copy(*message, make([]byte, 32)) }, "es",
@@ -44,15 +44,15 @@ func TestErrorsNameMessageAndToken(t *testing.T) {
 		{"KX", 2, takenFromClient, "se", "noise: message 2, token se: the device is away"},
 		{"IX", 2, takenFromServer, "es", "noise: message 2, token es: the device is away"},
 		{"XXpsk3", 3, func(_, server *Config, _ *[]byte) {
-			server.PSKs, server.PSKFor = nil, func(context.Context, Key) ([]Key, error) { return nil, errUnknown }
+			server.PSKs, server.PSKFor = nil, func(context.Context, PublicKey) ([]PSK, error) { return nil, errUnknown }
 		}, "psk", "noise: message 3, token psk: no secret for this key"},
 		{"XX", 2, func(client, _ *Config, _ *[]byte) { client.PeerStatic = key(pair(t)) }, "s",
 			"noise: message 2, token s: the other party has another static key than the one expected"},
 		{"XX", 3, func(_, server *Config, _ *[]byte) {
-			server.VerifyPeer = func(context.Context, Key) error { return errUnknown }
+			server.VerifyPeer = func(context.Context, Peer) error { return errUnknown }
 		}, "s", "noise: message 3, token s: no secret for this key"},
 		{"KK", 0, func(_, server *Config, _ *[]byte) {
-			server.VerifyPeer = func(context.Context, Key) error { return errUnknown }
+			server.VerifyPeer = func(context.Context, Peer) error { return errUnknown }
 		}, "", "noise: before message 1: no secret for this key"},
 	} {
 		err := refusal(t, it.pattern, it.message, it.change)

@@ -28,12 +28,12 @@ func Example() {
 	must(err)
 	clientKey, err := noise.GenerateKeyPair()
 	must(err)
-	serverPublic, known := serverKey.Public(), map[noise.Key]bool{clientKey.Public(): true}
+	serverPublic, known := serverKey.Public(), map[noise.PublicKey]bool{clientKey.Public(): true}
 
 	listener, err := noise.Listen("tcp", "127.0.0.1:0", &noise.Config{
 		Pattern: "IK", Prologue: []byte("chat 1"), Static: serverKey, ErrorLog: log.Default(),
-		VerifyPeer: func(_ context.Context, key noise.Key) error {
-			if !known[key] {
+		VerifyPeer: func(_ context.Context, peer noise.Peer) error {
+			if !known[peer.Static] {
 				return errors.New("not on the list")
 			}
 			return nil
@@ -71,7 +71,7 @@ func Example() {
 // Both ends over any net.Conn, here a pipe, with a psk that both parties have.
 func ExampleClient() {
 	here, there := net.Pipe()
-	config := &noise.Config{Pattern: "NNpsk0", PSKs: []noise.Key{{7, 7, 7}}}
+	config := &noise.Config{Pattern: "NNpsk0", PSKs: []noise.PSK{{7, 7, 7}}}
 	go func() {
 		conn, err := noise.Server(there, config)
 		must(err)
@@ -139,24 +139,24 @@ func ExampleConfig_pSKFor() {
 	clientKey, err := noise.GenerateKeyPair()
 	must(err)
 	clientPublic := clientKey.Public()
-	psks := map[noise.Key]noise.Key{clientPublic: {7, 7, 7}}
+	psks := map[noise.PublicKey]noise.PSK{clientPublic: {7, 7, 7}}
 	here, there := net.Pipe()
 	go func() {
 		conn, err := noise.Server(there, &noise.Config{
 			Pattern: "XXpsk3", Static: serverKey,
-			PSKFor: func(_ context.Context, peer noise.Key) ([]noise.Key, error) {
+			PSKFor: func(_ context.Context, peer noise.PublicKey) ([]noise.PSK, error) {
 				psk, ok := psks[peer]
 				if !ok {
 					return nil, errors.New("not on the list")
 				}
-				return []noise.Key{psk}, nil // one for each psk token
+				return []noise.PSK{psk}, nil // one for each psk token
 			},
 		})
 		must(err)
 		io.WriteString(conn, "hello")
 		conn.Close()
 	}()
-	conn, err := noise.Client(here, &noise.Config{Pattern: "XXpsk3", Static: clientKey, PSKs: []noise.Key{psks[clientPublic]}})
+	conn, err := noise.Client(here, &noise.Config{Pattern: "XXpsk3", Static: clientKey, PSKs: []noise.PSK{psks[clientPublic]}})
 	must(err)
 	text, err := io.ReadAll(conn)
 	fmt.Println(string(text), err)
@@ -170,9 +170,9 @@ func ExampleHandshakeState_SetPSK() {
 	clientKey, err := noise.GenerateKeyPair()
 	must(err)
 	serverPublic, clientPublic := serverKey.Public(), clientKey.Public()
-	psks := map[noise.Key]noise.Key{clientPublic: {7, 7, 7}}
+	psks := map[noise.PublicKey]noise.PSK{clientPublic: {7, 7, 7}}
 	client, err := noise.NewHandshakeState(&noise.Config{
-		Pattern: "IKpsk1", Static: clientKey, PeerStatic: &serverPublic, PSKs: []noise.Key{psks[clientPublic]},
+		Pattern: "IKpsk1", Static: clientKey, PeerStatic: &serverPublic, PSKs: []noise.PSK{psks[clientPublic]},
 	}, true)
 	must(err)
 	server, err := noise.NewHandshakeState(&noise.Config{Pattern: "IKpsk1", Static: serverKey}, false)
@@ -305,16 +305,17 @@ func ExampleCipherState() {
 	must(err)
 
 	must(send.SetNonce(7))
-	packet := binary.BigEndian.AppendUint64(nil, send.Nonce())
-	packet, err = send.Encrypt(packet, packet, []byte("a packet"))
+	packet := make([]byte, 8, 100)
+	packet, err = send.EncryptNext(packet, []byte("a packet"), func(nonce uint64) []byte {
+		binary.BigEndian.PutUint64(packet, nonce)
+		return packet
+	})
 	must(err)
 
 	header, message := packet[:8], packet[8:]
-	must(receive.SetNonce(binary.BigEndian.Uint64(header)))
-	text, err := receive.Decrypt(nil, header, message)
+	text, err := receive.DecryptAt(binary.BigEndian.Uint64(header), nil, header, message)
 	fmt.Println(string(text), err)
-	must(receive.SetNonce(8))
-	_, err = receive.Decrypt(nil, header, message)
+	_, err = receive.DecryptAt(8, nil, header, message)
 	fmt.Println(errors.Is(err, noise.ErrTag))
 	// Output:
 	// a packet <nil>

@@ -6,6 +6,7 @@ import "C"
 import (
 	"context"
 	"crypto/subtle"
+	"net"
 )
 
 // HandshakeState runs a handshake message by message. One goroutine at a time may use it.
@@ -23,11 +24,12 @@ type HandshakeState struct {
 	next      int        // the message that is due, from 0 on
 	prepared  bool       // whether the library has the X25519 results of that message already
 	remote    remoteKeys // those that are known
+	below     net.Conn   // the connection below, if there is one
 }
 
 // remoteKeys are the public keys of the other party, as far as they are known.
 type remoteKeys struct {
-	e, s       Key
+	e, s       PublicKey
 	hasE, hasS bool
 }
 
@@ -91,7 +93,7 @@ func (h *HandshakeState) patternFault() Code {
 	return 0
 }
 
-func setKey(at *C.noise_key, key Key) {
+func setKey(at *C.noise_key, key PublicKey) {
 	at.present = 1
 	copy(bytesOf(&at.bytes[0], KeyLen), key[:])
 }
@@ -155,7 +157,7 @@ func (h *HandshakeState) end(token string, cause error) error {
 	if at, ok := cause.(*tokenError); ok {
 		fault.Token, fault.Err = at.token, at.error
 	}
-	h.Close()
+	h.over(ErrEnded)
 	return fault
 }
 
@@ -172,12 +174,18 @@ func (h *HandshakeState) refuse(token int, code Code) error {
 	if code == ErrTag {
 		err.differ = h.pattern.differences(message, token)
 	}
-	h.Close()
+	h.over(ErrEnded)
 	return err
 }
 
-// Close overwrites what the handshake keeps. Later calls return ErrEnded.
+// Close overwrites what the handshake keeps. Later calls return ErrClosed, which is an ErrEnded here.
 func (h *HandshakeState) Close() error {
+	h.over(errHandshakeClosed)
+	return nil
+}
+
+// over overwrites what the handshake keeps; later calls return an error.
+func (h *HandshakeState) over(why error) {
 	if h.memory != nil {
 		h.memory.wipe()
 		h.memory = nil
@@ -185,8 +193,9 @@ func (h *HandshakeState) Close() error {
 	if h.ephemeral != nil {
 		h.ephemeral.Wipe()
 	}
-	h.ended = ErrEnded
-	return nil
+	if h.ended == nil {
+		h.ended = why
+	}
 }
 
 // judgeFirst decides whether a static key of the other party that is known from the start is accepted.
@@ -195,11 +204,11 @@ func (h *HandshakeState) judgeFirst(ctx context.Context) error {
 		return nil
 	}
 	h.isJudged = true
-	return h.judge(ctx, 0, "")
+	return h.judge(ctx, "", Peer{})
 }
 
 // supply passes the X25519 result for a DH token to the library: of one of this party's key pairs and a public key of the other party.
-func (h *HandshakeState) supply(ctx context.Context, token string, remote Key) error {
+func (h *HandshakeState) supply(ctx context.Context, token string, remote PublicKey) error {
 	var own DH = h.ephemeral
 	of := C.uint8_t(0)
 	if token[index(!h.initiator)] == 's' {
@@ -215,11 +224,11 @@ func (h *HandshakeState) supply(ctx context.Context, token string, remote Key) e
 }
 
 // agreed is Agree, unless the context has ended; zeros are an error.
-func agreed(ctx context.Context, own DH, remote Key) (result Key, err error) {
+func agreed(ctx context.Context, own DH, remote PublicKey) (result Secret, err error) {
 	if err := ctx.Err(); err != nil {
 		return result, err
 	}
-	if result, err = own.Agree(ctx, remote); err == nil && result == (Key{}) {
+	if result, err = own.Agree(ctx, remote); err == nil && result == (Secret{}) {
 		err = ErrLowOrder
 	}
 	return result, err
@@ -317,7 +326,7 @@ func (h *HandshakeState) choose(ctx context.Context) error {
 
 // SetPSK passes the psk of the first psk token that has none: after a *WantedPSKError, or before. It is for a Config with neither PSKs nor PSKFor.
 // ErrPSKCount: no token that is still to come lacks its psk. A psk that was passed can't be replaced: if it is wrong, ReadMessage returns ErrTag.
-func (h *HandshakeState) SetPSK(psk Key) error {
+func (h *HandshakeState) SetPSK(psk PSK) error {
 	if h.ended != nil {
 		return h.ended
 	}
@@ -404,7 +413,7 @@ func (h *HandshakeState) ReadMessageContext(ctx context.Context, dst, message []
 		if h.remote.s, h.remote.hasS = h.PeerStatic(); !h.remote.hasS {
 			return dst, h.end("", ErrStruct)
 		}
-		if err := h.judge(ctx, passed+1, "s"); err != nil {
+		if err := h.judge(ctx, "s", Peer{Message: passed + 1, Payload: payload}); err != nil {
 			return dst, err
 		}
 	}
@@ -434,20 +443,23 @@ func (h *HandshakeState) read(ctx context.Context, received []byte) ([]byte, err
 	return work[m.result.from : m.result.from+m.result.len], nil
 }
 
-// judge decides whether the other party's static key is accepted, which is known from a token of a message, or from the start (0).
-func (h *HandshakeState) judge(ctx context.Context, message int, token string) error {
+// judge decides whether the other party's static key is accepted, which is known from a token of a message, or from the start.
+func (h *HandshakeState) judge(ctx context.Context, token string, peer Peer) error {
 	isAccepted := false
 	defer func() {
 		if !isAccepted { // also if VerifyPeer panics, and its caller goes on
-			h.Close()
+			h.over(ErrEnded)
 		}
 	}()
-	key := h.remote.s
+	key, message := h.remote.s, peer.Message
 	if want := h.config.PeerStatic; want != nil && subtle.ConstantTimeCompare(want[:], key[:]) != 1 {
 		return &HandshakeError{Message: message, Token: token, Err: ErrPeerKey}
 	}
 	if h.config.VerifyPeer != nil {
-		if err := h.config.VerifyPeer(ctx, key); err != nil {
+		if peer.Static = key; h.below != nil {
+			peer.Addr = h.below.RemoteAddr()
+		}
+		if err := h.config.VerifyPeer(ctx, peer); err != nil {
 			return &HandshakeError{Message: message, Token: token, Err: err}
 		}
 	}
@@ -456,7 +468,7 @@ func (h *HandshakeState) judge(ctx context.Context, message int, token string) e
 }
 
 // PeerStatic returns the other party's static key, and whether it is known.
-func (h *HandshakeState) PeerStatic() (key Key, known bool) {
+func (h *HandshakeState) PeerStatic() (key PublicKey, known bool) {
 	if h.memory == nil {
 		return key, false
 	}
@@ -485,7 +497,7 @@ func (h *HandshakeState) Split() (*Sender, *Receiver, error) {
 	if code != C.NOISE_OK {
 		return nil, nil, Code(code)
 	}
-	h.Close()
+	h.over(errUsedUp)
 	return s, r, nil
 }
 
@@ -497,7 +509,8 @@ func (h *HandshakeState) splitStream(s *streamSenderMemory, r *streamReceiverMem
 	if code := C.noise_finish_stream(&h.memory.opaque, C.uint64_t(h.config.Interval), &s.opaque, &r.opaque); code != C.NOISE_OK {
 		return Code(code)
 	}
-	return h.Close()
+	h.over(errUsedUp)
+	return nil
 }
 
 // Datagrams returns the two directions for datagrams, after all messages have passed. A datagram may arrive after others whose nonces are less than
@@ -514,7 +527,7 @@ func (h *HandshakeState) Datagrams(window int) (*DatagramSender, *DatagramReceiv
 	if code != C.NOISE_OK {
 		return nil, nil, Code(code)
 	}
-	h.Close()
+	h.over(errUsedUp)
 	return s, r, nil
 }
 
@@ -528,6 +541,6 @@ func (h *HandshakeState) CipherStates() (send, receive *CipherState, err error) 
 	if code := C.noise_finish_ciphers(&h.memory.opaque, &send.memory.opaque, &receive.memory.opaque); code != C.NOISE_OK {
 		return nil, nil, Code(code)
 	}
-	h.Close()
+	h.over(errUsedUp)
 	return send, receive, nil
 }

@@ -1,5 +1,3 @@
-//go:build cgo
-
 package noise
 
 import (
@@ -8,44 +6,100 @@ import (
 	"encoding/hex"
 	"errors"
 	"fmt"
+	"io"
 	"os"
 	"strings"
 )
 
-// Key is a public key, a secret key, a pre-shared key (psk) or a result of X25519.
-type Key [KeyLen]byte
+// PublicKey is a public key of X25519. It prints, and encodes itself as text, as 64 hexadecimal digits.
+type PublicKey [KeyLen]byte
 
-// ParseKey reads 64 hexadecimal digits, with or without white space around them.
-func ParseKey(digits string) (key Key, err error) {
-	bytes, err := hex.DecodeString(strings.TrimSpace(digits))
-	if err != nil || len(bytes) != KeyLen {
-		return key, errDigits
+// Secret is a secret key of X25519, or a result of it. It doesn't print its bytes: secret[:] has them.
+type Secret [KeyLen]byte
+
+// PSK is a pre-shared key. It doesn't print its bytes: psk[:] has them.
+type PSK [KeyLen]byte
+
+// ParsePublicKey reads 64 hexadecimal digits, with or without white space around them.
+func ParsePublicKey(digits string) (key PublicKey, err error) { return key, parse(key[:], digits) }
+
+// ParseSecret reads 64 hexadecimal digits, with or without white space around them.
+func ParseSecret(digits string) (secret Secret, err error) { return secret, parse(secret[:], digits) }
+
+// ParsePSK reads 64 hexadecimal digits, with or without white space around them.
+func ParsePSK(digits string) (psk PSK, err error) { return psk, parse(psk[:], digits) }
+
+var errDigits = errors.New("noise: a key has 64 hexadecimal digits")
+
+func parse(to []byte, digits string) error {
+	made, err := hex.DecodeString(strings.TrimSpace(digits))
+	defer wipe(made)
+	if err != nil || len(made) != len(to) {
+		return errDigits
 	}
-	copy(key[:], bytes)
-	wipe(bytes)
-	return key, nil
+	copy(to, made)
+	return nil
 }
+
+// String returns the hexadecimal digits.
+func (k PublicKey) String() string { return hex.EncodeToString(k[:]) }
+
+// MarshalText returns the hexadecimal digits.
+func (k PublicKey) MarshalText() ([]byte, error) { return []byte(k.String()), nil }
+
+// UnmarshalText reads what MarshalText returns.
+func (k *PublicKey) UnmarshalText(text []byte) error {
+	key, err := ParsePublicKey(string(text))
+	if err == nil {
+		*k = key
+	}
+	return err
+}
+
+// Format prints the hexadecimal digits, for any verb of the package fmt.
+func (k PublicKey) Format(to fmt.State, verb rune) {
+	text := k.String()
+	switch {
+	case verb == 'X':
+		text = strings.ToUpper(text)
+	case verb == 'q' || verb == 'v' && to.Flag('#'):
+		text = `"` + text + `"`
+	}
+	io.WriteString(to, text)
+}
+
+const hidden = "(secret)"
+
+// String returns no byte of the key.
+func (Secret) String() string { return hidden }
+
+// Format prints no byte of the key, for any verb of the package fmt.
+func (Secret) Format(to fmt.State, _ rune) { io.WriteString(to, hidden) }
+
+// String returns no byte of the key.
+func (PSK) String() string { return hidden }
+
+// Format prints no byte of the key, for any verb of the package fmt.
+func (PSK) Format(to fmt.State, _ rune) { io.WriteString(to, hidden) }
 
 // DH is the static key pair of a party. The secret key may be in a device: nothing but the results of X25519 is asked of it.
 type DH interface {
 	// Public returns the public key.
-	Public() Key
+	Public() PublicKey
 	// Agree returns X25519 of the secret key and this public key of the other party. An error ends the handshake, and so do zeros. The context is that of
 	// the handshake: it ends with that of HandshakeContext, at the time limit, and when the connection is closed.
-	Agree(ctx context.Context, remote Key) (Key, error)
+	Agree(ctx context.Context, remote PublicKey) (Secret, error)
 }
 
 // KeyPair is a key pair of X25519 in memory. It is a DH.
 type KeyPair struct {
 	secret secretKey
-	public Key
+	public PublicKey
 }
-
-var errDigits = errors.New("noise: a key has 64 hexadecimal digits")
 
 // GenerateKeyPair draws a new key pair from crypto/rand.
 func GenerateKeyPair() (*KeyPair, error) {
-	var secret Key
+	var secret Secret
 	if _, err := rand.Read(secret[:]); err != nil {
 		return nil, err
 	}
@@ -54,7 +108,7 @@ func GenerateKeyPair() (*KeyPair, error) {
 }
 
 // NewKeyPair returns the key pair of this secret key.
-func NewKeyPair(secret Key) (*KeyPair, error) {
+func NewKeyPair(secret Secret) (*KeyPair, error) {
 	k := new(KeyPair)
 	err := k.secret.set(&secret)
 	wipe(secret[:])
@@ -72,7 +126,7 @@ func LoadKeyPair(file string) (*KeyPair, error) {
 		return nil, err
 	}
 	defer wipe(text)
-	secret, err := ParseKey(string(text))
+	secret, err := ParseSecret(string(text))
 	if err != nil {
 		return nil, fmt.Errorf("%w: %s", err, file)
 	}
@@ -80,17 +134,22 @@ func LoadKeyPair(file string) (*KeyPair, error) {
 }
 
 // Public returns the public key.
-func (k *KeyPair) Public() Key { return k.public }
+func (k *KeyPair) Public() PublicKey { return k.public }
 
 // Secret returns the secret key: keep it from others. After Wipe it is zeros.
-func (k *KeyPair) Secret() Key { return k.secret.bytes() }
+func (k *KeyPair) Secret() Secret { return k.secret.bytes() }
 
 // Agree returns X25519 of this secret key and a public one; ErrLowOrder if that is zeros, ErrClosed after Wipe. It ignores the context.
-func (k *KeyPair) Agree(_ context.Context, remote Key) (Key, error) { return k.secret.agree(&remote) }
+func (k *KeyPair) Agree(_ context.Context, remote PublicKey) (Secret, error) {
+	return k.secret.agree(&remote)
+}
 
 // Wipe forgets the secret key. With Go 1.20 or later its memory is that of crypto/ecdh, which is overwritten once the garbage collector has freed it and
 // something else takes its place.
 func (k *KeyPair) Wipe() { k.secret.wipe() }
+
+// Format prints the public key alone, for any verb of the package fmt.
+func (k KeyPair) Format(to fmt.State, _ rune) { fmt.Fprintf(to, "key pair %v", k.public) }
 
 func wipe(b []byte) {
 	for i := range b {

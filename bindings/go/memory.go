@@ -90,7 +90,7 @@ func bytesOf(at *C.uint8_t, count int) []byte {
 	return unsafe.Slice((*byte)(unsafe.Pointer(at)), count)
 }
 
-func keyIn(at *C.uint8_t) (key Key) {
+func keyIn(at *C.uint8_t) (key PublicKey) {
 	copy(key[:], bytesOf(at, KeyLen))
 	return key
 }

@@ -38,10 +38,10 @@ func pair(t testing.TB) *KeyPair {
 	return k
 }
 
-func key(k DH) *Key { p := k.Public(); return &p }
+func key(k DH) *PublicKey { p := k.Public(); return &p }
 
 // pskOf returns 32 times the same byte.
-func pskOf(b byte) (psk Key) {
+func pskOf(b byte) (psk PSK) {
 	for i := range psk {
 		psk[i] = b
 	}
@@ -233,9 +233,9 @@ func TestFullDuplexWithRenewedKeys(t *testing.T) {
 }
 
 func TestConfigFaults(t *testing.T) {
-	k, ok := pair(t), func(context.Context, Key) error { return nil }
+	k, ok := pair(t), func(context.Context, Peer) error { return nil }
 	psk := pskOf(1)
-	psksFor := func(context.Context, Key) ([]Key, error) { return []Key{psk}, nil }
+	psksFor := func(context.Context, PublicKey) ([]PSK, error) { return []PSK{psk}, nil }
 	for _, it := range []struct {
 		name   string
 		config *Config
@@ -248,10 +248,10 @@ func TestConfigFaults(t *testing.T) {
 		{"no static key", &Config{VerifyPeer: ok}, "Static", ErrStaticMissing},
 		{"no peer's key", &Config{Pattern: "NK", VerifyPeer: ok}, "PeerStatic", ErrRemoteMissing},
 		{"a peer's key too many", &Config{Pattern: "NN", PeerStatic: key(k)}, "PeerStatic", ErrRemoteUnexpected},
-		{"two psks", &Config{Pattern: "NNpsk0", PSKs: []Key{psk, psk}}, "PSKs", ErrPSKCount},
+		{"two psks", &Config{Pattern: "NNpsk0", PSKs: []PSK{psk, psk}}, "PSKs", ErrPSKCount},
 		{"no psk", &Config{Pattern: "NNpsk0", InsecureAcceptAnyKey: true}, "PSKs", ErrPSKCount},
-		{"ten psks", &Config{Pattern: "NNpsk0", PSKs: make([]Key, 10)}, "PSKs", ErrPSKCount},
-		{"PSKs and PSKFor", &Config{Pattern: "NKpsk2", PeerStatic: key(k), PSKs: []Key{psk}, PSKFor: psksFor}, "PSKFor", errTwo},
+		{"ten psks", &Config{Pattern: "NNpsk0", PSKs: make([]PSK, 10)}, "PSKs", ErrPSKCount},
+		{"PSKs and PSKFor", &Config{Pattern: "NKpsk2", PeerStatic: key(k), PSKs: []PSK{psk}, PSKFor: psksFor}, "PSKFor", errTwo},
 		{"a psk too late", &Config{Pattern: "XXpsk1", Static: k, VerifyPeer: ok, PSKFor: psksFor}, "PSKFor", errPSKTooLate},
 		{"anybody", &Config{Static: k}, "VerifyPeer", ErrUnauthenticated},
 		{"anybody, without keys", &Config{Pattern: "NN"}, "VerifyPeer", ErrUnauthenticated},
@@ -273,8 +273,8 @@ func TestPeerIsJudged(t *testing.T) {
 	refused := errors.New("not on the list")
 	for pattern, message := range map[string]int{"XX": 3, "IX": 1, "IK": 1, "KK": 0} {
 		client, server := configs(t, pattern)
-		server.VerifyPeer = func(_ context.Context, got Key) error {
-			if got != client.Static.Public() {
+		server.VerifyPeer = func(_ context.Context, got Peer) error {
+			if got.Static != client.Static.Public() {
 				t.Error("VerifyPeer gets another key")
 			}
 			return refused
@@ -516,7 +516,7 @@ func echo(conn net.Conn) error {
 
 type zeros struct{ *KeyPair }
 
-func (zeros) Agree(context.Context, Key) (answer Key, err error) { return answer, nil }
+func (zeros) Agree(context.Context, PublicKey) (answer Secret, err error) { return answer, nil }
 
 func TestZerosAreRefused(t *testing.T) {
 	client, server := configs(t, "XX")

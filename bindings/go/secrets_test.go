@@ -18,7 +18,7 @@ func TestSecretsOfAKey(t *testing.T) {
 			asked, other = server, client.Static
 		}
 		secrets := asked.PSKs
-		asked.PSKs, asked.PSKFor = nil, func(_ context.Context, got Key) ([]Key, error) {
+		asked.PSKs, asked.PSKFor = nil, func(_ context.Context, got PublicKey) ([]PSK, error) {
 			if got != other.Public() {
 				t.Error("asked for another's secrets")
 			}
@@ -47,7 +47,7 @@ func TestKeyBeforeSecret(t *testing.T) {
 			if i == 0 {
 				config = server
 			}
-			config.PSKs, config.PSKFor = nil, func(context.Context, Key) ([]Key, error) { return nil, nil }
+			config.PSKs, config.PSKFor = nil, func(context.Context, PublicKey) ([]PSK, error) { return nil, nil }
 			err := config.Check(i == 1)
 			if may {
 				must(t, err)
@@ -61,11 +61,11 @@ func TestKeyBeforeSecret(t *testing.T) {
 var errUnknown = errors.New("no secret for this key")
 
 // secretsOf returns the secrets of two known parties, by their keys.
-func secretsOf(one, two DH) (map[Key]Key, func(context.Context, Key) ([]Key, error)) {
-	secrets := map[Key]Key{one.Public(): pskOf(1), two.Public(): pskOf(2)}
-	return secrets, func(_ context.Context, key Key) ([]Key, error) {
+func secretsOf(one, two DH) (map[PublicKey]PSK, func(context.Context, PublicKey) ([]PSK, error)) {
+	secrets := map[PublicKey]PSK{one.Public(): pskOf(1), two.Public(): pskOf(2)}
+	return secrets, func(_ context.Context, key PublicKey) ([]PSK, error) {
 		if secret, ok := secrets[key]; ok {
-			return []Key{secret}, nil
+			return []PSK{secret}, nil
 		}
 		return nil, errUnknown
 	}
@@ -80,9 +80,9 @@ func TestSecretOfEachPeer(t *testing.T) {
 	}{{"XXpsk3", 1, 3}, {"IKpsk2", 0, 2}, {"IKpsk1", 1, 1}} {
 		one, two, stranger := pair(t), pair(t), pair(t)
 		secrets, choose := secretsOf(one, two)
-		run := func(key DH, secret Key) (errs [2]error) {
+		run := func(key DH, secret PSK) (errs [2]error) {
 			client, server := configs(t, it.pattern)
-			client.Static, client.PSKs = key, []Key{secret}
+			client.Static, client.PSKs = key, []PSK{secret}
 			server.PeerStatic, server.PSKs, server.PSKFor, server.InsecureAcceptAnyKey = nil, nil, choose, false
 			c, s := connected(t, client, server)
 			if errs[0], errs[1] = both(c, s); errs[0] == nil && errs[1] == nil {
@@ -95,7 +95,7 @@ func TestSecretOfEachPeer(t *testing.T) {
 			errs := run(key, secrets[key.Public()])
 			must(t, errs[0], errs[1])
 		}
-		errs := run(stranger, Key{})
+		errs := run(stranger, PSK{})
 		wants(t, errs[1], errUnknown)
 		if it.pattern == "IKpsk2" {
 			wants(t, errs[0], ErrCut) // and no message 2
@@ -112,13 +112,13 @@ func TestSecretOfEachPeer(t *testing.T) {
 // TestFaultsOfPSKFor ends handshakes by what PSKFor returns, and by VerifyPeer after it.
 func TestFaultsOfPSKFor(t *testing.T) {
 	for _, it := range []struct {
-		secrets []Key
+		secrets []PSK
 		want    error
-	}{{nil, ErrPSKCount}, {make([]Key, 2), ErrPSKCount}, {make([]Key, 1), ErrTag}, {[]Key{pskOf(1)}, errUnknown}} {
+	}{{nil, ErrPSKCount}, {make([]PSK, 2), ErrPSKCount}, {make([]PSK, 1), ErrTag}, {[]PSK{pskOf(1)}, errUnknown}} {
 		client, server := configs(t, "XXpsk3")
 		isAsked := false
-		server.PSKs, server.PSKFor = nil, func(context.Context, Key) ([]Key, error) { isAsked = true; return it.secrets, nil }
-		server.VerifyPeer = func(context.Context, Key) error {
+		server.PSKs, server.PSKFor = nil, func(context.Context, PublicKey) ([]PSK, error) { isAsked = true; return it.secrets, nil }
+		server.VerifyPeer = func(context.Context, Peer) error {
 			if !isAsked {
 				t.Error("VerifyPeer is called before message 3 is accepted")
 			}

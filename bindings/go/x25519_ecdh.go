@@ -1,4 +1,4 @@
-//go:build cgo && go1.20
+//go:build go1.20
 
 package noise
 
@@ -7,25 +7,27 @@ import "crypto/ecdh"
 // secretKey is a secret key of X25519.
 type secretKey struct{ key *ecdh.PrivateKey }
 
-func (s *secretKey) set(secret *Key) (err error) {
+func (s *secretKey) set(secret *Secret) (err error) {
 	s.key, err = ecdh.X25519().NewPrivateKey(secret[:])
 	return err
 }
 
-func (s *secretKey) public() (key Key, err error) {
+func (s *secretKey) public() (key PublicKey, err error) {
 	copy(key[:], s.key.PublicKey().Bytes())
 	return key, nil
 }
 
-func (s *secretKey) bytes() (key Key) {
+func (s *secretKey) bytes() (secret Secret) {
 	if s.key != nil {
-		copy(key[:], s.key.Bytes())
+		made := s.key.Bytes()
+		copy(secret[:], made)
+		wipe(made)
 	}
-	return key
+	return secret
 }
 
 // agree fails if the result is zeros.
-func (s *secretKey) agree(remote *Key) (result Key, err error) {
+func (s *secretKey) agree(remote *PublicKey) (result Secret, err error) {
 	if s.key == nil {
 		return result, ErrClosed
 	}

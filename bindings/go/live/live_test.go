@@ -121,7 +121,7 @@ func live(t *testing.T, pattern flynn.HandshakePattern, name string, place int, 
 	them := flynn.Config{CipherSuite: suite, Pattern: pattern, Prologue: []byte("live"), Initiator: !initiator, StaticKeypair: other}
 	if place >= 0 {
 		them.PresharedKey, them.PresharedKeyPlacement = bytes.Repeat([]byte{7}, 32), place
-		config.PSKs = []noise.Key{pskOf(7)}
+		config.PSKs = []noise.PSK{pskOf(7)}
 	}
 	before, after := pattern.InitiatorPreMessages, pattern.ResponderPreMessages
 	if initiator {
@@ -163,10 +163,10 @@ func pskOfClient(i int) noise.Key { return pskOf(byte(i + 1)) }
 
 // chooser returns the Config of a server that has a psk with each of these clients.
 func chooser(own noise.DH, name string, clients []*noise.KeyPair) *noise.Config {
-	return &noise.Config{Pattern: name, Prologue: []byte("live"), Static: own, PSKFor: func(_ context.Context, key noise.Key) ([]noise.Key, error) {
+	return &noise.Config{Pattern: name, Prologue: []byte("live"), Static: own, PSKFor: func(_ context.Context, key noise.Key) ([]noise.PSK, error) {
 		for i, client := range clients {
 			if client.Public() == key {
-				return []noise.Key{pskOfClient(i)}, nil
+				return []noise.PSK{pskOfClient(i)}, nil
 			}
 		}
 		return nil, errors.New("no psk for this key")

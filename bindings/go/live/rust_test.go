@@ -50,7 +50,7 @@ func withRust(t *testing.T, program, name string, psk, initiator, oneWay bool) {
 	digits := "-"
 	if psk {
 		digits = strings.Repeat("07", 32)
-		config.PSKs = []noise.Key{pskOf(7)}
+		config.PSKs = []noise.PSK{pskOf(7)}
 	}
 	words := []string{name, fmt.Sprintf("%x", other.Secret()), fmt.Sprintf("%x", own.Public()), digits}
 	if initiator {
@@ -77,7 +77,7 @@ func pskOfEachPeer(t *testing.T, program string) {
 	table := fmt.Sprintf("%x=%x,%x=%x", keys[0].Public(), pskOfClient(0), keys[1].Public(), pskOfClient(1))
 	for _, name := range choosing {
 		for i, client := range keys[:2] {
-			config := &noise.Config{Pattern: name, Prologue: []byte("live"), Static: client, PSKs: []noise.Key{pskOfClient(i)}}
+			config := &noise.Config{Pattern: name, Prologue: []byte("live"), Static: client, PSKs: []noise.PSK{pskOfClient(i)}}
 			if strings.HasPrefix(name, "IK") {
 				config.PeerStatic = &public
 			}

@@ -26,7 +26,8 @@ func keygen(words []string) error {
 	defer key.Wipe()
 	if *name == "" {
 		fmt.Fprintf(os.Stderr, "public key: %x\n", key.Public())
-		_, err = fmt.Printf("%x\n", key.Secret())
+		secret := key.Secret()
+		_, err = fmt.Printf("%x\n", secret[:])
 		return err
 	}
 	if err := keep(*name, key); err != nil {
@@ -42,7 +43,8 @@ func keep(name string, key *noise.KeyPair) error {
 	if err != nil {
 		return err
 	}
-	_, err = fmt.Fprintf(file, "%x\n", key.Secret())
+	secret := key.Secret()
+	_, err = fmt.Fprintf(file, "%x\n", secret[:])
 	if err == nil {
 		err = file.Sync()
 	}
@@ -64,7 +66,7 @@ func pubkey(words []string) error {
 	if err != nil {
 		return err
 	}
-	secret, err := noise.ParseKey(string(text))
+	secret, err := noise.ParseSecret(string(text))
 	if err != nil {
 		return fmt.Errorf("standard input: %s", withoutName(err))
 	}
@@ -126,7 +128,7 @@ func (o *options) setPSKs(c *noise.Config) error {
 		if err != nil {
 			return err
 		}
-		psk, err := noise.ParseKey(string(text))
+		psk, err := noise.ParsePSK(string(text))
 		if err != nil {
 			return fmt.Errorf("%w: %s", err, name)
 		}
@@ -140,7 +142,7 @@ var errNotAllowed = errors.New("the other end's key isn't allowed")
 // setPeer sets who may be the other end.
 func (o *options) setPeer(c *noise.Config) error {
 	if o.peer != "" {
-		key, err := noise.ParseKey(o.peer)
+		key, err := noise.ParsePublicKey(o.peer)
 		if err != nil {
 			return fmt.Errorf("-peer: %s", withoutName(err))
 		}
@@ -149,17 +151,17 @@ func (o *options) setPeer(c *noise.Config) error {
 	if o.allow == "" {
 		return nil
 	}
-	allowed := map[noise.Key]bool{}
+	allowed := map[noise.PublicKey]bool{}
 	for _, digits := range strings.Split(o.allow, ",") {
-		key, err := noise.ParseKey(digits)
+		key, err := noise.ParsePublicKey(digits)
 		if err != nil {
 			return fmt.Errorf("-allow: %s", withoutName(err))
 		}
 		allowed[key] = true
 	}
-	c.VerifyPeer = func(_ context.Context, key noise.Key) error {
-		if !allowed[key] {
-			return fmt.Errorf("%w: %x", errNotAllowed, key)
+	c.VerifyPeer = func(_ context.Context, peer noise.Peer) error {
+		if !allowed[peer.Static] {
+			return fmt.Errorf("%w: %x", errNotAllowed, peer.Static)
 		}
 		return nil
 	}

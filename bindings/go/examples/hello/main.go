@@ -20,7 +20,7 @@ func main() {
 	}
 	key, err := noise.LoadKeyPair(os.Args[2]) // noisecat keygen -o KEY_FILE has made it
 	must(err)
-	other, err := noise.ParseKey(os.Args[3])
+	other, err := noise.ParsePublicKey(os.Args[3])
 	must(err)
 	config := &noise.Config{Pattern: "XX", Prologue: []byte("hello 1"), Static: key, PeerStatic: &other}
 	if os.Args[1] == "serve" {
