@@ -1,9 +1,10 @@
 package noise
 
-// #include "noise.h"
-import "C"
+import (
+	"sync"
 
-import "sync"
+	"example.org/yulimosar/noise/internal/library"
+)
 
 // CipherState is one direction's key and nonce (the framework's 5.1), for a protocol whose packets have associated data, name their nonces or have a form of
 // their own. HandshakeState.CipherStates makes two, one to send and one to receive, at nonce 0. Any goroutine may call it; of a one-way pattern, the one for
@@ -57,8 +58,8 @@ func (c *CipherState) encrypt(dst, ad, plaintext []byte) ([]byte, error) {
 	ad = apart(room, ad, &c.spare)
 	copy(room, plaintext)
 	m := &c.memory
-	code := C.noise_cipher_encrypt(&m.opaque, place(ad), C.size_t(len(ad)), place(room), C.size_t(len(room)), C.size_t(len(plaintext)), &m.result)
-	if code != C.NOISE_OK {
+	code := library.CipherEncrypt(&m.opaque, place(ad), uint(len(ad)), place(room), uint(len(room)), uint(len(plaintext)), &m.result)
+	if code != 0 {
 		return dst, Code(code)
 	}
 	return whole, nil
@@ -84,10 +85,10 @@ func (c *CipherState) DecryptAt(nonce uint64, dst, ad, message []byte) ([]byte, 
 	if err != nil {
 		return dst, err
 	}
-	C.noise_cipher_set_nonce(&c.memory.opaque, C.uint64_t(nonce))
+	library.CipherSetNonce(&c.memory.opaque, uint64(nonce))
 	whole, err := c.decrypt(dst, ad, message)
 	if err != nil {
-		C.noise_cipher_set_nonce(&c.memory.opaque, C.uint64_t(was))
+		library.CipherSetNonce(&c.memory.opaque, uint64(was))
 	}
 	return whole, err
 }
@@ -105,16 +106,16 @@ func (c *CipherState) decrypt(dst, ad, message []byte) ([]byte, error) {
 	ad = apart(room, ad, &c.spare)
 	copy(room, message)
 	m := &c.memory
-	code := C.noise_cipher_decrypt(&m.opaque, place(ad), C.size_t(len(ad)), place(room), C.size_t(len(room)), &m.result)
-	if code != C.NOISE_OK {
+	code := library.CipherDecrypt(&m.opaque, place(ad), uint(len(ad)), place(room), uint(len(room)), &m.result)
+	if code != 0 {
 		return dst, Code(code)
 	}
-	return whole[:len(dst)+int(m.result.len)], nil
+	return whole[:len(dst)+int(m.result.Len)], nil
 }
 
 // nonce returns the nonce of the next message.
 func (c *CipherState) nonce() (uint64, error) {
-	if code := C.noise_cipher_nonce(&c.memory.opaque, &c.memory.nonce); code != C.NOISE_OK {
+	if code := library.CipherNonce(&c.memory.opaque, &c.memory.nonce); code != 0 {
 		return 0, Code(code)
 	}
 	return uint64(c.memory.nonce), nil
@@ -140,7 +141,7 @@ func (c *CipherState) SetNonce(nonce uint64) error {
 	if c.closed {
 		return ErrClosed
 	}
-	return asError(uint32(C.noise_cipher_set_nonce(&c.memory.opaque, C.uint64_t(nonce))))
+	return asError(uint32(library.CipherSetNonce(&c.memory.opaque, uint64(nonce))))
 }
 
 // Rekey replaces the key by the one that follows from it, and keeps the nonce (the framework's 11.3). ErrOneWay, ErrClosed.
@@ -150,7 +151,7 @@ func (c *CipherState) Rekey() error {
 	if c.closed {
 		return ErrClosed
 	}
-	return asError(uint32(C.noise_cipher_rekey(&c.memory.opaque)))
+	return asError(uint32(library.CipherRekey(&c.memory.opaque)))
 }
 
 // Close overwrites the key. Later calls return ErrClosed.

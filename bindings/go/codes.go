@@ -53,28 +53,28 @@ const (
 
 // Those that no caller meets, unless something else than the library has changed its state.
 const (
-	codeOk               Code = 0
-	codeEphemeralMissing Code = 4
-	codeAgreement        Code = 14
-	codeRoom             Code = 18
-	codeWanted           Code = 20
-	codeFull             Code = 21
-	codeStruct           Code = 23
-	codeNotDue           Code = 29
-	codeHeading          Code = 30
-	codeArrow            Code = 31
-	codeToken            Code = 32
-	codePreMessage       Code = 33
-	codeTurn             Code = 34
-	codePSKPlace         Code = 35
-	codeNameTaken        Code = 36
-	codeLimit            Code = 37
-	codeEnding           Code = 38
-	codeRule             Code = 39
-	codeEnd              Code = 41
-	codeMore             Code = 42
-	codeClosed           Code = 43
-	codeCut              Code = 44
+	codeOk               = 0
+	codeEphemeralMissing = 4
+	codeAgreement        = 14
+	codeRoom             = 18
+	codeWanted           = 20
+	codeFull             = 21
+	codeStruct           = 23
+	codeNotDue           = 29
+	codeHeading          = 30
+	codeArrow            = 31
+	codeToken            = 32
+	codePreMessage       = 33
+	codeTurn             = 34
+	codePSKPlace         = 35
+	codeNameTaken        = 36
+	codeLimit            = 37
+	codeEnding           = 38
+	codeRule             = 39
+	codeEnd              = 41
+	codeMore             = 42
+	codeClosed           = 43
+	codeCut              = 44
 )
 
 // Sizes, in bytes.
@@ -93,14 +93,4 @@ const (
 	maxFrame       = 65537
 )
 
-// The opaque structs in the caller's memory, in bytes.
-const (
-	sizeOfHandshake        = 1472
-	sizeOfStreamSender     = 64
-	sizeOfStreamReceiver   = 64
-	sizeOfSender           = 56
-	sizeOfReceiver         = 56
-	sizeOfDatagramSender   = 48
-	sizeOfDatagramReceiver = 192
-	sizeOfCipher           = 48
-)
+const versionMajor = 1

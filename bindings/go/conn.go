@@ -1,8 +1,5 @@
 package noise
 
-// #include "noise.h"
-import "C"
-
 import (
 	"bytes"
 	"context"
@@ -14,6 +11,8 @@ import (
 	"sync/atomic"
 	"syscall"
 	"time"
+
+	"example.org/yulimosar/noise/internal/library"
 )
 
 // Conn is a secure channel over another connection. One goroutine may read while another writes. The first Read or Write runs the handshake, or
@@ -166,14 +165,14 @@ func (c *Conn) open() error {
 		return nil
 	}
 	result, left := &c.receiver.result, c.came.left()
-	switch code := C.noise_stream_read(&c.receiver.opaque, place(left), C.size_t(len(left)), result); code {
-	case C.NOISE_MORE:
-		return c.receive(int(result.wanted))
-	case C.NOISE_OK:
-		c.rest = left[result.from : result.from+result.len]
-		c.came.start += int(result.used)
-	case C.NOISE_END:
-		c.came.start += int(result.used)
+	switch code := library.StreamRead(&c.receiver.opaque, place(left), uint(len(left)), result); code {
+	case codeMore:
+		return c.receive(int(result.Wanted))
+	case 0:
+		c.rest = left[result.From : result.From+result.Len]
+		c.came.start += int(result.Used)
+	case codeEnd:
+		c.came.start += int(result.Used)
 		c.came.settle()
 		c.inErr = io.EOF
 	default:
@@ -193,7 +192,7 @@ func (c *Conn) receive(wanted int) error {
 		return err
 	case err != io.EOF:
 		c.inErr = c.breakOff(&lostError{err})
-	case C.noise_stream_is_cut(&c.receiver.opaque, C.size_t(len(c.came.left()))) == C.NOISE_OK:
+	case library.StreamIsCut(&c.receiver.opaque, uint(len(c.came.left()))) == 0:
 		c.inErr = io.EOF
 	default:
 		c.inErr = c.breakOff(ErrCut)
@@ -280,17 +279,17 @@ var errEnded = errors.New("noise: a Write after CloseWrite")
 
 // seal seals the first bytes of a payload, sends them, and returns how many it has sent.
 func (c *Conn) seal(payload []byte) (int, error) {
-	room, result := roomFor(len(payload)+C.NOISE_STREAM_OVERHEAD), &c.sender.result
-	code := C.noise_stream_write(&c.sender.opaque, place(payload), C.size_t(len(payload)), place(room.bytes), C.size_t(len(room.bytes)), result)
-	if code != C.NOISE_OK {
+	room, result := roomFor(len(payload)+streamOverhead), &c.sender.result
+	code := library.StreamWrite(&c.sender.opaque, place(payload), uint(len(payload)), place(room.bytes), uint(len(room.bytes)), result)
+	if code != 0 {
 		room.free(0)
-		if code == C.NOISE_CLOSED {
+		if code == codeClosed {
 			return 0, errEnded
 		}
 		return 0, Code(code)
 	}
-	used := int(result.used)
-	err := c.send(room, int(result.len))
+	used := int(result.Used)
+	err := c.send(room, int(result.Len))
 	if err != nil {
 		c.owed = append([]byte(nil), payload[:used]...)
 		return 0, err
@@ -355,16 +354,16 @@ func (c *Conn) CloseWrite() error {
 // sendEnd sends the end, unless that was done.
 func (c *Conn) sendEnd() error {
 	room, result := newRoom(0), &c.sender.result
-	code := C.noise_stream_end(&c.sender.opaque, place(room.bytes), C.size_t(len(room.bytes)), result)
-	if code != C.NOISE_OK {
+	code := library.StreamEnd(&c.sender.opaque, place(room.bytes), uint(len(room.bytes)), result)
+	if code != 0 {
 		room.free(0)
-		if code == C.NOISE_CLOSED {
+		if code == codeClosed {
 			return nil
 		}
 		return Code(code)
 	}
 	c.isUnfinished = false
-	err := c.send(room, int(result.len))
+	err := c.send(room, int(result.Len))
 	c.isEnded = err == nil
 	return err
 }

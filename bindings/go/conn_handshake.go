@@ -1,13 +1,12 @@
 package noise
 
-// #include "noise.h"
-import "C"
-
 import (
 	"context"
 	"io"
 	"net"
 	"time"
+
+	"example.org/yulimosar/noise/internal/library"
 )
 
 // Handshake runs the handshake, if that wasn't done.
@@ -194,11 +193,11 @@ func (c *Conn) writeMessage(ctx context.Context) error {
 	if err != nil {
 		return err
 	}
-	var result C.noise_stream_result
-	if code := C.noise_frame_message(place(frame), C.size_t(len(frame)), C.size_t(len(frame)-2), &result); code != C.NOISE_OK {
+	var result library.StreamResult
+	if code := library.FrameMessage(place(frame), uint(len(frame)), uint(len(frame)-2), &result); code != 0 {
 		return h.end("", Code(code))
 	}
-	c.pending = frame[:result.len]
+	c.pending = frame[:result.Len]
 	c.keepPayload(nil)
 	return nil
 }
@@ -241,18 +240,18 @@ func (c *Conn) readMessage(ctx context.Context) error {
 
 // receiveMessage returns the next message of the handshake, and how many bytes its frame has.
 func (c *Conn) receiveMessage() (message []byte, used int, err error) {
-	var result C.noise_stream_result
+	var result library.StreamResult
 	index, most := c.mostOfMessage()
 	for {
 		left := c.came.left()
-		code := C.noise_frame_find(place(left), C.size_t(len(left)), &result)
-		if code == C.NOISE_OK && int(result.len) <= most {
-			return left[result.from : result.from+result.len], int(result.used), nil
+		code := library.FrameFind(place(left), uint(len(left)), &result)
+		if code == 0 && int(result.Len) <= most {
+			return left[result.From : result.From+result.Len], int(result.Used), nil
 		}
-		if code == C.NOISE_OK || len(left) >= 2 && len(left)+int(result.wanted)-2 > most {
+		if code == 0 || len(left) >= 2 && len(left)+int(result.Wanted)-2 > most {
 			return nil, 0, &HandshakeError{Message: index + 1, Err: ErrTooLong}
 		}
-		err := c.came.from(c.conn, int(result.wanted))
+		err := c.came.from(c.conn, int(result.Wanted))
 		switch {
 		case err == io.EOF:
 			return nil, 0, &HandshakeError{Message: index + 1, Err: ErrCut}

@@ -1,9 +1,10 @@
 package noise
 
-// #include "noise.h"
-import "C"
+import (
+	"sync"
 
-import "sync"
+	"example.org/yulimosar/noise/internal/library"
+)
 
 // DatagramSender seals datagrams, which may be lost, repeated and reordered. Any goroutine may call it.
 type DatagramSender struct {
@@ -32,8 +33,8 @@ func (s *DatagramSender) Seal(dst, payload []byte) ([]byte, error) {
 	}
 	whole, room := grown(dst, len(payload)+DatagramOverhead)
 	payload = apart(room, payload, &s.spare)
-	code := C.noise_datagram_seal(&s.memory.opaque, place(payload), C.size_t(len(payload)), place(room), C.size_t(len(room)), &s.memory.result)
-	if code != C.NOISE_OK {
+	code := library.DatagramSeal(&s.memory.opaque, place(payload), uint(len(payload)), place(room), uint(len(room)), &s.memory.result)
+	if code != 0 {
 		return dst, Code(code)
 	}
 	return whole, nil
@@ -43,7 +44,7 @@ func (s *DatagramSender) Seal(dst, payload []byte) ([]byte, error) {
 func (s *DatagramSender) Nonce() uint64 {
 	s.mutex.Lock()
 	defer s.mutex.Unlock()
-	if s.closed || C.noise_datagram_sender_nonce(&s.memory.opaque, &s.memory.nonce) != C.NOISE_OK {
+	if s.closed || library.DatagramSenderNonce(&s.memory.opaque, &s.memory.nonce) != 0 {
 		return 0
 	}
 	return uint64(s.memory.nonce)
@@ -72,11 +73,11 @@ func (r *DatagramReceiver) Open(dst, datagram []byte) ([]byte, error) {
 	}
 	whole, room := grown(dst, len(datagram))
 	copy(room, datagram)
-	code := C.noise_datagram_open(&r.memory.opaque, place(room), C.size_t(len(room)), &r.memory.result)
-	if code != C.NOISE_OK {
+	code := library.DatagramOpen(&r.memory.opaque, place(room), uint(len(room)), &r.memory.result)
+	if code != 0 {
 		return dst, Code(code)
 	}
-	from, count := int(r.memory.result.from), int(r.memory.result.len)
+	from, count := int(r.memory.result.From), int(r.memory.result.Len)
 	copy(room, room[from:from+count])
 	return whole[:len(dst)+count], nil
 }

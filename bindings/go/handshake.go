@@ -1,12 +1,11 @@
 package noise
 
-// #include "noise.h"
-import "C"
-
 import (
 	"context"
 	"crypto/subtle"
 	"net"
+
+	"example.org/yulimosar/noise/internal/library"
 )
 
 // HandshakeState runs a handshake message by message. One goroutine at a time may use it.
@@ -84,41 +83,37 @@ func started(config *Config, initiator, isLate bool, ephemeral *KeyPair) (*Hands
 
 // patternFault returns the library's code for a pattern that it doesn't accept, else 0.
 func (h *HandshakeState) patternFault() Code {
-	var setup C.noise_setup
+	var setup library.Setup
 	memory, pattern := new(handshakeMemory), []byte(h.config.pattern())
-	code := Code(C.noise_start(&memory.opaque, place(pattern), C.size_t(len(pattern)), place(nil), 0, &setup))
+	code := Code(library.Start(&memory.opaque, place(pattern), uint(len(pattern)), place(nil), 0, &setup))
 	if code == ErrName || code == ErrPattern {
 		return code
 	}
 	return 0
 }
 
-func setKey(at *C.noise_key, key PublicKey) {
-	at.present = 1
-	copy(bytesOf(&at.bytes[0], KeyLen), key[:])
-}
+func keyFor(key PublicKey) library.Key { return library.Key{Present: 1, Bytes: key} }
 
 // start starts the handshake.
 func (h *HandshakeState) start() Code {
-	setup := new(C.noise_setup)
+	setup := new(library.Setup)
 	if !h.initiator {
-		setup.responder = 1
+		setup.Responder = 1
 	}
-	setKey(&setup.e, h.ephemeral.Public())
+	setup.E = keyFor(h.ephemeral.Public())
 	if h.config.Static != nil {
-		setKey(&setup.s, h.config.Static.Public())
+		setup.S = keyFor(h.config.Static.Public())
 	}
 	if h.pattern.knows(h.initiator) {
-		setKey(&setup.remote_s, *h.config.PeerStatic)
+		setup.RemoteS = keyFor(*h.config.PeerStatic)
 	}
-	setup.psk_count = C.uint8_t(len(h.config.PSKs))
+	setup.PSKCount = uint8(len(h.config.PSKs))
 	for i := range h.config.PSKs {
-		psk := bytesOf(&setup.psks[i][0], KeyLen)
-		copy(psk, h.config.PSKs[i][:])
-		defer wipe(psk)
+		setup.PSKs[i] = h.config.PSKs[i]
+		defer wipe(setup.PSKs[i][:])
 	}
 	pattern, prologue := []byte(h.config.pattern()), h.config.Prologue
-	return Code(C.noise_start(&h.memory.opaque, place(pattern), C.size_t(len(pattern)), place(prologue), C.size_t(len(prologue)), setup))
+	return Code(library.Start(&h.memory.opaque, place(pattern), uint(len(pattern)), place(prologue), uint(len(prologue)), setup))
 }
 
 // stage returns how many messages have passed, how many the pattern has, and whether this party writes the next.
@@ -126,11 +121,11 @@ func (h *HandshakeState) stage() (passed, messages int, writes bool) {
 	if h.memory == nil {
 		return 0, 0, false
 	}
-	var stage C.noise_stage_result
-	if C.noise_stage(&h.memory.opaque, &stage) != C.NOISE_OK {
+	var stage library.StageResult
+	if library.Stage(&h.memory.opaque, &stage) != 0 {
 		return 0, 0, false
 	}
-	return int(stage.passed), int(stage.messages), stage.writes_next != 0
+	return int(stage.Passed), int(stage.Messages), stage.WritesNext != 0
 }
 
 // Done reports whether all messages have passed.
@@ -210,7 +205,7 @@ func (h *HandshakeState) judgeFirst(ctx context.Context) error {
 // supply passes the X25519 result for a DH token to the library: of one of this party's key pairs and a public key of the other party.
 func (h *HandshakeState) supply(ctx context.Context, token string, remote PublicKey) error {
 	var own DH = h.ephemeral
-	of := C.uint8_t(0)
+	of := byte(0)
 	if token[index(!h.initiator)] == 's' {
 		own, of = h.config.Static, 1
 	}
@@ -218,7 +213,7 @@ func (h *HandshakeState) supply(ctx context.Context, token string, remote Public
 	if err != nil {
 		return &tokenError{err, token}
 	}
-	code := C.noise_answer(&h.memory.opaque, of, place(remote[:]), place(result[:]))
+	code := library.Answer(&h.memory.opaque, of, place(remote[:]), place(result[:]))
 	wipe(result[:])
 	return asError(uint32(code))
 }
@@ -263,10 +258,10 @@ func (h *HandshakeState) prepare(ctx context.Context, keys *remoteKeys, tokens [
 // wanted returns the DH token whose result the library asks for.
 func (h *HandshakeState) wanted(keys *remoteKeys) string {
 	own, other := byte('e'), byte('s')
-	if h.memory.result.of_static != 0 {
+	if h.memory.result.OfStatic != 0 {
 		own = 's'
 	}
-	if keys.hasE && keyIn(&h.memory.result.remote[0]) == keys.e {
+	if keys.hasE && PublicKey(h.memory.result.Remote) == keys.e {
 		other = 'e'
 	}
 	token := [2]byte{own, other}
@@ -275,14 +270,14 @@ func (h *HandshakeState) wanted(keys *remoteKeys) string {
 
 // called makes a call of the library, and supplies the results of X25519 and the psks that it asks for. A *WantedPSKError leaves the handshake as it was;
 // after another error it has ended.
-func (h *HandshakeState) called(ctx context.Context, keys *remoteKeys, call func() C.uint32_t) (Code, error) {
+func (h *HandshakeState) called(ctx context.Context, keys *remoteKeys, call func() uint32) (Code, error) {
 	result := &h.memory.result
 	for {
 		var err error
 		switch code := call(); code {
-		case C.NOISE_WANTED:
-			err = h.supply(ctx, h.wanted(keys), keyIn(&result.remote[0]))
-		case C.NOISE_WANTED_PSK:
+		case codeWanted:
+			err = h.supply(ctx, h.wanted(keys), PublicKey(result.Remote))
+		case uint32(ErrWantedPSK):
 			if h.config.PSKFor == nil {
 				return 0, h.wantedPSK()
 			}
@@ -299,19 +294,19 @@ func (h *HandshakeState) called(ctx context.Context, keys *remoteKeys, call func
 // wantedPSK returns what the library asks for.
 func (h *HandshakeState) wantedPSK() error {
 	result := &h.memory.result
-	if result.remote_known == 0 {
+	if result.RemoteKnown == 0 {
 		return &WantedPSKError{}
 	}
-	key := keyIn(&result.remote[0])
+	key := PublicKey(result.Remote)
 	return &WantedPSKError{&key}
 }
 
 // choose passes the psks that this party shares with the owner of the static key that the library has reported.
 func (h *HandshakeState) choose(ctx context.Context) error {
-	if h.memory.result.remote_known == 0 {
+	if h.memory.result.RemoteKnown == 0 {
 		return errPSKTooLate
 	}
-	psks, err := h.config.PSKFor(ctx, keyIn(&h.memory.result.remote[0]))
+	psks, err := h.config.PSKFor(ctx, PublicKey(h.memory.result.Remote))
 	if err == nil && len(psks) != h.pattern.psks {
 		err = ErrPSKCount
 	}
@@ -331,7 +326,7 @@ func (h *HandshakeState) SetPSK(psk PSK) error {
 		return h.ended
 	}
 	defer wipe(psk[:])
-	return asError(uint32(C.noise_set_psk(&h.memory.opaque, place(psk[:]))))
+	return asError(uint32(library.SetPsk(&h.memory.opaque, place(psk[:]))))
 }
 
 // WriteMessage appends the next message, with this payload, to dst. ErrNotYourTurn, ErrDone, ErrTooLong and a *WantedPSKError leave the handshake as it
@@ -345,11 +340,11 @@ func (h *HandshakeState) WriteMessageContext(ctx context.Context, dst, payload [
 	if h.ended != nil {
 		return dst, h.ended
 	}
-	m, size := h.memory, C.size_t(0)
-	switch code := C.noise_message_len(&m.opaque, C.size_t(len(payload)), &size); {
-	case code == C.NOISE_STRUCT:
-		return dst, h.end("", ErrStruct)
-	case code == C.NOISE_OK:
+	m, size := h.memory, uint(0)
+	switch code := library.MessageLen(&m.opaque, uint(len(payload)), &size); {
+	case code == codeStruct:
+		return dst, h.end("", Code(codeStruct))
+	case code == 0:
 		if err := h.judgeFirst(ctx); err != nil {
 			return dst, err
 		}
@@ -361,19 +356,19 @@ func (h *HandshakeState) WriteMessageContext(ctx context.Context, dst, payload [
 	if overlap(room, payload) {
 		payload = append([]byte(nil), payload...)
 	}
-	code, err := h.called(ctx, &h.remote, func() C.uint32_t {
-		return C.noise_write(&m.opaque, place(payload), C.size_t(len(payload)), place(room), C.size_t(len(room)), &m.result)
+	code, err := h.called(ctx, &h.remote, func() uint32 {
+		return library.Write(&m.opaque, place(payload), uint(len(payload)), place(room), uint(len(room)), &m.result)
 	})
 	switch {
 	case err != nil:
 		return dst, err
-	case code == ErrStruct || code == ErrAgreement || code == ErrFull:
+	case code == codeStruct || code == codeAgreement || code == codeFull:
 		return dst, h.end("", code)
 	case code != 0:
 		return dst, code
 	}
 	h.passed()
-	return whole[:len(dst)+int(m.result.len)], nil
+	return whole[:len(dst)+int(m.result.Len)], nil
 }
 
 // passed notes that a message has passed.
@@ -411,7 +406,7 @@ func (h *HandshakeState) ReadMessageContext(ctx context.Context, dst, message []
 	}
 	if passed == h.pattern.learns(h.initiator) {
 		if h.remote.s, h.remote.hasS = h.PeerStatic(); !h.remote.hasS {
-			return dst, h.end("", ErrStruct)
+			return dst, h.end("", Code(codeStruct))
 		}
 		if err := h.judge(ctx, "s", Peer{Message: passed + 1, Payload: payload}); err != nil {
 			return dst, err
@@ -427,20 +422,20 @@ func (h *HandshakeState) read(ctx context.Context, received []byte) ([]byte, err
 	if err := h.prepare(ctx, &keys, message.tokens[:message.sealed]); err != nil {
 		return nil, h.end("", err)
 	}
-	code, err := h.called(ctx, &keys, func() C.uint32_t {
-		return C.noise_read(&m.opaque, place(work), C.size_t(len(work)), &m.result)
+	code, err := h.called(ctx, &keys, func() uint32 {
+		return library.Read(&m.opaque, place(work), uint(len(work)), &m.result)
 	})
 	switch {
 	case err != nil:
 		return nil, err
 	case code == ErrShort || code == ErrTag:
-		return nil, h.refuse(int(m.result.token), code)
+		return nil, h.refuse(int(m.result.Token), code)
 	case code != 0:
 		return nil, h.end("", code)
 	}
 	h.remote = keys
 	h.passed()
-	return work[m.result.from : m.result.from+m.result.len], nil
+	return work[m.result.From : m.result.From+m.result.Len], nil
 }
 
 // judge decides whether the other party's static key is accepted, which is known from a token of a message, or from the start.
@@ -472,17 +467,17 @@ func (h *HandshakeState) PeerStatic() (key PublicKey, known bool) {
 	if h.memory == nil {
 		return key, false
 	}
-	var k C.noise_key
-	if C.noise_remote_static(&h.memory.opaque, &k) != C.NOISE_OK || k.present == 0 {
+	var k library.Key
+	if library.RemoteStatic(&h.memory.opaque, &k) != 0 || k.Present == 0 {
 		return key, false
 	}
-	return keyIn(&k.bytes[0]), true
+	return k.Bytes, true
 }
 
 // HandshakeHash returns the hash of what has passed so far. After the last message it is the same at both parties (the framework's 11.2).
 func (h *HandshakeState) HandshakeHash() (hash [KeyLen]byte) {
 	if h.memory != nil {
-		C.noise_hash(&h.memory.opaque, place(hash[:]))
+		library.Hash(&h.memory.opaque, place(hash[:]))
 	}
 	return hash
 }
@@ -493,8 +488,8 @@ func (h *HandshakeState) Split() (*Sender, *Receiver, error) {
 		return nil, nil, h.ended
 	}
 	s, r := new(Sender), new(Receiver)
-	code := C.noise_finish(&h.memory.opaque, C.uint64_t(h.config.Interval), &s.memory.opaque, &r.memory.opaque)
-	if code != C.NOISE_OK {
+	code := library.Finish(&h.memory.opaque, uint64(h.config.Interval), &s.memory.opaque, &r.memory.opaque)
+	if code != 0 {
 		return nil, nil, Code(code)
 	}
 	h.over(errUsedUp)
@@ -506,7 +501,7 @@ func (h *HandshakeState) splitStream(s *streamSenderMemory, r *streamReceiverMem
 	if h.ended != nil {
 		return h.ended
 	}
-	if code := C.noise_finish_stream(&h.memory.opaque, C.uint64_t(h.config.Interval), &s.opaque, &r.opaque); code != C.NOISE_OK {
+	if code := library.FinishStream(&h.memory.opaque, uint64(h.config.Interval), &s.opaque, &r.opaque); code != 0 {
 		return Code(code)
 	}
 	h.over(errUsedUp)
@@ -523,8 +518,8 @@ func (h *HandshakeState) Datagrams(window int) (*DatagramSender, *DatagramReceiv
 		return nil, nil, ErrWindow
 	}
 	s, r := new(DatagramSender), new(DatagramReceiver)
-	code := C.noise_finish_datagrams(&h.memory.opaque, C.uint32_t(window), &s.memory.opaque, &r.memory.opaque)
-	if code != C.NOISE_OK {
+	code := library.FinishDatagrams(&h.memory.opaque, uint32(window), &s.memory.opaque, &r.memory.opaque)
+	if code != 0 {
 		return nil, nil, Code(code)
 	}
 	h.over(errUsedUp)
@@ -538,7 +533,7 @@ func (h *HandshakeState) CipherStates() (send, receive *CipherState, err error) 
 		return nil, nil, h.ended
 	}
 	send, receive = new(CipherState), &CipherState{receives: true}
-	if code := C.noise_finish_ciphers(&h.memory.opaque, &send.memory.opaque, &receive.memory.opaque); code != C.NOISE_OK {
+	if code := library.FinishCiphers(&h.memory.opaque, &send.memory.opaque, &receive.memory.opaque); code != 0 {
 		return nil, nil, Code(code)
 	}
 	h.over(errUsedUp)

@@ -1,66 +1,53 @@
 package noise
 
-// #include "noise.h"
-import "C"
+import (
+	"unsafe"
 
-import "unsafe"
+	"example.org/yulimosar/noise/internal/library"
+)
 
-// The opaque structs of the library. The empty array gives each an address that is a multiple of 8: cgo declares them as bytes. `result` is in the same
-// struct, so that a call allocates no memory.
+// The opaque structs of the library. `result` is in the same struct, so that a call allocates no memory.
 type (
 	handshakeMemory struct {
-		_      [0]uint64
-		opaque C.noise_handshake
-		result C.noise_result
+		opaque library.Handshake
+		result library.Result
 	}
 	senderMemory struct {
-		_      [0]uint64
-		opaque C.noise_sender
-		result C.noise_result
-		nonce  C.uint64_t
+		opaque library.Sender
+		result library.Result
+		nonce  uint64
 	}
 	receiverMemory struct {
-		_      [0]uint64
-		opaque C.noise_receiver
-		result C.noise_result
-		nonce  C.uint64_t
+		opaque library.Receiver
+		result library.Result
+		nonce  uint64
 	}
 	streamSenderMemory struct {
-		_      [0]uint64
-		opaque C.noise_stream_sender
-		result C.noise_stream_result
+		opaque library.StreamSender
+		result library.StreamResult
 	}
 	streamReceiverMemory struct {
-		_      [0]uint64
-		opaque C.noise_stream_receiver
-		result C.noise_stream_result
+		opaque library.StreamReceiver
+		result library.StreamResult
 	}
 	datagramSenderMemory struct {
-		_      [0]uint64
-		opaque C.noise_datagram_sender
-		result C.noise_result
-		nonce  C.uint64_t
+		opaque library.DatagramSender
+		result library.Result
+		nonce  uint64
 	}
 	datagramReceiverMemory struct {
-		_      [0]uint64
-		opaque C.noise_datagram_receiver
-		result C.noise_result
+		opaque library.DatagramReceiver
+		result library.Result
 	}
 	cipherMemory struct {
-		_      [0]uint64
-		opaque C.noise_cipher
-		result C.noise_result
-		nonce  C.uint64_t
+		opaque library.Cipher
+		result library.Result
+		nonce  uint64
 	}
 )
 
 func init() {
-	// An installed library may be another build than the header's.
-	if C.noise_version()/65536 != C.NOISE_VERSION_MAJOR ||
-		C.noise_handshake_size() != sizeOfHandshake || C.noise_cipher_size() != sizeOfCipher ||
-		C.noise_stream_sender_size() != sizeOfStreamSender || C.noise_stream_receiver_size() != sizeOfStreamReceiver ||
-		C.noise_sender_size() != sizeOfSender || C.noise_receiver_size() != sizeOfReceiver ||
-		C.noise_datagram_sender_size() != sizeOfDatagramSender || C.noise_datagram_receiver_size() != sizeOfDatagramReceiver {
+	if !library.IsThis(versionMajor) { // an installed library may be another build than the header's
 		panic("noise: the library noise_c isn't the one that this package was made for")
 	}
 }
@@ -79,20 +66,11 @@ func wipeAt(at unsafe.Pointer, size uintptr) { wipe(unsafe.Slice((*byte)(at), si
 var nothing [1]byte
 
 // place returns the address of a slice's bytes; for an empty slice, of a byte that nobody reads or writes: the library accepts no NULL.
-func place(b []byte) *C.uint8_t {
+func place(b []byte) *byte {
 	if len(b) == 0 {
-		return (*C.uint8_t)(unsafe.Pointer(&nothing))
+		return &nothing[0]
 	}
-	return (*C.uint8_t)(unsafe.Pointer(&b[0]))
-}
-
-func bytesOf(at *C.uint8_t, count int) []byte {
-	return unsafe.Slice((*byte)(unsafe.Pointer(at)), count)
-}
-
-func keyIn(at *C.uint8_t) (key PublicKey) {
-	copy(key[:], bytesOf(at, KeyLen))
-	return key
+	return &b[0]
 }
 
 // grown returns dst with room for n more bytes, and that room.

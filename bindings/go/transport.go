@@ -1,9 +1,10 @@
 package noise
 
-// #include "noise.h"
-import "C"
+import (
+	"sync"
 
-import "sync"
+	"example.org/yulimosar/noise/internal/library"
+)
 
 // Sender seals transport messages. Any goroutine may call it; messages have to arrive in the order in which they were sealed.
 type Sender struct {
@@ -38,8 +39,8 @@ func (s *Sender) seal(dst, payload []byte) ([]byte, error) {
 	}
 	whole, room := grown(dst, len(payload)+TagLen)
 	payload = apart(room, payload, &s.spare)
-	code := C.noise_seal(&s.memory.opaque, place(payload), C.size_t(len(payload)), place(room), C.size_t(len(room)), &s.memory.result)
-	if code != C.NOISE_OK {
+	code := library.Seal(&s.memory.opaque, place(payload), uint(len(payload)), place(room), uint(len(room)), &s.memory.result)
+	if code != 0 {
 		return dst, Code(code)
 	}
 	return whole, nil
@@ -49,7 +50,7 @@ func (s *Sender) seal(dst, payload []byte) ([]byte, error) {
 func (s *Sender) Nonce() uint64 {
 	s.mutex.Lock()
 	defer s.mutex.Unlock()
-	if s.closed || C.noise_sender_nonce(&s.memory.opaque, &s.memory.nonce) != C.NOISE_OK {
+	if s.closed || library.SenderNonce(&s.memory.opaque, &s.memory.nonce) != 0 {
 		return 0
 	}
 	return uint64(s.memory.nonce)
@@ -85,18 +86,18 @@ func (r *Receiver) open(dst, message []byte) ([]byte, error) {
 	if len(room) > 0 && &room[0] != &message[0] {
 		copy(room, message)
 	}
-	code := C.noise_open(&r.memory.opaque, place(room), C.size_t(len(room)), &r.memory.result)
-	if code != C.NOISE_OK {
+	code := library.Open(&r.memory.opaque, place(room), uint(len(room)), &r.memory.result)
+	if code != 0 {
 		return dst, Code(code)
 	}
-	return whole[:len(dst)+int(r.memory.result.len)], nil
+	return whole[:len(dst)+int(r.memory.result.Len)], nil
 }
 
 // Nonce returns the nonce of the next message: how many were opened. After Close it is 0.
 func (r *Receiver) Nonce() uint64 {
 	r.mutex.Lock()
 	defer r.mutex.Unlock()
-	if r.closed || C.noise_receiver_nonce(&r.memory.opaque, &r.memory.nonce) != C.NOISE_OK {
+	if r.closed || library.ReceiverNonce(&r.memory.opaque, &r.memory.nonce) != 0 {
 		return 0
 	}
 	return uint64(r.memory.nonce)

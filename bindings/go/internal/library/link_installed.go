@@ -1,6 +1,6 @@
 //go:build cgo && noise_installed
 
-package noise
+package library
 
 // The flags of pkg-config come last. With these before them the static library is linked, and the shared one, which isn't needed then, isn't.
 
