@@ -58,6 +58,8 @@ func (c *CipherState) encrypt(dst, ad, plaintext []byte) ([]byte, error) {
 	ad = apart(room, ad, &c.spare)
 	copy(room, plaintext)
 	m := &c.memory
+	reads(ad)
+	writes(room)
 	code := library.CipherEncrypt(&m.opaque, place(ad), uint(len(ad)), place(room), uint(len(room)), uint(len(plaintext)), &m.result)
 	if code != 0 {
 		return dst, Code(code)
@@ -106,6 +108,8 @@ func (c *CipherState) decrypt(dst, ad, message []byte) ([]byte, error) {
 	ad = apart(room, ad, &c.spare)
 	copy(room, message)
 	m := &c.memory
+	reads(ad)
+	writes(room)
 	code := library.CipherDecrypt(&m.opaque, place(ad), uint(len(ad)), place(room), uint(len(room)), &m.result)
 	if code != 0 {
 		return dst, Code(code)

@@ -280,6 +280,7 @@ var errEnded = errors.New("noise: a Write after CloseWrite")
 // seal seals the first bytes of a payload, sends them, and returns how many it has sent.
 func (c *Conn) seal(payload []byte) (int, error) {
 	room, result := roomFor(len(payload)+streamOverhead), &c.sender.result
+	reads(payload)
 	code := library.StreamWrite(&c.sender.opaque, place(payload), uint(len(payload)), place(room.bytes), uint(len(room.bytes)), result)
 	if code != 0 {
 		room.free(0)

@@ -33,6 +33,8 @@ func (s *DatagramSender) Seal(dst, payload []byte) ([]byte, error) {
 	}
 	whole, room := grown(dst, len(payload)+DatagramOverhead)
 	payload = apart(room, payload, &s.spare)
+	reads(payload)
+	writes(room)
 	code := library.DatagramSeal(&s.memory.opaque, place(payload), uint(len(payload)), place(room), uint(len(room)), &s.memory.result)
 	if code != 0 {
 		return dst, Code(code)
@@ -73,6 +75,7 @@ func (r *DatagramReceiver) Open(dst, datagram []byte) ([]byte, error) {
 	}
 	whole, room := grown(dst, len(datagram))
 	copy(room, datagram)
+	writes(room)
 	code := library.DatagramOpen(&r.memory.opaque, place(room), uint(len(room)), &r.memory.result)
 	if code != 0 {
 		return dst, Code(code)

@@ -356,6 +356,8 @@ func (h *HandshakeState) WriteMessageContext(ctx context.Context, dst, payload [
 	if overlap(room, payload) {
 		payload = append([]byte(nil), payload...)
 	}
+	reads(payload)
+	writes(room)
 	code, err := h.called(ctx, &h.remote, func() uint32 {
 		return library.Write(&m.opaque, place(payload), uint(len(payload)), place(room), uint(len(room)), &m.result)
 	})

@@ -39,6 +39,8 @@ func (s *Sender) seal(dst, payload []byte) ([]byte, error) {
 	}
 	whole, room := grown(dst, len(payload)+TagLen)
 	payload = apart(room, payload, &s.spare)
+	reads(payload)
+	writes(room)
 	code := library.Seal(&s.memory.opaque, place(payload), uint(len(payload)), place(room), uint(len(room)), &s.memory.result)
 	if code != 0 {
 		return dst, Code(code)
@@ -86,6 +88,7 @@ func (r *Receiver) open(dst, message []byte) ([]byte, error) {
 	if len(room) > 0 && &room[0] != &message[0] {
 		copy(room, message)
 	}
+	writes(room)
 	code := library.Open(&r.memory.opaque, place(room), uint(len(room)), &r.memory.result)
 	if code != 0 {
 		return dst, Code(code)

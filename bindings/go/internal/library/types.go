@@ -85,11 +85,3 @@ type PatternResult struct {
 	Token    byte
 	Messages byte
 }
-
-// IsThis reports whether the library that is linked has these structs, and the major version.
-func IsThis(major uint32) bool {
-	return Version()/65536 == major && HandshakeSize() == uint(len(Handshake{}.opaque)) && CipherSize() == uint(len(Cipher{}.opaque)) &&
-		StreamSenderSize() == uint(len(StreamSender{}.opaque)) && StreamReceiverSize() == uint(len(StreamReceiver{}.opaque)) &&
-		SenderSize() == uint(len(Sender{}.opaque)) && ReceiverSize() == uint(len(Receiver{}.opaque)) &&
-		DatagramSenderSize() == uint(len(DatagramSender{}.opaque)) && DatagramReceiverSize() == uint(len(DatagramReceiver{}.opaque))
-}

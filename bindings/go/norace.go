@@ -1,0 +1,6 @@
+//go:build !race
+
+package noise
+
+func reads([]byte)  {}
+func writes([]byte) {}
