@@ -2,8 +2,7 @@
 """Writes the first listings of docs/GO.md and docs/RUST.md as modules that compile: listings.py FOLDER. It also compares the other listings of docs/GO.md,
 and those of "A psk for each peer" in docs/RUST.md, with the programs and tests that run them.
 
-FOLDER/go and FOLDER/rust get the program; their go.mod, Cargo.toml and .cargo/config.toml are those of the page, with the path of this repository, and for
-Go also with what the page adds for Debian's.
+FOLDER/go and FOLDER/rust get the program; their go.mod, Cargo.toml and .cargo/config.toml are those of the page, with the path of this repository.
 """
 import re
 import sys
@@ -55,7 +54,7 @@ def main() -> None:
     folder = Path(sys.argv[1])
     first, *others = listings("GO.md", "go")
     assert first == (TOP / "bindings/go/examples/hello/main.go").read_text(encoding="utf-8"), "GO.md: the first listing isn't bindings/go/examples/hello"
-    write(folder / "go/go.mod", indented("GO.md", "module example.org/hello") + indented("GO.md", "require golang.org/x/crypto v0.4.0 // indirect"))
+    write(folder / "go/go.mod", indented("GO.md", "module example.org/hello"))
     write(folder / "go/main.go", first)
     for listing in others:
         stands("GO.md", listing, "bindings/go/example_test.go")

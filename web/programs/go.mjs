@@ -18,7 +18,7 @@ function keys({ has, psks }) {
     has.initiator && draw('clientKey'),
     has.responder && draw('serverKey'),
     psks > 0 && [
-      `\tpsks := make([]noise.Key, ${psks}) // in the order of the psk tokens`, '\tfor i := range psks {',
+      `\tpsks := make([]noise.PSK, ${psks}) // in the order of the psk tokens`, '\tfor i := range psks {',
       '\t\t_, err := rand.Read(psks[i][:])', '\t\tmust(err)', '\t}',
     ],
   );
@@ -97,7 +97,7 @@ export function go(facts) {
     (config('initiator', facts) + config('responder', facts)).trimEnd() || undefined,
     (isStream ? STREAM(oneWay) : MESSAGES(facts)).trimEnd(),
     '}', '',
-    (has.initiator || has.responder) && ['func public(key *noise.KeyPair) *noise.Key {', '\tpublic := key.Public()', '\treturn &public', '}', ''],
+    (has.initiator || has.responder) && ['func public(key *noise.KeyPair) *noise.PublicKey {', '\tpublic := key.Public()', '\treturn &public', '}', ''],
     'func must(err error) {', '\tif err != nil {', '\t\tlog.Fatal(err)', '\t}', '}',
   );
 }

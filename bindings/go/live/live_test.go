@@ -115,7 +115,7 @@ func live(t *testing.T, pattern flynn.HandshakePattern, name string, place int, 
 	must(t, err)
 	other, err := suite.GenerateKeypair(rand.Reader)
 	must(t, err)
-	public, theirKey := own.Public(), noise.Key{}
+	public, theirKey := own.Public(), noise.PublicKey{}
 	copy(theirKey[:], other.Public)
 	config := &noise.Config{Pattern: name, Prologue: []byte("live"), Static: own, InsecureAcceptAnyKey: true}
 	them := flynn.Config{CipherSuite: suite, Pattern: pattern, Prologue: []byte("live"), Initiator: !initiator, StaticKeypair: other}
@@ -151,7 +151,7 @@ func newKeys(t *testing.T, count int) (keys []*noise.KeyPair) {
 }
 
 // pskOf returns 32 times the same byte.
-func pskOf(b byte) (psk noise.Key) {
+func pskOf(b byte) (psk noise.PSK) {
 	for i := range psk {
 		psk[i] = b
 	}
@@ -159,11 +159,11 @@ func pskOf(b byte) (psk noise.Key) {
 }
 
 // pskOfClient returns the psk of client i.
-func pskOfClient(i int) noise.Key { return pskOf(byte(i + 1)) }
+func pskOfClient(i int) noise.PSK { return pskOf(byte(i + 1)) }
 
 // chooser returns the Config of a server that has a psk with each of these clients.
 func chooser(own noise.DH, name string, clients []*noise.KeyPair) *noise.Config {
-	return &noise.Config{Pattern: name, Prologue: []byte("live"), Static: own, PSKFor: func(_ context.Context, key noise.Key) ([]noise.PSK, error) {
+	return &noise.Config{Pattern: name, Prologue: []byte("live"), Static: own, PSKFor: func(_ context.Context, key noise.PublicKey) ([]noise.PSK, error) {
 		for i, client := range clients {
 			if client.Public() == key {
 				return []noise.PSK{pskOfClient(i)}, nil

@@ -7,10 +7,7 @@ require (
 	golang.org/x/net v0.7.0
 )
 
-require golang.org/x/crypto v0.4.0 // indirect
-
 replace (
 	example.org/yulimosar/noise => ../
-	golang.org/x/crypto => /usr/share/gocode/src/golang.org/x/crypto
 	golang.org/x/net => /usr/share/gocode/src/golang.org/x/net
 )

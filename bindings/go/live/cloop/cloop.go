@@ -1,10 +1,7 @@
 // Package cloop calls the library from a loop in C: what a message costs without Go.
 package cloop
 
-// The library is in the package, with which a program that imports this one is linked.
-
-// #cgo CFLAGS: -O2 -I${SRCDIR}/../..
-// #cgo linux LDFLAGS: -Wl,--unresolved-symbols=ignore-all
+// #cgo CFLAGS: -O2 -I${SRCDIR}/../../../../include
 // #include "noise.h"
 //
 // static noise_sender sending, not_sending;

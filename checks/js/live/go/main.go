@@ -11,16 +11,16 @@ import (
 
 func main() {
 	w := parse(os.Args[1:])
-	own, err := noise.NewKeyPair(noise.Key(*(*[32]byte)(w.secret)))
+	own, err := noise.NewKeyPair(*(*[32]byte)(w.secret))
 	fail(err)
 	base, _, hasPSK := strings.Cut(w.pattern, "psk")
 	config := &noise.Config{Pattern: w.pattern, Prologue: []byte("live")}
 	if base != "NN" {
-		peer := noise.Key(*(*[32]byte)(w.peer))
+		peer := noise.PublicKey(*(*[32]byte)(w.peer))
 		config.Static, config.PeerStatic = own, &peer
 	}
 	if hasPSK {
-		config.PSKs = []noise.Key{noise.Key(*(*[32]byte)(w.psk))}
+		config.PSKs = []noise.PSK{*(*[32]byte)(w.psk)}
 	}
 	each(w, func(conn net.Conn) (stream, error) {
 		if w.listens {

@@ -24,7 +24,7 @@ func main() {
 	if err != nil {
 		log.Fatal(err)
 	}
-	expected, err := noise.ParseKey(string(digits))
+	expected, err := noise.ParsePublicKey(string(digits))
 	if err != nil {
 		log.Fatal(err)
 	}

@@ -139,7 +139,7 @@ func (c *certificate) encoded(key []byte) []byte {
 }
 
 // verify says why this authority's certificate doesn't vouch for a party with this static key.
-func (c *certificate) verify(authority *certificate, key noise.Key, now time.Time) error {
+func (c *certificate) verify(authority *certificate, key noise.PublicKey, now time.Time) error {
 	fingerprint := sha256.Sum256(authority.encoded(authority.key))
 	switch {
 	case !authority.isCA || len(authority.key) != ed25519.PublicKeySize:
@@ -184,7 +184,7 @@ func loadKey(file string) (*noise.KeyPair, error) {
 	if err != nil {
 		return nil, err
 	}
-	var secret noise.Key
+	var secret noise.Secret
 	if copy(secret[:], b) != len(secret) || len(b) != len(secret) {
 		return nil, fmt.Errorf("%s: not 32 bytes", file)
 	}

@@ -224,7 +224,7 @@ func TestCertificates(t *testing.T) {
 	good := member(t, room, "ca.crt", "node")
 	key, now := good.key.Public(), time.Now()
 	must(t, good.own.verify(good.authority, key, now))
-	wants(t, good.own.verify(good.authority, noise.Key{1}, now), "for another key")
+	wants(t, good.own.verify(good.authority, noise.PublicKey{1}, now), "for another key")
 	wants(t, good.own.verify(good.authority, key, now.Add(365*24*time.Hour)), "expired")
 	wants(t, good.own.verify(good.authority, key, now.Add(-time.Hour)), "isn't valid yet")
 	wants(t, good.authority.verify(good.authority, key, now), "one of an authority")
@@ -240,7 +240,7 @@ func TestCertificates(t *testing.T) {
 	again, err := parseCertificate(travels)
 	must(t, err)
 	must(t, again.verify(good.authority, key, now))
-	if err := again.verify(good.authority, noise.Key{1}, now); err == nil {
+	if err := again.verify(good.authority, noise.PublicKey{1}, now); err == nil {
 		t.Error("a certificate without its key is accepted for another")
 	}
 	for at := range travels { // a changed certificate isn't read, or refused

@@ -25,8 +25,8 @@ func main() {
 	}
 	listener, err := noise.Listen("tcp", "127.0.0.1:4042", &noise.Config{
 		Pattern: "XX", Prologue: []byte("example channel 1"), Static: key, Interval: 1000, ErrorLog: log.Default(),
-		VerifyPeer: func(_ context.Context, peer noise.Key) error {
-			fmt.Printf("server: a client with the key %x\n", peer)
+		VerifyPeer: func(_ context.Context, peer noise.Peer) error {
+			fmt.Printf("server: a client with the key %v\n", peer.Static)
 			return nil // a server that lets in only some looks the key up here
 		},
 	})

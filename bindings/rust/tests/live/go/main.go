@@ -75,14 +75,14 @@ func connect(address string, initiator bool) net.Conn {
 }
 
 func openNoise(conn net.Conn, w words) (channel, error) {
-	own, err := noise.NewKeyPair(*(*noise.Key)(w.own))
+	own, err := noise.NewKeyPair(*(*noise.Secret)(w.own))
 	must(err)
 	config := &noise.Config{Pattern: w.pattern, Prologue: []byte("live"), Static: own}
 	if w.psk != nil {
-		config.PSKs = []noise.Key{*(*noise.Key)(w.psk)}
+		config.PSKs = []noise.PSK{*(*noise.PSK)(w.psk)}
 	}
 	if !strings.HasPrefix(w.pattern, "NN") {
-		config.PeerStatic = (*noise.Key)(w.peer)
+		config.PeerStatic = (*noise.PublicKey)(w.peer)
 	}
 	make := noise.Server
 	if w.initiator {

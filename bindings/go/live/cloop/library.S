@@ -1,0 +1,1 @@
+#include "../../../../dist/noise_c.S"
