@@ -58,7 +58,6 @@ const (
 	codeAgreement        = 14
 	codeRoom             = 18
 	codeWanted           = 20
-	codeFull             = 21
 	codeStruct           = 23
 	codeNotDue           = 29
 	codeHeading          = 30

@@ -31,7 +31,6 @@ var texts = map[Code]string{
 	codeRoom:             "the buffer is too short for the message",
 	ErrNotDone:           "messages of the handshake are still due",
 	codeWanted:           "the call needs a result of X25519",
-	codeFull:             "too many results of X25519",
 	ErrOneWay:            "the pattern is one-way, and this is the other direction",
 	codeStruct:           "the state isn't one that a call could have made",
 	ErrLength:            "more than 65535 bytes",

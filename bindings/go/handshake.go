@@ -24,6 +24,7 @@ type HandshakeState struct {
 	prepared  bool       // whether the library has the X25519 results of that message already
 	remote    remoteKeys // those that are known
 	below     net.Conn   // the connection below, if there is one
+	isTrying  bool       // a message is tried: a fault leaves the handshake as it was
 }
 
 // remoteKeys are the public keys of the other party, as far as they are known.
@@ -175,12 +176,17 @@ func (h *HandshakeState) refuse(token int, code Code) error {
 
 // Close overwrites what the handshake keeps. Later calls return ErrClosed, which is an ErrEnded here.
 func (h *HandshakeState) Close() error {
+	h.isTrying = false
 	h.over(errHandshakeClosed)
 	return nil
 }
 
 // over overwrites what the handshake keeps; later calls return an error.
 func (h *HandshakeState) over(why error) {
+	if h.isTrying {
+		h.ended = why
+		return
+	}
 	if h.memory != nil {
 		h.memory.wipe()
 		h.memory = nil
@@ -364,7 +370,7 @@ func (h *HandshakeState) WriteMessageContext(ctx context.Context, dst, payload [
 	switch {
 	case err != nil:
 		return dst, err
-	case code == codeStruct || code == codeAgreement || code == codeFull:
+	case code == codeStruct || code == codeAgreement:
 		return dst, h.end("", code)
 	case code != 0:
 		return dst, code
@@ -387,6 +393,31 @@ func (h *HandshakeState) ReadMessage(dst, message []byte) ([]byte, error) {
 
 // ReadMessageContext is ReadMessage with the context that VerifyPeer, PSKFor and Agree get.
 func (h *HandshakeState) ReadMessageContext(ctx context.Context, dst, message []byte) ([]byte, error) {
+	return h.readMessage(ctx, dst, message, library.Read)
+}
+
+// TryReadMessage is ReadMessageContext for messages that a stranger can send, as over UDP: also after a *HandshakeError the handshake is as it was, and
+// another message can be read in the place of the one that is refused. So a message that was altered, repeated or invented doesn't end the handshake.
+func (h *HandshakeState) TryReadMessage(ctx context.Context, dst, message []byte) ([]byte, error) {
+	if h.ended != nil {
+		return dst, h.ended
+	}
+	was, before := *h, *h.memory
+	h.isTrying = true
+	defer func() {
+		if h.memory != nil && h.ended != nil {
+			*h.memory, *h = before, was
+		}
+		h.isTrying = false
+		before.wipe()
+	}()
+	return h.readMessage(ctx, dst, message, library.TryRead)
+}
+
+// readCall is noise_read, or noise_try_read.
+type readCall func(h *library.Handshake, message *byte, messageLen uint, result *library.Result) uint32
+
+func (h *HandshakeState) readMessage(ctx context.Context, dst, message []byte, call readCall) ([]byte, error) {
 	if h.ended != nil {
 		return dst, h.ended
 	}
@@ -402,7 +433,7 @@ func (h *HandshakeState) ReadMessageContext(ctx context.Context, dst, message []
 	if err := h.judgeFirst(ctx); err != nil {
 		return dst, err
 	}
-	payload, err := h.read(ctx, message)
+	payload, err := h.read(ctx, message, call)
 	if err != nil {
 		return dst, err
 	}
@@ -417,7 +448,7 @@ func (h *HandshakeState) ReadMessageContext(ctx context.Context, dst, message []
 	return append(dst, payload...), nil
 }
 
-func (h *HandshakeState) read(ctx context.Context, received []byte) ([]byte, error) {
+func (h *HandshakeState) read(ctx context.Context, received []byte, read readCall) ([]byte, error) {
 	m, work := h.memory, append([]byte(nil), received...)
 	message := &h.pattern.messages[h.next]
 	keys := h.remote.with(message, received)
@@ -425,7 +456,7 @@ func (h *HandshakeState) read(ctx context.Context, received []byte) ([]byte, err
 		return nil, h.end("", err)
 	}
 	code, err := h.called(ctx, &keys, func() uint32 {
-		return library.Read(&m.opaque, place(work), uint(len(work)), &m.result)
+		return read(&m.opaque, place(work), uint(len(work)), &m.result)
 	})
 	switch {
 	case err != nil:

@@ -49,6 +49,11 @@ func DatagramSenderSize() uint
 //go:noescape
 func DatagramReceiverSize() uint
 
+// Sentence is noise_sentence.
+//
+//go:noescape
+func Sentence(code uint32, sentence *byte) uint
+
 // Start is noise_start.
 //
 //go:noescape
@@ -73,6 +78,11 @@ func Write(h *Handshake, payload *byte, payloadLen uint, out *byte, outLen uint,
 //
 //go:noescape
 func Read(h *Handshake, message *byte, messageLen uint, result *Result) uint32
+
+// TryRead is noise_try_read.
+//
+//go:noescape
+func TryRead(h *Handshake, message *byte, messageLen uint, result *Result) uint32
 
 // MessageLen is noise_message_len.
 //

@@ -55,6 +55,11 @@ func DatagramReceiverSize() uint {
 	return uint(C.noise_datagram_receiver_size())
 }
 
+// Sentence is noise_sentence.
+func Sentence(code uint32, sentence *byte) uint {
+	return uint(C.noise_sentence(C.uint32_t(code), (*C.uint8_t)(unsafe.Pointer(sentence))))
+}
+
 // Start is noise_start.
 func Start(h *Handshake, pattern *byte, patternLen uint, prologue *byte, prologueLen uint, setup *Setup) uint32 {
 	return uint32(C.noise_start((*C.noise_handshake)(unsafe.Pointer(h)), (*C.uint8_t)(unsafe.Pointer(pattern)), C.size_t(patternLen), (*C.uint8_t)(unsafe.Pointer(prologue)), C.size_t(prologueLen), (*C.noise_setup)(unsafe.Pointer(setup))))
@@ -78,6 +83,11 @@ func Write(h *Handshake, payload *byte, payloadLen uint, out *byte, outLen uint,
 // Read is noise_read.
 func Read(h *Handshake, message *byte, messageLen uint, result *Result) uint32 {
 	return uint32(C.noise_read((*C.noise_handshake)(unsafe.Pointer(h)), (*C.uint8_t)(unsafe.Pointer(message)), C.size_t(messageLen), (*C.noise_result)(unsafe.Pointer(result))))
+}
+
+// TryRead is noise_try_read.
+func TryRead(h *Handshake, message *byte, messageLen uint, result *Result) uint32 {
+	return uint32(C.noise_try_read((*C.noise_handshake)(unsafe.Pointer(h)), (*C.uint8_t)(unsafe.Pointer(message)), C.size_t(messageLen), (*C.noise_result)(unsafe.Pointer(result))))
 }
 
 // MessageLen is noise_message_len.
