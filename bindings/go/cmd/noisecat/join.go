@@ -1,20 +1,19 @@
 package main
 
 import (
-	"context"
 	"errors"
 	"fmt"
 	"io"
-	"math"
 	"net"
 	"os"
 	"strings"
+	"sync/atomic"
 	"time"
 
 	"example.org/yulimosar/noise"
 )
 
-// join joins standard input and output to a channel, or to one after another.
+// join joins standard input and output, or what -forward and -exec name, to a channel, or to several.
 func join(o *options) error {
 	config, err := o.config()
 	if err != nil {
@@ -22,18 +21,19 @@ func join(o *options) error {
 	}
 	if o.connect != "" {
 		o.warn()
-		below, err := net.DialTimeout("tcp", o.connect, o.timeout)
+		tcp, err := net.DialTimeout("tcp", o.connect, o.timeout)
 		if err != nil {
 			return err
 		}
-		c, err := o.over(below.(*net.TCPConn), config, noise.Client)
+		below := &counted{TCPConn: tcp.(*net.TCPConn), isShown: o.verbose}
+		c, err := noise.Client(below, config)
 		if err == nil {
 			err = c.Handshake()
 		}
 		if err != nil {
 			return err
 		}
-		return o.carry(c, below.(*net.TCPConn))
+		return o.carry(c, below)
 	}
 	l, err := net.Listen("tcp", o.listen)
 	if err != nil {
@@ -46,131 +46,98 @@ func join(o *options) error {
 	return o.serve(l, config)
 }
 
-// over makes an end of a channel.
-func (o *options) over(below *net.TCPConn, config *noise.Config, end func(net.Conn, *noise.Config) (*noise.Conn, error)) (*noise.Conn, error) {
-	if o.verbose {
-		return end(&shown{below}, config)
-	}
-	return end(below, config)
-}
+var errIdle = errors.New("nothing has come or gone for the time that -idle names")
 
-// atOnce is how many handshakes run at once, so that silent strangers take little.
-const atOnce = 64
-
-// met is a connection whose handshake has succeeded.
-type met struct {
-	c     *noise.Conn
-	below *net.TCPConn
-	err   error // of the listener
-}
-
-// serve carries the first connection whose handshake succeeds; with -keep one after another, and it returns at an error of the listener.
-func (o *options) serve(l net.Listener, config *noise.Config) error {
-	ctx, stop := context.WithCancel(context.Background())
-	defer stop()
-	defer l.Close()
-	ready := make(chan met)
-	go o.accept(ctx, l, config, ready)
-	for {
-		next := <-ready
-		if next.err != nil {
-			return next.err
-		}
-		if !o.keep {
-			stop()
-			l.Close()
-			return o.carry(next.c, next.below)
-		}
-		if err := o.carry(next.c, next.below); err != nil {
-			fmt.Fprintf(os.Stderr, "noisecat: %v: %s\n", next.below.RemoteAddr(), sentence(err))
-		}
-	}
-}
-
-// accept runs the handshakes of those who come, until the context ends.
-func (o *options) accept(ctx context.Context, l net.Listener, config *noise.Config, ready chan<- met) {
-	free := make(chan bool, atOnce)
-	for {
-		free <- true
-		below, err := l.Accept()
-		if err != nil {
-			select {
-			case ready <- met{err: err}:
-			case <-ctx.Done():
-			}
-			return
-		}
-		go func() {
-			defer func() { <-free }()
-			c, err := o.over(below.(*net.TCPConn), config, noise.Server)
-			if err == nil {
-				err = c.HandshakeContext(ctx)
-			}
-			if err != nil {
-				below.Close()
-				if ctx.Err() == nil {
-					fmt.Fprintf(os.Stderr, "noisecat: %v: %s\n", below.RemoteAddr(), sentence(err))
-				}
-				return
-			}
-			select {
-			case ready <- met{c: c, below: below.(*net.TCPConn)}:
-			case <-ctx.Done():
-				c.Abort()
-			}
-		}()
-	}
-}
-
-// carry moves standard input and output until both ends have sent all, and say so. After a fault it resets the connection, so that the other end gets an error
-// too, also if it has ended its stream and read all.
-func (o *options) carry(c *noise.Conn, below *net.TCPConn) error {
+// carry moves what there is to send and what comes until both ends have sent all. Where the other end is noisecat too, each says that it has written out all,
+// and only that is no fault. After a fault it resets the connection, so that the other end gets an error too.
+func (o *options) carry(c *noise.Conn, below *counted) error {
 	if o.verbose {
 		s := c.ConnectionState()
 		fmt.Fprintf(os.Stderr, "%s\nhandshake hash: %x\n", s.ProtocolName, s.HandshakeHash)
 		if s.PeerStatic != nil {
-			fmt.Fprintf(os.Stderr, "peer's key: %x\n", *s.PeerStatic)
+			fmt.Fprintf(os.Stderr, "peer's key: %v\n", *s.PeerStatic)
 		}
 	}
-	done := make(chan error, 2)
-	go func() { done <- o.send(c) }()
-	go func() { done <- o.receive(c) }()
-	err := <-done
+	target, err := o.open()
 	if err == nil {
-		err = <-done
-	}
-	if err == nil {
-		err = part(below)
+		err = o.move(c, below, target)
+		if closing := target.close(err == nil); err == nil {
+			err = closing
+		}
 	}
 	if err != nil {
 		below.SetLinger(0)
 		c.Abort()
 		return err
 	}
-	return c.Close()
+	c.Close() // the end was sent before
+	return nil
 }
 
-// setInput sets what is read for a connection: with -keep all that is left of a file, for each anew, or nothing of a terminal.
-func (o *options) setInput(in *os.File) error {
-	info, err := in.Stat()
-	switch {
-	case !o.keep:
-		o.input = func() io.Reader { return in }
-		return nil
-	case err != nil || info.Mode()&os.ModeCharDevice != 0: // it is closed, a terminal, or /dev/null
-		o.input = func() io.Reader { return strings.NewReader("") }
-		return nil
-	case !info.Mode().IsRegular():
-		return wrong{errors.New("-keep: standard input can be sent to one connection alone: redirect it from a file, or from /dev/null")}
+// move moves both directions.
+func (o *options) move(c *noise.Conn, below *counted, target *local) error {
+	send, receive := plainSend, plainReceive
+	hasRecords := isNoisecat(c)
+	if hasRecords {
+		r := newRecords(c)
+		send = func(_ *noise.Conn, from io.Reader) error {
+			_, err := io.CopyBuffer(struct{ io.Writer }{r}, struct{ io.Reader }{from}, make([]byte, recordMost))
+			if err == nil {
+				err = r.sign(allSent)
+			}
+			return err
+		}
+		receive = func(_ *noise.Conn, target *local) error { return r.receive(target, target.done) }
 	}
-	start, err := in.Seek(0, io.SeekCurrent)
-	o.input = func() io.Reader { return io.NewSectionReader(in, start, math.MaxInt64-start) }
-	return err
+	done := make(chan error, 3)
+	go func() { done <- send(c, target) }()
+	go func() { done <- receive(c, target) }()
+	stop := o.watch(below, func() { done <- errIdle })
+	defer stop()
+	err := <-done
+	if err == nil {
+		err = <-done
+	}
+	switch {
+	case err != nil:
+		return err
+	case !hasRecords:
+		return part(below)
+	}
+	if c.CloseWrite() == nil { // both ends know that all is written out: what comes of the rest changes nothing
+		c.SetReadDeadline(time.Now().Add(5 * time.Second))
+		c.Read(make([]byte, 1))
+	}
+	return nil
 }
 
-// send sends the input, and ends the stream.
-func (o *options) send(c *noise.Conn) error {
-	_, err := io.CopyBuffer(struct{ io.Writer }{c}, struct{ io.Reader }{o.input()}, make([]byte, noise.MaxMessage-noise.TagLen))
+// watch calls a function once nothing has come or gone for the time of -idle, until its result is called.
+func (o *options) watch(below *counted, idle func()) (stop func()) {
+	if o.idle <= 0 {
+		return func() {}
+	}
+	ended := make(chan struct{})
+	go func() {
+		for last := int64(-1); ; {
+			select {
+			case <-ended:
+				return
+			case <-time.After(o.idle):
+			}
+			count := below.came.Load() + below.went.Load()
+			if count == last {
+				idle()
+				return
+			}
+			last = count
+		}
+	}()
+	return func() { close(ended) }
+}
+
+// plainSend sends the input, and ends the stream.
+func plainSend(c *noise.Conn, from io.Reader) error {
+	_, err := io.CopyBuffer(struct{ io.Writer }{c}, struct{ io.Reader }{from}, make([]byte, noise.MaxMessage-noise.TagLen))
 	if err == nil {
 		err = c.CloseWrite()
 	}
@@ -180,39 +147,26 @@ func (o *options) send(c *noise.Conn) error {
 	return err
 }
 
-// outputError is an error of standard output.
-type outputError struct{ error }
-
-type output struct{}
-
-func (output) Write(b []byte) (int, error) {
-	n, err := os.Stdout.Write(b)
-	if err != nil {
-		err = &outputError{err}
-	}
-	return n, err
-}
-
-// receive writes what comes to standard output, and closes it at the end, unless more connections come.
-func (o *options) receive(c *noise.Conn) error {
-	_, err := io.CopyBuffer(output{}, struct{ io.Reader }{c}, make([]byte, noise.MaxMessage))
+// plainReceive writes what comes to standard output.
+func plainReceive(c *noise.Conn, target *local) error {
+	_, err := io.CopyBuffer(struct{ io.Writer }{target}, struct{ io.Reader }{c}, make([]byte, noise.MaxMessage))
 	if errors.Is(err, noise.ErrOneWay) {
 		return nil
 	}
-	if err != nil || o.keep {
+	if err != nil {
 		return err
 	}
-	return os.Stdout.Close()
+	return target.done()
 }
 
 var errNotParted = errors.New("the other end may not have got all")
 
-// part ends the connection, and waits until the other end does: after a fault that end resets it.
-func part(below *net.TCPConn) error {
+// part ends the connection to a program that isn't noisecat, and waits until the other end does: after a fault that end resets it.
+func part(below *counted) error {
 	err := below.CloseWrite()
 	if err == nil {
 		below.SetReadDeadline(time.Now().Add(30 * time.Second))
-		_, err = io.Copy(io.Discard, below)
+		_, err = io.Copy(io.Discard, below.TCPConn)
 	}
 	if err != nil {
 		return fmt.Errorf("%w: %v", errNotParted, err)
@@ -220,23 +174,29 @@ func part(below *net.TCPConn) error {
 	return nil
 }
 
-// shown shows what goes over a connection.
-type shown struct{ net.Conn }
+// counted counts the bytes that go over a connection, and shows how many.
+type counted struct {
+	*net.TCPConn
+	isShown    bool
+	came, went atomic.Int64
+}
 
-func (s *shown) Read(b []byte) (int, error) {
-	n, err := s.Conn.Read(b)
-	show("<-", b[:n])
+func (c *counted) Read(b []byte) (int, error) {
+	n, err := c.TCPConn.Read(b)
+	c.came.Add(int64(n))
+	c.show("<-", n)
 	return n, err
 }
 
-func (s *shown) Write(b []byte) (int, error) {
-	n, err := s.Conn.Write(b)
-	show("->", b[:n])
+func (c *counted) Write(b []byte) (int, error) {
+	n, err := c.TCPConn.Write(b)
+	c.went.Add(int64(n))
+	c.show("->", n)
 	return n, err
 }
 
-func show(arrow string, b []byte) {
-	if len(b) > 0 {
-		fmt.Fprintf(os.Stderr, "%s %d bytes: %x\n", arrow, len(b), b)
+func (c *counted) show(arrow string, count int) {
+	if c.isShown && count > 0 {
+		fmt.Fprintf(os.Stderr, "%s %d bytes\n", arrow, count)
 	}
 }

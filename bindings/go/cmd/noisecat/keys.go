@@ -92,7 +92,8 @@ func (o *options) warn() {
 }
 
 func (o *options) config() (*noise.Config, error) {
-	c := &noise.Config{Pattern: o.pattern, Prologue: []byte(o.prologue), Interval: o.interval, InsecureAcceptAnyKey: o.any, HandshakeTimeout: o.timeout}
+	c := &noise.Config{Pattern: o.pattern, Prologue: []byte(o.prologue), Interval: o.interval, InsecureAcceptAnyKey: o.any, HandshakeTimeout: o.timeout,
+		PayloadFor: announce}
 	if strings.HasPrefix(o.pattern, "@") {
 		text, err := os.ReadFile(o.pattern[1:])
 		if err != nil {

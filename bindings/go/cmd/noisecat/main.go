@@ -9,8 +9,11 @@
 // after another, and sends each the file that standard input is. Of a terminal, or /dev/null, it sends nothing then, and a pipe, of which
 // only one could get what comes, is refused. With port 0 it listens at a free port, and prints the address on standard error.
 //
-// The status is 0 if both parties have ended their streams, 1 after a fault, and 2 if the words of the command are wrong, each with a sentence on standard
-// error. After a fault of one party, as a full disk at its output, the connection is reset, and the other party's status is 1 too.
+// -forward HOST:PORT joins each channel to a TCP connection of its own, and -exec COMMAND to a process of its own; with -keep all of them at once.
+//
+// The status is 0 if both parties have sent all and, where both are noisecat, each has said over the channel that it has written out all; 1 after a fault, and
+// 2 if the words of the command are wrong, each with a sentence on standard error. Of another program at the other end the status 0 says that its stream has
+// ended. After a fault of one party, as a full disk at its output, the connection is reset, and the other party's status is 1 too.
 package main
 
 import (
@@ -36,11 +39,12 @@ const usage = `usage: noisecat -listen ADDRESS  [-key FILE] [-allow KEY,..] [-ps
 `
 
 type options struct {
-	listen, connect, key, allow, peer, pattern, psk, prologue string
-	interval                                                  uint64
-	timeout                                                   time.Duration
-	any, keep, verbose, version                               bool
-	input                                                     func() io.Reader // what is read for a connection
+	listen, connect, key, allow, peer, pattern, psk, prologue, forward, exec string
+
+	interval                    uint64
+	timeout, idle               time.Duration
+	any, keep, verbose, version bool
+	input                       func() io.Reader // what is read for a connection
 }
 
 // wrong is what is wrong with the words of the command.
@@ -80,8 +84,15 @@ func run(words []string) error {
 		return wrong{errors.New("name either -listen or -connect: noisecat -h shows all flags")}
 	case o.keep && o.listen == "":
 		return wrong{errors.New("-keep is for -listen")}
+	case o.forward != "" && o.exec != "":
+		return wrong{errors.New("name either -forward or -exec")}
+	case o.idle < 0:
+		return wrong{errors.New("-idle: less than 0")}
 	case o.timeout <= 0:
 		return wrong{errors.New("-timeout: not more than 0")}
+	}
+	if o.keep && o.idle == 0 && o.forward == "" && o.exec == "" {
+		o.idle = time.Minute // one channel after another: a silent one would keep the others out
 	}
 	if err := o.setInput(os.Stdin); err != nil {
 		return err
@@ -104,7 +115,10 @@ func (o *options) flags() *flag.FlagSet {
 	flags.Uint64Var(&o.interval, "interval", 0, "renew keys after this `number` of messages, the same at both ends; 0: never")
 	flags.DurationVar(&o.timeout, "timeout", 30*time.Second, "the `time` that connecting and a handshake may take")
 	flags.BoolVar(&o.keep, "keep", false, "with -listen: take one connection after another, and send each the file that standard input is")
-	flags.BoolVar(&o.verbose, "v", false, "show what goes over the connection, and the handshake hash, on standard error")
+	flags.StringVar(&o.forward, "forward", "", "join each channel to a TCP connection to this `address`, in place of standard input and output")
+	flags.StringVar(&o.exec, "exec", "", "join each channel to the standard input and output of this `command` of the shell")
+	flags.DurationVar(&o.idle, "idle", 0, "end a channel over which nothing has come or gone for this `time`; 0: never, and with -keep on standard output 1m0s")
+	flags.BoolVar(&o.verbose, "v", false, "show how many bytes go over the connection, and the handshake hash, on standard error")
 	flags.BoolVar(&o.version, "version", false, "print the version")
 	return flags
 }
@@ -151,6 +165,8 @@ func sentence(err error) string {
 		return withoutName(err)
 	case errors.Is(err, noise.ErrTag) || errors.Is(err, noise.ErrShort):
 		return "a message was changed on the way: " + withoutName(err)
+	case err == errNotWritten:
+		return err.Error()
 	case errors.Is(err, noise.ErrCut):
 		return "the connection was cut before the other end had sent all"
 	case errors.Is(err, syscall.ECONNRESET) || errors.Is(err, syscall.EPIPE):

@@ -12,6 +12,7 @@ import (
 	"os"
 	"os/exec"
 	"path/filepath"
+	"regexp"
 	"strconv"
 	"strings"
 	"testing"
@@ -206,6 +207,11 @@ func TestVerbose(t *testing.T) {
 	if said := ends[0].said.String(); !strings.Contains(said, "handshake hash: ") || !strings.Contains(said, "peer's key: "+client) {
 		t.Error("-v doesn't show the hash and the key")
 	}
+	if lines := regexp.MustCompile(`(?m)^(->|<-).*$`).FindAllString(ends[0].said.String(), -1); len(lines) < 4 {
+		t.Error("-v doesn't show what goes over the connection")
+	} else if line := regexp.MustCompile(`(?m)^(->|<-) \d+ bytes.+$`).FindString(ends[0].said.String()); line != "" {
+		t.Errorf("-v shows %q", line)
+	}
 }
 
 // TestListenerGoesOn has clients that are refused, refuse, differ, are silent and send what is no handshake, and then one that is accepted.
@@ -256,7 +262,7 @@ func TestListenerGoesOn(t *testing.T) {
 func TestSilentStrangers(t *testing.T) {
 	cat, server, own, to := pair(t)
 	var ends [2]side
-	l := listen(t, cat("-key", "s", "-allow", own, "-timeout", "3s"), &ends[0])
+	l := listen(t, cat("-key", "s", "-allow", own), &ends[0])
 	for i := 0; i < 70; i++ {
 		quiet, err := net.Dial("tcp", l.address)
 		if err != nil {
@@ -264,9 +270,10 @@ func TestSilentStrangers(t *testing.T) {
 		}
 		defer quiet.Close()
 	}
+	start := time.Now()
 	client(to(server)(l.address), &ends[1])
 	l.wait()
-	if ends[0].status != 0 || ends[1].status != 0 {
+	if ends[0].status != 0 || ends[1].status != 0 || time.Since(start) > 15*time.Second { // a handshake may take 30
 		t.Errorf("status %d and %d: %s", ends[0].status, ends[1].status, ends[1].said.String())
 	}
 }
