@@ -1,6 +1,7 @@
 package main
 
 import (
+	"context"
 	"encoding/binary"
 	"errors"
 	"fmt"
@@ -50,10 +51,13 @@ func (p *party) hello() []byte {
 	return text(nil, payloadDetails, details)
 }
 
-// connect runs the handshake IX over conn: one packet each way. It sends its own as often as no answer comes, until the deadline.
+// connect runs the handshake IX over conn: one packet each way. It sends its own as often as no right answer comes, until the deadline. An answer that isn't
+// right, which anybody can send, changes nothing; the last such is why nothing else has come.
 func (p *party) connect(conn net.Conn, until time.Time) (*tunnel, error) {
-	// Who the other party may be is decided by its certificate, which comes with its key.
-	h, err := noise.NewHandshakeState(&noise.Config{Pattern: "IX", Static: p.key, InsecureAcceptAnyKey: true}, true)
+	t := &tunnel{own: ownIndex}
+	h, err := noise.NewHandshakeState(&noise.Config{Pattern: "IX", Static: p.key, VerifyPeer: func(_ context.Context, peer noise.Peer) error {
+		return t.accept(p.authority, peer)
+	}}, true)
 	if err != nil {
 		return nil, err
 	}
@@ -62,45 +66,17 @@ func (p *party) connect(conn net.Conn, until time.Time) (*tunnel, error) {
 	if err != nil {
 		return nil, err
 	}
-	answer, err := asked(conn, first, until, func(packet []byte) bool {
-		return packet[0] == version<<4|typeHandshake && binary.BigEndian.Uint32(packet[4:]) == ownIndex
-	})
-	if err != nil {
-		return nil, err
-	}
-	payload, err := h.ReadMessage(nil, answer[headerLen:])
-	if err != nil {
-		return nil, err
-	}
-	return p.accepted(h, payload)
-}
-
-// accepted judges the other party by its certificate, and makes the tunnel.
-func (p *party) accepted(h *noise.HandshakeState, payload []byte) (*tunnel, error) {
-	t := &tunnel{own: ownIndex}
-	outer, err := fields(payload)
-	if err != nil || len(outer) == 0 || outer[0].tag != payloadDetails {
-		return nil, errBuffer
-	}
-	details, err := fields(outer[0].bytes)
-	if err != nil {
-		return nil, err
-	}
-	for _, f := range details {
-		switch f.tag {
-		case helloResponder:
-			t.other = uint32(f.number)
-		case helloCert:
-			if t.peer, err = parseCertificate(f.bytes); err != nil {
-				return nil, err
-			}
+	var refused error
+	if _, err = asked(conn, first, until, func(packet []byte) bool {
+		if packet[0] != version<<4|typeHandshake || binary.BigEndian.Uint32(packet[4:]) != ownIndex {
+			return false
 		}
+		_, refused = h.TryReadMessage(context.Background(), nil, packet[headerLen:])
+		return refused == nil
+	}); err == errSilent && refused != nil {
+		err = refused
 	}
-	key, _ := h.PeerStatic()
-	if t.peer == nil {
-		return nil, errors.New("the other party shows no certificate")
-	}
-	if err := t.peer.verify(p.authority, key, time.Now()); err != nil {
+	if err != nil {
 		return nil, err
 	}
 	if t.send, t.receive, err = h.CipherStates(); err != nil {
@@ -108,6 +84,34 @@ func (p *party) accepted(h *noise.HandshakeState, payload []byte) (*tunnel, erro
 	}
 	t.window = window{next: 3} // the handshake has counted 1 and 2
 	return t, t.send.SetNonce(3)
+}
+
+// accept judges the other party by its certificate, which is in the payload beside its key, and takes its index.
+func (t *tunnel) accept(authority *certificate, peer noise.Peer) error {
+	outer, err := fields(peer.Payload)
+	if err != nil || len(outer) == 0 || outer[0].tag != payloadDetails {
+		return errBuffer
+	}
+	details, err := fields(outer[0].bytes)
+	if err != nil {
+		return err
+	}
+	var shown *certificate
+	for _, f := range details {
+		switch f.tag {
+		case helloResponder:
+			t.other = uint32(f.number)
+		case helloCert:
+			if shown, err = parseCertificate(f.bytes); err != nil {
+				return err
+			}
+		}
+	}
+	if shown == nil {
+		return errors.New("the other party shows no certificate")
+	}
+	t.peer = shown
+	return shown.verify(authority, peer.Static, time.Now())
 }
 
 // asked sends a packet each half second, and returns the first that passes the filter. That nobody is there (ECONNREFUSED) may be so for a moment.
@@ -135,10 +139,13 @@ var (
 	errRepeated = errors.New("the packet came before, or is too old")
 )
 
-// seal makes a packet. No counter is used twice: that is the CipherState's nonce.
+// seal makes a packet. No counter is used twice, also by several goroutines: that is the CipherState's nonce.
 func (t *tunnel) seal(kind, subtype byte, text []byte) ([]byte, error) {
-	packet := header(kind, subtype, t.other, t.send.Nonce())
-	return t.send.Encrypt(packet, packet, text)
+	packet := header(kind, subtype, t.other, 0)
+	return t.send.EncryptNext(packet, text, func(nonce uint64) []byte {
+		binary.BigEndian.PutUint64(packet[8:], nonce)
+		return packet
+	})
 }
 
 // open returns the text of a packet, and changes nothing unless all of it, header included, is the other party's, and new.
@@ -150,10 +157,7 @@ func (t *tunnel) open(packet []byte) ([]byte, error) {
 	if !t.window.isNew(counter) {
 		return nil, errRepeated
 	}
-	if err := t.receive.SetNonce(counter); err != nil {
-		return nil, err
-	}
-	text, err := t.receive.Decrypt(nil, packet[:headerLen], packet[headerLen:])
+	text, err := t.receive.DecryptAt(counter, nil, packet[:headerLen], packet[headerLen:])
 	if err == nil {
 		t.window.note(counter)
 	}
