@@ -128,7 +128,7 @@ func (c *Config) check(p *pattern, initiator, isLate bool) error {
 
 // Check returns the *ConfigError that Client, for the initiator, or Server would return; nil if there is none. It doesn't call VerifyPeer or PSKFor.
 func (c *Config) Check(initiator bool) error {
-	h, err := started(c, initiator, false, new(KeyPair))
+	h, err := started(c, &HandshakeState{initiator: initiator, ephemeral: new(KeyPair), isOfConn: true}, false)
 	if err != nil {
 		return err
 	}

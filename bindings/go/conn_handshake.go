@@ -170,11 +170,10 @@ func (c *Conn) run(ctx context.Context) error {
 // begin draws the ephemeral key, if that wasn't done.
 func (c *Conn) begin() (*HandshakeState, error) {
 	if c.handshake == nil {
-		h, err := newHandshakeState(c.config, c.isFirst, false)
+		h, err := ofConn(c.config, c.isFirst, c.conn)
 		if err != nil {
 			return nil, err
 		}
-		h.below = c.conn
 		c.handshake = h
 	}
 	return c.handshake, nil

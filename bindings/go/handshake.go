@@ -25,6 +25,8 @@ type HandshakeState struct {
 	remote    remoteKeys // those that are known
 	below     net.Conn   // the connection below, if there is one
 	isTrying  bool       // a message is tried: a fault leaves the handshake as it was
+	isOfConn  bool       // of a Conn, of which there may be many
+	at        library.StageResult
 }
 
 // remoteKeys are the public keys of the other party, as far as they are known.
@@ -49,24 +51,38 @@ func (k remoteKeys) with(m *message, received []byte) remoteKeys {
 // NewHandshakeState starts a handshake with a new ephemeral key pair. A *ConfigError says what is wrong with the Config. If it has neither PSKs nor
 // PSKFor, SetPSK passes the psks.
 func NewHandshakeState(config *Config, initiator bool) (*HandshakeState, error) {
-	return newHandshakeState(config, initiator, true)
-}
-
-func newHandshakeState(config *Config, initiator, isLate bool) (*HandshakeState, error) {
 	ephemeral, err := GenerateKeyPair()
 	if err != nil {
 		return nil, err
 	}
-	return started(config, initiator, isLate, ephemeral)
+	return started(config, &HandshakeState{initiator: initiator, ephemeral: ephemeral}, true)
+}
+
+// ofConn is NewHandshakeState for a Conn over this connection.
+func ofConn(config *Config, initiator bool, below net.Conn) (*HandshakeState, error) {
+	ephemeral, err := GenerateKeyPair()
+	if err != nil {
+		return nil, err
+	}
+	return started(config, &HandshakeState{initiator: initiator, ephemeral: ephemeral, below: below, isOfConn: true}, false)
+}
+
+// deep makes a call of the library that needs much stack.
+func (h *HandshakeState) deep(call func()) {
+	if h.isOfConn {
+		deep(call)
+		return
+	}
+	call()
 }
 
 // started returns a handshake in which neither VerifyPeer nor PSKFor has been called.
-func started(config *Config, initiator, isLate bool, ephemeral *KeyPair) (*HandshakeState, error) {
+func started(config *Config, h *HandshakeState, isLate bool) (*HandshakeState, error) {
 	if config == nil {
 		return nil, &ConfigError{"", errNil}
 	}
-	h := &HandshakeState{memory: new(handshakeMemory), config: *config, pattern: patternOf(config.pattern()), initiator: initiator, ephemeral: ephemeral}
-	if err := h.config.check(h.pattern, initiator, isLate); err != nil {
+	h.memory, h.config, h.pattern = new(handshakeMemory), *config, patternOf(config.pattern())
+	if err := h.config.check(h.pattern, h.initiator, isLate); err != nil {
 		if code := h.patternFault(); code != 0 {
 			err = &ConfigError{"Pattern", code}
 		}
@@ -75,7 +91,7 @@ func started(config *Config, initiator, isLate bool, ephemeral *KeyPair) (*Hands
 	if code := h.start(); code != 0 {
 		return nil, &ConfigError{fieldOf(code), code}
 	}
-	if h.pattern.knows(initiator) {
+	if h.pattern.knows(h.initiator) {
 		h.remote.hasS = true
 		h.remote.s = *config.PeerStatic
 	}
@@ -86,7 +102,10 @@ func started(config *Config, initiator, isLate bool, ephemeral *KeyPair) (*Hands
 func (h *HandshakeState) patternFault() Code {
 	var setup library.Setup
 	memory, pattern := new(handshakeMemory), []byte(h.config.pattern())
-	code := Code(library.Start(&memory.opaque, place(pattern), uint(len(pattern)), place(nil), 0, &setup))
+	var code Code
+	h.deep(func() {
+		code = Code(library.Start(&memory.opaque, place(pattern), uint(len(pattern)), place(nil), 0, &setup))
+	})
 	if code == ErrName || code == ErrPattern {
 		return code
 	}
@@ -114,7 +133,12 @@ func (h *HandshakeState) start() Code {
 		defer wipe(setup.PSKs[i][:])
 	}
 	pattern, prologue := []byte(h.config.pattern()), h.config.Prologue
-	return Code(library.Start(&h.memory.opaque, place(pattern), uint(len(pattern)), place(prologue), uint(len(prologue)), setup))
+	var code Code
+	h.deep(func() {
+		code = Code(library.Start(&h.memory.opaque, place(pattern), uint(len(pattern)), place(prologue), uint(len(prologue)), setup))
+		h.look()
+	})
+	return code
 }
 
 // stage returns how many messages have passed, how many the pattern has, and whether this party writes the next.
@@ -122,11 +146,14 @@ func (h *HandshakeState) stage() (passed, messages int, writes bool) {
 	if h.memory == nil {
 		return 0, 0, false
 	}
-	var stage library.StageResult
-	if library.Stage(&h.memory.opaque, &stage) != 0 {
-		return 0, 0, false
+	return int(h.at.Passed), int(h.at.Messages), h.at.WritesNext != 0
+}
+
+// look asks the library how far the handshake is. A struct that isn't a handshake's is at no message.
+func (h *HandshakeState) look() {
+	if library.Stage(&h.memory.opaque, &h.at) != 0 {
+		h.at = library.StageResult{}
 	}
-	return int(stage.Passed), int(stage.Messages), stage.WritesNext != 0
 }
 
 // Done reports whether all messages have passed.
@@ -219,7 +246,7 @@ func (h *HandshakeState) supply(ctx context.Context, token string, remote Public
 	if err != nil {
 		return &tokenError{err, token}
 	}
-	code := library.Answer(&h.memory.opaque, of, place(remote[:]), place(result[:]))
+	code := library.Answer(&h.memory.opaque, of, &remote[0], &result[0])
 	wipe(result[:])
 	return asError(uint32(code))
 }
@@ -280,7 +307,12 @@ func (h *HandshakeState) called(ctx context.Context, keys *remoteKeys, call func
 	result := &h.memory.result
 	for {
 		var err error
-		switch code := call(); code {
+		var code uint32
+		h.deep(func() {
+			code = call()
+			h.look()
+		})
+		switch code {
 		case codeWanted:
 			err = h.supply(ctx, h.wanted(keys), PublicKey(result.Remote))
 		case uint32(ErrWantedPSK):
@@ -332,7 +364,9 @@ func (h *HandshakeState) SetPSK(psk PSK) error {
 		return h.ended
 	}
 	defer wipe(psk[:])
-	return asError(uint32(library.SetPsk(&h.memory.opaque, place(psk[:]))))
+	var code uint32
+	h.deep(func() { code = library.SetPsk(&h.memory.opaque, &psk[0]) })
+	return asError(code)
 }
 
 // WriteMessage appends the next message, with this payload, to dst. ErrNotYourTurn, ErrDone, ErrTooLong and a *WantedPSKError leave the handshake as it
@@ -346,8 +380,9 @@ func (h *HandshakeState) WriteMessageContext(ctx context.Context, dst, payload [
 	if h.ended != nil {
 		return dst, h.ended
 	}
-	m, size := h.memory, uint(0)
-	switch code := library.MessageLen(&m.opaque, uint(len(payload)), &size); {
+	m, size, code := h.memory, uint(0), uint32(0)
+	h.deep(func() { code = library.MessageLen(&m.opaque, uint(len(payload)), &size) })
+	switch {
 	case code == codeStruct:
 		return dst, h.end("", Code(codeStruct))
 	case code == 0:
@@ -364,16 +399,16 @@ func (h *HandshakeState) WriteMessageContext(ctx context.Context, dst, payload [
 	}
 	reads(payload)
 	writes(room)
-	code, err := h.called(ctx, &h.remote, func() uint32 {
+	made, err := h.called(ctx, &h.remote, func() uint32 {
 		return library.Write(&m.opaque, place(payload), uint(len(payload)), place(room), uint(len(room)), &m.result)
 	})
 	switch {
 	case err != nil:
 		return dst, err
-	case code == codeStruct || code == codeAgreement:
-		return dst, h.end("", code)
-	case code != 0:
-		return dst, code
+	case made == codeStruct || made == codeAgreement:
+		return dst, h.end("", made)
+	case made != 0:
+		return dst, made
 	}
 	h.passed()
 	return whole[:len(dst)+int(m.result.Len)], nil
@@ -501,7 +536,9 @@ func (h *HandshakeState) PeerStatic() (key PublicKey, known bool) {
 		return key, false
 	}
 	var k library.Key
-	if library.RemoteStatic(&h.memory.opaque, &k) != 0 || k.Present == 0 {
+	code := uint32(codeStruct)
+	h.deep(func() { code = library.RemoteStatic(&h.memory.opaque, &k) })
+	if code != 0 || k.Present == 0 {
 		return key, false
 	}
 	return k.Bytes, true
@@ -510,7 +547,7 @@ func (h *HandshakeState) PeerStatic() (key PublicKey, known bool) {
 // HandshakeHash returns the hash of what has passed so far. After the last message it is the same at both parties (the framework's 11.2).
 func (h *HandshakeState) HandshakeHash() (hash [KeyLen]byte) {
 	if h.memory != nil {
-		library.Hash(&h.memory.opaque, place(hash[:]))
+		h.deep(func() { library.Hash(&h.memory.opaque, &hash[0]) })
 	}
 	return hash
 }
@@ -521,7 +558,10 @@ func (h *HandshakeState) Split() (*Sender, *Receiver, error) {
 		return nil, nil, h.ended
 	}
 	s, r := new(Sender), new(Receiver)
-	code := library.Finish(&h.memory.opaque, uint64(h.config.Interval), &s.memory.opaque, &r.memory.opaque)
+	var code uint32
+	h.deep(func() {
+		code = library.Finish(&h.memory.opaque, uint64(h.config.Interval), &s.memory.opaque, &r.memory.opaque)
+	})
 	if code != 0 {
 		return nil, nil, Code(code)
 	}
@@ -534,7 +574,9 @@ func (h *HandshakeState) splitStream(s *streamSenderMemory, r *streamReceiverMem
 	if h.ended != nil {
 		return h.ended
 	}
-	if code := library.FinishStream(&h.memory.opaque, uint64(h.config.Interval), &s.opaque, &r.opaque); code != 0 {
+	var code uint32
+	h.deep(func() { code = library.FinishStream(&h.memory.opaque, uint64(h.config.Interval), &s.opaque, &r.opaque) })
+	if code != 0 {
 		return Code(code)
 	}
 	h.over(errUsedUp)
@@ -551,7 +593,10 @@ func (h *HandshakeState) Datagrams(window int) (*DatagramSender, *DatagramReceiv
 		return nil, nil, ErrWindow
 	}
 	s, r := new(DatagramSender), new(DatagramReceiver)
-	code := library.FinishDatagrams(&h.memory.opaque, uint32(window), &s.memory.opaque, &r.memory.opaque)
+	var code uint32
+	h.deep(func() {
+		code = library.FinishDatagrams(&h.memory.opaque, uint32(window), &s.memory.opaque, &r.memory.opaque)
+	})
 	if code != 0 {
 		return nil, nil, Code(code)
 	}
@@ -566,7 +611,9 @@ func (h *HandshakeState) CipherStates() (send, receive *CipherState, err error) 
 		return nil, nil, h.ended
 	}
 	send, receive = new(CipherState), &CipherState{receives: true}
-	if code := library.FinishCiphers(&h.memory.opaque, &send.memory.opaque, &receive.memory.opaque); code != 0 {
+	var code uint32
+	h.deep(func() { code = library.FinishCiphers(&h.memory.opaque, &send.memory.opaque, &receive.memory.opaque) })
+	if code != 0 {
 		return nil, nil, Code(code)
 	}
 	h.over(errUsedUp)

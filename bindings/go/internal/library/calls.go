@@ -49,11 +49,6 @@ func DatagramSenderSize() uint
 //go:noescape
 func DatagramReceiverSize() uint
 
-// Sentence is noise_sentence.
-//
-//go:noescape
-func Sentence(code uint32, sentence *byte) uint
-
 // Start is noise_start.
 //
 //go:noescape
@@ -228,3 +223,6 @@ func CipherNonce(c *Cipher, nonce *uint64) uint32
 //
 //go:noescape
 func CipherSetNonce(c *Cipher, nonce uint64) uint32
+
+// OnStack is whether a call runs on the stack of the goroutine that makes it.
+const OnStack = true

@@ -113,20 +113,6 @@ TEXT ·DatagramReceiverSize(SB), 0, $160-8
 	MOVQ AX, ret+0(FP)
 	RET
 
-// func Sentence(code uint32, sentence *byte) uint
-TEXT ·Sentence(SB), 0, $160-24
-	NO_LOCAL_POINTERS
-	MOVL code+0(FP), DI
-	MOVQ sentence+8(FP), SI
-	LEAQ block<>+77552(SB), AX
-	MOVQ SP, R12
-	LEAQ 160(SP), SP
-	ANDQ $~15, SP
-	CALL AX
-	MOVQ R12, SP
-	MOVQ AX, ret+16(FP)
-	RET
-
 // func Start(h *Handshake, pattern *byte, patternLen uint, prologue *byte, prologueLen uint, setup *Setup) uint32
 TEXT ·Start(SB), 0, $13248-52
 	NO_LOCAL_POINTERS

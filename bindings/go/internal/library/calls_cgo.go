@@ -55,11 +55,6 @@ func DatagramReceiverSize() uint {
 	return uint(C.noise_datagram_receiver_size())
 }
 
-// Sentence is noise_sentence.
-func Sentence(code uint32, sentence *byte) uint {
-	return uint(C.noise_sentence(C.uint32_t(code), (*C.uint8_t)(unsafe.Pointer(sentence))))
-}
-
 // Start is noise_start.
 func Start(h *Handshake, pattern *byte, patternLen uint, prologue *byte, prologueLen uint, setup *Setup) uint32 {
 	return uint32(C.noise_start((*C.noise_handshake)(unsafe.Pointer(h)), (*C.uint8_t)(unsafe.Pointer(pattern)), C.size_t(patternLen), (*C.uint8_t)(unsafe.Pointer(prologue)), C.size_t(prologueLen), (*C.noise_setup)(unsafe.Pointer(setup))))
@@ -234,3 +229,6 @@ func CipherNonce(c *Cipher, nonce *uint64) uint32 {
 func CipherSetNonce(c *Cipher, nonce uint64) uint32 {
 	return uint32(C.noise_cipher_set_nonce((*C.noise_cipher)(unsafe.Pointer(c)), C.uint64_t(nonce)))
 }
+
+// OnStack is whether a call runs on the stack of the goroutine that makes it.
+const OnStack = false

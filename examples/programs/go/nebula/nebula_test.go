@@ -175,6 +175,41 @@ func TestNode(t *testing.T) {
 	must(t, tunnel.ping(conn, soon()))
 }
 
+// TestForgedAnswers has somebody who sends answers of their own, and altered ones, before each of the node's.
+func TestForgedAnswers(t *testing.T) {
+	room, address, _ := node(t)
+	between, err := net.ListenPacket("udp", "127.0.0.1:0")
+	must(t, err)
+	defer between.Close()
+	there := dialed(t, address)
+	go func() {
+		packet, answer := make([]byte, 9001), make([]byte, 9001)
+		for {
+			n, from, err := between.ReadFrom(packet)
+			if err != nil {
+				return
+			}
+			there.Write(packet[:n])
+			there.SetReadDeadline(time.Now().Add(300 * time.Millisecond))
+			m, err := there.Read(answer)
+			if err != nil {
+				continue
+			}
+			forged := append(append([]byte(nil), answer[:headerLen]...), make([]byte, 300)...)
+			between.WriteTo(forged, from)
+			between.WriteTo(answer[:headerLen+1], from)
+			altered := append([]byte(nil), answer[:m]...)
+			altered[m-1] ^= 1
+			between.WriteTo(altered, from)
+			between.WriteTo(answer[:m], from)
+		}
+	}()
+	conn := dialed(t, between.LocalAddr().String())
+	tunnel, err := member(t, room, "ca.crt", "me").connect(conn, soon())
+	must(t, err)
+	must(t, tunnel.ping(conn, soon()))
+}
+
 // answer returns the next packet of type test that comes, if one comes soon. At a counter that it has seen the node also sends an error packet, which isn't
 // authenticated.
 func answer(t *testing.T, conn net.Conn) []byte {
@@ -193,9 +228,9 @@ func answer(t *testing.T, conn net.Conn) []byte {
 func TestRefusals(t *testing.T) {
 	room, address, said := node(t)
 	conn := dialed(t, address)
-	_, err := member(t, room, "other-ca.crt", "me").connect(conn, soon())
+	_, err := member(t, room, "other-ca.crt", "me").connect(conn, time.Now().Add(2*time.Second))
 	wants(t, err, "the certificate is by another authority")
-	_, err = member(t, room, "node.crt", "me").connect(conn, soon())
+	_, err = member(t, room, "node.crt", "me").connect(conn, time.Now().Add(2*time.Second))
 	wants(t, err, "isn't one of an authority")
 	_, err = member(t, room, "ca.crt", "stranger").connect(dialed(t, address), time.Now().Add(time.Second))
 	wants(t, err, errSilent.Error())
