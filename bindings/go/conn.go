@@ -92,7 +92,7 @@ func newConn(conn net.Conn, config *Config, initiator bool, limit time.Duration)
 	if config.HandshakeTimeout != 0 {
 		limit = config.HandshakeTimeout
 	}
-	isOneWay := patternOf(config.pattern()).oneWay()
+	isOneWay := patternOf(config.pattern()).isOneWay
 	return &Conn{
 		conn: conn, config: config, isFirst: initiator, limit: limit, isOneWay: isOneWay, isMute: initiator && isOneWay,
 		closing: make(chan struct{}), handshaking: make(chan struct{}, 1),

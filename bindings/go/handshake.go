@@ -82,10 +82,10 @@ func started(config *Config, h *HandshakeState, isLate bool) (*HandshakeState, e
 		return nil, &ConfigError{"", errNil}
 	}
 	h.memory, h.config, h.pattern = new(handshakeMemory), *config, patternOf(config.pattern())
+	if h.pattern.fault != nil {
+		return nil, &ConfigError{"Pattern", h.pattern.fault}
+	}
 	if err := h.config.check(h.pattern, h.initiator, isLate); err != nil {
-		if code := h.patternFault(); code != 0 {
-			err = &ConfigError{"Pattern", code}
-		}
 		return nil, err
 	}
 	if code := h.start(); code != 0 {
@@ -96,20 +96,6 @@ func started(config *Config, h *HandshakeState, isLate bool) (*HandshakeState, e
 		h.remote.s = *config.PeerStatic
 	}
 	return h, nil
-}
-
-// patternFault returns the library's code for a pattern that it doesn't accept, else 0.
-func (h *HandshakeState) patternFault() Code {
-	var setup library.Setup
-	memory, pattern := new(handshakeMemory), []byte(h.config.pattern())
-	var code Code
-	h.deep(func() {
-		code = Code(library.Start(&memory.opaque, place(pattern), uint(len(pattern)), place(nil), 0, &setup))
-	})
-	if code == ErrName || code == ErrPattern {
-		return code
-	}
-	return 0
 }
 
 func keyFor(key PublicKey) library.Key { return library.Key{Present: 1, Bytes: key} }

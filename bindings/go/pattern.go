@@ -1,36 +1,21 @@
 package noise
 
 import (
+	"fmt"
 	"strings"
 	"sync"
+
+	"example.org/yulimosar/noise/internal/library"
 )
 
-// The fundamental patterns (the framework's 7.4 and 7.5) as pattern texts without heading and indentation; a semicolon ends a line.
-var fundamental = map[string]string{
-	"N":  "<- s; ...; -> e, es",
-	"K":  "-> s; <- s; ...; -> e, es, ss",
-	"X":  "<- s; ...; -> e, es, s, ss",
-	"NN": "-> e; <- e, ee",
-	"NK": "<- s; ...; -> e, es; <- e, ee",
-	"NX": "-> e; <- e, ee, s, es",
-	"XN": "-> e; <- e, ee; -> s, se",
-	"XK": "<- s; ...; -> e, es; <- e, ee; -> s, se",
-	"XX": "-> e; <- e, ee, s, es; -> s, se",
-	"KN": "-> s; ...; -> e; <- e, ee, se",
-	"KK": "-> s; <- s; ...; -> e, es, ss; <- e, ee, se",
-	"KX": "-> s; ...; -> e; <- e, ee, se, s, es",
-	"IN": "-> e, s; <- e, ee, se",
-	"IK": "<- s; ...; -> e, es, s, ss; <- e, ee, se",
-	"IX": "-> e, s; <- e, ee, se, s, es",
-}
-
-// pattern is what this package reads of a pattern: who knows which static key, where the psk tokens are, and which X25519 results each message needs.
-// The library alone decides which pattern is valid.
+// pattern is what the library says of a pattern.
 type pattern struct {
+	fault    error   // why it isn't accepted
 	known    [2]bool // whether the static key of the initiator, and of the responder, is in a pre-message
 	early    bool    // an ephemeral key is in a pre-message
 	messages []message
 	psks     int // the number of psk tokens
+	isOneWay bool
 }
 
 type message struct {
@@ -41,99 +26,90 @@ type message struct {
 	sealed      int            // the index of the token of an encrypted static key; the number of tokens if there is none
 }
 
+// The tokens by their numbers in the library.
+var tokenNames = [...]string{"", "e", "s", "ee", "es", "se", "ss", "psk", payloadToken}
+
+// PatternError is a fault of a pattern text. It is an ErrPattern.
+type PatternError struct {
+	Line           int // of the text, counted from 1; 0 if the pattern breaks a rule of validity
+	Rule           int // the lowest rule, 1 to 5, that is broken at the first place where any is; 0 if the text has a fault
+	Message, Token int // where a rule is broken: the message, counted from 1, and the token, counted from 0
+	code           Code
+}
+
+// Error returns the place, and what is wrong there.
+func (e *PatternError) Error() string {
+	if e.Line > 0 {
+		return fmt.Sprintf("noise: line %d of the pattern text: %s", e.Line, texts[e.code])
+	}
+	return fmt.Sprintf("noise: the pattern breaks rule %d of validity in message %d, token %d", e.Rule, e.Message, e.Token)
+}
+
+// Is reports whether an error is ErrPattern.
+func (e *PatternError) Is(target error) bool { return target == ErrPattern }
+
 var patterns sync.Map // those of the protocol names that handshakes had, by name: a few hundred names are valid
 
-// patternOf reads the pattern of a protocol name or of a pattern text that the library accepts.
+// patternOf asks the library for the pattern of a protocol name or a pattern text.
 func patternOf(text string) *pattern {
 	if p, ok := patterns.Load(text); ok {
 		return p.(*pattern)
 	}
-	if strings.HasSuffix(text, "\n") {
-		return parsed(strings.Split(text, "\n")[1:], nil)
-	}
-	name, _, _ := strings.Cut(strings.TrimPrefix(text, "Noise_"), "_")
-	base, places, _ := strings.Cut(name, "psk")
-	p := parsed(strings.Split(fundamental[base], ";"), strings.Split(places, "+psk"))
-	if p.messages != nil && len(text) <= 64 {
+	p := new(pattern)
+	deep(func() { p.ask([]byte(text)) })
+	if p.fault == nil && !strings.HasSuffix(text, "\n") {
 		patterns.Store(text, p)
 	}
 	return p
 }
 
-// parsed reads the lines of a pattern, and adds psk tokens at these places.
-func parsed(lines, places []string) *pattern {
-	p := new(pattern)
-	for _, line := range lines {
-		arrow, tokens, _ := strings.Cut(strings.TrimSpace(line), " ")
-		switch {
-		case arrow == "...":
-			for _, m := range p.messages {
-				p.known[index(!m.byInitiator)] = contains(m.tokens, "s")
-				p.early = p.early || contains(m.tokens, "e")
-			}
-			p.messages = nil
-		case tokens != "":
-			p.messages = append(p.messages, message{byInitiator: arrow == "->", tokens: strings.Split(tokens, ", ")})
+func (p *pattern) ask(text []byte) {
+	var info library.PatternInfo
+	var result library.PatternResult
+	switch code := Code(library.Pattern(place(text), uint(len(text)), &info, &result)); code {
+	case 0:
+	case ErrName:
+		p.fault = ErrName
+		return
+	case codeRule:
+		p.fault = &PatternError{Rule: int(result.Rule), Message: int(result.Message), Token: int(result.Token), code: code}
+		return
+	default:
+		p.fault = &PatternError{Line: int(result.Line), code: code}
+		return
+	}
+	p.psks, p.isOneWay = int(info.PSKs), info.OneWay != 0
+	for party, tokens := range info.PreMessages {
+		for _, token := range tokens {
+			p.known[party] = p.known[party] || tokenNames[token] == "s"
+			p.early = p.early || tokenNames[token] == "e"
 		}
 	}
-	for _, place := range places {
-		p.addPSK(place)
-	}
-	p.measure()
-	return p
-}
-
-// addPSK adds a psk token at a place of the protocol name (the framework's 9.4): before the first message, or at the end of that message.
-func (p *pattern) addPSK(place string) {
-	switch {
-	case len(place) != 1 || len(p.messages) == 0:
-	case place == "0":
-		p.messages[0].tokens = append([]string{"psk"}, p.messages[0].tokens...)
-	case int(place[0]-'0') <= len(p.messages):
-		m := &p.messages[place[0]-'1']
-		m.tokens = append(m.tokens, "psk")
-	}
-}
-
-// measure counts the psk tokens, and finds where public keys are in the messages.
-func (p *pattern) measure() {
-	for i := range p.messages {
-		for _, token := range p.messages[i].tokens {
-			if token == "psk" {
-				p.psks++
-			}
+	for i := 0; i < int(info.Messages); i++ {
+		var layout library.MessageLayout
+		if code := library.Layout(place(text), uint(len(text)), byte(i+1), 0, &layout); code != 0 {
+			p.fault = Code(code)
+			return
 		}
-	}
-	keyed := false
-	for i := range p.messages {
-		keyed = p.messages[i].measure(keyed, p.psks > 0)
+		p.messages = append(p.messages, laidOut(i%2 == 0, &layout))
 	}
 }
 
-// measure finds where the public keys of a message are; keyed is whether the parties share a key before it, and the result whether they do after it.
-func (m *message) measure(keyed, hasPSK bool) bool {
-	offset := 0
-	m.at, m.sealed = map[string]int{}, len(m.tokens)
-	for i, token := range m.tokens {
+// laidOut returns what a layout says of a message without a payload; the payload is its last piece.
+func laidOut(byInitiator bool, layout *library.MessageLayout) message {
+	count := int(layout.Count) - 1
+	m := message{byInitiator: byInitiator, at: map[string]int{}, least: int(layout.Len), sealed: count}
+	for i, piece := range layout.Pieces[:count] {
+		name := tokenNames[piece.Token]
+		m.tokens = append(m.tokens, name)
 		switch {
-		case token == "e":
-			m.at["e"] = offset
-			offset += KeyLen
-			keyed = keyed || hasPSK
-		case token == "s" && keyed:
+		case name == "s" && piece.Encrypted != 0:
 			m.sealed = i
-			offset += KeyLen + TagLen
-		case token == "s":
-			m.at["s"] = offset
-			offset += KeyLen
-		default:
-			keyed = true
+		case name == "e" || name == "s":
+			m.at[name] = int(piece.From)
 		}
 	}
-	if m.least = offset; keyed {
-		m.least += TagLen
-	}
-	return keyed
+	return m
 }
 
 // longest returns the length of the longest message without a payload.
@@ -207,8 +183,6 @@ func (p *pattern) differences(message, token int) string {
 	}
 	return "the pattern or the prologue"
 }
-
-func (p *pattern) oneWay() bool { return len(p.messages) == 1 }
 
 // index returns the place of a party in an array of two, and in a DH token: the initiator comes first.
 func index(responder bool) int {

@@ -151,3 +151,23 @@ func TestPeerHasPayloadAndAddress(t *testing.T) {
 	client.Payloads, client.PayloadFor = [][]byte{nil}, func(context.Context, Peer) ([]byte, error) { return nil, nil }
 	wants(t, client.Check(true), errTwoOf)
 }
+
+// TestPatternFaults has pattern texts with a fault in a line, and one that breaks a rule: by the framework's 7.3 nobody encrypts after se alone.
+func TestPatternFaults(t *testing.T) {
+	for text, want := range map[string]PatternError{
+		"MINE:\n  -> e\n  <- e, eee\n":            {Line: 3},
+		"MINE:\n  -> e\n  -> e, ee\n":             {Line: 3},
+		"mine:\n  -> e\n":                         {Line: 1},
+		"MINE:\n  -> e\n  <- e, ee, s\n  -> se\n": {Rule: 1},
+	} {
+		key := pair(t)
+		err := (&Config{Pattern: text, Static: key, InsecureAcceptAnyKey: true}).Check(true)
+		var fault *PatternError
+		if !errors.Is(err, ErrPattern) || !errors.As(err, &fault) || fault.Line != want.Line || fault.Rule > 0 != (want.Rule > 0) {
+			t.Errorf("%q: %v", text, err)
+		}
+	}
+	if err := (&Config{Pattern: "XY", InsecureAcceptAnyKey: true}).Check(true); !errors.Is(err, ErrName) {
+		t.Error(err)
+	}
+}

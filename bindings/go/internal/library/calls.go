@@ -104,6 +104,16 @@ func Stage(h *Handshake, result *StageResult) uint32
 //go:noescape
 func CheckPattern(text *byte, textLen uint, result *PatternResult) uint32
 
+// Pattern is noise_pattern.
+//
+//go:noescape
+func Pattern(pattern *byte, patternLen uint, info *PatternInfo, result *PatternResult) uint32
+
+// Layout is noise_layout.
+//
+//go:noescape
+func Layout(pattern *byte, patternLen uint, message uint8, payloadLen uint, layout *MessageLayout) uint32
+
 // FrameMessage is noise_frame_message.
 //
 //go:noescape

@@ -110,6 +110,16 @@ func CheckPattern(text *byte, textLen uint, result *PatternResult) uint32 {
 	return uint32(C.noise_check_pattern((*C.uint8_t)(unsafe.Pointer(text)), C.size_t(textLen), (*C.noise_pattern_result)(unsafe.Pointer(result))))
 }
 
+// Pattern is noise_pattern.
+func Pattern(pattern *byte, patternLen uint, info *PatternInfo, result *PatternResult) uint32 {
+	return uint32(C.noise_pattern((*C.uint8_t)(unsafe.Pointer(pattern)), C.size_t(patternLen), (*C.noise_pattern_info)(unsafe.Pointer(info)), (*C.noise_pattern_result)(unsafe.Pointer(result))))
+}
+
+// Layout is noise_layout.
+func Layout(pattern *byte, patternLen uint, message uint8, payloadLen uint, layout *MessageLayout) uint32 {
+	return uint32(C.noise_layout((*C.uint8_t)(unsafe.Pointer(pattern)), C.size_t(patternLen), C.uint8_t(message), C.size_t(payloadLen), (*C.noise_message_layout)(unsafe.Pointer(layout))))
+}
+
 // FrameMessage is noise_frame_message.
 func FrameMessage(buffer *byte, bufferLen uint, messageLen uint, result *StreamResult) uint32 {
 	return uint32(C.noise_frame_message((*C.uint8_t)(unsafe.Pointer(buffer)), C.size_t(bufferLen), C.size_t(messageLen), (*C.noise_stream_result)(unsafe.Pointer(result))))

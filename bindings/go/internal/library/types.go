@@ -85,3 +85,31 @@ type PatternResult struct {
 	Token    byte
 	Messages byte
 }
+
+// KeysNeeded is noise_keys_needed.
+type KeysNeeded struct{ E, S, RemoteE, RemoteS byte }
+
+// PatternInfo is noise_pattern_info.
+type PatternInfo struct {
+	Messages    byte
+	OneWay      byte
+	PSKs        byte
+	Needed      [2]KeysNeeded
+	PreMessages [2][2]byte
+	Tokens      [8][10]byte
+}
+
+// Piece is noise_piece.
+type Piece struct {
+	Token     byte
+	Encrypted byte
+	From      uint32
+	Len       uint32
+}
+
+// MessageLayout is noise_message_layout.
+type MessageLayout struct {
+	Count  byte
+	Len    uint32
+	Pieces [11]Piece
+}
