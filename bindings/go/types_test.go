@@ -152,7 +152,7 @@ func TestPeerHasPayloadAndAddress(t *testing.T) {
 	wants(t, client.Check(true), errTwoOf)
 }
 
-// TestPatternFaults has pattern texts with a fault in a line, and one that breaks a rule: by the framework's 7.3 nobody encrypts after se alone.
+// TestPatternFaults has pattern texts with a fault in a line, and one that breaks a rule: se needs the initiator's s, which isn't sent (the framework's 7.3).
 func TestPatternFaults(t *testing.T) {
 	for text, want := range map[string]PatternError{
 		"MINE:\n  -> e\n  <- e, eee\n":            {Line: 3},
