@@ -78235,29 +78235,29 @@
 	strh	wzr, [sp, #8]
 	str	xzr, [sp]
 	bl	"noise_names::valid::ValidPattern::seen_after"
-	ldrb	w14, [sp]
-	ldrb	w15, [sp, #2]
-	add	x13, x20, #72
-	ldrb	w12, [sp, #4]
-	ldrb	w10, [sp, #5]
-	ldrb	w9, [sp, #6]
-	ldr	x16, [x20, #264]
-	ldrb	w11, [sp, #7]
-	ldrb	w8, [sp, #8]
-	ldrb	w18, [sp, #9]
-	cbz	x16, .Lnoise_BB189_37
-	mov	x17, xzr
-	mov	x0, x13
+	ldrb	w15, [sp]
+	ldrb	w8, [sp, #2]
+	add	x16, x20, #72
+	ldrb	w13, [sp, #4]
+	ldrb	w11, [sp, #5]
+	ldrb	w10, [sp, #6]
+	ldr	x17, [x20, #264]
+	ldrb	w12, [sp, #7]
+	ldrb	w9, [sp, #8]
+	ldrb	w14, [sp, #9]
+	cbz	x17, .Lnoise_BB189_51
+	mov	x18, xzr
+	mov	x0, x16
 	b	.Lnoise_BB189_3
 .Lnoise_BB189_2:
-	add	x17, x17, #1
+	add	x18, x18, #1
 	add	x0, x0, #24
-	cmp	x17, x16
-	b.eq	.Lnoise_BB189_37
+	cmp	x18, x17
+	b.eq	.Lnoise_BB189_51
 .Lnoise_BB189_3:
 	mov	w1, #24
 	mov	x2, x0
-	madd	x1, x17, x1, x13
+	madd	x1, x18, x1, x16
 	ldr	x1, [x1, #16]
 	cbz	x1, .Lnoise_BB189_2
 .Lnoise_BB189_4:
@@ -78268,279 +78268,282 @@
 	b.ne	.Lnoise_BB189_4
 	b	.Lnoise_BB189_2
 .Lnoise_BB189_6:
-	mov	w16, #24
-	smaddl	x16, w19, w16, x13
+	mov	w17, #24
+	smaddl	x16, w19, w17, x16
 	ldr	x17, [x16, #16]
-	cbz	x17, .Lnoise_BB189_54
-	mov	w13, wzr
-	cbz	w18, .Lnoise_BB189_56
-	tbnz	w14, #0, .Lnoise_BB189_11
-	b	.Lnoise_BB189_25
+	cbz	x17, .Lnoise_BB189_83
+	cbz	w14, .Lnoise_BB189_11
+	mov	w14, wzr
+	tbnz	w15, #0, .Lnoise_BB189_25
+	b	.Lnoise_BB189_39
 .Lnoise_BB189_9:
-	add	w13, w13, #32
+	add	w14, w14, #32
 	mov	w15, #1
 .Lnoise_BB189_10:
 	subs	x17, x17, #1
-	b.eq	.Lnoise_BB189_85
+	b.eq	.Lnoise_BB189_87
 .Lnoise_BB189_11:
-	ldrb	w14, [x16], #1
-	cmp	w14, #2
+	ldrb	w18, [x16], #1
+	cmp	w18, #2
 	b.le	.Lnoise_BB189_15
-	cmp	w14, #4
+	cmp	w18, #4
 	b.gt	.Lnoise_BB189_18
-	cmp	w14, #3
+	cmp	w18, #3
 	b.ne	.Lnoise_BB189_21
-	mov	w10, #1
+	mov	w11, #1
 	b	.Lnoise_BB189_10
 .Lnoise_BB189_15:
-	cbz	w14, .Lnoise_BB189_9
-	cmp	w14, #1
+	cbz	w18, .Lnoise_BB189_9
+	cmp	w18, #1
 	b.ne	.Lnoise_BB189_20
-	add	w13, w13, #48
+	orr	w18, w13, w11
+	orr	w0, w10, w12
+	orr	w1, w9, w15
+	orr	w18, w18, w0
+	orr	w0, w1, w8
+	orr	w18, w18, w0
+	mov	w0, #48
+	tst	w18, #0x1
+	mov	w18, #32
+	csel	w18, w0, w18, ne
+	add	w14, w18, w14
 	b	.Lnoise_BB189_10
 .Lnoise_BB189_18:
-	cmp	w14, #5
+	cmp	w18, #5
 	b.ne	.Lnoise_BB189_22
-	mov	w11, #1
+	mov	w12, #1
 	b	.Lnoise_BB189_10
 .Lnoise_BB189_20:
-	mov	w12, #1
+	mov	w13, #1
 	b	.Lnoise_BB189_10
 .Lnoise_BB189_21:
-	mov	w9, #1
+	mov	w10, #1
 	b	.Lnoise_BB189_10
 .Lnoise_BB189_22:
-	mov	w8, #1
+	mov	w9, #1
 	b	.Lnoise_BB189_10
 .Lnoise_BB189_23:
-	add	w13, w13, #32
-	mov	w15, #1
+	add	w14, w14, #32
+	mov	w8, #1
 .Lnoise_BB189_24:
 	subs	x17, x17, #1
-	b.eq	.Lnoise_BB189_86
+	b.eq	.Lnoise_BB189_85
 .Lnoise_BB189_25:
-	ldrb	w14, [x16], #1
-	cmp	w14, #2
+	ldrb	w15, [x16], #1
+	cmp	w15, #2
 	b.le	.Lnoise_BB189_29
-	cmp	w14, #4
+	cmp	w15, #4
 	b.gt	.Lnoise_BB189_32
-	cmp	w14, #3
+	cmp	w15, #3
 	b.ne	.Lnoise_BB189_35
-	mov	w10, #1
+	mov	w11, #1
 	b	.Lnoise_BB189_24
 .Lnoise_BB189_29:
-	cbz	w14, .Lnoise_BB189_23
-	cmp	w14, #1
+	cbz	w15, .Lnoise_BB189_23
+	cmp	w15, #1
 	b.ne	.Lnoise_BB189_34
-	orr	w14, w12, w10
-	orr	w18, w9, w11
-	orr	w14, w14, w18
-	orr	w18, w8, w15
-	orr	w14, w14, w18
-	mov	w18, #48
-	tst	w14, #0x1
-	mov	w14, #32
-	csel	w14, w18, w14, ne
-	add	w13, w14, w13
+	add	w14, w14, #48
 	b	.Lnoise_BB189_24
 .Lnoise_BB189_32:
-	cmp	w14, #5
+	cmp	w15, #5
 	b.ne	.Lnoise_BB189_36
-	mov	w11, #1
+	mov	w12, #1
 	b	.Lnoise_BB189_24
 .Lnoise_BB189_34:
-	mov	w12, #1
+	mov	w13, #1
 	b	.Lnoise_BB189_24
 .Lnoise_BB189_35:
-	mov	w9, #1
+	mov	w10, #1
 	b	.Lnoise_BB189_24
 .Lnoise_BB189_36:
-	mov	w8, #1
+	mov	w9, #1
 	b	.Lnoise_BB189_24
 .Lnoise_BB189_37:
-	mov	w16, #24
-	smaddl	x16, w19, w16, x13
-	ldr	x17, [x16, #16]
-	cbz	x17, .Lnoise_BB189_55
-	mov	w13, wzr
-	b	.Lnoise_BB189_41
+	add	w14, w14, #32
+	mov	w8, #1
+.Lnoise_BB189_38:
+	subs	x17, x17, #1
+	b.eq	.Lnoise_BB189_86
 .Lnoise_BB189_39:
-	cmp	w18, #0
-	add	w13, w13, #32
-	csinc	w14, w14, wzr, ne
-	csinc	w15, w15, wzr, eq
-.Lnoise_BB189_40:
-	subs	x17, x17, #1
-	b.eq	.Lnoise_BB189_53
-.Lnoise_BB189_41:
-	ldrb	w0, [x16], #1
-	cmp	w0, #2
-	b.le	.Lnoise_BB189_45
-	cmp	w0, #4
-	b.gt	.Lnoise_BB189_48
-	cmp	w0, #3
-	b.ne	.Lnoise_BB189_51
-	mov	w10, #1
-	b	.Lnoise_BB189_40
-.Lnoise_BB189_45:
-	cbz	w0, .Lnoise_BB189_39
-	cmp	w0, #1
-	b.ne	.Lnoise_BB189_50
-	orr	w0, w12, w10
-	orr	w1, w9, w11
-	orr	w0, w0, w1
-	mov	w1, #48
-	orr	w0, w0, w8
-	tst	w0, #0x1
-	mov	w0, #32
-	csel	w0, w1, w0, ne
-	add	w13, w0, w13
-	b	.Lnoise_BB189_40
-.Lnoise_BB189_48:
-	cmp	w0, #5
-	b.ne	.Lnoise_BB189_52
-	mov	w11, #1
-	b	.Lnoise_BB189_40
-.Lnoise_BB189_50:
-	mov	w12, #1
-	b	.Lnoise_BB189_40
-.Lnoise_BB189_51:
-	mov	w9, #1
-	b	.Lnoise_BB189_40
-.Lnoise_BB189_52:
-	mov	w8, #1
-	b	.Lnoise_BB189_40
-.Lnoise_BB189_53:
-	mov	w16, wzr
-	b	.Lnoise_BB189_90
-.Lnoise_BB189_54:
-	mov	w13, wzr
-	b	.Lnoise_BB189_89
-.Lnoise_BB189_55:
-	mov	w16, wzr
-	mov	w13, wzr
-	b	.Lnoise_BB189_90
-.Lnoise_BB189_56:
-	tbnz	w15, #0, .Lnoise_BB189_59
-	b	.Lnoise_BB189_73
-.Lnoise_BB189_57:
-	add	w13, w13, #32
-	mov	w14, #1
-.Lnoise_BB189_58:
-	subs	x17, x17, #1
-	b.eq	.Lnoise_BB189_87
-.Lnoise_BB189_59:
 	ldrb	w15, [x16], #1
 	cmp	w15, #2
-	b.le	.Lnoise_BB189_63
+	b.le	.Lnoise_BB189_43
 	cmp	w15, #4
-	b.gt	.Lnoise_BB189_66
+	b.gt	.Lnoise_BB189_46
 	cmp	w15, #3
-	b.ne	.Lnoise_BB189_69
-	mov	w10, #1
-	b	.Lnoise_BB189_58
-.Lnoise_BB189_63:
-	cbz	w15, .Lnoise_BB189_57
-	cmp	w15, #1
-	b.ne	.Lnoise_BB189_68
-	add	w13, w13, #48
-	b	.Lnoise_BB189_58
-.Lnoise_BB189_66:
-	cmp	w15, #5
-	b.ne	.Lnoise_BB189_70
+	b.ne	.Lnoise_BB189_49
 	mov	w11, #1
-	b	.Lnoise_BB189_58
-.Lnoise_BB189_68:
-	mov	w12, #1
-	b	.Lnoise_BB189_58
-.Lnoise_BB189_69:
-	mov	w9, #1
-	b	.Lnoise_BB189_58
-.Lnoise_BB189_70:
-	mov	w8, #1
-	b	.Lnoise_BB189_58
-.Lnoise_BB189_71:
-	add	w13, w13, #32
-	mov	w14, #1
-.Lnoise_BB189_72:
-	subs	x17, x17, #1
-	b.eq	.Lnoise_BB189_88
-.Lnoise_BB189_73:
-	ldrb	w15, [x16], #1
-	cmp	w15, #2
-	b.le	.Lnoise_BB189_77
-	cmp	w15, #4
-	b.gt	.Lnoise_BB189_80
-	cmp	w15, #3
-	b.ne	.Lnoise_BB189_83
-	mov	w10, #1
-	b	.Lnoise_BB189_72
-.Lnoise_BB189_77:
-	cbz	w15, .Lnoise_BB189_71
+	b	.Lnoise_BB189_38
+.Lnoise_BB189_43:
+	cbz	w15, .Lnoise_BB189_37
 	cmp	w15, #1
-	b.ne	.Lnoise_BB189_82
-	orr	w15, w12, w10
-	orr	w18, w9, w11
+	b.ne	.Lnoise_BB189_48
+	orr	w15, w13, w11
+	orr	w18, w10, w12
 	orr	w15, w15, w18
-	orr	w18, w8, w14
+	orr	w18, w9, w8
 	orr	w15, w15, w18
 	mov	w18, #48
 	tst	w15, #0x1
 	mov	w15, #32
 	csel	w15, w18, w15, ne
-	add	w13, w15, w13
-	b	.Lnoise_BB189_72
-.Lnoise_BB189_80:
+	add	w14, w15, w14
+	b	.Lnoise_BB189_38
+.Lnoise_BB189_46:
 	cmp	w15, #5
-	b.ne	.Lnoise_BB189_84
-	mov	w11, #1
-	b	.Lnoise_BB189_72
-.Lnoise_BB189_82:
+	b.ne	.Lnoise_BB189_50
 	mov	w12, #1
-	b	.Lnoise_BB189_72
-.Lnoise_BB189_83:
+	b	.Lnoise_BB189_38
+.Lnoise_BB189_48:
+	mov	w13, #1
+	b	.Lnoise_BB189_38
+.Lnoise_BB189_49:
+	mov	w10, #1
+	b	.Lnoise_BB189_38
+.Lnoise_BB189_50:
 	mov	w9, #1
-	b	.Lnoise_BB189_72
-.Lnoise_BB189_84:
+	b	.Lnoise_BB189_38
+.Lnoise_BB189_51:
+	mov	w17, #24
+	smaddl	x16, w19, w17, x16
+	ldr	x17, [x16, #16]
+	cbz	x17, .Lnoise_BB189_84
+	cbz	w14, .Lnoise_BB189_70
+	mov	w14, wzr
+	b	.Lnoise_BB189_56
+.Lnoise_BB189_54:
+	add	w14, w14, #32
 	mov	w8, #1
-	b	.Lnoise_BB189_72
+.Lnoise_BB189_55:
+	subs	x17, x17, #1
+	b.eq	.Lnoise_BB189_82
+.Lnoise_BB189_56:
+	ldrb	w18, [x16], #1
+	cmp	w18, #2
+	b.le	.Lnoise_BB189_60
+	cmp	w18, #4
+	b.gt	.Lnoise_BB189_63
+	cmp	w18, #3
+	b.ne	.Lnoise_BB189_66
+	mov	w11, #1
+	b	.Lnoise_BB189_55
+.Lnoise_BB189_60:
+	cbz	w18, .Lnoise_BB189_54
+	cmp	w18, #1
+	b.ne	.Lnoise_BB189_65
+	orr	w18, w13, w11
+	orr	w0, w10, w12
+	orr	w18, w18, w0
+	mov	w0, #48
+	orr	w18, w18, w9
+	tst	w18, #0x1
+	mov	w18, #32
+	csel	w18, w0, w18, ne
+	add	w14, w18, w14
+	b	.Lnoise_BB189_55
+.Lnoise_BB189_63:
+	cmp	w18, #5
+	b.ne	.Lnoise_BB189_67
+	mov	w12, #1
+	b	.Lnoise_BB189_55
+.Lnoise_BB189_65:
+	mov	w13, #1
+	b	.Lnoise_BB189_55
+.Lnoise_BB189_66:
+	mov	w10, #1
+	b	.Lnoise_BB189_55
+.Lnoise_BB189_67:
+	mov	w9, #1
+	b	.Lnoise_BB189_55
+.Lnoise_BB189_68:
+	add	w14, w14, #32
+	mov	w15, #1
+.Lnoise_BB189_69:
+	subs	x17, x17, #1
+	b.eq	.Lnoise_BB189_82
+.Lnoise_BB189_70:
+	ldrb	w18, [x16], #1
+	cmp	w18, #2
+	b.le	.Lnoise_BB189_74
+	cmp	w18, #4
+	b.gt	.Lnoise_BB189_77
+	cmp	w18, #3
+	b.ne	.Lnoise_BB189_80
+	mov	w11, #1
+	b	.Lnoise_BB189_69
+.Lnoise_BB189_74:
+	cbz	w18, .Lnoise_BB189_68
+	cmp	w18, #1
+	b.ne	.Lnoise_BB189_79
+	orr	w18, w13, w11
+	orr	w0, w10, w12
+	orr	w18, w18, w0
+	mov	w0, #48
+	orr	w18, w18, w9
+	tst	w18, #0x1
+	mov	w18, #32
+	csel	w18, w0, w18, ne
+	add	w14, w18, w14
+	b	.Lnoise_BB189_69
+.Lnoise_BB189_77:
+	cmp	w18, #5
+	b.ne	.Lnoise_BB189_81
+	mov	w12, #1
+	b	.Lnoise_BB189_69
+.Lnoise_BB189_79:
+	mov	w13, #1
+	b	.Lnoise_BB189_69
+.Lnoise_BB189_80:
+	mov	w10, #1
+	b	.Lnoise_BB189_69
+.Lnoise_BB189_81:
+	mov	w9, #1
+	b	.Lnoise_BB189_69
+.Lnoise_BB189_82:
+	mov	w16, wzr
+	tbz	w13, #0, .Lnoise_BB189_88
+	b	.Lnoise_BB189_95
+.Lnoise_BB189_83:
+	mov	w14, wzr
+	mov	w16, #1
+	tbz	w13, #0, .Lnoise_BB189_88
+	b	.Lnoise_BB189_95
+.Lnoise_BB189_84:
+	mov	w16, wzr
+	mov	w14, wzr
+	tbz	w13, #0, .Lnoise_BB189_88
+	b	.Lnoise_BB189_95
 .Lnoise_BB189_85:
 	mov	w16, #1
-	mov	w14, #1
-	b	.Lnoise_BB189_90
+	mov	w15, #1
+	tbz	w13, #0, .Lnoise_BB189_88
+	b	.Lnoise_BB189_95
 .Lnoise_BB189_86:
-	mov	w14, wzr
-	b	.Lnoise_BB189_89
+	mov	w15, wzr
 .Lnoise_BB189_87:
 	mov	w16, #1
-	mov	w15, #1
-	b	.Lnoise_BB189_90
+	tbnz	w13, #0, .Lnoise_BB189_95
 .Lnoise_BB189_88:
-	mov	w15, wzr
-.Lnoise_BB189_89:
-	mov	w16, #1
-.Lnoise_BB189_90:
-	tbnz	w12, #0, .Lnoise_BB189_98
-	tbnz	w10, #0, .Lnoise_BB189_98
-	tbnz	w9, #0, .Lnoise_BB189_98
-	tbnz	w11, #0, .Lnoise_BB189_98
-	orn	w9, w8, w16
-	tbz	w9, #0, .Lnoise_BB189_97
-	orr	w8, w16, w8
-	tbnz	w8, #0, .Lnoise_BB189_98
-.Lnoise_BB189_96:
+	tbnz	w11, #0, .Lnoise_BB189_95
+	tbnz	w10, #0, .Lnoise_BB189_95
+	tbnz	w12, #0, .Lnoise_BB189_95
+	orn	w10, w9, w16
+	tbz	w10, #0, .Lnoise_BB189_94
+	orr	w8, w16, w9
+	tbnz	w8, #0, .Lnoise_BB189_95
+.Lnoise_BB189_93:
 	ldp	x20, x19, [sp, #32]
-	add	w0, wzr, w13
+	add	w0, wzr, w14
 	ldp	x29, x30, [sp, #16]
 	add	sp, sp, #48
 	ret
-.Lnoise_BB189_97:
-	orr	w8, w14, w15
-	tbz	w8, #0, .Lnoise_BB189_96
-.Lnoise_BB189_98:
+.Lnoise_BB189_94:
+	orr	w8, w15, w8
+	tbz	w8, #0, .Lnoise_BB189_93
+.Lnoise_BB189_95:
 	mov	w8, #16
 	ldp	x20, x19, [sp, #32]
-	add	w0, w8, w13
+	add	w0, w8, w14
 	ldp	x29, x30, [sp, #16]
 	add	sp, sp, #48
 	ret

@@ -84081,50 +84081,50 @@
 	movq	%r14, %rdx
 	callq	"noise_names::valid::ValidPattern::seen_after"
 	movzbl	8(%rsp), %eax
-	movzbl	10(%rsp), %ecx
+	movzbl	10(%rsp), %edx
 	movzbl	12(%rsp), %r9d
 	movzbl	13(%rsp), %esi
 	movzbl	14(%rsp), %r10d
 	movzbl	15(%rsp), %edi
-	movzbl	16(%rsp), %edx
-	movzbl	17(%rsp), %ebp
-	movq	264(%rbx), %r8
+	movzbl	16(%rsp), %ecx
+	movzbl	17(%rsp), %r8d
+	movq	264(%rbx), %r11
 	addq	$72, %rbx
-	testq	%r8, %r8
+	testq	%r11, %r11
 	je	.Lnoise_BB196_20
-	xorl	%r11d, %r11d
-	movq	%rbx, %r15
+	xorl	%r15d, %r15d
+	movq	%rbx, %r12
 	jmp	.Lnoise_BB196_3
 	.p2align	4
 .Lnoise_BB196_2:
-	incq	%r11
-	addq	$24, %r15
-	cmpq	%r8, %r11
+	incq	%r15
+	addq	$24, %r12
+	cmpq	%r11, %r15
 	je	.Lnoise_BB196_20
 .Lnoise_BB196_3:
-	leaq	(%r11,%r11,2), %r12
-	movq	16(%rbx,%r12,8), %r12
-	testq	%r12, %r12
+	leaq	(%r15,%r15,2), %r13
+	movq	16(%rbx,%r13,8), %r13
+	testq	%r13, %r13
 	je	.Lnoise_BB196_2
-	xorl	%r13d, %r13d
+	xorl	%ebp, %ebp
 	.p2align	4
 .Lnoise_BB196_5:
-	cmpb	$6, (%r15,%r13)
+	cmpb	$6, (%r12,%rbp)
 	je	.Lnoise_BB196_7
-	incq	%r13
-	cmpq	%r13, %r12
+	incq	%rbp
+	cmpq	%rbp, %r13
 	jne	.Lnoise_BB196_5
 	jmp	.Lnoise_BB196_2
 .Lnoise_BB196_7:
-	leaq	(%r14,%r14,2), %r8
-	movq	16(%rbx,%r8,8), %r11
+	leaq	(%r14,%r14,2), %r14
+	movq	16(%rbx,%r14,8), %r11
 	testq	%r11, %r11
-	je	.Lnoise_BB196_31
-	leaq	(%rbx,%r8,8), %rbx
-	testb	%bpl, %bpl
-	je	.Lnoise_BB196_33
+	je	.Lnoise_BB196_23
+	leaq	(%rbx,%r14,8), %rbx
+	testb	%r8b, %r8b
+	je	.Lnoise_BB196_25
 	testb	$1, %al
-	je	.Lnoise_BB196_44
+	je	.Lnoise_BB196_35
 	xorl	%r8d, %r8d
 	xorl	%r14d, %r14d
 	jmp	.Lnoise_BB196_13
@@ -84143,7 +84143,7 @@
 	jmpq	*%r15
 .Lnoise_BB196_14:
 	addl	$32, %r8d
-	movb	$1, %cl
+	movb	$1, %dl
 	jmp	.Lnoise_BB196_12
 .Lnoise_BB196_15:
 	movb	$1, %r9b
@@ -84158,112 +84158,84 @@
 	movb	$1, %dil
 	jmp	.Lnoise_BB196_12
 .Lnoise_BB196_19:
-	movb	$1, %dl
+	movb	$1, %cl
 	jmp	.Lnoise_BB196_12
 .Lnoise_BB196_20:
-	leaq	(%r14,%r14,2), %r8
-	movq	16(%rbx,%r8,8), %r14
+	leaq	(%r14,%r14,2), %r11
+	movq	16(%rbx,%r11,8), %r14
 	testq	%r14, %r14
-	je	.Lnoise_BB196_32
-	leaq	(%rbx,%r8,8), %rbx
-	xorl	%r8d, %r8d
+	je	.Lnoise_BB196_24
+	leaq	(%rbx,%r11,8), %rbx
+	testb	%r8b, %r8b
+	je	.Lnoise_BB196_36
 	xorl	%r15d, %r15d
-	jmp	.Lnoise_BB196_24
-.Lnoise_BB196_22:
-	movb	$1, %r10b
-	.p2align	4
-.Lnoise_BB196_23:
-	incq	%r15
-	cmpq	%r15, %r14
-	je	.Lnoise_BB196_65
-.Lnoise_BB196_24:
-	movzbl	(%rbx,%r15), %r12d
+	movzbl	(%rbx,%r15), %r8d
 	movb	$1, %r11b
-	leaq	.Lnoise_JTI196_4(%rip), %r13
-	movslq	(%r13,%r12,4), %r12
-	addq	%r13, %r12
-	jmpq	*%r12
-.Lnoise_BB196_25:
-	addl	$32, %r8d
-	testb	%bpl, %bpl
-	movzbl	%al, %eax
-	movl	$1, %r12d
-	cmovel	%r12d, %eax
-	movzbl	%cl, %ecx
-	cmovnel	%r12d, %ecx
-	jmp	.Lnoise_BB196_23
-.Lnoise_BB196_26:
-	movb	$1, %r9b
-	jmp	.Lnoise_BB196_23
-.Lnoise_BB196_27:
-	movb	$1, %sil
-	jmp	.Lnoise_BB196_23
-.Lnoise_BB196_28:
-	movl	%r9d, %r12d
-	orb	%sil, %r12b
-	movl	%r10d, %r13d
-	orb	%dil, %r13b
-	orb	%r12b, %r13b
-	orb	%dl, %r13b
-	movzbl	%r13b, %r12d
-	andl	$1, %r12d
-	shll	$4, %r12d
-	addl	%r12d, %r8d
-	addl	$32, %r8d
-	jmp	.Lnoise_BB196_23
-.Lnoise_BB196_29:
-	movb	$1, %dil
-	jmp	.Lnoise_BB196_23
-.Lnoise_BB196_30:
-	movb	$1, %dl
-	jmp	.Lnoise_BB196_23
-.Lnoise_BB196_31:
+	leaq	.Lnoise_JTI196_3(%rip), %r12
+	movslq	(%r12,%r8,4), %r13
+	addq	%r12, %r13
+	xorl	%r8d, %r8d
+	movl	%r10d, %ebp
+	movb	$1, %r10b
+	jmpq	*%r13
+.Lnoise_BB196_23:
 	xorl	%r11d, %r11d
 	xorl	%r8d, %r8d
 	jmp	.Lnoise_BB196_65
-.Lnoise_BB196_32:
+.Lnoise_BB196_24:
 	movb	$1, %r11b
 	xorl	%r8d, %r8d
 	jmp	.Lnoise_BB196_65
-.Lnoise_BB196_33:
-	testb	$1, %cl
-	je	.Lnoise_BB196_45
+.Lnoise_BB196_25:
 	xorl	%r8d, %r8d
 	xorl	%r14d, %r14d
-	jmp	.Lnoise_BB196_37
-.Lnoise_BB196_35:
+	jmp	.Lnoise_BB196_28
+.Lnoise_BB196_26:
 	movb	$1, %r10b
 	.p2align	4
-.Lnoise_BB196_36:
+.Lnoise_BB196_27:
 	incq	%r14
 	cmpq	%r14, %r11
 	je	.Lnoise_BB196_64
-.Lnoise_BB196_37:
+.Lnoise_BB196_28:
 	movzbl	(%rbx,%r14), %r15d
-	leaq	.Lnoise_JTI196_3(%rip), %r12
+	leaq	.Lnoise_JTI196_2(%rip), %r12
 	movslq	(%r12,%r15,4), %r15
 	addq	%r12, %r15
 	jmpq	*%r15
-.Lnoise_BB196_38:
+.Lnoise_BB196_29:
 	addl	$32, %r8d
 	movb	$1, %al
-	jmp	.Lnoise_BB196_36
-.Lnoise_BB196_39:
+	jmp	.Lnoise_BB196_27
+.Lnoise_BB196_30:
 	movb	$1, %r9b
-	jmp	.Lnoise_BB196_36
-.Lnoise_BB196_40:
+	jmp	.Lnoise_BB196_27
+.Lnoise_BB196_31:
 	movb	$1, %sil
-	jmp	.Lnoise_BB196_36
-.Lnoise_BB196_41:
-	addl	$48, %r8d
-	jmp	.Lnoise_BB196_36
-.Lnoise_BB196_42:
+	jmp	.Lnoise_BB196_27
+.Lnoise_BB196_32:
+	movl	%r9d, %ebp
+	orb	%sil, %bpl
+	movl	%r10d, %r15d
+	orb	%dil, %r15b
+	orb	%bpl, %r15b
+	movl	%ecx, %ebp
+	orb	%al, %bpl
+	orb	%r15b, %bpl
+	orb	%dl, %bpl
+	movzbl	%bpl, %r15d
+	andl	$1, %r15d
+	shll	$4, %r15d
+	addl	%r15d, %r8d
+	addl	$32, %r8d
+	jmp	.Lnoise_BB196_27
+.Lnoise_BB196_33:
 	movb	$1, %dil
-	jmp	.Lnoise_BB196_36
-.Lnoise_BB196_43:
-	movb	$1, %dl
-	jmp	.Lnoise_BB196_36
-.Lnoise_BB196_44:
+	jmp	.Lnoise_BB196_27
+.Lnoise_BB196_34:
+	movb	$1, %cl
+	jmp	.Lnoise_BB196_27
+.Lnoise_BB196_35:
 	xorl	%r14d, %r14d
 	movzbl	(%rbx,%r14), %r8d
 	leaq	.Lnoise_JTI196_0(%rip), %r15
@@ -84273,16 +84245,53 @@
 	movl	%r9d, %ebp
 	movb	$1, %r9b
 	jmpq	*%r12
-.Lnoise_BB196_45:
-	xorl	%r14d, %r14d
-	movzbl	(%rbx,%r14), %r8d
-	leaq	.Lnoise_JTI196_2(%rip), %r15
-	movslq	(%r15,%r8,4), %r12
-	addq	%r15, %r12
+.Lnoise_BB196_36:
 	xorl	%r8d, %r8d
-	movl	%r10d, %ebp
+	xorl	%r15d, %r15d
+	jmp	.Lnoise_BB196_39
+.Lnoise_BB196_37:
 	movb	$1, %r10b
+	.p2align	4
+.Lnoise_BB196_38:
+	incq	%r15
+	cmpq	%r15, %r14
+	je	.Lnoise_BB196_65
+.Lnoise_BB196_39:
+	movzbl	(%rbx,%r15), %r12d
+	movb	$1, %r11b
+	leaq	.Lnoise_JTI196_4(%rip), %r13
+	movslq	(%r13,%r12,4), %r12
+	addq	%r13, %r12
 	jmpq	*%r12
+.Lnoise_BB196_40:
+	addl	$32, %r8d
+	movb	$1, %al
+	jmp	.Lnoise_BB196_38
+.Lnoise_BB196_41:
+	movb	$1, %r9b
+	jmp	.Lnoise_BB196_38
+.Lnoise_BB196_42:
+	movb	$1, %sil
+	jmp	.Lnoise_BB196_38
+.Lnoise_BB196_43:
+	movl	%r9d, %ebp
+	orb	%sil, %bpl
+	movl	%r10d, %r12d
+	orb	%dil, %r12b
+	orb	%bpl, %r12b
+	orb	%cl, %r12b
+	movzbl	%r12b, %r12d
+	andl	$1, %r12d
+	shll	$4, %r12d
+	addl	%r12d, %r8d
+	addl	$32, %r8d
+	jmp	.Lnoise_BB196_38
+.Lnoise_BB196_44:
+	movb	$1, %dil
+	jmp	.Lnoise_BB196_38
+.Lnoise_BB196_45:
+	movb	$1, %cl
+	jmp	.Lnoise_BB196_38
 .Lnoise_BB196_46:
 	movb	$1, %sil
 	jmp	.Lnoise_BB196_52
@@ -84293,18 +84302,16 @@
 	movb	$1, %dil
 	jmp	.Lnoise_BB196_52
 .Lnoise_BB196_49:
-	movb	$1, %dl
+	movb	$1, %cl
 	jmp	.Lnoise_BB196_52
 .Lnoise_BB196_50:
 	movl	%r9d, %r10d
 	orb	%sil, %r10b
-	movl	%ebp, %r12d
-	orb	%dil, %r12b
-	orb	%r10b, %r12b
-	movl	%edx, %r10d
-	orb	%al, %r10b
-	orb	%r12b, %r10b
-	movzbl	%r10b, %r10d
+	movl	%ebp, %r13d
+	orb	%dil, %r13b
+	orb	%r10b, %r13b
+	orb	%cl, %r13b
+	movzbl	%r13b, %r10d
 	andl	$1, %r10d
 	shll	$4, %r10d
 	addl	%r10d, %r8d
@@ -84312,19 +84319,19 @@
 	jmp	.Lnoise_BB196_52
 .Lnoise_BB196_51:
 	addl	$32, %r8d
-	movb	$1, %al
+	movb	$1, %dl
 .Lnoise_BB196_52:
 	movl	%ebp, %r10d
 .Lnoise_BB196_53:
-	incq	%r14
-	cmpq	%r14, %r11
-	je	.Lnoise_BB196_64
-	movzbl	(%rbx,%r14), %r12d
-	movslq	(%r15,%r12,4), %r12
-	addq	%r15, %r12
+	incq	%r15
+	cmpq	%r15, %r14
+	je	.Lnoise_BB196_65
+	movzbl	(%rbx,%r15), %r13d
+	movslq	(%r12,%r13,4), %r13
+	addq	%r12, %r13
 	movl	%r10d, %ebp
 	movb	$1, %r10b
-	jmpq	*%r12
+	jmpq	*%r13
 	.p2align	4
 .Lnoise_BB196_55:
 	incq	%r14
@@ -84338,10 +84345,10 @@
 	jmpq	*%r12
 .Lnoise_BB196_57:
 	addl	$32, %r8d
-	movb	$1, %cl
+	movb	$1, %dl
 	jmp	.Lnoise_BB196_63
 .Lnoise_BB196_58:
-	movb	$1, %dl
+	movb	$1, %cl
 	jmp	.Lnoise_BB196_63
 .Lnoise_BB196_59:
 	movb	$1, %r10b
@@ -84355,8 +84362,8 @@
 	movl	%r10d, %r12d
 	orb	%dil, %r12b
 	orb	%r9b, %r12b
-	movl	%edx, %r9d
-	orb	%cl, %r9b
+	movl	%ecx, %r9d
+	orb	%dl, %r9b
 	orb	%r12b, %r9b
 	movzbl	%r9b, %r9d
 	andl	$1, %r9d
@@ -84381,14 +84388,14 @@
 	movw	$16, %ax
 	jmp	.Lnoise_BB196_67
 .Lnoise_BB196_68:
-	orb	%dl, %r11b
+	orb	%cl, %r11b
 	testb	$1, %r11b
 	je	.Lnoise_BB196_71
-	cmpb	$1, %dl
+	cmpb	$1, %cl
 	je	.Lnoise_BB196_66
 	jmp	.Lnoise_BB196_72
 .Lnoise_BB196_71:
-	orb	%cl, %al
+	orb	%dl, %al
 	testb	$1, %al
 	jne	.Lnoise_BB196_66
 .Lnoise_BB196_72:
@@ -84425,29 +84432,29 @@
 	.long	.Lnoise_BB196_18-.Lnoise_JTI196_1
 	.long	.Lnoise_BB196_19-.Lnoise_JTI196_1
 .Lnoise_JTI196_2:
-	.long	.Lnoise_BB196_51-.Lnoise_JTI196_2
-	.long	.Lnoise_BB196_50-.Lnoise_JTI196_2
-	.long	.Lnoise_BB196_47-.Lnoise_JTI196_2
-	.long	.Lnoise_BB196_46-.Lnoise_JTI196_2
-	.long	.Lnoise_BB196_53-.Lnoise_JTI196_2
-	.long	.Lnoise_BB196_48-.Lnoise_JTI196_2
-	.long	.Lnoise_BB196_49-.Lnoise_JTI196_2
+	.long	.Lnoise_BB196_29-.Lnoise_JTI196_2
+	.long	.Lnoise_BB196_32-.Lnoise_JTI196_2
+	.long	.Lnoise_BB196_30-.Lnoise_JTI196_2
+	.long	.Lnoise_BB196_31-.Lnoise_JTI196_2
+	.long	.Lnoise_BB196_26-.Lnoise_JTI196_2
+	.long	.Lnoise_BB196_33-.Lnoise_JTI196_2
+	.long	.Lnoise_BB196_34-.Lnoise_JTI196_2
 .Lnoise_JTI196_3:
-	.long	.Lnoise_BB196_38-.Lnoise_JTI196_3
-	.long	.Lnoise_BB196_41-.Lnoise_JTI196_3
-	.long	.Lnoise_BB196_39-.Lnoise_JTI196_3
-	.long	.Lnoise_BB196_40-.Lnoise_JTI196_3
-	.long	.Lnoise_BB196_35-.Lnoise_JTI196_3
-	.long	.Lnoise_BB196_42-.Lnoise_JTI196_3
-	.long	.Lnoise_BB196_43-.Lnoise_JTI196_3
+	.long	.Lnoise_BB196_51-.Lnoise_JTI196_3
+	.long	.Lnoise_BB196_50-.Lnoise_JTI196_3
+	.long	.Lnoise_BB196_47-.Lnoise_JTI196_3
+	.long	.Lnoise_BB196_46-.Lnoise_JTI196_3
+	.long	.Lnoise_BB196_53-.Lnoise_JTI196_3
+	.long	.Lnoise_BB196_48-.Lnoise_JTI196_3
+	.long	.Lnoise_BB196_49-.Lnoise_JTI196_3
 .Lnoise_JTI196_4:
-	.long	.Lnoise_BB196_25-.Lnoise_JTI196_4
-	.long	.Lnoise_BB196_28-.Lnoise_JTI196_4
-	.long	.Lnoise_BB196_26-.Lnoise_JTI196_4
-	.long	.Lnoise_BB196_27-.Lnoise_JTI196_4
-	.long	.Lnoise_BB196_22-.Lnoise_JTI196_4
-	.long	.Lnoise_BB196_29-.Lnoise_JTI196_4
-	.long	.Lnoise_BB196_30-.Lnoise_JTI196_4
+	.long	.Lnoise_BB196_40-.Lnoise_JTI196_4
+	.long	.Lnoise_BB196_43-.Lnoise_JTI196_4
+	.long	.Lnoise_BB196_41-.Lnoise_JTI196_4
+	.long	.Lnoise_BB196_42-.Lnoise_JTI196_4
+	.long	.Lnoise_BB196_37-.Lnoise_JTI196_4
+	.long	.Lnoise_BB196_44-.Lnoise_JTI196_4
+	.long	.Lnoise_BB196_45-.Lnoise_JTI196_4
 
 	.section	".text.noise_names::valid::ValidPattern::seen_after","ax",@progbits
 	.p2align	4

@@ -17,6 +17,6 @@
 //
 // # Building
 //
-// On amd64 the library is in the package in Go's assembler: cgo isn't needed. On arm64 and riscv64 it is assembly text, which gcc or clang turns into code.
+// On amd64 and arm64 the library is in the package in Go's assembler: cgo isn't needed. On riscv64 it is assembly text, which gcc or clang turns into code.
 // With the build tag noise_installed the package is linked with the library noise_c that pkg-config finds.
 package noise
