@@ -49,6 +49,7 @@ type Conn struct {
 	rest     []byte // opened, and not read yet
 	inErr    error
 	isStuck  atomic.Bool // the last Read has failed, and nothing has shown since that the caller goes on
+	hasEnd   atomic.Bool // the end of the other party's stream has come
 
 	out           sync.Mutex
 	sender        streamSenderMemory
@@ -56,8 +57,9 @@ type Conn struct {
 	pendingRoom   *room
 	owed          []byte // payload that is sealed, and that no Write has counted
 	outErr        error
-	isUnfinished  bool // the last Write has failed, or is running
-	isEnded       bool // the end is sent
+	belowErr      error // of the connection below, as it came
+	isUnfinished  bool  // the last Write has failed, or is running
+	isEnded       bool  // the end is sent
 	writeDeadline atomic.Pointer[time.Time]
 }
 
@@ -175,6 +177,7 @@ func (c *Conn) open() error {
 		c.came.start += int(result.Used)
 		c.came.settle()
 		c.inErr = io.EOF
+		c.hasEnd.Store(true)
 	default:
 		c.inErr = c.breakOff(Code(code))
 	}
@@ -215,8 +218,8 @@ func (c *Conn) closeBelow() error {
 
 // Write writes b, in messages of at most 65519 bytes, and returns how many of its bytes it has sent.
 //
-// After a deadline that has passed, a later Write has to continue where that one stopped, with b[n:]: what was sealed of it is then sent, and counted, and
-// not sealed again. If its bytes are others, Write returns ErrOtherBytes, and sends nothing. After another error nothing more can be written.
+// After a deadline that has passed, continue with b[n:]: what was sealed of it is then counted, and not sealed again. A Write of other bytes writes them after
+// what was sealed, which can't be taken back. After another error nothing more can be written.
 func (c *Conn) Write(b []byte) (int, error) {
 	if err := c.Handshake(); err != nil {
 		return 0, err
@@ -228,13 +231,13 @@ func (c *Conn) Write(b []byte) (int, error) {
 		if err := c.mayWrite(); err != nil {
 			return written, err
 		}
-		n, err := c.countOwed(b[written:])
-		if written += n; err == nil && (written < len(b) || len(b) == 0) {
-			n, err = c.seal(b[written:])
+		written += c.countOwed(b[written:])
+		if written < len(b) || len(b) == 0 {
+			n, err := c.seal(b[written:])
 			written += n
-		}
-		if err != nil {
-			return written, err
+			if err != nil {
+				return written, err
+			}
 		}
 		if written == len(b) {
 			c.isUnfinished = len(c.owed) > 0
@@ -243,20 +246,22 @@ func (c *Conn) Write(b []byte) (int, error) {
 	}
 }
 
-// countOwed returns how many first bytes of a payload an earlier Write has sealed and not counted. All of them are sent by now.
-func (c *Conn) countOwed(payload []byte) (int, error) {
+// countOwed returns how many first bytes of a payload an earlier Write has sealed and not counted. All of them are sent by now; where the payload is another
+// one, they are no longer owed.
+func (c *Conn) countOwed(payload []byte) int {
 	n := len(c.owed)
 	if n > len(payload) {
 		n = len(payload)
 	}
+	kept := n
 	if !bytes.Equal(payload[:n], c.owed[:n]) {
-		return 0, ErrOtherBytes
+		n, kept = 0, len(c.owed)
 	}
-	wipe(c.owed[:n])
-	if c.owed = c.owed[n:]; len(c.owed) == 0 {
+	wipe(c.owed[:kept])
+	if c.owed = c.owed[kept:]; len(c.owed) == 0 {
 		c.owed = nil
 	}
-	return n, nil
+	return n
 }
 
 // mayWrite sends what is sealed and not sent yet, and says whether more may be sealed.
@@ -322,6 +327,7 @@ func (c *Conn) flush() error {
 
 // failed returns why nothing more was sent, after an error of the connection below.
 func (c *Conn) failed(err error) error {
+	c.belowErr = err
 	if broken := c.broken.Load(); broken != nil {
 		err = *broken
 	} else if c.closed.Load() {
@@ -336,7 +342,7 @@ func (c *Conn) failed(err error) error {
 }
 
 // CloseWrite sends the end of this party's stream: the other party's Read returns io.EOF. What that party writes can still be read. After a Write that has
-// failed at a deadline, and has sealed bytes that it hasn't counted, it returns ErrOtherBytes, and sends no end, until a Write has counted them.
+// failed at a deadline, and has sealed bytes that it hasn't counted, it returns ErrUnfinished, and sends no end, until a Write has succeeded.
 func (c *Conn) CloseWrite() error {
 	if err := c.Handshake(); err != nil {
 		return err
@@ -347,7 +353,7 @@ func (c *Conn) CloseWrite() error {
 		return err
 	}
 	if len(c.owed) > 0 {
-		return ErrOtherBytes
+		return ErrUnfinished
 	}
 	return c.sendEnd()
 }
@@ -374,8 +380,8 @@ const endTime = 5 * time.Second
 
 // Close sends the end of the stream, for which it waits at most 5 seconds, closes the connection below, and overwrites the keys. It sends no end, and
 // returns ErrNoEnd, if the last Write has failed or is running, if the last Read has failed, or after what Conn says; the other party's Read returns ErrCut
-// then. After a CloseWrite that has succeeded, and where there was no handshake, it returns only what closing the connection below returns. If the stream
-// isn't whole for another reason, call Abort.
+// then. After a CloseWrite that has succeeded, where there was no handshake, and where the other party has ended its stream and closed, it returns only what
+// closing the connection below returns. If the stream isn't whole for another reason, call Abort.
 func (c *Conn) Close() error {
 	if c.closed.Swap(true) {
 		return net.ErrClosed
@@ -410,12 +416,11 @@ func (c *Conn) end() error {
 	c.conn.SetWriteDeadline(time.Now().Add(endTime))
 	err := c.flush()
 	if err == nil {
-		err = c.sendEnd()
+		if err = c.sendEnd(); err == nil || c.hasEnd.Load() && !isDeadline(c.belowErr) {
+			return nil // or the other party has ended its stream and closed, so nobody is there to read this end
+		}
 	}
-	if err != nil {
-		return &noEndError{err}
-	}
-	return nil
+	return &noEndError{err}
 }
 
 // Abort closes the connection below, and overwrites the keys. It sends no end, so the other party's Read returns ErrCut.

@@ -79,9 +79,9 @@ var (
 	// ErrNoEnd is returned by Close if the end of this party's stream wasn't sent: the other party's Read returns ErrCut, though it may have read all. If
 	// an error has prevented it, errors.Is finds that too.
 	ErrNoEnd = errors.New("noise: closed without the end of the stream")
-	// ErrOtherBytes is returned by Write and CloseWrite after a Write that has failed at a deadline, if they don't continue where it stopped: what was
-	// sealed of it can't be taken back.
-	ErrOtherBytes = errors.New("noise: after a deadline the next Write has to continue with the bytes that weren't counted")
+	// ErrUnfinished is returned by CloseWrite after a Write that has failed at a deadline, until a Write has succeeded: the end would say that all was
+	// written.
+	ErrUnfinished = errors.New("noise: the last Write has failed, and no other one has succeeded since")
 	// ErrUnauthenticated is returned if nothing says who may be the other party.
 	ErrUnauthenticated = errors.New("noise: nothing says who may be the other party: set VerifyPeer, PeerStatic, PSKs or PSKFor, or InsecureAcceptAnyKey")
 	// ErrPeerKey is returned if the other party's static key isn't Config.PeerStatic.
