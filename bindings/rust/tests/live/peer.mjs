@@ -3,7 +3,7 @@
 import { once } from 'node:events';
 import { createServer as createHttpServer } from 'node:http';
 import { connect, createServer } from 'node:net';
-import { KeyPair, NoiseSocket, code, load, protocolName } from '../../../js/noise.mjs';
+import { KeyPair, NoiseSocket, load, protocolName } from '../../../js/noise.mjs';
 import { takeWebSockets } from '../../../../checks/web/websocket.mjs';
 
 const [name, secret, peer, psk, address, order, digits, mode] = process.argv.slice(2);
@@ -50,8 +50,8 @@ async function connection() {
 }
 
 function nameOf(error) {
-  if ([code.TAG, code.SHORT, code.TOO_LONG].includes(error.code)) return 'refused';
-  return error.code === code.CLOSED ? 'cut' : 'lost';
+  if (['NOISE_TAG', 'NOISE_SHORT', 'NOISE_TOO_LONG'].includes(error.code)) return 'refused';
+  return error.code === 'NOISE_CUT' ? 'cut' : 'lost';
 }
 
 async function write(channel) {
