@@ -53,7 +53,7 @@ func withJavaScript(t *testing.T, program, name string, initiator bool) {
 		config.PSKs = append(config.PSKs, pskOf(byte(i+7)))
 		psks = append(psks, strings.Repeat(fmt.Sprintf("%02x", i+7), 32))
 	}
-	words := []string{name, fmt.Sprintf("%x", other.Secret()), fmt.Sprintf("%x", own.Public()), "-"}
+	words := []string{name, hexOf(other), fmt.Sprintf("%x", own.Public()), "-"}
 	if len(psks) > 0 {
 		words[3] = strings.Join(psks, ",")
 	}

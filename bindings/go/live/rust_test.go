@@ -3,6 +3,7 @@ package live
 import (
 	"bufio"
 	"bytes"
+	"encoding/hex"
 	"fmt"
 	"io"
 	"net"
@@ -52,7 +53,7 @@ func withRust(t *testing.T, program, name string, psk, initiator, oneWay bool) {
 		digits = strings.Repeat("07", 32)
 		config.PSKs = []noise.PSK{pskOf(7)}
 	}
-	words := []string{name, fmt.Sprintf("%x", other.Secret()), fmt.Sprintf("%x", own.Public()), digits}
+	words := []string{name, hexOf(other), fmt.Sprintf("%x", own.Public()), digits}
 	if initiator {
 		toRust(t, exec.Command(program, append(words, "@127.0.0.1:0")...), config, oneWay)
 	} else {
@@ -69,21 +70,32 @@ func TestRustPSKOfEachPeer(t *testing.T) {
 	pskOfEachPeer(t, program)
 }
 
+// hexOf is the secret key of a pair, which doesn't print itself, and hexOfPSK the psk of a client.
+func hexOf(pair *noise.KeyPair) string {
+	secret := pair.Secret()
+	return hex.EncodeToString(secret[:])
+}
+
+func hexOfPSK(client int) string {
+	psk := pskOfClient(client)
+	return hex.EncodeToString(psk[:])
+}
+
 // pskOfEachPeer passes the patterns in which a server may choose the psk by the client's key, with the server in either language, and two clients
 // that have a psk each.
 func pskOfEachPeer(t *testing.T, program string) {
 	keys := newKeys(t, 3)
 	server, public := keys[2], keys[2].Public()
-	table := fmt.Sprintf("%x=%x,%x=%x", keys[0].Public(), pskOfClient(0), keys[1].Public(), pskOfClient(1))
+	table := fmt.Sprintf("%x=%s,%x=%s", keys[0].Public(), hexOfPSK(0), keys[1].Public(), hexOfPSK(1))
 	for _, name := range choosing {
 		for i, client := range keys[:2] {
 			config := &noise.Config{Pattern: name, Prologue: []byte("live"), Static: client, PSKs: []noise.PSK{pskOfClient(i)}}
 			if strings.HasPrefix(name, "IK") {
 				config.PeerStatic = &public
 			}
-			words := []string{name, fmt.Sprintf("%x", server.Secret()), fmt.Sprintf("%x", client.Public()), table, "@127.0.0.1:0"}
+			words := []string{name, hexOf(server), fmt.Sprintf("%x", client.Public()), table, "@127.0.0.1:0"}
 			t.Run(fmt.Sprintf("%s/%d/true", name, i), func(t *testing.T) { toRust(t, exec.Command(program, words...), config, false) })
-			words = []string{name, fmt.Sprintf("%x", client.Secret()), fmt.Sprintf("%x", public), fmt.Sprintf("%x", pskOfClient(i))}
+			words = []string{name, hexOf(client), fmt.Sprintf("%x", public), hexOfPSK(i)}
 			t.Run(fmt.Sprintf("%s/%d/false", name, i), func(t *testing.T) { fromRust(t, program, words, chooser(server, name, keys[:2]), false) })
 		}
 	}

@@ -51,7 +51,8 @@ func keptKey(file string) (*noise.KeyPair, error) {
 	if key, err = noise.GenerateKeyPair(); err != nil {
 		return nil, err
 	}
-	return key, os.WriteFile(file, []byte(fmt.Sprintf("%x\n", key.Secret())), 0o600)
+	secret := key.Secret()
+	return key, os.WriteFile(file, []byte(fmt.Sprintf("%x\n", secret[:])), 0o600)
 }
 
 // serve sends back what it reads. If not all came, the client gets no end of the stream either.
