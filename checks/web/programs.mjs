@@ -2,6 +2,7 @@
 // FOLDER/LANGUAGE/NUMBER/expected is what the program has to print.
 import { mkdir, writeFile } from 'node:fs/promises';
 import { join } from 'node:path';
+import { load } from '../../bindings/js/noise.mjs';
 import { layout } from '../../web/plan.mjs';
 import { textOf } from '../../web/patterns.mjs';
 import { LANGUAGES, program } from '../../web/code.mjs';
@@ -43,6 +44,7 @@ function mustFit(language, { mode, text }, made, plan) {
   if (/[\u202a-\u202e\u2066-\u2069]/.test(made)) throw new Error(`the program in ${language} turns its text around`);
 }
 
+await load();
 for (const [number, setup] of SETUPS.entries()) {
   const { isForCAndJavaScript, ...given } = setup;
   const whole = { prologue: 'my protocol 1', interval: 0, mode: 'transport', window: 64, ...given };
