@@ -13,7 +13,8 @@ function builder(role, { has, knows, psks, interval, isDatagrams }) {
     ...Array.from({ length: psks }, (_, n) => `.psk(&psk_${n + 1})`),
     `.${role}()?`,
   ].filter(Boolean);
-  return parts.join('\n        ');
+  const line = parts.join('');
+  return line.length <= 60 ? line : parts.join('\n        ');    // as rustfmt lays out a chain
 }
 
 function keys({ has, psks }) {
