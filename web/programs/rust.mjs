@@ -19,7 +19,7 @@ function builder(role, { has, knows, psks, interval, isDatagrams }) {
 
 function keys({ has, psks }) {
   const draw = (own) => [`    let ${own}_key = KeyPair::generate()?;`, `    let ${own}_public = *${own}_key.public_key();`];
-  const psk = 'KeyPair::generate()?.secret_key()?';
+  const psk = '*KeyPair::generate()?.secret_key()?';
   return lines(
     has.initiator && draw('client'),
     has.responder && draw('server'),
@@ -88,11 +88,12 @@ function messages(facts) {
 export function rust(facts) {
   const { section, name, isNamed, prologue, isStream, knowsEphemeral } = facts;
   if (knowsEphemeral.initiator || knowsEphemeral.responder) return `// ${section} has an ephemeral key before "...", which the crate for Rust has no call for. Take the program in C.\n`;
+  const pair = facts.has.initiator || facts.has.responder || facts.psks > 0 ? 'KeyPair, ' : '';
   const text = isNamed ? `"${section}"` : `concat!(\n${facts.lines.map((line) => `    "${line}\\n",`).join('\n')}\n)`;
   return lines(
     `// The pattern ${section}: both parties in one program, ${name}.rs. docs/RUST.md has the Cargo.toml for it.`,
-    !isStream ? 'use yulimosar::{Builder, Error, KeyPair, MAX_MESSAGE};'
-      : ['use std::io::{self, Read, Write};', 'use std::os::unix::net::UnixStream;', 'use yulimosar::{Builder, KeyPair, Stream};'],
+    !isStream ? `use yulimosar::{Builder, Error, ${pair}MAX_MESSAGE};`
+      : ['use std::io::{self, Read, Write};', 'use std::os::unix::net::UnixStream;', `use yulimosar::{Builder, ${pair}Stream};`],
     '',
     `const PATTERN: &str = ${text};`,
     `const PROLOGUE: &[u8] = b${quoted(prologue, hexEscape)};`, '',
