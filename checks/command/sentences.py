@@ -6,7 +6,7 @@ import re
 from program import TOP
 
 STRING = re.compile(r"'((?:[^'\\\n]|\\.)*)'")
-TABLES = {"faults.mjs": ("RULES", "FORMS", "CLOSER"), "facts.mjs": ("TABLE",)}
+TABLES = {"faults.mjs": ("RULES", "FORMS", "CLOSER")}
 # What the page says of its own boxes and buttons, or `explain` more closely: it knows which of several limits is broken.
 OF_THE_PAGE = {
     "{}.",
@@ -14,6 +14,25 @@ OF_THE_PAGE = {
     "A pattern has at most 8 messages, and each has from 1 to 8 tokens besides psk.",
     "Leave some out, or add one.",
     'Put "..." below this line.',
+    # Titles of the page, and sentences that `explain` says otherwise.
+    "this isn't a heading",
+    "The first line is a name of 1 to 8 upper-case letters and digits, then psk places such as psk0 or psk0+psk2, then a colon.",
+    "no arrow at the start",
+    "not a token",
+    "{} isn't a token.",
+    "not a key known before",
+    "psk isn't where the heading says",
+    "psk0 in the heading is a psk before message 1, pskN one at the end of message N; none is elsewhere.",
+    "Set the places by the boxes.",
+    "the name is taken",
+    "too many, or none",
+    "an empty line",
+    '"..." is missing',
+    "a space at the end",
+    "another arrow",
+    "a comment",
+    "The library takes no comments.",
+    "Take them out.",
 }
 
 
