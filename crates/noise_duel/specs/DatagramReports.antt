@@ -1,10 +1,9 @@
 -- What a run of two parties' datagrams reports and leaves.
-use Rattle.std.specs.Prelude.{◌&&◌, List, Bool, map}
+use Rattle.std.specs.Prelude.{List, map}
 use Rattle.noise_names.specs.declared.token.Role.{Role}
 use Rattle.noise_events.specs.declared.window.Window.{Window}
 use Rattle.noise_session.specs.Datagrams.{DatagramsValue, DatagramsMatch, datagrams_of}
 use Rattle.noise_session.specs.Ends.{EndState}
-use Rattle.noise_session.specs.EndDatagrams.{is_datagram_ready}
 use Rattle.noise_duel.specs.declared.datagram_report.DatagramEntry.{DatagramEntry}
 use Rattle.noise_duel.specs.declared.datagram_report.DatagramEntry.TheVariants as entry
 use Rattle.noise_duel.specs.declared.datagram_report.DatagramReport.{DatagramReport}
@@ -12,7 +11,6 @@ use Rattle.noise_events.specs.DatagramEvents.{DatagramEvent}
 use Rattle.noise_duel.specs.DatagramNotes.{DatagramNote, Sealed, SealFault, Payload, Rejected, Missing}
 use Rattle.noise_duel.specs.DatagramRuns.{DatagramRun}
 use Rattle.noise_duel.specs.DatagramSides.{DatagramSides, datagram_sides}
-use Rattle.noise_duel.specs.DuelValue.{DuelValue}
 
 -- the entries that code has, as notes
 abbrev pub datagram_note_of : DatagramEntry → DatagramNote
@@ -29,10 +27,6 @@ datagram_notes_of entries = map (λ e. (e.0, datagram_note_of e.1)) entries
 pub record DatagramDuelValue : Type 0 where
   pub initiator : DatagramsValue
   pub responder : DatagramsValue
-
--- whether both ends may go over to datagrams
-abbrev pub are_datagram_ready : {A B : Type 0} → DuelValue A B → Bool
-are_datagram_ready duel = is_datagram_ready duel.initiator && is_datagram_ready duel.responder
 
 -- the datagrams of two parties whose ends have these states, before a run
 abbrev pub datagram_sides_of : EndState → EndState → Window → DatagramSides

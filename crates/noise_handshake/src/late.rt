@@ -158,18 +158,6 @@ impl<K: Keys> LateHandshake<K> {
         })
     }
 
-    /// The handshake, once no psk token lacks its psk; else it comes back as it was.
-    pub fn into_handshake(self) -> Result<Handshake<K>, LateHandshake<K>>
-        ensures when { IsOk result ↔ (length self.psks ≡ psks_of (drop self.passed self.pattern.messages)) }
-        ensures value { MatchResult result (λ h. h ≡ self) (λ h. h ≡ self) }
-    {
-        if self.given() == self.filled.left() {
-            Ok(self.filled)
-        } else {
-            Err(self)
-        }
-    }
-
     /// The pattern, with the tokens of its messages.
     pub fn pattern(&self) -> &ValidPattern
         ensures value { result.now ≡ self.now.pattern }

@@ -1,24 +1,19 @@
 //! Datagrams of one party (Noise, 11.4).
 
-ghost use Rattle.std.specs.Prelude.{◌≡◌, ◌≤◌, ◌+◌, length, take, drop, is_some, true, None, IfOk, IfSome};
+ghost use Rattle.std.specs.Prelude.{◌≡◌, ◌≤◌, ◌+◌, length, take, drop, None, IfOk};
 ghost use Rattle.noise_handshake.specs.Party.{Party};
 ghost use Rattle.noise_handshake.specs.Opening.{IsOpeningOf};
 ghost use Rattle.noise_session.specs.TransportValue.{TransportState, TransportMatches};
 ghost use Rattle.noise_session.specs.EndDatagrams.{datagrams_after};
-ghost use Rattle.noise_session.specs.Windows.{is_ring};
-ghost use Rattle.noise_session.specs.Parts.{datagrams_in};
 ghost use Rattle.noise_session.specs.Datagrams.{DatagramState, DatagramsMatch, DatagramSenderMatches, DatagramReceiverMatches, datagrams_of, unsealed, datagram_sending_half, datagram_receiving_half};
 ghost use Rattle.noise_session.specs.DatagramCalls.{DatagramsOpen, DatagramsSeal, OpensAfterNonce};
 
-use crate::half::Half;
 use crate::limits::NONCE_LEN;
 use crate::window::Ring;
 use crate::{
-    DatagramFault, DatagramParts, DatagramReceiver, DatagramSender, Receiver, SendFault, Sender,
-    Transport, Window,
+    DatagramFault, DatagramReceiver, DatagramSender, SendFault, Transport, Window,
 };
 use noise_handshake::Opened;
-use noise_state::CipherState;
 use std::marker::Model;
 
 /// The transport of one party over a network that loses, reorders and repeats: it seals this party's payloads as
@@ -80,48 +75,6 @@ impl Datagrams {
             sender: DatagramSender::new(sender),
             receiver: DatagramReceiver::new(receiver, Ring::new(window)),
         }
-    }
-
-    /// What they hold, for a caller that keeps it itself until the next datagram.
-    pub fn into_parts(self) -> DatagramParts
-        ensures value { datagrams_in result ≡ self }
-        ensures whole { is_ring (datagrams_in result).recent ≡ true }
-    {
-        let sender = self.sender.into_parts();
-        let receiver = self.receiver.into_parts();
-        let send_key = sender.key;
-        let receive_key = receiver.key;
-        let words = receiver.words;
-        DatagramParts {
-            role: sender.role,
-            one_way: sender.one_way,
-            send_key,
-            send_nonce: sender.nonce,
-            receive_key,
-            window: receiver.window,
-            greatest: receiver.greatest,
-            words,
-        }
-    }
-
-    /// The datagrams that hold these parts: they match the states of those that were taken apart. None where no opened
-    /// nonces leave such words of the window: the greatest nonce has its bit, and none above it has one.
-    ///
-    /// Datagrams that were taken apart are put together once: two of them would seal at the same nonce.
-    pub fn from_parts(parts: DatagramParts) -> Option<Datagrams>
-        ensures whole { is_some result ≡ is_ring (datagrams_in parts).recent }
-        ensures value { IfSome result (λ datagrams. datagrams ≡ datagrams_in parts) }
-    {
-        let words = parts.words;
-        let recent = Ring::from_parts(parts.window, parts.greatest, words)?;
-        let sending = CipherState::from_parts(Some(parts.send_key), parts.send_nonce);
-        let receiving = CipherState::from_parts(Some(parts.receive_key), 0);
-        let sender = Sender::new(Half::new(parts.role, parts.one_way, 0, sending));
-        let receiver = Receiver::new(Half::new(parts.role, parts.one_way, 0, receiving));
-        Some(Datagrams {
-            sender: DatagramSender::new(sender),
-            receiver: DatagramReceiver::new(receiver, recent),
-        })
     }
 
     /// The half that seals and the half that opens, as for two threads. Each does what these datagrams do in its

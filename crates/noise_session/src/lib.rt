@@ -33,9 +33,7 @@ pub use end::End;
 pub use faults::{OpenFault, ReceiveFault, SendFault};
 pub use framing::frame_message;
 pub use noise_events::Window;
-pub use parts::{
-    DatagramParts, DatagramReceiverParts, DatagramSenderParts, HalfParts, TransportParts,
-};
+pub use parts::{DatagramReceiverParts, DatagramSenderParts, HalfParts};
 pub use receiver::Receiver;
 pub use sender::Sender;
 pub use stage::Stage;

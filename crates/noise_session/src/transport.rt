@@ -5,14 +5,12 @@ ghost use Rattle.noise_handshake.specs.Party.{Party};
 ghost use Rattle.noise_handshake.specs.Opening.{IsOpeningOf};
 ghost use Rattle.noise_session.specs.Halves.{hears_nothing};
 ghost use Rattle.noise_session.specs.HalfCalls.{OpensInPlace, TransportOpens, TransportSeals};
-ghost use Rattle.noise_session.specs.Parts.{transport_in};
 ghost use Rattle.noise_session.specs.TransportValue.{TransportState, TransportMatches, SenderMatches, ReceiverMatches, transport_of, sending_half, receiving_half, seal_fault};
 
 use crate::half::Half;
-use crate::{OpenFault, Receiver, SendFault, Sender, TransportParts};
+use crate::{OpenFault, Receiver, SendFault, Sender};
 use noise_handshake::Opened;
 use noise_names::Role;
-use noise_state::CipherState;
 use std::marker::Model;
 
 /// The transport of one party: it seals this party's payloads and opens the messages of the other.
@@ -75,51 +73,6 @@ impl Transport {
             remote_static,
             sender: Sender::new(Half::new(role, one_way, interval, sending)),
             receiver: Receiver::new(Half::new(role, one_way, interval, receiving)),
-        }
-    }
-
-    /// What it holds, for a caller that keeps it itself until the next message.
-    pub fn into_parts(self) -> TransportParts
-        ensures { transport_in result ≡ self }
-    {
-        let hash = self.hash;
-        let sender = self.sender.into_parts();
-        let receiver = self.receiver.into_parts();
-        let send_key = sender.key;
-        let receive_key = receiver.key;
-        TransportParts {
-            role: sender.role,
-            one_way: sender.one_way,
-            hash,
-            remote_static: self.remote_static,
-            interval: sender.interval,
-            send_key,
-            send_nonce: sender.nonce,
-            receive_key,
-            receive_nonce: receiver.nonce,
-        }
-    }
-
-    /// The transport that holds these parts: it matches the states of the one that was taken apart. Any parts
-    /// make one: a key and a nonce don't show of which handshake they are.
-    ///
-    /// A transport that was taken apart is put together once: two of them would seal at the same nonce.
-    pub fn from_parts(parts: TransportParts) -> Transport
-        ensures { result ≡ transport_in parts }
-    {
-        let hash = parts.hash;
-        let sending = CipherState::from_parts(Some(parts.send_key), parts.send_nonce);
-        let receiving = CipherState::from_parts(Some(parts.receive_key), parts.receive_nonce);
-        Transport {
-            hash,
-            remote_static: parts.remote_static,
-            sender: Sender::new(Half::new(parts.role, parts.one_way, parts.interval, sending)),
-            receiver: Receiver::new(Half::new(
-                parts.role,
-                parts.one_way,
-                parts.interval,
-                receiving,
-            )),
         }
     }
 
