@@ -4,9 +4,9 @@ ghost use Rattle.std.specs.Prelude.{◌≡◌, ◌≤◌, ◌<◌, ◌+◌, ◌-
 ghost use Rattle.noise_names.specs.Tokens.{is_psk};
 ghost use Rattle.noise_names.specs.Plan.{has_psk};
 ghost use Rattle.noise_state.specs.Standing.{nonce_now};
-ghost use Rattle.noise_handshake.specs.Party.{Party, Accepts, Refuses, tokens_at, tokens_now};
+ghost use Rattle.noise_handshake.specs.Party.{Party, Refuses, tokens_at, tokens_now};
 ghost use Rattle.noise_handshake.specs.Message.{before_payload};
-ghost use Rattle.noise_handshake.specs.Writing.{LacksDhResult, Writes};
+ghost use Rattle.noise_handshake.specs.Writing.{LacksDhResult};
 ghost use Rattle.noise_handshake.specs.Matching.{Matches};
 ghost use Rattle.noise_handshake.specs.declared.faults.Cause.{Cause};
 
@@ -69,7 +69,7 @@ impl BeforeMessage {
     ghost use Rattle.noise_trace.specs.inner.BeforeMessage.{IsBefore, IsNext};
     ghost use Rattle.noise_trace.specs.inner.Carried.{CarriesNext, IsNextMessage};
     ghost use Rattle.noise_trace.specs.inner.Front.{IsFront, IsWholeFront};
-    ghost use Rattle.noise_trace.specs.Steps.{next_steps, steps_before};
+    ghost use Rattle.noise_trace.specs.Steps.{steps_before};
     ghost use Rattle.noise_trace.specs.Values.{values_of};
 
     /// A handshake before its next message.
@@ -203,23 +203,6 @@ impl BeforeMessage {
             steps,
             left: Some((remote, state)),
         }
-    }
-
-    /// The steps of a message that this party then wrote or accepted: one for each of its tokens, and one for the
-    /// payload.
-    ///
-    /// `keys` are those of the handshake, and `message` is as it was sent, so a copy of one that was read in place. Of
-    /// other keys or messages the steps may end early.
-    pub fn steps<K: Keys>(&self, keys: &K, message: &[u8]) -> ArrayVec<Step, 11>
-        ensures accepted { (v : Party) (xs : List (List ℕ)) (payload : List ℕ) → MatchesBefore self.now v
-            → K.agreement keys.now ≡ v.agree → Accepts v message.now xs payload
-            → result.items ≡ next_steps v xs payload }
-        ensures written { (v : Party) (xs : List (List ℕ)) (payload : List ℕ) → MatchesBefore self.now v
-            → K.agreement keys.now ≡ v.agree → Writes v payload xs message.now
-            → result.items ≡ next_steps v xs payload }
-    {
-        let Whole { steps, .. } = self.whole(keys, message);
-        steps
     }
 
     /// The steps of the tokens before this one, counted from 0, of a message that this party then refused at it. The
