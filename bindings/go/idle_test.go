@@ -3,6 +3,7 @@ package noise
 import (
 	"os"
 	"runtime"
+	"runtime/debug"
 	"strconv"
 	"strings"
 	"testing"
@@ -45,10 +46,13 @@ func TestIdlePairs(t *testing.T) {
 	}
 	t.Logf("%d bytes of RSS a pair", (rss(t)-before)/count)
 	for i := 0; i < 5; i++ {
-		runtime.GC()
+		debug.FreeOSMemory() // what the collector keeps for later differs from run to run
 		time.Sleep(10 * time.Millisecond)
 	}
 	t.Logf("%d bytes of RSS a pair, after garbage collections", (rss(t)-before)/count)
+	var stats runtime.MemStats
+	runtime.ReadMemStats(&stats)
+	t.Logf("%d bytes of stacks and %d of the heap a pair", int(stats.StackInuse)/count, int(stats.HeapAlloc)/count)
 	for _, c := range all {
 		c.Abort()
 	}
