@@ -20,6 +20,8 @@ from dissononce.processing.impl.handshakestate import HandshakeState
 from dissononce.processing.impl.symmetricstate import SymmetricState
 
 from yulimosar import Config, Handshake, KeyPair, open_connection, start_server
+from yulimosar._noise import ffi, lib
+from yulimosar.codes import STREAM_OVERHEAD
 
 SOURCES = Path(__file__).resolve().parent.parent.parent / "bindings/python/src"
 # Both ends of NN, with results of X25519 that are the xor of the public keys; then the least time of a message, in ns.
@@ -163,13 +165,64 @@ async def carry(listen, connect, size=16384, count=1000):
     return size * count / taken
 
 
+class Taker(asyncio.BufferedProtocol):
+    """Opens what comes, and no more: what is left of the time of a channel without a reader."""
+
+    def __init__(self, receiver, total, done):
+        self.receiver, self.left, self.done = receiver, total, done
+        self.room = bytearray(1 << 17)
+        self.view, self.place = memoryview(self.room), ffi.from_buffer(self.room)
+        self.start = self.end = 0
+        self.result = ffi.new("noise_stream_result *")
+
+    def get_buffer(self, sizehint):
+        rest = self.end - self.start
+        self.view[:rest] = self.view[self.start:self.end]
+        self.start, self.end = 0, rest
+        return self.view[rest:]
+
+    def buffer_updated(self, count):
+        self.end += count
+        while not lib.noise_stream_read(self.receiver, self.place + self.start, self.end - self.start, self.result):
+            self.start += self.result.used
+            self.left -= self.result.len
+        if not self.left:
+            self.done.set_result(None)
+
+
+async def bare(size=16384, count=1000):
+    """The bytes a second of the same writes by protocols that do nothing but the library's calls."""
+    ends = Handshake(PLAIN, True), Handshake(PLAIN, False)
+    ends[1].read(ends[0].write())
+    ends[0].read(ends[1].write())
+    sender, receiver = ends[0].stream()[0], ends[1].stream()[1]
+    loop, payload, result = asyncio.get_running_loop(), bytes(size), ffi.new("noise_stream_result *")
+    done = loop.create_future()
+    server = await loop.create_server(lambda: Taker(receiver._at[0], size * count, done), "127.0.0.1", 0)
+    transport, protocol = await loop.create_connection(
+        lambda: asyncio.StreamReaderProtocol(asyncio.StreamReader()), *server.sockets[0].getsockname())
+    start = time.process_time()
+    for _ in range(count):
+        frame = bytearray(size + STREAM_OVERHEAD)
+        with ffi.from_buffer(frame) as room:
+            lib.noise_stream_write(sender._at[0], payload, size, room, len(frame), result)
+        transport.write(frame)
+        await protocol._drain_helper()
+    await done
+    taken = time.process_time() - start
+    transport.close()
+    server.close()
+    return size * count / taken
+
+
 def streams():
-    ours, plain = [], []
+    ours, plain, least = [], [], []
     for _ in range(10):
         ours.append(asyncio.run(carry(lambda: start_server(echo, "127.0.0.1", 0, PLAIN),
                                       lambda *address: open_connection(*address, PLAIN))))
         plain.append(asyncio.run(carry(lambda: asyncio.start_server(echo, "127.0.0.1", 0), asyncio.open_connection)))
-    return max(ours), max(plain)
+        least.append(asyncio.run(bare()))
+    return max(ours), max(plain), max(least)
 
 
 def imports():
@@ -191,8 +244,9 @@ def main():
         own, placed, other, loop = messages(size)
         print(f"{size} bytes, sealed and opened: {own * 1e6:.2f} us, {other / own:.1f} times as fast as dissononce, "
               f"{loop / own:.1f} as cryptography in a loop; in place {placed * 1e6:.2f} us, {placed / least:.2f} of C")
-    own, plain = streams()
-    print(f"16 KiB through asyncio: {own / 1e6:.0f} MB/s, plain streams {plain / 1e6:.0f} MB/s: {own / plain:.2f}")
+    own, plain, least = (it / 1e6 for it in streams())
+    print(f"16 KiB through asyncio: {own:.0f} MB/s, plain streams {plain:.0f} MB/s, "
+          f"protocols that only call the library {least:.0f} MB/s")
     least, median = imports()
     print(f"import: {least * 1e3:.0f} ms at least, {median * 1e3:.0f} ms as the median")
 

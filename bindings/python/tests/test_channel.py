@@ -11,6 +11,8 @@ from toys import FUNDAMENTAL, Xor, configs
 
 from yulimosar import (Agreed, CallError, Channel, ChannelCut, Code, Config, ConfigError, Data, End,
                        MessageRefused, PeerRefused, Pending, layout)
+from yulimosar._noise import ffi
+from yulimosar.channel import ROOM, _Came, _spare
 
 NO_LIMIT = settings(deadline=None, max_examples=int(os.environ.get("NOISE_EXAMPLES", 60)),
                     suppress_health_check=list(HealthCheck))
@@ -516,3 +518,33 @@ def test_reading_is_linear():
 
 def test_agreed_shows_no_payload():
     assert "secret" not in repr(Agreed("Noise_NN_25519_ChaChaPoly_SHA256", True, bytes(32), None, (b"secret",)))
+
+
+def test_what_came_is_kept_in_order():
+    """Bytes come by receive_data and by an event loop, in any pieces, and are used and moved at any time."""
+    dice = random.Random(81)
+    for _ in range(30):
+        came, model = _Came(), bytearray()
+        for _ in range(300):
+            piece = dice.randbytes(dice.choice((0, 1, 100, 20000, 70000)))
+            match dice.randrange(7):
+                case 0 | 1:
+                    came.add(memoryview(piece)[::-1] if dice.randrange(2) else piece[::-1])
+                    model += piece[::-1]
+                case 2 | 3:
+                    room = came.space()
+                    assert len(room) >= ROOM // 4
+                    piece = piece[:len(room)]
+                    room[:len(piece)] = piece
+                    came.took(len(piece))
+                    model += piece
+                case 4 | 5:
+                    count = dice.randrange(len(model) + 1)
+                    came.use(count)
+                    del model[:count]
+                case 6:
+                    came.settle()
+                    assert came._room.size < ROOM or model
+            place, left = came.left()
+            assert bytes(ffi.buffer(place, left)) == model and bool(came) == bool(model)
+    assert len(_spare) <= 4 and all(room.size == ROOM for room in _spare) and len(set(map(id, _spare))) == len(_spare)

@@ -68,6 +68,54 @@ def test_much_both_ways_at_once():
     run(main)
 
 
+def test_memory_for_what_comes_is_given_back():
+    """A channel that waits holds what has come of a frame, and not the memory into which the loop receives."""
+    async def main(_result):
+        async def handler(reader, writer):
+            async with writer:
+                await reader.readexactly(1)
+                writer.write(bytes(600_000))
+                await writer.drain()
+                frame = writer.transport._below.channel._sealed(bytes(1000))
+                writer.transport._below.transport.write(frame[:400])
+                assert await reader.readexactly(1) == b"2"
+                writer.transport._below.transport.write(frame[400:])
+
+        async with connected("NN", handler) as (reader, writer):
+            writer.write(b"1")
+            await until(lambda: not writer.transport.is_reading())
+            assert await reader.readexactly(600_000) == bytes(600_000)
+            came = writer.transport._below.channel._came
+            await until(lambda: came._room.size == came.left()[1] == 400)
+            writer.write(b"2")
+            assert await reader.read() == bytes(1000) and not came and not came._room.size
+    run(main)
+
+
+def test_another_protocol_gets_bytes():
+    async def main(_result):
+        class Above(asyncio.Protocol):
+            def __init__(self):
+                self.got = []
+
+            def data_received(self, data):
+                self.got.append(data)
+
+            def connection_lost(self, exc):
+                self.lost = exc
+
+        async with connected("NN") as (reader, writer):
+            own, above = writer.transport.get_protocol(), Above()
+            writer.transport.set_protocol(above)
+            writer.write(b"one")
+            await until(lambda: above.got)
+            assert above.got == [b"one"] and type(above.got[0]) is bytes
+            writer.transport.set_protocol(own)
+            writer.write_eof()
+            assert await reader.read() == b""
+    run(main)
+
+
 def test_a_reader_that_is_slow():
     """What a peer sends is not taken from the connection until it is read."""
     async def main(_result):

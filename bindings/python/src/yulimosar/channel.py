@@ -12,11 +12,18 @@ from .codes import MAX_PAYLOAD, STREAM_OVERHEAD, Code
 from .config import Config
 from .errors import FORKED, CallError, ChannelCut, MessageRefused
 from .handshake import Handshake, Steps
-from .memory import Buffer, Struct, refuse_text, shared, uncleared
+from .memory import Buffer, Struct, refuse_text, shared
 from .pattern import layout
 
 T = TypeVar("T")
 CLOSED_HERE = "this party has closed the channel"
+ROOM = 1 << 17    # how many bytes an event loop may receive at once, with what is left of a frame
+
+_stream_write = lib.noise_stream_write
+_stream_read = lib.noise_stream_read
+_unpack = ffi.unpack
+_from_buffer = ffi.from_buffer
+Payload = ffi.buffer      # where a payload is
 
 
 @dataclass(frozen=True, slots=True)
@@ -74,7 +81,9 @@ class Channel:
         self._failure: BaseException | None = None
         self._in, self._out = threading.RLock(), threading.RLock()
         self._came = _Came()
-        self._eof = self._reads_no_more = False
+        self._eof = self._reads = self._reads_no_more = False
+        self._read_result = ffi.new("noise_stream_result *")
+        self._write_result = ffi.new("noise_stream_result *")
         self._to_send: list[bytes] = []
         self._events: _Events[None] = self._run()
         shared.add(self)
@@ -107,6 +116,23 @@ class Channel:
             if self._fault is None and not self._reads_no_more:
                 self._came.add(data)
 
+    def _get_buffer(self) -> memoryview:
+        """Where an event loop may write what comes, in the place of `receive_data`: then it calls `_buffer_updated`."""
+        with self._in:
+            return self._came.space()
+
+    def _buffer_updated(self, count: int) -> None:
+        with self._in:
+            if self._fault is None and not self._reads_no_more:
+                self._came.took(count)
+            else:
+                self._came.drop()
+
+    def _settle(self) -> None:
+        """Gives back the memory for what comes, but for what is left of a frame."""
+        with self._in:
+            self._came.settle()
+
     def receive_eof(self) -> None:
         """Takes that the connection has ended, or was lost: nothing more comes."""
         with self._in:
@@ -115,10 +141,18 @@ class Channel:
     def next_event(self) -> Event | None:
         """What happened next; None until more comes. After it there may be something to send."""
         with self._in:
+            event = self._next()
+            return Data(bytes(event)) if type(event) is Payload else event    # type: ignore[return-value]
+
+    def _next(self) -> Event | Buffer | None:
+        """What happened next. In the place of Data it has the payload where it came, until more comes."""
+        with self._in:
             if self._fault is not None:
                 raise self._fault.with_traceback(None)
-            answer, failure, self._answer, self._failure = self._answer, self._failure, None, None
             try:
+                if self._reads and self._failure is None:
+                    return self._read()
+                answer, failure, self._answer, self._failure = self._answer, self._failure, None, None
                 return self._events.throw(failure) if failure is not None else self._events.send(answer)
             except StopIteration:
                 return None
@@ -136,17 +170,24 @@ class Channel:
 
     def write(self, payload: Buffer) -> None:
         """Writes to the stream, once the handshake is done: `data_to_send` has the frames."""
+        with self._out:
+            if data := self._sealed(payload):
+                self._to_send.append(bytes(data))
+
+    def _sealed(self, payload: Buffer) -> bytearray:
+        """The frames of a payload, which go after what `data_to_send` has returned."""
         refuse_text(payload)
-        with self._out, ffi.from_buffer(payload) as data:
-            sender = self._sends()
-            result, start, size = ffi.new("noise_stream_result *"), 0, len(data)
-            while start < size:
-                most = min(size - start, MAX_PAYLOAD) + STREAM_OVERHEAD
-                room = uncleared("char[]", most)
-                if code := lib.noise_stream_write(sender, data + start, size - start, room, most, result):
-                    raise CallError(Code(code))
-                self._to_send.append(ffi.unpack(room, result.len))
-                start += result.used
+        with self._out, _from_buffer(payload) as data:
+            sender, result, size = self._sends(), self._write_result, len(data)
+            frames = bytearray(size + -(-size // MAX_PAYLOAD) * STREAM_OVERHEAD)
+            start = end = 0
+            with _from_buffer(frames) as room:
+                while start < size:
+                    if code := _stream_write(sender, data + start, size - start, room + end, len(room) - end, result):
+                        raise CallError(Code(code))
+                    start += result.used
+                    end += result.len
+            return frames
 
     def write_eof(self) -> None:
         """Writes the end of the stream: call it after the last `write`, and only if nothing went wrong."""
@@ -169,8 +210,10 @@ class Channel:
 
     def data_to_send(self) -> bytes:
         """The bytes to send next over the connection; none after a fault."""
+        if not self._to_send:
+            return b""
         with self._out:
-            data = b"".join(self._to_send)
+            data = self._to_send[0] if len(self._to_send) == 1 else b"".join(self._to_send)
             self._to_send.clear()
             return data
 
@@ -210,9 +253,8 @@ class Channel:
                                   tuple(payloads))
         self._handshake = None
         self._reads_no_more = self._initiator and self.one_way
+        self._reads = True
         yield self._agreed
-        if not self._reads_no_more:
-            yield from self._read_stream(self._receiver)
 
     def _pend(self, steps: Steps[T]) -> _Events[T]:
         """Runs steps of the handshake; each awaitable is an event."""
@@ -264,69 +306,105 @@ class Channel:
         self._came.use(result.used)
         return (yield from self._pend(handshake.reading(message)))
 
-    def _read_stream(self, receiver: Struct) -> _Events[None]:
-        """Gives out the stream of the other party."""
-        result = ffi.new("noise_stream_result *")
-        while receiver._at is not None:
-            place, left = self._came.left()
-            code = lib.noise_stream_read(receiver._at[0], place, left, result)
-            if code == Code.OK:
-                payload = ffi.unpack(place + getattr(result, "from"), result.len)
-                self._came.use(result.used)
-                yield Data(payload)
-            elif code == Code.END:
-                self._reads_no_more = True
-                self._came.drop()
-                yield End()
-                return
-            elif code != Code.MORE:
-                raise MessageRefused(None, None, Code(code))
-            elif not self._eof:
-                yield None
-            elif lib.noise_stream_is_cut(receiver._at[0], left):
-                raise ChannelCut
-            else:
-                return
-        raise CallError(None, CLOSED_HERE)
+    def _read(self) -> End | bytes | None:
+        """The next payload of the other party's stream, or its end; None until more comes."""
+        if self._reads_no_more:
+            return None
+        at, result = self._receiver._at, self._read_result    # type: ignore[union-attr]
+        if at is None:
+            raise CallError(None, CLOSED_HERE)
+        place, left = self._came.left()
+        code = _stream_read(at[0], place, left, result)
+        if not code:
+            payload = Payload(place + getattr(result, "from"), result.len)
+            self._came.use(result.used)
+            return payload    # type: ignore[no-any-return]
+        if code == Code.END:
+            self._reads_no_more = True
+            self._came.drop()
+            return End()
+        if code != Code.MORE:
+            raise MessageRefused(None, None, Code(code))
+        if self._eof and lib.noise_stream_is_cut(at[0], left):
+            raise ChannelCut
+        return None
+
+
+class _Room:
+    """Memory for what comes, in which the library opens frames."""
+
+    __slots__ = ("view", "place", "size")
+
+    def __init__(self, size: int) -> None:
+        self.view = memoryview(bytearray(size))
+        self.place: Any = ffi.from_buffer(self.view)
+        self.size = size
+
+
+_EMPTY = _Room(0)
+_spare: list[_Room] = []    # rooms of the size ROOM that no channel uses
 
 
 class _Came:
     """What came and isn't used yet."""
 
-    __slots__ = ("_bytes", "_place", "_start")
+    __slots__ = ("_room", "_start", "_end")
 
     def __init__(self) -> None:
-        self._bytes = bytearray()
-        self._place: Any = None     # where the bytes are, while that is asked for
-        self._start = 0
+        self._room = _EMPTY
+        self._start = self._end = 0
 
     def __bool__(self) -> bool:
-        return len(self._bytes) > self._start
+        return self._end > self._start
 
     def add(self, data: Buffer) -> None:
-        self._settle()
-        self._bytes += data
+        with memoryview(data) as view, view.cast("B") if view.format != "B" or view.ndim != 1 else view as more:
+            count = len(more)
+            if self._end + count > self._room.size:
+                left = self._end - self._start
+                self._move(_Room(left + max(left, count)))
+            self._room.view[self._end:self._end + count] = more
+        self._end += count
+
+    def space(self) -> memoryview:
+        """Where more can be written, of which `took` says how much was."""
+        if self._room.size < ROOM or self._room.size - self._end < ROOM // 4:
+            left = self._end - self._start
+            if left > ROOM // 2:
+                self._move(_Room(left + ROOM // 2))
+            else:
+                try:
+                    self._move(_spare.pop())
+                except IndexError:
+                    self._move(_Room(ROOM))
+        return self._room.view[self._end:]
+
+    def took(self, count: int) -> None:
+        self._end += count
 
     def left(self) -> tuple[Any, int]:
-        """Where the bytes begin, until `add` is called, and how many there are."""
-        if self._place is None:
-            self._place = ffi.from_buffer(self._bytes)
-        return self._place + self._start, len(self._place) - self._start
+        """Where the bytes begin, until more comes, and how many there are."""
+        return self._room.place + self._start, self._end - self._start
 
     def use(self, count: int) -> None:
         """The first bytes aren't needed any more."""
         self._start += count
-        if self._start == len(self._bytes):
-            self.drop()
+
+    def settle(self) -> None:
+        """Leaves a room for what is left alone, which is less than a frame."""
+        left = self._end - self._start
+        if self._room.size >= ROOM or not left:
+            self._move(_Room(left) if left else _EMPTY)
 
     def drop(self) -> None:
         """Nothing of it is needed any more."""
-        self._start = len(self._bytes)
-        self._settle()
+        self._start = self._end
+        self._move(_EMPTY)
 
-    def _settle(self) -> None:
-        if self._place is not None:
-            ffi.release(self._place)
-            self._place = None
-        del self._bytes[:self._start]
-        self._start = 0
+    def _move(self, room: _Room) -> None:
+        """Moves what is left into another room."""
+        left, old = self._end - self._start, self._room
+        room.view[:left] = old.view[self._start:self._end]
+        self._room, self._start, self._end = room, 0, left
+        if old.size == ROOM and len(_spare) < 4:
+            _spare.append(old)

@@ -10,7 +10,7 @@ from collections.abc import Awaitable, Callable, Iterable
 from types import TracebackType
 from typing import Any, Self, cast
 
-from .channel import CLOSED_HERE, Agreed, Channel, Data, Event, Pending
+from .channel import CLOSED_HERE, Agreed, Channel, Event, Payload, Pending
 from .codes import Code
 from .config import Config
 from .errors import CallError, ChannelCut, ConfigError, HandshakeTimeout, MessageRefused, NoiseError
@@ -143,7 +143,7 @@ class _Transport(asyncio.Transport):
         return self._below.transport.get_extra_info(name, default)
 
     def set_protocol(self, protocol: asyncio.BaseProtocol) -> None:
-        self._below.above = cast(asyncio.Protocol, protocol)
+        self._below.set_above(cast(asyncio.Protocol, protocol))
 
     def get_protocol(self) -> asyncio.BaseProtocol:
         return self._below.above
@@ -178,7 +178,9 @@ class _Transport(asyncio.Transport):
     def write(self, data: Buffer) -> None:
         if self._ended:
             raise RuntimeError("Cannot call write() after write_eof()")
-        self._below.write(data)
+        below = self._below
+        if not below.over:
+            below.transport.write(below.channel._sealed(data))
 
     def writelines(self, list_of_data: Iterable[Buffer]) -> None:
         self.write(b"".join(list_of_data))
@@ -192,7 +194,7 @@ class _Transport(asyncio.Transport):
         return True
 
 
-class _Below(asyncio.Protocol):
+class _Below(asyncio.BufferedProtocol):
     """The protocol of the connection below. It carries a channel, and is to the protocol above as a transport is.
 
     `ready` is called when the handshake is done; `failed`, if it has failed, once the connection is closed.
@@ -204,7 +206,7 @@ class _Below(asyncio.Protocol):
     ) -> None:
         self.loop = asyncio.get_running_loop()
         self.channel = channel
-        self.above = above
+        self.set_above(above)
         self.transport: asyncio.Transport
         self.over = False       # closed, broken or lost
         self.ended = False      # whether the other party has ended its stream
@@ -217,6 +219,12 @@ class _Below(asyncio.Protocol):
         self._forked = False
         shared.add(self)
 
+    def set_above(self, above: asyncio.Protocol) -> None:
+        """A protocol of asyncio's own for a reader copies what it gets; another one is given bytes."""
+        self.above = above
+        copies = type(above) is asyncio.StreamReaderProtocol
+        self._give: Callable[[Any], None] = above.data_received if copies else lambda it: above.data_received(bytes(it))
+
     def _in_child(self) -> None:
         """In a forked process the connection, and the loop's selector, are the parent's."""
         self.over = self._forked = True
@@ -227,8 +235,11 @@ class _Below(asyncio.Protocol):
             self._timer = self.loop.call_later(self._timeout, lambda: self.break_off(HandshakeTimeout()))
         self.pump()
 
-    def data_received(self, data: bytes) -> None:
-        self.channel.receive_data(data)
+    def get_buffer(self, sizehint: int) -> memoryview:
+        return self.channel._get_buffer()
+
+    def buffer_updated(self, nbytes: int) -> None:
+        self.channel._buffer_updated(nbytes)
         self.pump()
 
     def eof_received(self) -> bool:
@@ -238,21 +249,27 @@ class _Below(asyncio.Protocol):
 
     def pump(self) -> None:
         """Gives out what has come, and sends what is to be sent."""
+        self._pump()
+        if not self.paused:
+            self.channel._settle()
+
+    def _pump(self) -> None:
         while not self.over and not self.paused and self._asking is None:
             try:
-                event = self.channel.next_event()
+                event = self.channel._next()
             except Exception as fault:
                 self.break_off(fault)
                 return
+            if type(event) is Payload:
+                self._give(event)
+                continue
             self._flush()
             if event is None:
                 return
-            self._take(event)
+            self._take(cast(Event, event))
 
     def _take(self, event: Event) -> None:
-        if isinstance(event, Data):
-            self.above.data_received(event.payload)
-        elif isinstance(event, Agreed):
+        if isinstance(event, Agreed):
             self._begin()
         elif isinstance(event, Pending):
             self.transport.pause_reading()
@@ -330,11 +347,6 @@ class _Below(asyncio.Protocol):
                 self._fault = ChannelCut(f"closed before all was sent: {now} bytes were left, with the end")
                 self.transport.abort()
         self._timer = self.loop.call_later(CLOSE_TIMEOUT, look)
-
-    def write(self, data: Buffer) -> None:
-        if not self.over:
-            self.channel.write(data)
-            self._flush()
 
     def write_eof(self) -> None:
         if not self.over:
@@ -446,7 +458,7 @@ async def start_server(
     loop = asyncio.get_running_loop()
     tasks: set[asyncio.Task[None]] = set()
 
-    def factory() -> asyncio.Protocol:
+    def factory() -> asyncio.BufferedProtocol:
         reader = Reader(limit, loop)
         above = asyncio.StreamReaderProtocol(reader, loop=loop)
 
