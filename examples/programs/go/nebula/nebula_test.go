@@ -28,12 +28,9 @@ logging: {level: debug}
 firewall: {outbound: [{port: any, proto: any, host: any}], inbound: [{port: any, proto: any, host: any}]}
 `
 
-// node starts a node, and returns the folder of the certificates, its address, and its log.
-func node(t *testing.T) (room, address string, said *nodeLog) {
+// certificates makes them, in a folder.
+func certificates(t *testing.T) (room string) {
 	t.Helper()
-	if _, err := exec.LookPath("nebula"); err != nil {
-		t.Skip(err)
-	}
 	room = t.TempDir()
 	for _, words := range []string{
 		"ca -name good -out-crt ca.crt -out-key ca.key",
@@ -49,12 +46,12 @@ func node(t *testing.T) (room, address string, said *nodeLog) {
 			t.Fatalf("nebula-cert %s: %v: %s", words, err, out)
 		}
 	}
-	free, err := net.ListenPacket("udp", "127.0.0.1:0")
-	must(t, err)
-	port := free.LocalAddr().(*net.UDPAddr).Port
-	free.Close()
-	must(t, os.WriteFile(room+"/node.yml", []byte(fmt.Sprintf(config, room, port)), 0o600))
-	cmd := exec.Command("nebula", "-config", room+"/node.yml")
+	return room
+}
+
+// started starts a node, until the test ends, and returns its log.
+func started(t *testing.T, cmd *exec.Cmd) (said *nodeLog) {
+	t.Helper()
 	said = new(nodeLog)
 	cmd.Stdout, cmd.Stderr = said, said
 	must(t, cmd.Start())
@@ -66,7 +63,22 @@ func node(t *testing.T) (room, address string, said *nodeLog) {
 		}
 	})
 	said.says(t, "Nebula interface is active")
-	return room, fmt.Sprintf("127.0.0.1:%d", port), said
+	return said
+}
+
+// node starts a node without a tun, and returns the folder of the certificates, its address, and its log.
+func node(t *testing.T) (room, address string, said *nodeLog) {
+	t.Helper()
+	if _, err := exec.LookPath("nebula"); err != nil {
+		t.Skip(err)
+	}
+	room = certificates(t)
+	free, err := net.ListenPacket("udp", "127.0.0.1:0")
+	must(t, err)
+	port := free.LocalAddr().(*net.UDPAddr).Port
+	free.Close()
+	must(t, os.WriteFile(room+"/node.yml", []byte(fmt.Sprintf(config, room, port)), 0o600))
+	return room, fmt.Sprintf("127.0.0.1:%d", port), started(t, exec.Command("nebula", "-config", room+"/node.yml"))
 }
 
 // nodeLog is what a node says.

@@ -18,6 +18,7 @@ const (
 	headerLen     = 16
 	version       = 1
 	typeHandshake = 0
+	typeMessage   = 1 // a packet of the tunnel's network
 	typeTest      = 4
 	testRequest   = 0
 	testReply     = 1
@@ -79,11 +80,42 @@ func (p *party) connect(conn net.Conn, until time.Time) (*tunnel, error) {
 	if err != nil {
 		return nil, err
 	}
-	if t.send, t.receive, err = h.CipherStates(); err != nil {
-		return nil, err
+	return t, t.finish(h)
+}
+
+// answer runs the handshake as the responder: it reads the first packet of a node, and returns the tunnel and the packet to send back. A caller that gets the
+// same first packet again, since its answer was lost, sends the same answer again.
+func (p *party) answer(packet []byte) (*tunnel, []byte, error) {
+	if len(packet) < headerLen || packet[0] != version<<4|typeHandshake || binary.BigEndian.Uint64(packet[8:]) != 1 {
+		return nil, nil, errors.New("not the first packet of a handshake")
 	}
-	t.window = window{next: 3} // the handshake has counted 1 and 2
-	return t, t.send.SetNonce(3)
+	t := &tunnel{own: ownIndex}
+	h, err := noise.NewHandshakeState(&noise.Config{Pattern: "IX", Static: p.key, VerifyPeer: func(_ context.Context, peer noise.Peer) error {
+		return t.accept(p.authority, peer)
+	}}, false)
+	if err != nil {
+		return nil, nil, err
+	}
+	defer h.Close()
+	if _, err := h.ReadMessage(nil, packet[headerLen:]); err != nil {
+		return nil, nil, err
+	}
+	details := number(text(nil, helloCert, p.own.encoded(nil)), helloInitiator, uint64(t.other))
+	details = number(number(details, helloResponder, ownIndex), helloTime, uint64(time.Now().UnixNano()))
+	reply, err := h.WriteMessage(header(typeHandshake, 0, t.other, 2), text(nil, payloadDetails, details))
+	if err != nil {
+		return nil, nil, err
+	}
+	return t, reply, t.finish(h)
+}
+
+// finish takes the keys of a handshake that is done, which has counted 1 and 2.
+func (t *tunnel) finish(h *noise.HandshakeState) (err error) {
+	if t.send, t.receive, err = h.CipherStates(); err != nil {
+		return err
+	}
+	t.window = window{next: 3}
+	return t.send.SetNonce(3)
 }
 
 // accept judges the other party by its certificate, which is in the payload beside its key, and takes its index.
@@ -97,9 +129,13 @@ func (t *tunnel) accept(authority *certificate, peer noise.Peer) error {
 		return err
 	}
 	var shown *certificate
+	index := uint64(helloResponder)
+	if peer.Message == 1 {
+		index = helloInitiator
+	}
 	for _, f := range details {
 		switch f.tag {
-		case helloResponder:
+		case index:
 			t.other = uint32(f.number)
 		case helloCert:
 			if shown, err = parseCertificate(f.bytes); err != nil {
