@@ -21,7 +21,6 @@ type HandshakeState struct {
 	ended     error
 	isJudged  bool       // whether the other party's static key was, if it is known from the start
 	next      int        // the message that is due, from 0 on
-	prepared  bool       // whether the library has the X25519 results of that message already
 	remote    remoteKeys // those that are known
 	below     net.Conn   // the connection below, if there is one
 	isTrying  bool       // a message is tried: a fault leaves the handshake as it was
@@ -31,19 +30,15 @@ type HandshakeState struct {
 
 // remoteKeys are the public keys of the other party, as far as they are known.
 type remoteKeys struct {
-	e, s       PublicKey
-	hasE, hasS bool
+	e, s PublicKey
+	hasE bool
 }
 
-// with returns the keys with those that a message has in clear.
+// with returns the keys with the ephemeral key of a message.
 func (k remoteKeys) with(m *message, received []byte) remoteKeys {
-	if at, ok := m.at["e"]; ok && len(received) >= at+KeyLen {
+	if m.hasE && len(received) >= m.e+KeyLen {
 		k.hasE = true
-		copy(k.e[:], received[at:])
-	}
-	if at, ok := m.at["s"]; ok && len(received) >= at+KeyLen {
-		k.hasS = true
-		copy(k.s[:], received[at:])
+		copy(k.e[:], received[m.e:])
 	}
 	return k
 }
@@ -92,7 +87,6 @@ func started(config *Config, h *HandshakeState, isLate bool) (*HandshakeState, e
 		return nil, &ConfigError{fieldOf(code), code}
 	}
 	if h.pattern.knows(h.initiator) {
-		h.remote.hasS = true
 		h.remote.s = *config.PeerStatic
 	}
 	return h, nil
@@ -248,32 +242,6 @@ func agreed(ctx context.Context, own DH, remote PublicKey) (result Secret, err e
 	return result, err
 }
 
-// prepare passes those results of X25519 that a message needs and whose keys are known, so that the library doesn't ask for them one by one. Of a
-// message that is read, it leaves out what comes after an encrypted static key: the library checks the tag of that key first.
-func (h *HandshakeState) prepare(ctx context.Context, keys *remoteKeys, tokens []string) error {
-	if h.prepared {
-		return nil
-	}
-	h.prepared = true
-	for _, token := range tokens {
-		if len(token) != 2 {
-			continue
-		}
-		other := token[index(h.initiator)]
-		var err error
-		switch {
-		case other == 'e' && keys.hasE:
-			err = h.supply(ctx, token, keys.e)
-		case other == 's' && keys.hasS:
-			err = h.supply(ctx, token, keys.s)
-		}
-		if err != nil {
-			return err
-		}
-	}
-	return nil
-}
-
 // wanted returns the DH token whose result the library asks for.
 func (h *HandshakeState) wanted(keys *remoteKeys) string {
 	own, other := byte('e'), byte('s')
@@ -375,9 +343,6 @@ func (h *HandshakeState) WriteMessageContext(ctx context.Context, dst, payload [
 		if err := h.judgeFirst(ctx); err != nil {
 			return dst, err
 		}
-		if err := h.prepare(ctx, &h.remote, h.pattern.messages[h.next].tokens); err != nil {
-			return dst, h.end("", err)
-		}
 	}
 	whole, room := grown(dst, int(size))
 	if overlap(room, payload) {
@@ -396,14 +361,8 @@ func (h *HandshakeState) WriteMessageContext(ctx context.Context, dst, payload [
 	case made != 0:
 		return dst, made
 	}
-	h.passed()
-	return whole[:len(dst)+int(m.result.Len)], nil
-}
-
-// passed notes that a message has passed.
-func (h *HandshakeState) passed() {
 	h.next++
-	h.prepared = false
+	return whole[:len(dst)+int(m.result.Len)], nil
 }
 
 // ReadMessage reads the message that is due, and appends its payload to dst. A *HandshakeError says what is wrong with the message, and the handshake has
@@ -459,9 +418,11 @@ func (h *HandshakeState) readMessage(ctx context.Context, dst, message []byte, c
 		return dst, err
 	}
 	if passed == h.pattern.learns(h.initiator) {
-		if h.remote.s, h.remote.hasS = h.PeerStatic(); !h.remote.hasS {
+		key, isKnown := h.PeerStatic()
+		if !isKnown {
 			return dst, h.end("", Code(codeStruct))
 		}
+		h.remote.s = key
 		if err := h.judge(ctx, "s", Peer{Message: passed + 1, Payload: payload}); err != nil {
 			return dst, err
 		}
@@ -471,11 +432,7 @@ func (h *HandshakeState) readMessage(ctx context.Context, dst, message []byte, c
 
 func (h *HandshakeState) read(ctx context.Context, received []byte, read readCall) ([]byte, error) {
 	m, work := h.memory, append([]byte(nil), received...)
-	message := &h.pattern.messages[h.next]
-	keys := h.remote.with(message, received)
-	if err := h.prepare(ctx, &keys, message.tokens[:message.sealed]); err != nil {
-		return nil, h.end("", err)
-	}
+	keys := h.remote.with(&h.pattern.messages[h.next], received)
 	code, err := h.called(ctx, &keys, func() uint32 {
 		return read(&m.opaque, place(work), uint(len(work)), &m.result)
 	})
@@ -488,7 +445,7 @@ func (h *HandshakeState) read(ctx context.Context, received []byte, read readCal
 		return nil, h.end("", code)
 	}
 	h.remote = keys
-	h.passed()
+	h.next++
 	return work[m.result.From : m.result.From+m.result.Len], nil
 }
 

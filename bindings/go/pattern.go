@@ -21,9 +21,9 @@ type pattern struct {
 type message struct {
 	byInitiator bool
 	tokens      []string
-	at          map[string]int // the offset of "e", and of "s" if that is sent in clear
-	least       int            // its length without a payload
-	sealed      int            // the index of the token of an encrypted static key; the number of tokens if there is none
+	hasE        bool
+	e           int // the offset of its ephemeral key
+	least       int // its length without a payload
 }
 
 // The tokens by their numbers in the library.
@@ -97,16 +97,12 @@ func (p *pattern) ask(text []byte) {
 
 // laidOut returns what a layout says of a message without a payload; the payload is its last piece.
 func laidOut(byInitiator bool, layout *library.MessageLayout) message {
-	count := int(layout.Count) - 1
-	m := message{byInitiator: byInitiator, at: map[string]int{}, least: int(layout.Len), sealed: count}
-	for i, piece := range layout.Pieces[:count] {
+	m := message{byInitiator: byInitiator, least: int(layout.Len)}
+	for _, piece := range layout.Pieces[:layout.Count-1] {
 		name := tokenNames[piece.Token]
 		m.tokens = append(m.tokens, name)
-		switch {
-		case name == "s" && piece.Encrypted != 0:
-			m.sealed = i
-		case name == "e" || name == "s":
-			m.at[name] = int(piece.From)
+		if name == "e" {
+			m.hasE, m.e = true, int(piece.From)
 		}
 	}
 	return m
