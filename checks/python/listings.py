@@ -39,7 +39,7 @@ MESSAGES
 
 def serve(listener: socket.socket, config: Config) -> None:
     with accept(listener.accept()[0], config) as channel:
-        channel.sendall(channel.makefile().read())
+        channel.sendall(channel.makefile("rb").read())
 
 
 class Stream:

@@ -477,6 +477,18 @@ def test_limits(each_loop, monkeypatch):
     run(main)
 
 
+def test_a_payload_that_no_datagram_takes(each_loop):
+    """The largest one comes; of a larger one the system would say so where nobody hears it."""
+    async def main(_result):
+        first, second = configs("NN")
+        async with server_behind(second) as (_, address), client_at(address, first) as client:
+            peer = await client.connected
+            await ask(client, peer, bytes(65482))
+            with pytest.raises(ValueError, match="at most 65482 bytes"):
+                peer.send(bytes(65483))
+    run(main)
+
+
 def test_a_handshake_that_does_not_succeed(each_loop):
     """Nobody answers; the server has another psk; and the socket is closed."""
     async def main(_result):

@@ -9,7 +9,7 @@ from loops import connected, each_loop, run, server_of, settle, until
 from test_select import in_child
 from toys import Xor, configs
 
-from yulimosar import CallError, ChannelCut, Config, MessageRefused, open_connection, streams
+from yulimosar import CallError, ChannelCut, Config, MessageRefused, PeerRefused, open_connection, streams
 
 assert each_loop
 pytestmark = pytest.mark.usefixtures("each_loop")
@@ -250,6 +250,32 @@ def test_a_fault_of_this_program_is_logged_as_an_error(fault, level):
         logger.removeHandler(log)
     assert [record.levelno for record in log.records] == [level]
     assert (log.records[0].exc_info is not None) == (level == logging.ERROR)
+
+
+@pytest.mark.parametrize("fault, level", [(PeerRefused("no psk"), logging.INFO), (KeyError("no psk"), logging.ERROR)])
+def test_a_key_without_a_psk_is_refused(fault, level):
+    """Anybody can show a key that isn't known: that is no fault of the program, if it says so."""
+    def psk_for(_key):
+        raise fault
+
+    log = Levels()
+    logger = logging.getLogger("yulimosar")
+    logger.addHandler(log)
+
+    async def main(_result):
+        client, server = configs("XXpsk3")
+        server = Config(pattern="XXpsk3", key=server.key, psk_for=psk_for, prologue=b"test", ephemeral=Xor)
+        async with server_of(says_bye_and_closes, server) as address:
+            reader, writer = await open_connection(*address, client)
+            with pytest.raises(ChannelCut):
+                await reader.read()
+            writer.close()
+            await until(lambda: log.records)
+    try:
+        run(main)
+    finally:
+        logger.removeHandler(log)
+    assert [record.levelno for record in log.records] == [level]
 
 
 def test_a_connection_error_of_the_handlers_own_is_reported():

@@ -349,7 +349,7 @@ def test_files_of_text():
             assert file.readline() == "Grüße\n" and next(file) == "zwei\n"
             file.write("back\n")
             file.flush()
-        assert server.makefile("r", encoding="utf-8").readline() == "back\n"
+        assert server.makefile(encoding="utf-8").readline() == "back\n"    # as a socket's, it is of text
         for words in (("a",), ("r", 0)):
             with pytest.raises(ValueError):
                 server.makefile(*words)

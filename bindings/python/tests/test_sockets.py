@@ -139,7 +139,7 @@ def test_files():
         raw = server.makefile("rb", 0)
         assert isinstance(raw, io.RawIOBase) and raw.read(10) == b"back"
         client.shutdown(socket.SHUT_WR)
-        assert raw.read(10) == b"" and server.makefile().read() == b""
+        assert raw.read(10) == b"" and server.makefile("rb").read() == b""
         with pytest.raises(ValueError):
             server.makefile("a")
 

@@ -109,7 +109,8 @@ class HandshakeTimeout(NoiseError, TimeoutError):
 
 
 class PeerRefused(NoiseError):
-    """The other party's static key isn't Config.peer_key, or Config.verify didn't return True."""
+    """The other party's static key isn't Config.peer_key, or Config.verify didn't return True. Config.psk_for may raise
+    it for a key that has no psk."""
 
 
 class LowOrderKey(NoiseError):

@@ -492,13 +492,13 @@ class NoiseSocket:
         return sent
 
     @overload
-    def makefile(self, mode: Literal["rb", "wb", "rwb"] = "rb", buffering: int = -1) -> BinaryIO: ...
+    def makefile(self, mode: Literal["rb", "wb", "rwb"], buffering: int = -1) -> BinaryIO: ...
 
     @overload
-    def makefile(self, mode: Literal["r", "w", "rw"], buffering: int = -1, *, encoding: str | None = None,
+    def makefile(self, mode: Literal["r", "w", "rw"] = "r", buffering: int = -1, *, encoding: str | None = None,
                  errors: str | None = None, newline: str | None = None) -> TextIO: ...
 
-    def makefile(self, mode: str = "rb", buffering: int = -1, *, encoding: str | None = None,
+    def makefile(self, mode: str = "r", buffering: int = -1, *, encoding: str | None = None,
                  errors: str | None = None, newline: str | None = None) -> Any:
         """A file over the channel, of bytes where `mode` has a b, else of text. To close it doesn't close the channel;
         to flush one before the channel is closed is the caller's."""

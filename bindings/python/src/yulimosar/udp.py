@@ -7,7 +7,7 @@ from collections import Counter
 from typing import Any, cast
 
 from .channel import Agreed
-from .codes import Code
+from .codes import DATAGRAM_OVERHEAD, Code
 from .config import Config
 from .datagrams import DatagramChannel
 from .errors import ConfigError, HandshakeTimeout, MessageRefused, NoiseError
@@ -15,6 +15,7 @@ from .memory import Buffer
 
 RESEND = 0.25       # in seconds: after which what isn't answered is sent again
 MOST_BEGUN = 64     # how many handshakes without a peer a responder has at once
+MOST_PAYLOAD = 65507 - 1 - DATAGRAM_OVERHEAD    # a datagram of UDP over IPv4 has at most 65507 bytes
 
 logger = logging.getLogger("yulimosar")
 
@@ -33,8 +34,10 @@ class DatagramPeer:
         return cast(Agreed, self._channel.agreed)
 
     def send(self, payload: Buffer) -> None:
-        """Sends a payload of 1 byte or more in one datagram, 25 bytes longer. It may be lost, repeated and reordered on
-        its way; the other party gets it at most once."""
+        """Sends a payload of 1 to 65482 bytes in one datagram, 25 bytes longer. It may be lost, repeated and reordered
+        on its way; the other party gets it at most once."""
+        if len(payload) > MOST_PAYLOAD:
+            raise ValueError(f"a datagram takes at most {MOST_PAYLOAD} bytes, and this payload has {len(payload)}")
         self._channel.send(payload)
         self._protocol._flush(self._channel, self.address)
 
