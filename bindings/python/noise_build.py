@@ -58,5 +58,5 @@ ffi.set_source(
     SOURCE,
     include_dirs=["src"],
     sources=["src/assembly.S"],
-    depends=["src/noise.h", *sorted(str(path) for path in Path("src/assembly").glob("*.s"))],
+    depends=["src/noise.h", "src/noise_inline.h", *sorted(str(path) for path in Path("src/assembly").glob("*.s"))],
 )

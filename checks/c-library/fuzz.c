@@ -245,11 +245,22 @@ static uint32_t set_psk_there(noise_handshake *h, const uint8_t *psk, uint64_t c
     return code;
 }
 
-// Supplies what a call has asked for. False if it has asked for nothing.
+static void unset_psk_there(noise_handshake *h, uint64_t codes) {
+    noise_handshake *there = put(&struct_place, h, sizeof *h, false);
+    uint32_t code = counted(noise_unset_psk(there), codes);
+    if (code != NOISE_OK) MUST(!memcmp(there, h, sizeof *h));
+    *h = *there;
+}
+
+// Supplies what a call has asked for: a psk at once, or after another one that is taken back. False if it has asked for nothing.
 static bool supply_there(noise_handshake *h, unsigned role, unsigned *given, const noise_result *result, uint32_t code) {
     if (code == NOISE_WANTED) hand_in_there(h, role, result, CODE(NOISE_OK));
     if (code == NOISE_WANTED_PSK) {
         MUST(result->remote_known <= 1);
+        if (one_in(4)) {
+            set_psk_there(h, secret(7), CODE(NOISE_OK));
+            unset_psk_there(h, CODE(NOISE_OK));
+        }
         set_psk_there(h, secret((*given)++), CODE(NOISE_OK));
     }
     return code == NOISE_WANTED || code == NOISE_WANTED_PSK;
@@ -318,6 +329,7 @@ static void disturb_handshake(const noise_handshake *h, unsigned role) {
     call_opening(read_handshake, &copy, sizeof copy, read_codes, bytes, len, &result);
     hand_in_there(&copy, role, &result, CODE(NOISE_OK) | CODE(NOISE_STRUCT));
     if (one_in(2)) set_psk_there(&copy, bytes, psk_codes);
+    if (one_in(2)) unset_psk_there(&copy, CODE(NOISE_OK) | CODE(NOISE_STRUCT));
     call_opening(read_handshake, &copy, sizeof copy, read_codes, bytes, len, &result);
 }
 

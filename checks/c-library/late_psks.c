@@ -7,6 +7,13 @@ static bool is_same(const void *a, const void *b, size_t len) {
     return memcmp(a, b, len) == 0;
 }
 
+// How often 32 bytes stand in a handshake's struct.
+static unsigned find(const noise_handshake *h, const uint8_t bytes[32]) {
+    unsigned found = 0;
+    for (size_t i = 0; i + 32 <= sizeof h->opaque; i++) found += is_same(h->opaque + i, bytes, 32);
+    return found;
+}
+
 // An end that lacks the psks after the first `given`.
 typedef struct {
     end x;
@@ -186,6 +193,54 @@ static void check_ikpsk2(void) {
     MUST(read_on(&initiator, message, result.len, &result) == NOISE_OK);
 }
 
+// A psk that was set for a refused message is taken back, and the right message is read; without that it is refused too.
+static void check_taken_back(void) {
+    plan p = plan_of("XX", 3);
+    late_end responder, copy;
+    noise_result result;
+    uint8_t right[200], forged[200];
+    uint32_t code;
+    size_t len = before_third(&p, &responder);
+    MUST(len <= sizeof right);
+    memcpy(right, message, len);
+    memcpy(forged, message, len);
+    forged[len - 1] ^= 1;
+    while ((code = noise_try_read(&responder.x.h, forged, len, &result)) == NOISE_WANTED) hand_in(&responder.x, &result);
+    MUST(code == NOISE_WANTED_PSK);
+    MUST(noise_set_psk(&responder.x.h, secret(5)) == NOISE_OK);
+    while ((code = noise_try_read(&responder.x.h, forged, len, &result)) == NOISE_WANTED) hand_in(&responder.x, &result);
+    MUST(code == NOISE_TAG);
+    copy = responder;
+    MUST(noise_try_read(&copy.x.h, right, len, &result) != NOISE_OK);
+    MUST(noise_unset_psk(&responder.x.h) == NOISE_OK);
+    MUST(find(&responder.x.h, secret(5)) == 0 && find(&copy.x.h, secret(5)) == 1);
+    for (unsigned again = 0; again < 2; again++) {        // there is none any more: nothing changes
+        noise_handshake before = responder.x.h;
+        MUST(noise_unset_psk(&responder.x.h) == NOISE_OK && is_same(&responder.x.h, &before, sizeof before));
+    }
+    while ((code = noise_try_read(&responder.x.h, right, len, &result)) == NOISE_WANTED) hand_in(&responder.x, &result);
+    MUST(code == NOISE_WANTED_PSK && result.remote_known == 1 && is_same(result.remote, public_key(0, true), 32));
+    MUST(noise_set_psk(&responder.x.h, secret(0)) == NOISE_OK);
+    MUST(noise_try_read(&responder.x.h, right, len, &result) == NOISE_OK && result.len == 5);
+}
+
+// Of several psks the last is taken back: each is asked for again at its own token.
+static void check_last_taken_back(void) {
+    plan two = plan_of_text("XX1psk0+psk3:\n  -> psk, e\n  <- e, ee, s\n  -> es, s, se, psk\n", "XX", 2, true);
+    late_end whole = begin_with(&two, 0, 2), late;
+    noise_result result, again;
+    for (unsigned kept = 0; kept <= 2; kept++) {
+        late = begin_with(&two, 0, 0);
+        for (unsigned i = 0; i < 2; i++) MUST(noise_set_psk(&late.x.h, secret(i)) == NOISE_OK);
+        for (unsigned i = kept; i < 2; i++) MUST(noise_unset_psk(&late.x.h) == NOISE_OK);
+        MUST(noise_set_psk(&late.x.h, secret(kept)) == (kept < 2 ? NOISE_OK : NOISE_PSK_COUNT));
+        noise_handshake h = whole.x.h;
+        MUST(noise_write(&late.x.h, payload, 9, message, sizeof message, &result) == NOISE_OK);
+        MUST(noise_write(&h, payload, 9, other, sizeof other, &again) == NOISE_OK);
+        MUST(result.len == again.len && is_same(message, other, result.len));
+    }
+}
+
 // Where no psk token lacks its psk, and for a struct without a valid state.
 static void check_refused(void) {
     plan none = plan_of("XX", -1), one = plan_of("XX", 3);
@@ -197,11 +252,14 @@ static void check_refused(void) {
     }
     noise_handshake zeros = {{0}}, old = zeros;
     MUST(noise_set_psk(&zeros, secret(0)) == NOISE_STRUCT && is_same(&zeros, &old, sizeof old));
+    MUST(noise_unset_psk(&zeros) == NOISE_STRUCT && is_same(&zeros, &old, sizeof old));
 }
 
 void check_late_psks(void) {
     check_all_places();
     check_xxpsk3();
     check_ikpsk2();
+    check_taken_back();
+    check_last_taken_back();
     check_refused();
 }

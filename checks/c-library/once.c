@@ -181,20 +181,22 @@ static void check_answer(void) {
     MUST(noise_answer(&h, 0, message, message) == NOISE_STRUCT && !memcmp(&h, &old, sizeof h));
 }
 
-// The library's sentence of a code is the header's.
+// Each code has a sentence of its own, a static text.
 static void check_sentences(void) {
     const char *none = noise_text(99);
     for (uint32_t code = 0; code <= NOISE_CUT; code++) {
         bool is_code = code != 3 && code != 9 && code != 21;
         const char *text = noise_text(code);
         size_t len = strlen(text);
-        uint8_t sentence[80];
-        MUST(noise_sentence(code, sentence) == len && !strcmp((char *)sentence, text));
+        const char *sentence = NULL;
+        MUST(noise_sentence(code, &sentence) == len && sentence == text);
         MUST(len > 10 && len < 80 && text[len - 1] == '.');
         MUST((strcmp(text, none) != 0) == is_code);
         for (uint32_t other = 0; other < code; other++) MUST(!is_code || strcmp(text, noise_text(other)) != 0);
     }
-    MUST(!strcmp(noise_text(UINT32_MAX), none));
+    MUST(!strcmp(noise_text(UINT32_MAX), none) && !strcmp(none, "This number is not a code of the library."));
+    MUST(!strcmp(noise_text(NOISE_OK), "The call succeeded."));
+    MUST(!strcmp(noise_text(NOISE_CUT), "The connection ended before the stream did."));
 }
 
 void check_once(void) {

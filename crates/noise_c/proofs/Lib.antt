@@ -9,6 +9,7 @@ pub mod Finished
 pub mod Stored
 pub mod Named
 pub mod Moved
+pub mod Unset
 pub mod Starts
 pub mod Wants
 pub mod Wanting

@@ -291,6 +291,25 @@ pub record SetsPsk (old new : NoiseHandshake) (psk : List ℕ) (code : ℕ) : Ty
   pub unchanged : OK < code → new ≡ old
   pub codes : (code ≡ OK) ⊎ (code ≡ STRUCT) ⊎ (code ≡ PSK_COUNT)
 
+-- the struct lacks the last of its psks, and is otherwise unchanged
+pub record LacksLastPsk (old new : NoiseHandshake) : Type 0 where
+  pub text : text_from_c new ≡ text_from_c old
+  pub handshake : (p : Plan) → handshake_from_c p new
+      ≡ record (handshake_from_c p old) { psks = take (old.psk_count - 1) (handshake_from_c p old).psks }
+
+-- The last psk is taken back, if there is one. A state that the struct matched it still matches.
+pub record TakesPskBack (old new : NoiseHandshake) : Type 0 where
+  pub lacks : LacksLastPsk old new
+  pub matches : (p : Plan) (v : Party) → KeepsParty old p v → KeepsParty new p v
+  pub stays : IsUsable old → IsUsable new
+
+-- That is done in a struct that a call has left; others stay as they are.
+pub record UnsetsPsk (old new : NoiseHandshake) (code : ℕ) : Type 0 where
+  pub unusable : code ≡ STRUCT ↔ (IsUsable old → ⊥)
+  pub lacks : code ≡ OK → LacksLastPsk old new
+  pub unchanged : OK < code → new ≡ old
+  pub codes : (code ≡ OK) ⊎ (code ≡ STRUCT)
+
 -- a state that the struct matched, and whose psks go on with this one, it still matches
 abbrev pub GoesOn : NoiseHandshake → NoiseHandshake → List ℕ → Type 0
 GoesOn old new psk = (p : Plan) (v : Party) (later : List (List ℕ))

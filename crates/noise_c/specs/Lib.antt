@@ -2,6 +2,7 @@ pub mod HandedIn
 pub mod DhResults
 pub mod Checked
 pub mod Codes
+pub mod Sentences
 pub mod HandshakeStructs
 pub mod Header
 pub mod TransportCodes

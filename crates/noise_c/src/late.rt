@@ -1,7 +1,9 @@
 //! Exports: the DH results and the psks that a handshake wasn't started with.
 
-ghost use Rattle.std.specs.Prelude.{◌≡◌, ◌<◌, ◌∷◌, ◌++◌, [], drop};
-ghost use Rattle.noise_c.specs.HandshakeStructs.{own_in, GoesOn, IsUsable, SetsPsk, StoresPsk, Supplies};
+ghost use Rattle.std.specs.Prelude.{◌≡◌, ◌<◌, ◌≤◌, ◌∷◌, ◌++◌, [], drop, replicate, take};
+ghost use Rattle.noise_names.specs.Plan.{Plan};
+ghost use Rattle.noise_handshake.specs.Party.{Party};
+ghost use Rattle.noise_c.specs.HandshakeStructs.{own_in, GoesOn, IsUsable, KeepsParty, SetsPsk, StoresPsk, Supplies, TakesPskBack, UnsetsPsk};
 ghost use Rattle.noise_c.specs.declared.codes.numbers.TheConstants.{OK};
 
 use crate::codes::numbers::{HANDSHAKE, OK, PSK_COUNT, STRUCT};
@@ -80,5 +82,40 @@ pub extern "C" fn noise_set_psk(handshake: &mut NoiseHandshake, psk: &[u8; 32]) 
         return PSK_COUNT;
     }
     store_psk(handshake, psk);
+    OK
+}
+
+// Moves the psks one place to the back, over the last, and puts zeros at the front.
+#[tactic(auto, using(crate::proofs::Unset::moved_back))]
+fn put_zeros_first(psks: &mut [[u8; 32]; 9])
+    ensures { psks.new ≡ replicate 32 0 ∷ take 8 psks.old }
+{
+    psks.copy_within(..8, 1);
+    psks[0] = [0; 32];
+}
+
+// Takes back the last psk, if there is one.
+fn take_psk_back(handshake: &mut NoiseHandshake)
+    requires { handshake.old.psk_count ≤ 9 }
+    ensures { TakesPskBack handshake.old handshake.new }
+{
+    if handshake.psk_count > 0 {
+        put_zeros_first(&mut handshake.psks);
+        handshake.psk_count -= 1;
+    }
+}
+
+/// Takes back the last psk that no message has used yet, if there is one: then all is as it was before that psk was
+/// handed in. It is for a psk that a refused message asked for, which `noise_try_read` leaves in the handshake.
+#[unsafe(no_mangle)]
+pub extern "C" fn noise_unset_psk(handshake: &mut NoiseHandshake) -> u32
+    ensures unsets { UnsetsPsk handshake.old handshake.new result }
+    ensures matches { (p : Plan) (v : Party) → KeepsParty handshake.old p v → KeepsParty handshake.new p v }
+    ensures stays { IsUsable handshake.old → IsUsable handshake.new }
+{
+    if handshake_from_c(handshake).is_none() {
+        return STRUCT;
+    }
+    take_psk_back(handshake);
     OK
 }

@@ -1,18 +1,20 @@
 //! Exports: what each code means, as a sentence.
 
-ghost use Rattle.std.specs.Prelude.{◌≡◌, ◌<◌, slice_index};
+ghost use Rattle.std.specs.Prelude.{◌≡◌, ◌<◌, slice_index, take};
+ghost use Rattle.noise_c.specs.Sentences.{meaning};
 
 use crate::codes::numbers::*;
 
-/// Gives a sentence that says what a code means; of a number that is no code, that it is none. Returns its length, at
-/// most 79 bytes. The byte after it is zero, so it is a text of C.
+/// Gives a sentence that says what a code means, a static text; of a number that is no code, that it is none. Returns
+/// its length, at most 79 bytes. The byte after it is zero, so it is a text of C.
 #[unsafe(no_mangle)]
-pub extern "C" fn noise_sentence(code: u32, sentence: &mut [u8; 80]) -> usize
+pub extern "C" fn noise_sentence(code: u32, sentence: &mut &'static [u8; 80]) -> usize
     ensures within { result < 80 }
-    ensures ends { slice_index sentence.new result ≡ 0 }
+    ensures text { take result sentence.new.now ≡ meaning code }
+    ensures ends { slice_index sentence.new.now result ≡ 0 }
 {
     let (text, len) = sentence_of(code);
-    *sentence = *text;
+    *sentence = text;
     len
 }
 
@@ -20,6 +22,7 @@ pub extern "C" fn noise_sentence(code: u32, sentence: &mut [u8; 80]) -> usize
 #[rattlefmt::skip]
 fn sentence_of(code: u32) -> (&'static [u8; 80], usize)
     ensures within { result.1 < 80 }
+    ensures text { take result.1 result.0.now ≡ meaning code }
     ensures ends { slice_index result.0.now result.1 ≡ 0 }
 {
     match code {
