@@ -5,6 +5,7 @@ ghost use Rattle.std.specs.Prelude.{◌≡◌};
 use noise_channel::{
     Framed, Next, StreamFault, StreamReceiver, StreamSender, StreamState, next_frame,
 };
+use noise_channel_agreement::{read_to, read_to_end};
 use noise_names::Role;
 use noise_session::{HalfParts, OpenFault, Receiver, Sender, frame_message};
 
@@ -71,6 +72,45 @@ fn a_stream_is_read(rt: HostRuntime) {
     assert!(rt; receiver.state() == StreamState::Ended);
     assert!(rt; !receiver.is_cut(0) && receiver.is_cut(1));
     assert!(rt; receiver.read(&mut end) == Next::Closed);
+}
+
+// The frames of `hi`, `you` and the end, one after another.
+fn came() -> [u8; 59] {
+    let mut came = [0; 59];
+    came[..20].copy_from_slice(&HI);
+    came[20..41].copy_from_slice(&YOU);
+    came[41..].copy_from_slice(&END);
+    came
+}
+
+#[test]
+fn a_stream_is_read_to_its_end(rt: HostRuntime) {
+    let mut receiver = StreamReceiver::new(Receiver::from_parts(half(Role::Responder)));
+    let mut out = Vec::new(rt.alloc());
+    let whole = read_to_end(&mut receiver, &mut came(), &mut out).expect(&rt, "memory");
+    assert!(rt; whole);
+    assert!(rt; out.as_slice() == b"hiyou".as_slice());
+}
+
+#[test]
+fn a_stream_is_read_in_pieces(rt: HostRuntime) {
+    let mut receiver = StreamReceiver::new(Receiver::from_parts(half(Role::Responder)));
+    let mut out = Vec::new(rt.alloc());
+    let left = read_to(&mut receiver, &mut came()[..30], &mut out).expect(&rt, "memory");
+    assert!(rt; left == 10);
+    assert!(rt; out.as_slice() == b"hi".as_slice());
+    let whole = read_to_end(&mut receiver, &mut came()[20..], &mut out).expect(&rt, "memory");
+    assert!(rt; whole);
+    assert!(rt; out.as_slice() == b"hiyou".as_slice());
+}
+
+#[test]
+fn a_stream_that_is_cut_is_not_whole(rt: HostRuntime) {
+    let mut receiver = StreamReceiver::new(Receiver::from_parts(half(Role::Responder)));
+    let mut out = Vec::new(rt.alloc());
+    let whole = read_to_end(&mut receiver, &mut came()[..41], &mut out).expect(&rt, "memory");
+    assert!(rt; !whole);
+    assert!(rt; out.as_slice() == b"hiyou".as_slice());
 }
 
 #[test]
