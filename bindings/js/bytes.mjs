@@ -3,7 +3,7 @@
 
 /** Whether a value is a Uint8Array, also one of another realm, as of a frame or of a test runner. */
 function isBytes(value) {
-  return ArrayBuffer.isView(value) && Object.prototype.toString.call(value) === '[object Uint8Array]';
+  return ArrayBuffer.isView(value) && (value instanceof Uint8Array || Object.prototype.toString.call(value) === '[object Uint8Array]');
 }
 
 /** The value itself, where it is a Uint8Array, of this length if one is named. */

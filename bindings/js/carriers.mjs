@@ -93,12 +93,12 @@ function ofNode(stream) {
   let drained;
   let first = stream.errored ?? undefined;    // later ones only say that the stream was destroyed
   stream.on('error', (error) => { first ??= error; });
-  const broken = (error) => { throw cut(first ?? error); };
-  const read = () => chunks.next().then(({ value, done }) => (done ? undefined : value), broken);
-  const written = (bytes) => new Promise((resolve, reject) => { stream.write(bytes, (error) => { if (error) reject(error); else resolve(); }); });
+  const broken = (error) => cut(first ?? error);
+  const read = () => chunks.next().then(({ value, done }) => (done ? undefined : value), (error) => { throw broken(error); });
+  const written = (bytes) => new Promise((resolve, reject) => { stream.write(bytes, (error) => { if (error) reject(broken(error)); else resolve(); }); });
   return {
     ready: async () => {},
-    write: (frames) => written(joined(frames)).catch(broken),
+    write: (frames) => written(joined(frames)),
     pull: read,
     discard: () => { drained = drain(read); },
     close: async (isOver) => {

@@ -109,8 +109,8 @@ class Library {
   /** The same of a call on a stream or on a frame. */
   streamResult() {
     const start = this.at.result;
-    const [from, len, used, wanted] = [0, 8, 16, 24].map((at) => this.#data.getUint32(start + at, true));
-    return { from, len, used, wanted };
+    const number = (at) => this.#data.getUint32(start + at, true);
+    return { from: number(0), len: number(8), used: number(16), wanted: number(24) };
   }
 
   /** The other party's public key for which the last call needs a result of X25519, or a psk. */

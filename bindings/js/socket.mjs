@@ -30,6 +30,7 @@ export class NoiseSocket {
   #isDestroyed = false;
   #readable;
   #writable;
+  #look = (held, count) => this.#stream.read(held, count);
 
   /** @private */
   constructor(mark, parts) {
@@ -128,15 +129,21 @@ export class NoiseSocket {
     mustGoOn(signal);
     bytesOf(payload, 'payload');
     const isNow = this.#sends.isIdle && !signal;
-    const first = isNow ? this.#stream.write(payload.subarray(0, MOST)) : undefined;
-    const rest = copyOf(isNow ? payload.subarray(MOST) : payload, 'payload');
+    if (isNow && payload.length <= MOST) await this.#sends.take(() => this.#putPayload(payload));
+    else await this.#sendCopy(copyOf(payload, 'payload'), signal);
+  }
+
+  async #sendCopy(payload, signal) {
     await this.#inTurn(signal, async () => {
-      if (first?.length > 0) await this.#put(first);
-      for (let at = 0; at < rest.length; at += MOST) {
-        this.#mustSend();
-        await this.#put(this.#stream.write(rest.subarray(at, at + MOST)));
-      }
+      for (let at = 0; at < payload.length; at += MOST) await this.#putPayload(payload.subarray(at, at + MOST));
     });
+  }
+
+  /** Seals at once: the payload may change afterwards. */
+  async #putPayload(payload) {
+    this.#mustSend();
+    const frame = this.#stream.write(payload);
+    if (frame.length > 0) await this.#put(frame);
   }
 
   /**
@@ -188,7 +195,7 @@ export class NoiseSocket {
     if (this.#receiving.isOver) throw this.#receiving.reason;
     const wait = (promise) => unlessAborted(promise, signal);
     try {
-      const found = await this.#receiving.for(this.#incoming.next((held, count) => this.#stream.read(held, count), { wait }));
+      const found = this.#incoming.found(this.#look) ?? await this.#receiving.for(this.#incoming.next(this.#look, { wait }));
       if (!found && this.#stream.isCut(this.#incoming.left)) throw new NoiseError('NOISE_CUT');
       this.#isEnded = found?.value === undefined;
       return found?.value;

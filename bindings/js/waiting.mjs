@@ -26,7 +26,7 @@ export function unlessAborted(promise, signal) {
   });
 }
 
-/** Work in turns: each begins once the one before has settled, unless its signal has aborted before. */
+/** Work in turns: each begins once the one before has settled, and at once where there is none, unless its signal has aborted before. */
 export class Turns {
   #last = Promise.resolve();
   #count = 0;
@@ -37,6 +37,22 @@ export class Turns {
   }
 
   take(work, signal) {
+    return this.isIdle && !signal?.aborted ? this.#begin(work) : this.#queue(work, signal);
+  }
+
+  async #begin(work) {
+    this.#count += 1;
+    let done;
+    this.#last = new Promise((resolve) => { done = resolve; });
+    try {
+      return await work();
+    } finally {
+      this.#count -= 1;
+      done();
+    }
+  }
+
+  #queue(work, signal) {
     this.#count += 1;
     return new Promise((resolve, reject) => {
       let isOver = false;
