@@ -8,10 +8,10 @@ import { refused } from './connections.mjs';
 
 const MEMORY64 = new URL('../../../dist/noise_c.wasm', import.meta.url);
 
-/** What a program of its own prints, without flags. */
-function printed(script) {
+/** What a program of its own prints, with these flags. */
+function printed(script, flags = []) {
   const noise = JSON.stringify(new URL('../noise.mjs', import.meta.url).href);
-  const { stdout, stderr } = spawnSync(process.execPath, ['--input-type=module', '-e', `const noise = await import(${noise}); ${script}`], { encoding: 'utf8' });
+  const { stdout, stderr } = spawnSync(process.execPath, [...flags, '--input-type=module', '-e', `const noise = await import(${noise}); ${script}`], { encoding: 'utf8' });
   return stdout.trim() || stderr;
 }
 
@@ -36,6 +36,11 @@ test('a module with 64-bit memory is loaded where the engine has that', () => {
   const said = printed(`await noise.load(${JSON.stringify(MEMORY64.href)}).then(() => console.log("loaded"), ({ name }) => console.log(name));
     console.log(noise.hasMemory64())`);
   assert.match(said, /^(loaded\ntrue|CompileError\nfalse)$/u);
+});
+
+test('without 128-bit vectors load says so', { skip: process.arch !== 'x64' || !process.versions.node.startsWith('20.') }, () => {
+  const said = printed('await noise.load().catch(({ name, message }) => console.log(name, message))', ['--no-enable-sse4-1']);    // as an old processor
+  assert.match(said, /^CompileError .*SIMD/u);
 });
 
 test('calls at once load one module', async () => {

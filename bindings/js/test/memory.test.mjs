@@ -94,4 +94,31 @@ test('memory', async (t) => {
     const each = (after.heapUsed + after.arrayBuffers - heapUsed - arrayBuffers) / 5;
     assert.ok(each < 1000000, `${each} bytes for 20000`); // once 4480000; what else the engine keeps counts too
   });
+
+  await t.test('bytes are found whole in whichever chunks they come', async () => {
+    const all = Uint8Array.from({ length: 300000 }, (_, n) => (n * 7 + (n >> 8)) & 255);
+    const sizes = [1, 0, 2047, 2048, 2049, 3, 0, 4095, 4096, 1, 65536, 1, 1, 20000];    // around that from which on a chunk isn't copied
+    let [from, chunk] = [0, 0];
+    const pull = async () => {
+      if (from === all.length) return undefined;
+      const part = all.subarray(from, from + sizes[chunk % sizes.length]);
+      [from, chunk] = [from + part.length, chunk + 1];
+      return part;
+    };
+    const incoming = new Incoming(pull);
+    let at = 0;
+    for (let size = 1; at < all.length; size = (size * 5 + 3) % 4999) {
+      const used = Math.min(size, all.length - at);
+      const { value } = await incoming.next((held, count) => {
+        if (count < used) return { wanted: used - count };
+        const place = new Uint8Array(used);
+        held.copyTo(place);
+        return { wanted: 0, used, value: place };
+      });
+      assert.deepEqual(value, all.subarray(at, at + used), `${used} bytes at ${at}`);
+      at += used;
+    }
+    assert.equal(incoming.left, 0);
+    assert.equal(await incoming.next(() => ({ wanted: 1 })), undefined);
+  });
 });

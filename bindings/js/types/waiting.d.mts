@@ -14,7 +14,7 @@ export function unlessAborted(promise: any, signal: any): any;
 export function within(milliseconds: any, promise: any): Promise<any>;
 /** Drops what is read until the end. */
 export function drain(read: any): Promise<void>;
-/** Work in turns: each begins once the one before has settled, unless its signal has aborted before. */
+/** Work in turns: each begins once the one before has settled, and at once where there is none, unless its signal has aborted before. */
 export class Turns {
     /** Whether nothing is under way, and nothing waits. */
     get isIdle(): boolean;

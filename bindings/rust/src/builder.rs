@@ -1,7 +1,7 @@
 use crate::handshake::Options;
 use crate::header::{MAX_PSKS, OK};
 use crate::pattern::with_name;
-use crate::raw::{self, Key, Setup};
+use crate::raw::{self, Key, Setup, Stage};
 #[cfg(any(feature = "x25519", feature = "openssl"))]
 use crate::KeyPair;
 use crate::{Dh, Ephemeral, Error, Handshake, NoKey, Pattern};
@@ -145,7 +145,8 @@ impl<'a, S: Dh> Builder<'a, S> {
                     is_silent: pattern.is_one_way() && responder == 0,
                     ..self.options
                 };
-                Ok(Handshake::begun(memory, self.static_key, ephemeral, options))
+                let stage = Stage::first(pattern.messages(), responder);
+                Ok(Handshake::begun(memory, stage, self.static_key, ephemeral, options))
             }
             code => Err(Error::of(code, None)),
         }

@@ -55,8 +55,14 @@ impl Default for Options {
 }
 
 impl<S: Dh, E: Ephemeral> Handshake<S, E> {
-    pub(crate) fn begun(memory: Held<raw::Handshake>, static_key: Option<S>, ephemeral: E, options: Options) -> Self {
-        Handshake { stage: memory.stage(), memory, static_key, ephemeral, options }
+    pub(crate) fn begun(
+        memory: Held<raw::Handshake>,
+        stage: Stage,
+        static_key: Option<S>,
+        ephemeral: E,
+        options: Options,
+    ) -> Self {
+        Handshake { memory, stage, static_key, ephemeral, options }
     }
 
     /// Writes the next message, with this payload, to the start of `out`, and returns its length. At an error, as `WantedPsk`, nothing is changed.
@@ -65,7 +71,7 @@ impl<S: Dh, E: Ephemeral> Handshake<S, E> {
         loop {
             match self.memory.write(payload, out, &mut result) {
                 OK => {
-                    self.stage = self.memory.stage();
+                    self.pass();
                     return Ok(result.len);
                 }
                 WANTED => self.answer(&result)?,
@@ -111,7 +117,7 @@ impl<S: Dh, E: Ephemeral> Handshake<S, E> {
         loop {
             match read(&mut self.memory, message, &mut result) {
                 OK => {
-                    self.stage = self.memory.stage();
+                    self.pass();
                     return Ok(&mut message[result.from..result.from + result.len]);
                 }
                 WANTED => self.answer(&result)?,
@@ -122,6 +128,12 @@ impl<S: Dh, E: Ephemeral> Handshake<S, E> {
                 }
             }
         }
+    }
+
+    // One more message was written or read. To say so itself the library would check all that the struct has.
+    fn pass(&mut self) {
+        self.stage = self.stage.next();
+        debug_assert!(self.stage.is(&self.memory.stage()));
     }
 
     // Passes the X25519 result that the call needs. Zeros are refused (Noise, 12.1).

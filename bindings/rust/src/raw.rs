@@ -6,7 +6,7 @@
 // takes it as `&mut`: no other thread has it. A call that takes it as const takes `&`: the header allows such calls at once, on any number of threads,
 // so the structs are `Sync`. The call checks a struct's content.
 use crate::header::*;
-use core::mem::size_of;
+use core::mem::{size_of, size_of_val, MaybeUninit};
 use core::sync::atomic::{compiler_fence, AtomicBool, Ordering};
 
 #[repr(C)]
@@ -87,6 +87,24 @@ pub(crate) struct Stage {
     pub(crate) writes_next: u8,
 }
 
+impl Stage {
+    // That of a handshake which has begun.
+    pub(crate) fn first(messages: usize, responder: u8) -> Stage {
+        Stage { messages: messages as u8, passed: 0, ended: 0, writes_next: 1 - responder }
+    }
+
+    // That after one more message.
+    pub(crate) fn next(&self) -> Stage {
+        Stage { passed: self.passed + 1, writes_next: 1 - self.writes_next, ..*self }
+    }
+
+    // Whether both say the same: once all messages have passed, nobody writes the next.
+    pub(crate) fn is(&self, other: &Stage) -> bool {
+        let of_all = |stage: &Stage| (stage.messages, stage.passed, stage.ended);
+        of_all(self) == of_all(other) && (self.passed == self.messages || self.writes_next == other.writes_next)
+    }
+}
+
 // The sizes that C gives these structs.
 const _: () = assert!(size_of::<Key>() == 33 && size_of::<Setup>() == 2 + 4 * 33 + 9 * 32 && size_of::<Stage>() == 4);
 const _: () =
@@ -128,11 +146,27 @@ pub(crate) type Held<T> = alloc::boxed::Box<T>;
 #[cfg(not(feature = "alloc"))]
 pub(crate) type Held<T> = T;
 
-fn held<T>(empty: T) -> Held<T> {
+// A struct of bytes that are zeros. With alloc they are made where they stay.
+//
+// SAFETY: T has bytes alone.
+unsafe fn zeros<T>() -> Held<T> {
     #[cfg(feature = "alloc")]
-    return alloc::boxed::Box::new(empty);
+    {
+        use alloc::alloc::{alloc_zeroed, handle_alloc_error, Layout};
+        let layout = Layout::new::<T>();
+        // SAFETY: it has bytes, and zeros are bytes.
+        let place = unsafe { alloc_zeroed(layout) }.cast::<T>();
+        if place.is_null() {
+            handle_alloc_error(layout);
+        }
+        // SAFETY: the allocator has made it for this type.
+        unsafe { Held::from_raw(place) }
+    }
     #[cfg(not(feature = "alloc"))]
-    return empty;
+    // SAFETY: zeros are bytes.
+    unsafe {
+        core::mem::zeroed()
+    }
 }
 
 macro_rules! structs {
@@ -146,7 +180,8 @@ macro_rules! structs {
             impl $name {
                 // Memory that holds nothing: each call on it returns STRUCT.
                 pub(crate) fn new() -> Held<$name> {
-                    held($name([0; $size]))
+                    // SAFETY: it has bytes alone.
+                    unsafe { zeros() }
                 }
 
                 #[cfg(test)]
@@ -321,7 +356,9 @@ impl Setup {
 
 impl Drop for Setup {
     fn drop(&mut self) {
-        self.psks.iter_mut().for_each(|psk| wipe(psk));
+        let start = self.psks.as_mut_ptr().cast::<u8>();
+        // SAFETY: these are the bytes of all psks.
+        wipe(unsafe { core::slice::from_raw_parts_mut(start, size_of_val(&self.psks)) });
     }
 }
 
@@ -343,7 +380,13 @@ pub(crate) fn wipe(bytes: &mut [u8]) {
 // Overwrites the stack below the caller, as deep as calls of the library and of X25519 reach.
 #[inline(never)]
 pub(crate) fn wipe_stack() {
-    wipe(&mut [0; STACK]);
+    let mut stack = MaybeUninit::<[u64; STACK / 8]>::uninit();
+    let start = stack.as_mut_ptr().cast::<u64>();
+    for place in 0..STACK / 8 {
+        // SAFETY: the array has so many places, which may be written.
+        unsafe { start.add(place).write_volatile(0) };
+    }
+    compiler_fence(Ordering::SeqCst);
 }
 
 const STACK: usize = 24 << 10;
