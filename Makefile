@@ -29,7 +29,8 @@ endif
 export CC
 
 shared := $(OUT)/$(or $(shell $(top)packaging/link name 2>/dev/null),libnoise_c.so)
-command := $(if $(shell $(top)packaging/assemble --text noise 2>/dev/null),$(OUT)/noise)
+text := $(shell $(top)packaging/assemble --text noise 2>/dev/null)
+command := $(if $(text),$(OUT)/noise$(if $(findstring windows,$(text)),.exe))
 every := $(top)include/noise.h $(addprefix $(top)packaging/,version assemble link sections.ld) $(addprefix $(top)dist/,MANIFEST is-current) $(OUT)/compiler
 
 all: $(OUT)/libnoise_c.a $(shared) $(command)
@@ -48,7 +49,7 @@ $(OUT)/libnoise_c.a: $(OUT)/sections.a
 $(shared): $(OUT)/libnoise_c.a
 	$(top)packaging/link shared $< $@
 
-$(OUT)/noise: $(every) $(wildcard $(top)dist/noise_[lmw]*.s) $(top)dist/noise.S $(top)dist/runtime.c
+$(OUT)/noise $(OUT)/noise.exe: $(every) $(wildcard $(top)dist/noise_[lmw]*.s) $(top)dist/noise.S $(top)dist/runtime.c
 	$(top)packaging/assemble noise $@
 
 noisecat:
@@ -70,7 +71,7 @@ web:
 	@$(top)web/build
 
 clean:
-	rm -f $(addprefix $(OUT)/,compiler sections.a libnoise_c.a libnoise_c.so.* libnoise_c.*.dylib libnoise_c.dll.a noise_c.dll noise noisecat)
+	rm -f $(addprefix $(OUT)/,compiler sections.a libnoise_c.a libnoise_c.so.* libnoise_c.*.dylib libnoise_c.dll.a noise_c.dll noise noise.exe noisecat)
 	rm -rf $(top)packaging/out $(top)out/web
 
 FORCE:
