@@ -1,0 +1,2 @@
+/* See errno.h. */
+void (*signal(int, void (*)(int)))(int);
