@@ -28,8 +28,9 @@ endif
 endif
 export CC
 
-shared := $(OUT)/$(or $(shell $(top)packaging/link name 2>/dev/null),libnoise_c.so)
-text := $(shell $(top)packaging/assemble --text noise 2>/dev/null)
+# (before 4.4 make doesn't export variables to what it calls here)
+shared := $(OUT)/$(or $(shell CC='$(CC)' $(top)packaging/link name 2>/dev/null),libnoise_c.so)
+text := $(shell CC='$(CC)' $(top)packaging/assemble --text noise 2>/dev/null)
 command := $(if $(text),$(OUT)/noise$(if $(findstring windows,$(text)),.exe))
 every := $(top)include/noise.h $(addprefix $(top)packaging/,version assemble link sections.ld) $(addprefix $(top)dist/,MANIFEST is-current) $(OUT)/compiler
 
