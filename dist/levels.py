@@ -1,15 +1,21 @@
 """Puts functions that were compiled for several levels of x86-64 into one text, each behind a branch on the level of the processor.
 
-For dist/make. The texts are of one LLVM module, compiled with -march=x86-64, x86-64-v3 and x86-64-v4. Of the last two a few functions are taken, those in
-which a long message or a handshake spends its time. Where the text had such a function there is a choice now: it reads one word, in which the level stands,
+For dist/make. The texts are of one LLVM module, compiled for x86-64, x86-64-v3 and x86-64-v4. Of the last two a few functions are taken, those in which a
+long message or a handshake spends its time. Where the text had such a function there is a choice now: it reads one word, in which the level stands,
 and jumps to one of the three. The first choice finds the level, by cpuid and xgetbv: more threads may do it at once, since each writes the same.
 """
 import re
 
-HOT = ["rand_chacha::guts::refill4", "noise_poly::Poly1305::take_fours", "noise_poly::Poly1305::take_aligned", "sha2::block256::compress",
-       "noise_state::cipher::CipherState::encrypt", "noise_state::cipher::CipherState::decrypt", "noise_aead::authenticator::tag"]
 BASE = "v1"
-LEVELS = {"v3": "x86-64-v3", "v4": "x86-64-v4"}    # beside the base, as -march names them; the word has their numbers
+
+# Beside the base: the words for `clang`; the word of the level has the number. Vectors of 512 bits made handshakes 13 per cent slower than those of 256, so
+# these are preferred.
+LEVELS = {"v3": ["-march=x86-64-v3"], "v4": ["-march=x86-64-v4", "-Xclang", "-target-feature", "-Xclang", "+prefer-256-bit"]}
+
+# The functions, and for which levels each is compiled: where the last is missing, the one before is faster on a processor of that level.
+HOT = {"rand_chacha::guts::refill4": ["v3", "v4"], "noise_poly::Poly1305::take_fours": ["v3", "v4"], "noise_poly::Poly1305::take_aligned": ["v3", "v4"],
+       "sha2::block256::compress": ["v3"], "noise_state::cipher::CipherState::encrypt": ["v3", "v4"],
+       "noise_state::cipher::CipherState::decrypt": ["v3", "v4"], "noise_aead::authenticator::tag": ["v3", "v4"]}
 
 # The labels that a function has for itself, and those of constants that the whole text shares.
 OWN, SHARED = "BB|CPI|JTI|func_end|tmp", "_?static|_?switch"
@@ -114,7 +120,7 @@ def own(line, level, shared):
 
 def at_level(lines, form, level):
     """Lines of a function with its own name, and those of the hot ones that it calls, as those of the level."""
-    names = {form.name(it): form.name(it, level) for it in HOT}
+    names = {form.name(it): form.name(it, level if level in [BASE, *levels] else levels[-1]) for it, levels in HOT.items()}
     return [re.sub(r'"[^"]+"', lambda it: names.get(it[0], it[0]), line) for line in lines]
 
 
@@ -154,9 +160,10 @@ def hot_function(text, base, name, level, known):
 def choice(form, it, section, number):
     """The function that chooses: by one branch on the level for the newest processors, by two for the rest."""
     name, find, chosen = form.name(it), f"{form.local}find{number}", f"{form.local}chosen{number}"
+    jumps = zip(["ja", "je"] if HOT[it] == ["v3", "v4"] else ["jae"], reversed(HOT[it]))
     return [*form.begin(name, section), *(["\t.seh_endprologue"] if form.kind == "windows" else []),
             f"\tmovl\t{form.name('noise_processor_level')}(%rip), %eax", "\ttestl\t%eax, %eax", f"\tje\t{find}", f"{chosen}:", "\tcmpl\t$3, %eax",
-            f"\tja\t{form.name(it, 'v4')}", f"\tje\t{form.name(it, 'v3')}", f"\tjmp\t{form.name(it, BASE)}",
+            *(f"\t{jump}\t{form.name(it, level)}" for jump, level in jumps), f"\tjmp\t{form.name(it, BASE)}",
             f"{find}:", f"\tcallq\t{form.name('noise_find_level')}", f"\tjmp\t{chosen}", *form.end(name), ""]
 
 
@@ -207,7 +214,7 @@ def chosen_by_level(text, others):
             lines[i] = at_level([line], form, BASE)[0]
     for level, other in others.items():
         there = Text(other)
-        for it in HOT:
+        for it in (it for it in HOT if level in HOT[it]):
             lines += hot_function(there, base, it, level, known_constants)
             strange = called(there.lines[slice(*there.function(form.name(it)))]) - known
             if strange:
