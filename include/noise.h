@@ -419,9 +419,9 @@ static inline const char *noise_text(uint32_t code);
 typedef int noise_dh(void *context, uint8_t of_static, const uint8_t remote[32],
     uint8_t result[32]);
 
-/* noise_write, noise_read and noise_try_read with a function for X25519, which is called as often
-   as a result is wanted: four times at most for a message. WANTED is returned only where that
-   function gives none. */
+/* Write or read as noise_write, noise_read and noise_try_read do, with a function for X25519. It is
+   called as often as a result is wanted, four times at most for a message. WANTED is returned only
+   where that function gives none. */
 static inline uint32_t noise_write_with(noise_handshake *h, const uint8_t *payload,
     size_t payload_len, uint8_t *out, size_t out_len, noise_result *result, noise_dh *dh,
     void *context);

@@ -4,7 +4,7 @@ use Rattle.std.specs.Prelude.{replicate, take}
 use Rattle.std.specs.List.{copy_within}
 use Rattle.std.proofs.lemmas.List.{append_assoc, append-nil, drop_all, drop-take, take-append-drop}
 use Rattle.noise_c.specs.HandshakeStructs.{LacksLastPsk, TakesPskBack}
-use Rattle.noise_c.proofs.Common.{Plan, HandshakeValue, with_later, IsLateWhole, Party, Table, NoiseHandshake, Matches, public_in, agreement_in, text_from_c, handshake_from_c, IsPatternOf, IsUsable, KeepsParty}
+use Rattle.noise_c.proofs.Common.{Plan, HandshakeValue, with_later, Party, Table, NoiseHandshake, Matches, public_in, agreement_in, handshake_from_c, IsPatternOf, IsUsable, KeepsParty}
 use Rattle.noise_handshake.specs.Parts.{IsWholeValue}
 
 -- a list of nine, moved one place to the back, and one put at the front
