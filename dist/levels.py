@@ -61,9 +61,9 @@ class Form:
 
     def word(self, name):
         """The word, which only this library sees, and a check that is linked with it."""
-        if self.kind == "macos":
-            return [f"\t.private_extern\t{name}", f"\t.zerofill\t__DATA,__bss,{name},4,2"]
         place = ["\t.p2align\t2", f"{name}:", "\t.zero\t4"]
+        if self.kind == "macos":
+            return [f"\t.private_extern\t{name}", "\t.section\t__DATA,__data", *place]
         if self.kind == "windows":
             return ["\t.bss", f"\t.globl\t{name}", *place]
         return [f"\t.hidden\t{name}", f"\t.globl\t{name}", f"\t.type\t{name},@object", f'\t.section\t.bss.{name},"aw",@nobits', *place, f"\t.size\t{name}, 4"]

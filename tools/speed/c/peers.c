@@ -43,6 +43,8 @@ static void nettle_seal(size_t len) {
 }
 
 int main(void) {
+    if (sodium_init() < 0)    /* it chooses its code for this processor */
+        fail("sodium_init");
     static const struct operation operations[] = {
         {"libsodium.seal", sodium_seal, prepare},
         {"libsodium.transport", sodium_transport, prepare},
