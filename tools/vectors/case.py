@@ -1,11 +1,12 @@
 #!/usr/bin/env python3
-"""Prints a test of the suite as a vector file, which `noise test`, `explain`, `trace` and `compare` read.
+"""Prints a test of the suite as a vector file, which `noise test`, `explain`, `trace` and `compare` read; or writes all tests of a pattern into a folder.
 
     case.py PROGRAM NUMBER [STEP MESSAGE]
+    case.py PROGRAM PATTERN FOLDER
 
 PROGRAM is the command `noise`, and NUMBER the test's. The file has what the tested party writes and gets, the public keys and DH results, and the right
 output. MESSAGE, hex digits, is what your Noise wrote in the step STEP, from 0: it takes the place of the right one, and `noise test` says where the two
-differ.
+differ. PATTERN is a pattern's name with its psk places, as XXpsk3: of each test of its groups NUMBER.vector is written into FOLDER.
 A test with other nonces, or with bytes that no frame can carry, has no vector file.
 """
 
@@ -78,21 +79,53 @@ def vector_of(command: Command, told: dict[str, Any], test: dict[str, Any], your
     return "\n".join(lines) + "\n"
 
 
+def has_vector(test: dict[str, Any]) -> bool:
+    """Whether a vector file can say what this test does."""
+    steps = test.get("steps", [{"do": "frame"}])
+    return not any(it["do"] in ("nonce", "frame") or it.get("refused") == "too-long" for it in steps)
+
+
+def print_one(command: Command, number: int, yours: list[str]) -> str:
+    """Prints a test, and returns what is wrong."""
+    for told in groups():
+        for test in told["tests"]:
+            if test["tcId"] == number:
+                if not has_vector(test):
+                    return "this test has no vector file"
+                sys.stdout.write(vector_of(command, told, test, yours))
+                return ""
+    return "there is no such test"
+
+
+def write_all(command: Command, pattern: str, folder: Path) -> str:
+    """Writes the tests of a pattern, and returns what is wrong."""
+    chosen = [(told, test) for told in groups() if told.get("protocol", "").startswith(f"Noise_{pattern}_") for test in told["tests"]]
+    if not chosen:
+        return f"the suite has no pattern {pattern}"
+    folder.mkdir(exist_ok=True)
+    written = [(told, test) for told, test in chosen if has_vector(test)]
+    for told, test in written:
+        (folder / f"{test['tcId']}.vector").write_text(vector_of(command, told, test, []), "ascii")
+    print(f"{len(written)} vector files; {len(chosen) - len(written)} tests have none")
+    return ""
+
+
+def groups() -> list[dict[str, Any]]:
+    return json.loads(SUITE.read_text("ascii"))["testGroups"]
+
+
 def main(words: list[str]) -> int:
-    if len(words) not in (2, 4):
+    if len(words) not in (2, 3, 4):
         print(__doc__, file=sys.stderr)
         return 2
-    for told in json.loads(SUITE.read_text("ascii"))["testGroups"]:
-        for test in told["tests"]:
-            if test["tcId"] == int(words[1]):
-                steps = test.get("steps", [{"do": "frame"}])
-                if any(it["do"] in ("nonce", "frame") or it.get("refused") == "too-long" for it in steps):
-                    print("case: this test has no vector file", file=sys.stderr)
-                    return 1
-                sys.stdout.write(vector_of(Command(words[0]), told, test, words[2:]))
-                return 0
-    print("case: there is no such test", file=sys.stderr)
-    return 1
+    command = Command(words[0])
+    if len(words) == 3:
+        wrong = write_all(command, words[1], Path(words[2]))
+    else:
+        wrong = print_one(command, int(words[1]), words[2:])
+    if wrong:
+        print(f"case: {wrong}", file=sys.stderr)
+    return int(bool(wrong))
 
 
 if __name__ == "__main__":
