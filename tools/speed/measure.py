@@ -64,7 +64,8 @@ class Job:
         self.count, self.samples = 1, list[float]()
 
     def settle(self, nanoseconds: float) -> None:
-        """Chooses how many calls are one sample."""
+        """Chooses how many calls are one sample, after some that let a compiler at run time do its work."""
+        self.program.nanoseconds(self.operation, self.size, 100)
         taken = self.program.nanoseconds(self.operation, self.size, self.count)
         while taken < nanoseconds / 4:
             self.count *= 4
