@@ -37,7 +37,8 @@ static void start(noise_handshake *h, const char *name, uint8_t responder, uint8
     must(noise_start(h, (const uint8_t *)name, strlen(name), NULL, 0, &setup), "noise_start");
 }
 
-static void shake(noise_handshake *client, noise_handshake *server, const char *name, int messages, uint8_t has_static) {
+static void shake(noise_handshake *client, noise_handshake *server, const char *name, int messages,
+                  uint8_t has_static) {
     start(client, name, 0, has_static);
     start(server, name, 1, has_static);
     for (int i = 0; i < messages; i++)
@@ -92,8 +93,11 @@ static void run_stream(size_t len) {
 
 int main(void) {
     static const struct operation operations[] = {
-        {"seal", run_seal, run_nn},         {"transport", run_transport, run_nn}, {"stream", run_stream, prepare_streams},
-        {"NN", run_nn, run_nn},             {"XX", run_xx, run_xx},
+        {"seal", run_seal, run_nn},
+        {"transport", run_transport, run_nn},
+        {"stream", run_stream, prepare_streams},
+        {"NN", run_nn, run_nn},
+        {"XX", run_xx, run_xx},
     };
     return serve(operations, sizeof operations / sizeof *operations);
 }

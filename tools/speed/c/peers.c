@@ -1,4 +1,4 @@
-/* What a program in C would seal with otherwise, with a key and a nonce: libsodium, OpenSSL and nettle. In place, where the library can do that. */
+/* What a program in C would seal with otherwise, with a key and a nonce, in place: libsodium, OpenSSL and nettle. */
 #include "server.h"
 #include <nettle/chacha-poly1305.h>
 #include <openssl/evp.h>
@@ -29,8 +29,10 @@ static void sodium_transport(size_t len) {
 
 static void openssl_seal(size_t len) {
     int got;
-    if (!EVP_EncryptInit_ex(sealing, NULL, NULL, NULL, nonce) || !EVP_EncryptUpdate(sealing, buffer, &got, buffer, (int)len) ||
-        !EVP_EncryptFinal_ex(sealing, buffer + len, &got) || !EVP_CIPHER_CTX_ctrl(sealing, EVP_CTRL_AEAD_GET_TAG, 16, tag))
+    if (!EVP_EncryptInit_ex(sealing, NULL, NULL, NULL, nonce) ||
+        !EVP_EncryptUpdate(sealing, buffer, &got, buffer, (int)len) ||
+        !EVP_EncryptFinal_ex(sealing, buffer + len, &got) ||
+        !EVP_CIPHER_CTX_ctrl(sealing, EVP_CTRL_AEAD_GET_TAG, 16, tag))
         fail("OpenSSL");
 }
 

@@ -1,5 +1,5 @@
-/* The loop of a program that is measured: a line `OPERATION BYTES COUNT` of standard input runs the operation COUNT times, and is answered by the
-   nanoseconds of processor time that it took; `list` is answered by the operations. */
+/* The loop of a program that is measured: a line `OPERATION BYTES COUNT` of standard input runs the operation COUNT
+   times, and is answered by the nanoseconds of processor time that it took; `list` is answered by the operations. */
 #ifndef SERVER_H
 #define SERVER_H
 #include <inttypes.h>

@@ -1,5 +1,5 @@
-// The package for Go, and flynn/noise: also with a key agreement that costs nothing, for the C library, which has none. Standard input is that of
-// c/server.h.
+// The package for Go, and flynn/noise: also with a key agreement that costs nothing, for the C library, which has none.
+// Standard input is that of c/server.h.
 package main
 
 import (

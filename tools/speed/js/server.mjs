@@ -1,5 +1,5 @@
-// The package for JavaScript, and what a program in Node would take otherwise: the AEAD of node:crypto, which is OpenSSL's. Standard input is that of
-// c/server.h.
+// The package for JavaScript, and what a program in Node would take otherwise: the AEAD of node:crypto, which is
+// OpenSSL's. Standard input is that of c/server.h.
 import { createCipheriv, createDecipheriv } from 'node:crypto';
 import { createInterface } from 'node:readline';
 import { Handshake, load } from '../../../bindings/js/noise.mjs';
@@ -18,8 +18,7 @@ async function connect() {
 
 function sealedByNode(text) {
   const cipher = createCipheriv('chacha20-poly1305', key, nonce, { authTagLength: 16 });
-  const sealed = Buffer.concat([cipher.update(text), cipher.final(), cipher.getAuthTag()]);
-  return sealed;
+  return Buffer.concat([cipher.update(text), cipher.final(), cipher.getAuthTag()]);
 }
 
 function openedByNode(sealed) {

@@ -49,7 +49,8 @@ def dissononce() -> tuple[Callable[[bytes], bytes], Callable[[bytes], bytes]]:
         message, payload = bytearray(), bytearray()
         ciphers = writer.write_message(b"", message)
         server_ciphers = reader.read_message(bytes(message), payload)
-    return (lambda text: ciphers[0].encrypt_with_ad(b"", text)), (lambda text: server_ciphers[0].decrypt_with_ad(b"", text))
+    seals, opens = ciphers[0], server_ciphers[0]
+    return (lambda text: seals.encrypt_with_ad(b"", text)), (lambda text: opens.decrypt_with_ad(b"", text))
 
 
 def aead() -> tuple[Callable[[bytes], bytes], Callable[[bytes], bytes]]:

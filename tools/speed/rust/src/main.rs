@@ -1,5 +1,5 @@
-//! The package for Rust, and what a program in Rust would seal with otherwise: ring's AEAD, which snow can use, too. Standard input is that of
-//! c/server.h. X25519 costs nothing here.
+//! The package for Rust, and what a program in Rust would seal with otherwise: ring's AEAD, which snow can use, too.
+//! Standard input is that of c/server.h. X25519 costs nothing here.
 use ring::aead::{Aad, LessSafeKey, Nonce, UnboundKey, CHACHA20_POLY1305};
 use std::io::BufRead;
 use yulimosar::{Builder, Dh, DhError, Ephemeral, Receiver, Sender};
