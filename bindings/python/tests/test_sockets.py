@@ -1,4 +1,5 @@
 """Channels over blocking sockets: ends, cuts and refusals, timeouts, threads, and what is left."""
+import http.client
 import io
 import os
 import signal
@@ -142,6 +143,47 @@ def test_files():
         assert raw.read(10) == b"" and server.makefile("rb").read() == b""
         with pytest.raises(ValueError):
             server.makefile("a")
+
+
+def test_http_client_reads_an_answer_that_ends_with_the_connection():
+    """It closes the socket before it has read the answer by a file, as a socket allows."""
+    client, server, _, _ = pair("NN")
+
+    def answer():
+        with server, server.makefile("rb") as file:
+            while file.readline().strip():
+                pass
+            server.sendall(b"HTTP/1.0 200 OK\r\n\r\n" + b"body " * 50000)
+    wait = in_thread(answer)
+    connection = http.client.HTTPConnection("host")
+    connection.sock = client
+    connection.request("GET", "/")
+    answer = connection.getresponse()
+    assert answer.status == 200 and answer.read() == b"body " * 50000
+    assert wait() is None and client.fileno() == -1
+
+
+def test_close_waits_for_a_file_that_reads():
+    """As a socket's, whose file can be read after it; to leave a `with` closes at once."""
+    client, server, _, _ = pair("NN")
+    with server:
+        files, writes = (client.makefile("rb"), client.makefile("r")), client.makefile("wb")
+        client.close()
+        client.close()
+        server.sendall(b"an answer")
+        server.shutdown(socket.SHUT_WR)
+        assert files[0].read() == b"an answer"
+        files[0].close()
+        assert client.fileno() >= 0
+        files[1].close()
+        assert client.fileno() == -1 and not writes.closed and server.recv(1) == b""
+    client, server, _, _ = pair("NN")
+    with server:
+        with client:
+            file = client.makefile("rb")
+        assert server.recv(1) == b"" and client.fileno() == -1
+        with pytest.raises(CallError):
+            file.read()
 
 
 def test_close_sends_the_end_and_an_exception_does_not():

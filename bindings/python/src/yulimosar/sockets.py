@@ -86,6 +86,8 @@ class NoiseSocket:
         self._pending = memoryview(b"")    # sealed, and not sent yet
         self._whole = True              # whether all was sent that had to be
         self._closed = False
+        self._files = 0                 # of makefile, that read and are open
+        self._lingers = False           # to be closed with the last of them
         self._resets = False            # whether to reset the connection in place of ending it
         self._lost: OSError | None = None    # what the socket has raised
         self._forked = False            # whether this is a copy in a forked process
@@ -320,8 +322,23 @@ class NoiseSocket:
         self._flush(end)
 
     def close(self) -> None:
-        """Sends the end of the stream, unless something went wrong, closes the connection, and overwrites the keys.
+        """Sends the end of the stream, unless something went wrong, closes the connection, and overwrites the keys; as
+        a socket's, once all files of `makefile` that read are closed. To leave a `with` doesn't wait for them.
         ChannelCut: what a `send` had kept, or the end, couldn't be sent; it is closed all the same."""
+        with self._closing:
+            self._lingers = self._files > 0
+        if not self._lingers:
+            self._finish()
+
+    def _file_closed(self) -> None:
+        """A file that reads was closed."""
+        with self._closing:
+            self._files -= 1
+            is_due = self._lingers and not self._files
+        if is_due:
+            self._finish()
+
+    def _finish(self) -> None:
         if self._forked:
             self._sock.close()
             return
@@ -500,8 +517,8 @@ class NoiseSocket:
 
     def makefile(self, mode: str = "r", buffering: int = -1, *, encoding: str | None = None,
                  errors: str | None = None, newline: str | None = None) -> Any:
-        """A file over the channel, of bytes where `mode` has a b, else of text. To close it doesn't close the channel;
-        to flush one before the channel is closed is the caller's."""
+        """A file over the channel, of bytes where `mode` has a b, else of text. To close it doesn't close the channel.
+        To flush one before the channel is closed is the caller's. One that reads holds up `close`, as a socket's."""
         if mode not in ("rb", "wb", "rwb", "r", "w", "rw"):
             raise ValueError("mode is r, w or rw, with or without a b after it")
         raw = _Raw(self, "r" in mode, "w" in mode)
@@ -524,7 +541,7 @@ class NoiseSocket:
         self, kind: Type[BaseException] | None, error: BaseException | None, trace: TracebackType | None
     ) -> None:
         if kind is None:
-            self.close()
+            self._finish()
         else:
             self.abort()
 
@@ -534,6 +551,14 @@ class _Raw(io.RawIOBase):
 
     def __init__(self, sock: NoiseSocket, reads: bool, writes: bool) -> None:
         self._sock, self._reads, self._writes = sock, reads, writes
+        with sock._closing:
+            sock._files += reads
+
+    def close(self) -> None:
+        if not self.closed:
+            super().close()
+            if self._reads:
+                self._sock._file_closed()
 
     def readable(self) -> bool:
         return self._reads
