@@ -18,3 +18,4 @@ pub mod Opening
 pub mod Ciphering
 pub mod Describing
 pub mod Layouts
+pub mod Received

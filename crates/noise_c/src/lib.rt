@@ -16,6 +16,7 @@ mod messages;
 mod pattern_info;
 mod patterns;
 mod progress;
+pub mod reading;
 mod split;
 mod start;
 mod streams;
