@@ -11,3 +11,4 @@ pub mod Places
 pub mod HashReported
 pub mod Xor
 pub mod Mixed
+pub mod Agreed

@@ -19,9 +19,18 @@ use Rattle.noise_conversation.specs.Payloads.{ReportsPayloads}
 use Rattle.noise_conversation.specs.Setup.{BothStarts, IsReportedFault, fault_of}
 
 module _ {K : Type 0} (public_of : K → Own → Option (List ℕ)) (agreement : K → Own → List ℕ → Option (List ℕ)) where
+  -- Two ends have one history after a run; what each accepted is the first of what the other wrote, up to a forged
+  -- message, in the run and by the report's own entries and frames; and the ends left hold the keys of the next messages.
+  pub record HaveAgreed (p : Plan) (interval : ℕ) (events : List Event) (duel : DuelValue K K) (report : Report)
+      (last : Sides) : Type 0 where
+    pub history : HaveOneHistory last
+    pub payloads : PayloadsAgree interval last
+    pub entries : EntriesAgree p interval events (notes_of report.entries.items) (bytes_of report.initiator.items)
+        (bytes_of report.responder.items) last
+    pub keys : KeysMeet events (notes_of report.entries.items) duel
+
   -- The report is that of the run of the events from two new ends, and the ends left are those after it. Where both
-  -- report one hash, they have one history, and what each accepted is the first of what the other wrote, up to a forged
-  -- message; or two texts that they hashed collide.
+  -- report one hash, they agree on all of it; or two texts that they hashed collide.
   pub record AgreeOverNetwork (p : Plan) (s : BothStarts) (interval : ℕ) (events : List Event) (duel : DuelValue K K)
       (report : Report) : Type 0 where
     pub reports : Reports public_of agreement public_of agreement
@@ -32,17 +41,8 @@ module _ {K : Type 0} (public_of : K → Own → Option (List ℕ)) (agreement :
     pub responder : ReportsPayloads Responder events (notes_of report.entries.items) reports.last.responder
     -- the psks are the same, and the keys' DH results are alike
     pub psks : SharePsks p s.initiator s.responder reports.last
-    pub history : (hash : List ℕ) → hash_in duel.initiator.phase ≡ Some hash → hash_in duel.responder.phase ≡ Some hash
-        → HaveOneHistory reports.last ⊎ HistoriesCollide reports.last
-    pub payloads : (hash : List ℕ) → hash_in duel.initiator.phase ≡ Some hash → hash_in duel.responder.phase ≡ Some hash
-        → PayloadsAgree interval reports.last ⊎ HistoriesCollide reports.last
-    -- the same of the report's own entries and frames, and of the keys that the ends left hold
-    pub entries : (hash : List ℕ) → hash_in duel.initiator.phase ≡ Some hash → hash_in duel.responder.phase ≡ Some hash
-        → EntriesAgree p interval events (notes_of report.entries.items) (bytes_of report.initiator.items)
-        (bytes_of report.responder.items) reports.last
-        ⊎ HistoriesCollide reports.last
-    pub keys : (hash : List ℕ) → hash_in duel.initiator.phase ≡ Some hash → hash_in duel.responder.phase ≡ Some hash
-        → KeysMeet events (notes_of report.entries.items) duel ⊎ HistoriesCollide reports.last
+    pub agreed : (hash : List ℕ) → hash_in duel.initiator.phase ≡ Some hash → hash_in duel.responder.phase ≡ Some hash
+        → HaveAgreed p interval events duel report reports.last ⊎ HistoriesCollide reports.last
 
   -- What `run_events` returns: the setup has no fault and all this holds; else the fault, or lack of memory.
   abbrev pub RunsOverNetwork : Plan → BothStarts → ℕ → List Event

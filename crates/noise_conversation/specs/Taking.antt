@@ -1,7 +1,8 @@
 -- What an end makes of bytes, and a handshake of a message, and whether that gives a certain payload.
-use Rattle.std.specs.Prelude.{◌≡◌, ◌≤◌, ◌↔◌, ℕ, List, ◌++◌, length, Bool, true, Option, None, Result, Ok, MatchResult}
+use Rattle.std.specs.Prelude.{◌≡◌, ◌≤◌, ◌↔◌, ◌⊎◌, ℕ, List, ◌++◌, length, slice_range, Bool, true, false, Option, None, Result, Ok, MatchResult}
 use Rattle.noise_keys.specs.declared.keys.Own.{Own}
 use Rattle.noise_handshake.specs.declared.faults.ReadFault.{ReadFault}
+use Rattle.noise_handshake.specs.Calls.{IsPlaceIn, IsSameAround}
 use Rattle.noise_handshake.specs.HandshakeValue.{HandshakeValue}
 use Rattle.noise_handshake.specs.Matching.{Matches, DoesNotRead, after_not_read, after_message}
 use Rattle.noise_handshake.specs.Party.{Party, Accepts}
@@ -12,6 +13,14 @@ use Rattle.noise_session.specs.Progress.{idle_step}
 use Rattle.noise_session.specs.Steps.{StepValue}
 use Rattle.noise_session.specs.Steps.StepValue.{Payload}
 use Rattle.noise_session.specs.Taking.{Takes}
+
+-- What reading leaves of a message. It is as it was; or a payload stands in its place there, the bytes around it are
+-- unchanged, and the result is whether it is this payload.
+abbrev pub LeavesMessage : List ℕ → List ℕ → List ℕ → Bool → Type 0
+LeavesMessage old new payload returned =
+    ((new ≡ old) × (returned ≡ false))
+    ⊎ ((place : ℕ × ℕ) × IsPlaceIn new place × IsSameAround old new place
+    × (returned ≡ true ↔ slice_range new place.0 place.1 ≡ payload))
 
 module _ {K : Type 0} (public_of : K → Own → Option (List ℕ)) (agreement : K → Own → List ℕ → Option (List ℕ)) where
   -- The end takes so many of the bytes, once, and matches the state after them; the result is whether the step is

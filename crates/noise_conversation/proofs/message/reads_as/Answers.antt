@@ -1,4 +1,4 @@
-use Rattle.std.proofs.Common.{List, ℕ, Ok, Err, ap}
+use Rattle.std.proofs.Common.{List, ℕ, Ok, Err, ap, inl, inr, refl}
 use Rattle.noise_conversation.proofs.Common.{slice_range}
 use Rattle.noise_conversation.proofs.message.reads_as.Goals as goal
 
@@ -30,3 +30,9 @@ returns-in-Err-clause-reads g c v matches = record {
   reads = c.in-Err.ensures.reads v matches;
   is = (λ e. cc, λ e. cc);
 }
+
+pub returns-in-Ok-clause-message : goal.returns-in-Ok-clause-message
+returns-in-Ok-clause-message g c = inr ((c.in-Ok.from, c.in-Ok.to), c.in-Ok.ensures.range, c.in-Ok.ensures.beyond, c.is_same.ensures)
+
+pub returns-in-Err-clause-message : goal.returns-in-Err-clause-message
+returns-in-Err-clause-message g c = inl (c.in-Err.ensures.unchanged, refl)

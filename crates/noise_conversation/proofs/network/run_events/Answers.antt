@@ -1,6 +1,7 @@
 use Rattle.std.proofs.Common.{refl, inr, ℕ}
 use Rattle.noise_conversation.proofs.Common.{Initiator, Responder, events_of, Start, HaveSamePsks, start_by}
 use Rattle.noise_duel.specs.Entries.{notes_of}
+use Rattle.noise_conversation.proofs.Agreed.{all-agreed}
 use Rattle.noise_conversation.proofs.network.run_events.Goals as goal
 
 pub returns : goal.returns
@@ -24,13 +25,12 @@ returns g c =
         initiator = payloads.0;
         responder = payloads.1;
         psks = inr psks;
-        history = λ hash e f. reported.1.one (hashes hash reported.0.matches e f) (inr psks);
-        payloads = λ hash e f. reported.1.payloads refl (hashes hash reported.0.matches e f) (inr psks);
-        entries = λ hash e f.
-            rw (reported.0.frames.initiator, reported.0.frames.responder)
-            (c.entries_agree.ensures p a b i (events_of c.args.events.now) notes last reported.0.run (hashes hash reported.0.matches e f) (inr psks));
-        keys = λ hash e f.
-            c.keys_meet.ensures p a b i (events_of c.args.events.now) notes last c.in_ok-made.made.0 reported.0.run reported.0.matches
-            (hashes hash reported.0.matches e f) (inr psks);
+        agreed = λ hash e f.
+            let one = hashes hash reported.0.matches e f in
+            all-agreed g.K.Keys.public_of g.K.Keys.agreement p i (events_of c.args.events.now) c.in_ok-made.made.0 c.in_ok-made.made.1 last
+            (reported.1.one one (inr psks)) (reported.1.payloads refl one (inr psks))
+            (rw (reported.0.frames.initiator, reported.0.frames.responder)
+            (c.entries_agree.ensures p a b i (events_of c.args.events.now) notes last reported.0.run one (inr psks)))
+            (c.keys_meet.ensures p a b i (events_of c.args.events.now) notes last c.in_ok-made.made.0 reported.0.run reported.0.matches one (inr psks));
       },
     )
