@@ -1,5 +1,6 @@
 -- What is reported of a log, by the right lines.
-use Rattle.std.specs.Prelude.{◌≡◌, ℕ, ◌-◌, List, Option, Some, None, length, option_and_then, slice_get, slice_index_or}
+use Rattle.std.specs.Prelude.{◌≡◌, ℕ, ◌-◌, List, Option, Some, None, IfSome, length, option_and_then, slice_get, slice_index_or}
+use Rattle.noise_compare.specs.Advice.{IsAdvice}
 use Rattle.noise_compare.specs.Differences.{Agrees as AllAgree, IsFirstDifference, next_step}
 use Rattle.noise_compare.specs.Report.{agreement_text, difference_text, ending_text}
 use Rattle.noise_compare.specs.declared.comparison.Finding.{Finding}
@@ -11,7 +12,7 @@ abbrev pub step_after : List Line → List Line → Option Line
 step_after right log = option_and_then (next_step right) (slice_get log (length log - 1))
 
 -- The lines agree, or this is the first that doesn't; where they agree, the log may end before a step of the
--- handshake. The advice may be any line.
+-- handshake. The advice on values that differ has the mistakes that give them; any other may be any lines.
 abbrev pub IsReport : List Line → List Line → Finding → List ℕ → Type 0
 IsReport right log Agrees text = AllAgree right log × (step_after right log ≡ None)
     × (text ≡ agreement_text (length log))
@@ -19,4 +20,4 @@ IsReport right log Ends text = AllAgree right log × (next : Line) × (step_afte
     × (advice : List ℕ) × (text ≡ ending_text next advice)
 IsReport right log Differs text = (index : ℕ) × (expected : Option Line) × IsFirstDifference right log index expected
     × (line : Line) × (line ≡ slice_index_or log index line) × (advice : List ℕ)
-    × (text ≡ difference_text line expected advice)
+    × IfSome expected (λ _. IsAdvice advice) × (text ≡ difference_text line expected advice)

@@ -35,15 +35,15 @@ abbrev pub right_text : Line → Option Line → List ℕ
 right_text logged None = []
 right_text logged (Some right) = values_text logged right
 
--- the line of the log, the values that differ, and a line of advice
+-- the line of the log, the values that differ, and lines of advice
 unfoldable pub difference_text : Line → Option Line → List ℕ → List ℕ
 difference_text logged expected advice =
     ended (codes "differs at line " ++ (decimal logged.number ++ (codes ": " ++ place_text logged)))
-    ++ (right_text logged expected ++ ended advice)
+    ++ (right_text logged expected ++ advice)
 
 unfoldable pub agreement_text : ℕ → List ℕ
 agreement_text count = codes "agrees in " ++ (decimal count ++ ended (codes " lines"))
 
 -- the step before which the log ends
 unfoldable pub ending_text : Line → List ℕ → List ℕ
-ending_text next advice = ended (codes "ends before " ++ place_text next) ++ ended advice
+ending_text next advice = ended (codes "ends before " ++ place_text next) ++ advice

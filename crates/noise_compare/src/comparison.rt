@@ -1,14 +1,15 @@
 //! Comparing a log with a key schedule.
 
-ghost use Rattle.std.specs.Prelude.{◌≡◌, ◌<◌, List, IfOk, length, option_copied};
+ghost use Rattle.std.specs.Prelude.{◌≡◌, ◌<◌, IfOk, IfSome, length, option_copied};
+ghost use Rattle.noise_compare.specs.Advice.{IsAdvice};
 ghost use Rattle.noise_compare.specs.Differences.{Agrees, IsFirstDifference};
 ghost use Rattle.noise_compare.specs.Findings.{IsReport, step_after};
-ghost use Rattle.noise_compare.specs.declared.line.Line.{Line as Logged};
 
 use crate::difference::{Difference, first_difference, next_step};
 use crate::line::Line;
 use crate::report::{agreement_text, difference_text, ending_text};
-use crate::sentences::{advice, ending_advice};
+use crate::facts::Facts;
+use crate::sentences::{of_end, of_place, of_values};
 use std::alloc::{AllocError, Global};
 
 /// What comes of a log that is compared.
@@ -31,47 +32,73 @@ pub struct LogReport {
     pub text: Vec<u8>,
 }
 
-/// Compares the lines of a log with those of a key schedule.
+/// Compares the lines of a log with those of a key schedule, that of a run which these facts begin.
 pub fn compare_lines(
     alloc: Global,
+    facts: &Facts,
     log: &[Line<'_>],
     right: &[Line<'_>],
 ) -> Result<LogReport, AllocError>
     ensures { IfOk result (λ report. IsReport right.now log.now report.finding report.text.items) }
 {
     match first_difference(log, right) {
-        Some(found) => differing(alloc, log, found),
-        None => agreeing(alloc, log, right),
+        Some(found) => differing(alloc, facts, log, right, found),
+        None => agreeing(alloc, facts, log, right),
     }
 }
 
 // The report on a log whose first difference this is.
 fn differing(
     alloc: Global,
+    facts: &Facts,
     log: &[Line<'_>],
+    right: &[Line<'_>],
     found: Difference<'_, '_>,
 ) -> Result<LogReport, AllocError>
     requires { found.index < length log.now }
-    ensures { (right : List Logged)
-        → IsFirstDifference right log.now found.entry.index (option_copied found.entry.right)
-        → IfOk result (λ report. IsReport right log.now report.finding report.text.items) }
+    ensures { IsFirstDifference right.now log.now found.entry.index (option_copied found.entry.right)
+        → IfOk result (λ report. IsReport right.now log.now report.finding report.text.items) }
 {
     let line = &log[found.index];
+    let advice = advice(alloc, facts, log, right, found.index, found.right)?;
     Ok(LogReport {
         finding: Finding::Differs,
-        text: difference_text(alloc, line, found.right, advice(line, found.right))?,
+        text: difference_text(alloc, line, found.right, &advice)?,
     })
 }
 
+// What is said of the line of the log at this index, and of the right line of its place, if there is one.
+fn advice(
+    alloc: Global,
+    facts: &Facts,
+    log: &[Line<'_>],
+    right: &[Line<'_>],
+    index: usize,
+    expected: Option<&Line<'_>>,
+) -> Result<Vec<u8>, AllocError>
+    requires { index < length log.now }
+    ensures { IfOk result (λ text. IfSome (option_copied expected.entry) (λ _. IsAdvice text.items)) }
+{
+    match expected {
+        Some(expected) => of_values(alloc, facts, log, right, index, expected),
+        None => of_place(alloc, facts, log, right, index),
+    }
+}
+
 // The report on a log whose lines agree.
-fn agreeing(alloc: Global, log: &[Line<'_>], right: &[Line<'_>]) -> Result<LogReport, AllocError>
+fn agreeing(
+    alloc: Global,
+    facts: &Facts,
+    log: &[Line<'_>],
+    right: &[Line<'_>],
+) -> Result<LogReport, AllocError>
     requires { Agrees right.now log.now }
     ensures { IfOk result (λ report. IsReport right.now log.now report.finding report.text.items) }
 {
     match step_after(log, right) {
         Some(next) => Ok(LogReport {
             finding: Finding::Ends,
-            text: ending_text(alloc, next, ending_advice(next))?,
+            text: ending_text(alloc, next, &of_end(alloc, facts, right, next)?)?,
         }),
         None => Ok(LogReport {
             finding: Finding::Agrees,

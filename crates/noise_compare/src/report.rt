@@ -15,25 +15,25 @@ pub fn agreement_text(alloc: Global, count: usize) -> Result<Vec<u8>, AllocError
     Vec::from_slice(alloc, line.as_bytes())
 }
 
-/// That a log ends before this step, and a line of advice.
+/// That a log ends before this step, and lines of advice.
 #[tactic(auto, unfolding(crate::specs::Report::ending_text))]
-pub fn ending_text(alloc: Global, next: &Line<'_>, advice: &str) -> Result<Vec<u8>, AllocError>
+pub fn ending_text(alloc: Global, next: &Line<'_>, advice: &[u8]) -> Result<Vec<u8>, AllocError>
     ensures { IfOk result (λ text. text.items ≡ ending_text next.now advice.now) }
 {
     let mut text = Vec::from_slice(alloc, b"ends before ".as_slice())?;
     push_place(next, &mut text)?;
     text.push(b'\n')?;
-    push_line(advice, &mut text)?;
+    text.extend_from_slice(advice)?;
     Ok(text)
 }
 
-/// The line of a log that differs, each value that does, right and logged, and a line of advice.
+/// The line of a log that differs, each value that does, right and logged, and lines of advice.
 #[tactic(auto, unfolding(crate::specs::Report::difference_text))]
 pub fn difference_text(
     alloc: Global,
     logged: &Line<'_>,
     right: Option<&Line<'_>>,
-    advice: &str,
+    advice: &[u8],
 ) -> Result<Vec<u8>, AllocError>
     ensures { IfOk result (λ text. text.items ≡ difference_text logged.now (option_copied right.entry) advice.now) }
 {
@@ -43,11 +43,12 @@ pub fn difference_text(
     push_place(logged, &mut text)?;
     text.push(b'\n')?;
     push_right(logged, right, &mut text)?;
-    push_line(advice, &mut text)?;
+    text.extend_from_slice(advice)?;
     Ok(text)
 }
 
-fn push_line(line: &str, text: &mut Vec<u8>) -> Result<(), AllocError>
+/// Appends a line.
+pub(crate) fn push_line(line: &str, text: &mut Vec<u8>) -> Result<(), AllocError>
     ensures { OnOk result (text.new.items ≡ text.old.items ++ ended line.now) }
 {
     text.extend_from_slice(line.as_bytes())?;
@@ -55,7 +56,8 @@ fn push_line(line: &str, text: &mut Vec<u8>) -> Result<(), AllocError>
     Ok(())
 }
 
-fn push_place(line: &Line<'_>, text: &mut Vec<u8>) -> Result<(), AllocError>
+/// Appends the role, the part and the name of a line.
+pub(crate) fn push_place(line: &Line<'_>, text: &mut Vec<u8>) -> Result<(), AllocError>
     ensures { OnOk result (text.new.items ≡ text.old.items ++ place_text line.now) }
 {
     text.extend_from_slice(line.word(1))?;

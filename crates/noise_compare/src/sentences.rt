@@ -1,128 +1,216 @@
-//! What a first difference says of its cause.
+//! What is said of a line of a log that doesn't agree, or before which a log ends.
 
+ghost use Rattle.std.specs.Prelude.{◌<◌, IfOk, length};
+ghost use Rattle.noise_compare.specs.Advice.{IsAdvice};
+
+use crate::advice::{push_found, push_refusing};
+use crate::facts::Facts;
 use crate::line::Line;
+use crate::parts::{Parts, is_line};
+use crate::report::{push_line, push_place};
+use crate::values::values_in;
+use noise_mistakes::{Kind, Logged, refusing_mistakes};
+use std::alloc::{AllocError, Global};
 
-/// What differs between the right line and a logged one.
-#[derive(Clone, Copy)]
-struct Differs {
-    bytes: bool,
-    /// Whether the log has `?` in the place of the bytes.
-    unlogged: bool,
-    hash: bool,
-    chaining_key: bool,
-    key: bool,
-    nonce: bool,
-    /// Whether each key is the other line's chaining key.
-    exchanged: bool,
-    /// Whether of the bytes only the last sixteen differ.
-    tag: bool,
+/// What is said of the line of the log at this index, whose place the line `expected` has, with other values.
+pub(crate) fn of_values(
+    alloc: Global,
+    facts: &Facts,
+    log: &[Line<'_>],
+    right: &[Line<'_>],
+    index: usize,
+    expected: &Line<'_>,
+) -> Result<Vec<u8>, AllocError>
+    requires { index < length log.now }
+    ensures { IfOk result (λ text. IsAdvice text.items) }
+{
+    let logged = &log[index];
+    let agreed = last_that_agrees(log, right, index, expected);
+    let mut text = lacking(alloc, right, agreed, expected)?;
+    let parts = Parts::of(alloc, facts, right, expected, agreed)?;
+    let values = values_in(alloc, logged)?;
+    push_found(alloc, &parts.situation(facts), &values, &mut text)?;
+    Ok(text)
 }
 
-/// The likely cause of a difference at a logged line, with the sections of the standard; `right` is the line of its
-/// place, if there is one.
-pub fn advice(logged: &Line<'_>, right: Option<&Line<'_>>) -> &'static str {
-    let Some(right) = right else {
-        return "no line of the schedule is left for it: a step too many, or out of order, or a message \
-                that the file lacks";
+// The last of the right lines before this one that the log's line of its party before this index agrees with.
+fn last_that_agrees<'a, 'b>(
+    log: &[Line<'_>],
+    right: &'a [Line<'b>],
+    index: usize,
+    expected: &Line<'_>,
+) -> Option<&'a Line<'b>> {
+    let before = last_of_role(log, index, expected)?;
+    let mut found = None;
+    for line in right {
+        if is_line(line, expected) {
+            return found;
+        }
+        if line.is_of_place(before) && line.has_values(before) {
+            found = Some(line);
+        }
+    }
+    None
+}
+
+fn last_of_role<'a, 'b>(log: &'a [Line<'b>], index: usize, expected: &Line<'_>) -> Option<&'a Line<'b>> {
+    let mut found = None;
+    for (number, line) in log.iter().enumerate() {
+        if number < index && line.word(1) == expected.word(1) {
+            found = Some(line);
+        }
+    }
+    found
+}
+
+// A line for each right line between these two of a party: the log has none for it there.
+fn lacking(
+    alloc: Global,
+    right: &[Line<'_>],
+    agreed: Option<&Line<'_>>,
+    expected: &Line<'_>,
+) -> Result<Vec<u8>, AllocError> {
+    let mut text = Vec::new(alloc);
+    let mut passed = agreed.is_none();
+    for line in right {
+        if is_line(line, expected) {
+            return Ok(text);
+        }
+        if passed && line.word(1) == expected.word(1) {
+            text.extend_from_slice(b"your log has no line here for ".as_slice())?;
+            push_place(line, &mut text)?;
+            text.push(b'\n')?;
+        }
+        if let Some(agreed) = agreed {
+            passed = passed || is_line(line, agreed);
+        }
+    }
+    Ok(text)
+}
+
+/// What is said of the line of the log at this index, where no right line of its place is left.
+pub(crate) fn of_place(
+    alloc: Global,
+    facts: &Facts,
+    log: &[Line<'_>],
+    right: &[Line<'_>],
+    index: usize,
+) -> Result<Vec<u8>, AllocError>
+    requires { index < length log.now }
+{
+    let mut text = Vec::new(alloc);
+    let logged = &log[index];
+    let Some(next) = next_of_role(log, right, index, logged) else {
+        push_line(
+            "no line of the schedule is left: a message that the file lacks, or a step too many",
+            &mut text,
+        )?;
+        return Ok(text);
     };
-    let differs = differing(logged, right);
-    let is_alone = !(differs.bytes || differs.hash || differs.chaining_key || differs.key);
-    if differs.nonce && is_alone {
-        return "n alone: it rises with each text, and each new key sets it to 0 (5.1, 5.2)";
+    if logged.word(4) == b"dropped".as_slice() && next.word(4) == b"opened".as_slice() {
+        push_dropped(alloc, facts, right, logged, next, &mut text)?;
+        return Ok(text);
     }
-    match right.word(4) {
-        b"name" => "the protocol name: up to 32 bytes are padded with zeros, more are hashed (5.2)",
-        b"prologue" => "the prologue: it is mixed into h, and an empty one too (5.3)",
-        b"initiator-e" | b"initiator-s" | b"responder-e" | b"responder-s" => {
-            "a key of a pre-message: another key, or another order; the initiator's come first (5.3)"
-        }
-        b"e" => of_ephemeral(differs),
-        b"ee" | b"es" | b"se" | b"ss" => of_agreement(differs),
-        b"psk" => of_secret(differs),
-        b"s" | b"payload" => of_text(differs),
-        b"initiator" | b"responder" => {
-            "Split: HKDF of ck and nothing; the first key is for what the initiator sends (5.2)"
-        }
-        b"renewed" => "rekey: the nonce 2^64 - 1 is 4 zero bytes and 8 of ff (4.2, 12.3)",
-        _ =>
-            "the key is Split's, or that of the last rekey; the nonce counts the messages of one writer (5.2, 11.3)",
-    }
+    text.extend_from_slice(b"due is ".as_slice())?;
+    push_place(next, &mut text)?;
+    text.push(b'\n')?;
+    push_line("a step out of order, or too many, or under another name", &mut text)?;
+    Ok(text)
 }
 
-/// Why a log may end before this step.
-pub fn ending_advice(next: &Line<'_>) -> &'static str {
-    match next.word(4) {
-        b"s" | b"payload" => {
-            "your end refused this tag: the nonce or the associated data, or the frame; give its own frame by raw"
+// The right line after the last that the log's party agrees with, before this index.
+fn next_of_role<'a, 'b>(
+    log: &[Line<'_>],
+    right: &'a [Line<'b>],
+    index: usize,
+    logged: &Line<'_>,
+) -> Option<&'a Line<'b>> {
+    let before = last_of_role(log, index, logged);
+    let mut next = None;
+    let mut passed = before.is_none();
+    for line in right {
+        if line.word(1) == logged.word(1) {
+            if passed {
+                next = Some(line);
+                passed = false;
+            }
+            if let Some(before) = before {
+                if line.is_of_place(before) && line.has_values(before) {
+                    passed = true;
+                }
+            }
         }
-        _ =>
+    }
+    next
+}
+
+// A transport message is dropped that is right: the key or the nonce is another, or else the tag is made in another way.
+fn push_dropped(
+    alloc: Global,
+    facts: &Facts,
+    right: &[Line<'_>],
+    logged: &Line<'_>,
+    next: &Line<'_>,
+    text: &mut Vec<u8>,
+) -> Result<(), AllocError> {
+    if next.has_values(logged) {
+        push_line(
+            "your end refused a right message with the right key and n: its associated data isn't empty (5)",
+            text,
+        )?;
+        if next.word(11) == b"0".as_slice() {
+            return Ok(());
+        }
+        return push_line(
+            "or its nonce isn't 4 zero bytes and 8 little-endian ones (12.3)",
+            text,
+        );
+    }
+    let parts = Parts::of(alloc, facts, right, next, None)?;
+    let values = values_in(alloc, logged)?;
+    push_found(alloc, &parts.situation(facts), &values, text)
+}
+
+// The mistakes with which a party refuses the bytes of this step.
+fn push_refusals(
+    alloc: Global,
+    parts: &Parts,
+    facts: &Facts,
+    text: &mut Vec<u8>,
+) -> Result<(), AllocError> {
+    let bytes = Vec::from_slice(alloc, &parts.bytes)?;
+    let values = Logged {
+        bytes: Some(bytes),
+        hash: None,
+        chaining_key: None,
+        key: None,
+        nonce: None,
+    };
+    let found = refusing_mistakes(alloc, &parts.situation(facts), &values)?;
+    push_refusing(&found, text)
+}
+
+/// What is said of a log that ends before this step.
+pub(crate) fn of_end(
+    alloc: Global,
+    facts: &Facts,
+    right: &[Line<'_>],
+    next: &Line<'_>,
+) -> Result<Vec<u8>, AllocError> {
+    let mut text = Vec::new(alloc);
+    let parts = Parts::of(alloc, facts, right, next, None)?;
+    if parts.kind == Kind::Text && parts.before.key.is_some() {
+        push_refusals(alloc, &parts, facts, &mut text)?;
+    } else if parts.kind == Kind::Text {
+        push_line(
+            "your end takes another length here: without a key a text has no tag; or of the frame (13)",
+            &mut text,
+        )?;
+    } else {
+        push_line(
             "your end stopped there: give its frame by raw, and see what the right end makes of it",
+            &mut text,
+        )?;
     }
-}
-
-fn differing(logged: &Line<'_>, right: &Line<'_>) -> Differs {
-    Differs {
-        bytes: !right.is_same(logged, 7),
-        unlogged: logged.word(7) == b"?".as_slice(),
-        hash: !right.is_same(logged, 8),
-        chaining_key: !right.is_same(logged, 9),
-        key: !right.is_same(logged, 10),
-        nonce: !right.is_same(logged, 11),
-        exchanged: right.word(9) == logged.word(10) && right.word(10) == logged.word(9),
-        tag: !right.is_same(logged, 7) && is_tag_alone(logged.word(7), right.word(7)),
-    }
-}
-
-// Whether two texts in hex have one length and the same digits before the last 32.
-fn is_tag_alone(logged: &[u8], right: &[u8]) -> bool {
-    logged.len() == right.len() && before_tag(logged) == before_tag(right)
-}
-
-// What stands before the last 32 digits.
-fn before_tag(text: &[u8]) -> Option<&[u8]> {
-    text.get(..text.len().checked_sub(32)?)
-}
-
-fn of_ephemeral(differs: Differs) -> &'static str {
-    if differs.bytes {
-        "another ephemeral key than the file's"
-    } else if differs.hash {
-        "h: MixHash takes the 32 bytes of the key, and nothing more (5.3)"
-    } else {
-        "ck and k differ, h agrees: with a psk MixKey follows MixHash at each e, written or read, and else never (9.2)"
-    }
-}
-
-fn of_agreement(differs: Differs) -> &'static str {
-    if differs.exchanged {
-        "ck is the right k, and k the right ck: HKDF's outputs are exchanged; the first is ck, the second k (5.2)"
-    } else if differs.hash {
-        "h: a DH result goes into MixKey alone (5.3)"
-    } else if differs.chaining_key {
-        "ck and k differ, h agrees: the DH's keys (7.1) or its bytes, HMAC, whose blocks have 64 bytes, or HKDF (4.3)"
-    } else {
-        "k differs, ck agrees: HKDF's second output (4.3)"
-    }
-}
-
-fn of_secret(differs: Differs) -> &'static str {
-    if differs.chaining_key {
-        "ck differs: another psk, HMAC, whose blocks have 64 bytes, or HKDF (4.3)"
-    } else {
-        "ck agrees: HKDF's outputs; the first is ck, the second goes into h, the third is k (5.2)"
-    }
-}
-
-fn of_text(differs: Differs) -> &'static str {
-    if differs.chaining_key || differs.key {
-        "ck or k: a text changes only h and n (5.2)"
-    } else if differs.tag {
-        "the tag alone differs: the associated data is h before this text, with all tokens before it (5.2)"
-    } else if differs.bytes {
-        "the encrypted bytes differ: the nonce is 4 zero bytes and 8 little-endian ones (12.3); or it was another text"
-    } else if differs.unlogged {
-        "h differs: log the bytes too, which tell a mistake of MixHash from one of the tag or the nonce (5.2)"
-    } else {
-        "h differs, the bytes agree: MixHash takes all encrypted bytes and the tag (5.2)"
-    }
+    Ok(text)
 }

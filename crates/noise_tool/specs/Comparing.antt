@@ -1,8 +1,9 @@
 -- What `compare` prints of a log and of a vector file, and its exit status.
-use Rattle.std.specs.Prelude.{⊤, ◌≡◌, ◌<◌, ◌≤◌, ℕ, true, List, [], ◌++◌, Option, Some, IfSome, codes, decimal, flat_map, length, map, string_bytes}
+use Rattle.std.specs.Prelude.{⊤, ◌≡◌, ◌<◌, ◌≤◌, ℕ, ◌-◌, true, List, [], ◌++◌, Option, Some, IfSome, codes, decimal, flat_map, length, map, string_bytes}
 use Rattle.std.specs.Io.KnownBytes.{Appends}
 use Rattle.noise_compare.specs.Findings.{IsReport}
 use Rattle.noise_compare.specs.Lines.{words_in, line_words}
+use Rattle.noise_compare.specs.Plain.{passed_text, plain_text, written_lines}
 use Rattle.noise_compare.specs.Reading.{first_wrong, schedule_lines, views}
 use Rattle.noise_compare.specs.declared.comparison.Finding.{Finding}
 use Rattle.noise_compare.specs.declared.comparison.Finding.TheVariants.{Agrees, Ends, Differs}
@@ -48,13 +49,16 @@ finding_status Agrees = 0
 finding_status Ends = 1
 finding_status Differs = 1
 
--- this is the report on the log of this text, by the key schedule of the file of this text
+-- This is the report on the log of this text, by the key schedule of the file of this text. It ends with the number of
+-- the log's lines that were passed over.
 pub record Compares (log file : List ℕ) (report : LogReport) : Type 0 where
   pub logged : List Line
-  pub logged_are : views logged ≡ schedule_lines log
+  pub logged_are : views logged ≡ schedule_lines (plain_text log)
   pub right : List Line
   pub right_are : IsScheduleOf file right
-  pub reported : IsReport right logged report.finding report.text.items
+  pub compared : List ℕ
+  pub reported : IsReport right logged report.finding compared
+  pub text_is : report.text.items ≡ compared ++ passed_text (written_lines log - length logged)
 
 abbrev pub IfMade : Comparison → (LogReport → Type 0) → Type 0
 IfMade (Made report) P = P report
@@ -93,8 +97,8 @@ NamesInputTwice names = (is_input (string_bytes names.log) ≡ true) × (is_inpu
 
 -- why it isn't, by its text
 abbrev pub IsWrongLog : List ℕ → Uncompared → Type 0
-IsWrongLog log NoLine = schedule_lines log ≡ []
-IsWrongLog log (WrongLine number) = first_wrong log ≡ Some number
+IsWrongLog log NoLine = schedule_lines (plain_text log) ≡ []
+IsWrongLog log (WrongLine number) = first_wrong (plain_text log) ≡ Some number
 IsWrongLog log LongLog = 4194304 < length log
 IsWrongLog log _ = ⊥
 

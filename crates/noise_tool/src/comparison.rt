@@ -3,6 +3,7 @@
 ghost use Rattle.std.specs.Prelude.{◌≡◌, ◌⊎◌, ◌++◌, ◌≤◌, ℕ, List, true, IfErr, IfOk, IfSome, MatchResult, OnOk, map, string_bytes};
 ghost use Rattle.std.specs.Io.KnownBytes.{Appends};
 ghost use Rattle.noise_compare.specs.Lines.{words_in, line_words};
+ghost use Rattle.noise_compare.specs.Plain.{passed_text};
 ghost use Rattle.noise_lines.specs.Faults.{status_of};
 ghost use Rattle.noise_lines.specs.Prefixes.{AppendsPrefix};
 ghost use Rattle.noise_lines.specs.Reported.{error_text};
@@ -16,7 +17,10 @@ ghost use Rattle.noise_tool.specs.declared.comparison.Uncompared.TheVariants.{Na
 
 use crate::testing::{FilesByName, is_input, trace_named};
 use crate::tracing::Traced;
-use noise_compare::{Finding, Line, LogFault, LogReport, compare_lines, push_schedule, read_log};
+use noise_compare::{
+    Facts, Finding, Line, LogFault, LogReport, compare_lines, plain_text, push_passed,
+    push_schedule, read_log, written_lines,
+};
 use noise_lines::{Fault, Verdict, flush, named_fault, report_fault, verdict_lines, write};
 use noise_words::Compared;
 use std::alloc::{AllocError, Global};
@@ -48,7 +52,7 @@ pub enum Uncompared {
 }
 
 /// Compares the log of a key schedule with the key schedule of a vector file, as `trace` prints it, and writes the
-/// first difference, and what it says of the cause. What it writes are secrets. The exit status is 0 where all lines
+/// first difference, and the mistakes that give its values. What it writes are secrets. The exit status is 0 where all lines
 /// of the log agree; 1 where one differs, or the log ends before a step of its party's handshake; 2 where the log or
 /// the file is wrong, which is written to `err`; 3 where a file can't be read, the output can't be written, or memory
 /// runs out.
@@ -129,29 +133,47 @@ fn compare_named<F: FilesByName>(
         Err(fault) => return Err(fault),
     };
     match trace_named(alloc, file_name, files) {
-        Ok(traced) => compare_traced(alloc, &log, &traced),
+        Ok(run) => compare_traced(alloc, &log, &run.facts, &run.traced),
         Err(fault) => wrong_file(fault),
     }
 }
 
 // What comes of the log of this text and a run that is traced.
-fn compare_traced(alloc: Global, log: &[u8], traced: &Traced) -> Result<Comparison, Fault>
+fn compare_traced(
+    alloc: Global,
+    log: &[u8],
+    facts: &Facts,
+    traced: &Traced,
+) -> Result<Comparison, Fault>
     ensures made { (file : List ℕ) → RunsTo true file traced.now
         → IfOk result (λ made. IfMade made (Compares log.now file)) }
     ensures wrong { IfOk result (λ made. IfWrong made (IsWrongLog log.now)) }
     ensures fault { IfErr result (λ fault. status_of fault ≡ 3) }
 {
     let right = schedule(alloc, traced)?;
-    match read_log(alloc, log) {
+    let plain = plain_text(alloc, log)?;
+    match read_log(alloc, &plain) {
         Ok(lines) => {
             if lines.is_empty() {
                 return Ok(Comparison::Wrong(Uncompared::NoLine));
             }
-            Ok(Comparison::Made(compare_lines(alloc, &lines, &right)?))
+            let report = compare_lines(alloc, facts, &lines, &right)?;
+            let others = written_lines(alloc, log)?.saturating_sub(lines.len());
+            Ok(Comparison::Made(with_others(alloc, report, others)?))
         }
         Err(LogFault::Line(number)) => Ok(Comparison::Wrong(Uncompared::WrongLine(number))),
         Err(LogFault::Memory) => Err(Fault::Memory),
     }
+}
+
+// A report, with the number of the lines of its log that are passed over.
+fn with_others(alloc: Global, report: LogReport, others: usize) -> Result<LogReport, AllocError>
+    ensures finding { IfOk result (λ more. more.finding ≡ report.finding) }
+    ensures text { IfOk result (λ more. more.text.items ≡ report.text.items ++ passed_text others) }
+{
+    let LogReport { finding, mut text } = report;
+    push_passed(alloc, others, &mut text)?;
+    Ok(LogReport { finding, text })
 }
 
 // The lines of the key schedule of a run.

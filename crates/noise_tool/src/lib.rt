@@ -5,6 +5,7 @@ mod comparison;
 mod datagram_report;
 mod ends;
 mod explanation;
+mod file_facts;
 mod key_use_lines;
 mod laws;
 mod performing;

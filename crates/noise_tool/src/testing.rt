@@ -21,10 +21,12 @@ ghost use Rattle.noise_vectors.specs.VectorFile.{IsVectorFile};
 ghost use Rattle.noise_vectors.specs.VectorText.{file_text};
 
 use crate::ends::valid_pattern;
+use crate::file_facts::facts_of;
 use crate::key_use_lines::ALL_LINES;
 use crate::run::replay;
 use crate::trace_file::write_front;
 use crate::tracing::{Traced, trace_text};
+use noise_compare::Facts;
 use noise_explain::difference_line;
 use noise_lines::{
     Difference, Fault, Verdict, flush, judge, report_fault, verdict_lines, write, write_lines,
@@ -51,11 +53,12 @@ pub trait FilesByName {
             ⊎ ((fault ≡ TooLong) × IfSome (bytes_at self.now name.now) (λ bytes. 4194304 < length bytes))) };
 }
 
-/// What comes of the run of a file, and its pattern.
+/// What comes of the run of a file, its pattern, and what it gives for a log that is compared.
 #[derive(Drop)]
 pub(crate) struct TestedRun {
     pub traced: Traced,
     pub pattern: ValidPattern,
+    pub facts: Facts,
 }
 
 /// Runs the vector file of each name, one after the other, and writes what comes of it, and last how many passed and
@@ -340,14 +343,13 @@ pub(crate) fn trace_named<F: FilesByName>(
     alloc: Global,
     name: &str,
     files: &F,
-) -> Result<Traced, Fault>
+) -> Result<TestedRun, Fault>
     ensures runs { IfOk result
-        (λ traced. IfSome (F.bytes_at files.now name.now) (λ text. RunsTo true text traced)) }
+        (λ run. IfSome (F.bytes_at files.now name.now) (λ text. RunsTo true text run.traced)) }
     ensures fault { IfErr result (λ fault. (status_of fault ≡ 3)
         ⊎ IfSome (F.bytes_at files.now name.now) (λ text. IsRunFault Any text fault)) }
 {
-    let TestedRun { traced, .. } = run_named(alloc, name, true, files)?;
-    Ok(traced)
+    run_named(alloc, name, true, files)
 }
 
 // What comes of it, with its trace where traces are wanted, and its pattern.
@@ -380,8 +382,13 @@ fn run_text(alloc: Global, text: &[u8], traces: bool) -> Result<TestedRun, Fault
         Ok(pattern) => pattern,
         Err(fault) => return Err(fault),
     };
+    let facts = facts_of(alloc, &vector)?;
     let traced = run_read(alloc, text, vector, traces)?;
-    Ok(TestedRun { traced, pattern })
+    Ok(TestedRun {
+        traced,
+        pattern,
+        facts,
+    })
 }
 
 // The pattern of a file.

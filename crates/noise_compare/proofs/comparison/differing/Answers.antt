@@ -2,12 +2,13 @@ use Rattle.std.proofs.Common.{option_copied}
 use Rattle.noise_compare.proofs.comparison.differing.Goals as goal
 
 pub returns : goal.returns
-returns c = λ right first. (
+returns c = λ first. (
   c.args.found.index,
   option_copied c.args.found.right,
   first,
   c.index-log-found.result,
   c.index-log-found.is,
-  c.advice.result.now,
+  c.in_ok-advice.advice.items,
+  c.in_ok-advice.ensures,
   c.in_ok-difference_text.ensures,
 )

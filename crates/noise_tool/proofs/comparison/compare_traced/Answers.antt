@@ -5,7 +5,7 @@ use Rattle.noise_tool.proofs.comparison.compare_traced.Goals as goal
 pub returns-in-Ok-clause-made : goal.returns-in-Ok-clause-made
 returns-in-Ok-clause-made c = λ file runs. record {
   logged = c.in-Ok.lines.items;
-  logged_are = c.in-Ok.ensures.lines;
+  logged_are = rw (c.deref.ensures.value, c.in_ok-plain.ensures) at c.in-Ok.ensures.lines;
   right = c.in_ok-right.right.items;
   right_are = record {
     file = runs.file;
@@ -17,5 +17,7 @@ returns-in-Ok-clause-made c = λ file runs. record {
     shown = runs.shown refl;
     words_are = c.in_ok-right.ensures;
   };
-  reported = rw (c.deref.ensures.value, c.deref-in-Ok.ensures.value) at c.in_ok-compare_lines-in-Ok.ensures;
+  compared = c.in_ok-report.report.text.items;
+  reported = rw (c.deref-in-Ok.ensures.value, c.deref-2-in-Ok.ensures.value) at c.in_ok-report.ensures;
+  text_is = c.in_ok-with_others-in-Ok.ensures.text;
 }

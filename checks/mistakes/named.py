@@ -1,0 +1,180 @@
+#!/usr/bin/env python3
+"""Puts 42 mistakes into a Noise of its own (mistaken.py), and looks for each with `noise compare` and the log that DEBUGGING.md asks for.
+
+    named.py PROGRAM [SEED]
+
+A mistake, the role that makes it, and the pattern are drawn; 20 of the logs have a second, harmless difference. What is printed has to name the mistake:
+by the words that stand beside it here, worked out by hand. A mistake of frames alone is named by `noise test`. At least 38 have to be named, and no other
+mistake may be said to be the one. It writes what failed, and a last line with the counts.
+"""
+
+from __future__ import annotations
+
+import pathlib
+import random
+import subprocess
+import sys
+import tempfile
+from typing import NamedTuple
+
+from mistaken import Key, Keys, Session, digest, run
+
+BOTH = ("initiator", "responder", "both")
+SAID = ("the mistake that gives your values:", "each of these mistakes gives your values:")
+
+
+class Case(NamedTuple):
+    """A mistake's patterns, the words that name it, the roles that can make it, and what is set."""
+
+    patterns: str
+    words: str
+    roles: tuple[str, ...] = BOTH
+    prologue: bytes | None = None
+    is_empty: bool = False
+
+
+CASES = {
+    "nonce-big-endian": Case("XX XXpsk3", "the nonce is big-endian"),
+    "nonce-in-first-bytes": Case("XX XXpsk3", "the nonce is in the first 8 bytes"),
+    "empty-prologue-left-out": Case("NN XX IK", "MixHash is left out", prologue=b""),
+    "prologue-left-out": Case("NN XX KK", "MixHash is left out", prologue=b"abc"),
+    "hkdf-inputs-exchanged": Case("NN XX IK", "HKDF's inputs are exchanged"),
+    "psk-at-start": Case("NNpsk2 XXpsk3", "are left out, or come later"),
+    "payload-not-hashed": Case("NN XX IK", "MixHash of this text is left out"),
+    "plain-text-hashed": Case("XX IX NN", "MixHash takes the plain text"),
+    "transport-keys-exchanged": Case("NN XX", "another key of the transport"),
+    "psk-outputs-exchanged": Case("NNpsk0 XXpsk3", "HKDF's outputs are exchanged"),
+    "psk-ephemeral-not-mixed": Case("NNpsk0 XXpsk3", "MixKey of e is left out"),
+    "tag-without-key": Case("IX", "without a key a text has no tag"),
+    "hashed-before-decryption": Case("XX IK", "h after this text"),
+    "length-counts-itself": Case("NN XX", "differs at byte 1: length of message"),
+    "length-little-endian": Case("NN XX", "differs at byte 0: length of message"),
+    "rekey-sets-nonce-back": Case("NN XX", "Rekey keeps n"),
+    "nonce-kept": Case("XX IX", "each new key sets it to 0"),
+    "name-hashed": Case("NN XX IK", "the name is hashed"),
+    "name-padded": Case("XXpsk3 NNpsk0 NNpsk2", "the name is cut to 32 bytes"),
+    "pre-message-left-out": Case("IK KK X", "MixHash is left out"),
+    "pre-message-before-prologue": Case("IK KK X", "are left out, or come later"),
+    "es-se-exchanged": Case("IX KK", "another DH result or psk of the run", ("responder",)),
+    "hkdf-unchained": Case("NN XX IK", "HKDF's second output doesn't take the first"),
+    "ss-as-es": Case("IK KK X", "another DH result or psk of the run"),
+    "written-ephemeral-not-hashed": Case("NN XX IK", "MixHash is left out"),
+    "dh-reversed": Case("NN XX IK", "reversed"),
+    "no-associated-data": Case("XX IK NN", "there is no associated data"),
+    "chaining-key-kept": Case("NN XX", "ck stays as it was"),
+    "transport-associated-data": Case("NN XX", "its associated data isn't empty", ("responder",)),
+    "transport-from-one": Case("NN XX", "Split's keys begin with 0"),
+    "psk-by-mix-key": Case("NNpsk0 XXpsk3", "MixKey stands in place of MixKeyAndHash"),
+    "empty-text-in-clear": Case("XX", "there is a key, so", is_empty=True),
+    "rekey-by-nonce": Case("NN XX", "Rekey's nonce is n"),
+    "rekey-last-bytes": Case("NN XX", "Rekey takes the last 32 of 48 bytes"),
+    "name-lower-case": Case("NN XX IK", "lower-case letters"),
+    "chaining-key-of-zeros": Case("NN XX", "ck begins as zeros"),
+    "hkdf-from-zero": Case("NN XX", "HKDF counts its outputs from 0"),
+    "outputs-exchanged": Case("NN XX IK", "HKDF's outputs are exchanged"),
+    "tag-not-hashed": Case("XX IK NN", "MixHash takes the bytes without the tag"),
+    "static-in-clear": Case("XX IK", "there is a key, so"),
+    "read-ephemeral-not-hashed": Case("NN XX", "MixHash is left out"),
+    "split-of-hash": Case("NN XX", "Split takes h"),
+}
+
+# Differences of a log that change nothing.
+HARMLESS = ("carriage returns", "byte order mark", "prefix", "indentation", "upper case", "0x", "bytes of Python", "role", "other lines", "spaces")
+
+
+def harmless(difference: str, lines: list[str]) -> bytes:
+    def each(change: object) -> list[str]:
+        return [" ".join(change(word) if len(word) >= 32 else word for word in line.split(" ")) for line in lines]  # type: ignore[operator]
+
+    end, front = "\n", b""
+    if difference == "carriage returns":
+        end = "\r\n"
+    elif difference == "byte order mark":
+        front = b"\xef\xbb\xbf"
+    elif difference == "prefix":
+        lines = ["INFO:root:" + line for line in lines]
+    elif difference == "indentation":
+        lines = ["\t  " + line for line in lines]
+    elif difference == "upper case":
+        lines = each(str.upper)
+    elif difference == "0x":
+        lines = each(lambda word: "0x" + word)
+    elif difference == "bytes of Python":
+        lines = each(lambda word: f"b'{word}'")
+    elif difference == "role":
+        lines = [line.replace("trace i", "trace I").replace("trace r", "trace R") for line in lines]
+    elif difference == "other lines":
+        lines = ["connected", *lines, "done"]
+    elif difference == "spaces":
+        lines = [line.replace(" ? ? ", "  ? ? ") + " " for line in lines]
+    return front + "".join(line + end for line in lines).encode()
+
+
+def secret(seed: int, name: str) -> bytes:
+    return digest(f"{seed} {name}".encode())
+
+
+def session_of(pattern: str, prologue: bytes, seed: int) -> Session:
+    keys = {role: Keys(Key(secret(seed, role + " e")), Key(secret(seed, role + " s"))) for role in ("initiator", "responder")}
+    session = Session(pattern, prologue, keys, [], 2)
+    return session._replace(psks=[secret(seed, f"psk {place}") for place in session.places])
+
+
+def vector(program: str, session: Session, events: list[tuple[str, bytes, bytes]], *, is_expected: bool) -> str:
+    """The vector file that DEBUGGING.md asks for: the template with the keys, payloads and frames of the run."""
+    name = f"Noise_{session.pattern}_25519_ChaChaPoly_SHA256"
+    text = subprocess.run([program, "template", name], stdout=subprocess.PIPE, text=True, check=True).stdout
+    one, two = session.keys["initiator"], session.keys["responder"]
+    digits = {"e1": one.e.public, "51": one.s.public, "e2": two.e.public, "52": two.s.public}
+    digits |= {"ee": one.e.agree(two.e.public), "e5": one.e.agree(two.s.public), "5e": one.s.agree(two.e.public), "55": one.s.agree(two.s.public)}
+    digits |= {f"a{place}": psk for place, psk in zip(session.places, session.psks, strict=True)}
+    for placeholder, data in digits.items():
+        text = text.replace(" " + placeholder * 32, " " + data.hex())
+    text = text.replace("vector 1", "vector 2", 1).replace("prologue -", f"prologue {session.prologue.hex() or '-'}").replace("interval 0", f"interval {session.interval}")
+    lines = [line for line in text.splitlines() if not line.startswith("say")]
+    lines += [f"say {role} {payload.hex() or '-'} -" for role, payload, _ in events]
+    counts = {"initiator": 0, "responder": 0}
+    for role, payload, frame in events if is_expected else []:
+        other = "responder" if role == "initiator" else "initiator"
+        lines += [f"expect wrote {role} {counts[role]} {frame.hex()}", f"expect payload {other} {payload.hex() or '-'}"]
+        counts[role] += 1
+    return "".join(line + "\n" for line in lines)
+
+
+def verdict(printed: str, words: str) -> str:
+    """`named` where the words are among those of the mistakes that are said, `misleading` where another is said to be the one, or else `missing`."""
+    if words in printed:
+        return "named"
+    return "misleading" if SAID[0] in printed or "refused what is right" in printed else "missing"
+
+
+def main(words: list[str]) -> int:
+    program, seed = words[0], int(words[1]) if len(words) > 1 else 76
+    draw = random.Random(seed)
+    counts = {"named": 0, "misleading": 0, "missing": 0}
+    differing = set(draw.sample(sorted(CASES), 20))
+    with tempfile.TemporaryDirectory() as folder:
+        log_path, file_path = pathlib.Path(folder, "yours.log"), pathlib.Path(folder, "right.vector")
+        for number, (mistake, case) in enumerate(CASES.items()):
+            pattern, role = draw.choice(case.patterns.split()), draw.choice(case.roles)
+            prologue = draw.choice((b"", b"abc")) if case.prologue is None else case.prologue
+            difference = draw.choice(HARMLESS) if mistake in differing else ""
+            session = session_of(pattern, prologue, seed * 100 + number)
+            mistakes = {it: mistake if role in (it, "both") else "" for it in ("initiator", "responder")}
+            events, log = run(session, mistakes, lambda n: b"" if case.is_empty else b"payload %d" % (n + 1), 3)
+            shown = [line for line in log if role == "both" or f"trace {role} " in line]
+            log_path.write_bytes(harmless(difference, shown))
+            file_path.write_text(vector(program, session, list(events), is_expected=True))
+            command = "test" if mistake.startswith("length") else "compare"
+            files = [str(file_path)] if command == "test" else [str(log_path), str(file_path)]
+            ran = subprocess.run([program, command, *files], stdout=subprocess.PIPE, stderr=subprocess.STDOUT, text=True, check=False)
+            said = verdict(ran.stdout, case.words)
+            counts[said] += 1
+            if said != "named":
+                print(f"mistakes: {said}: {mistake}, {pattern}, {role}, {difference or 'no other difference'}:\n{ran.stdout}", file=sys.stderr)
+    print(f"mistakes: of {len(CASES)} mistakes {counts['named']} named, {counts['misleading']} misleading, {counts['missing']} not named; seed {seed}")
+    return 0 if counts["named"] >= 38 and not counts["misleading"] else 1
+
+
+if __name__ == "__main__":
+    sys.exit(main(sys.argv[1:]))

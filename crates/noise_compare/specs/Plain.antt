@@ -1,0 +1,51 @@
+-- The lines that people log, as lines of `trace`.
+use Rattle.std.specs.Prelude.{ℕ, ◌==◌, ◌&&◌, ◌||◌, Bool, not, List, [], ◌∷◌, ◌++◌, codes, count_by, decimal, drop, flat_map, fold, if◌then◌else◌, length, map, nat_le, nat_lt, take, bit_xor}
+use Rattle.std.specs.List.{filter, slice_split}
+use Rattle.std.specs.Str.{bytes_eq}
+
+-- A tab and a carriage return are spaces, and `A` to `Z` are lower-case. A full stop stands for a byte that isn't printed.
+abbrev pub plain_byte : ℕ → ℕ
+plain_byte b = if b == 9 || b == 13 then 32 else (if nat_lt b 32 || nat_lt 126 b then 46
+    else (if nat_le 65 b && nat_le b 90 then bit_xor b 32 else b))
+
+abbrev pub spaced : List ℕ → List ℕ
+spaced text = map plain_byte text
+
+abbrev pub begins : List ℕ → List ℕ → Bool
+begins text front = nat_le (length front) (length text) && bytes_eq (take (length front) text) front
+
+abbrev pub without : List ℕ → List ℕ → List ℕ
+without word front = if begins word front then drop (length front) word else word
+
+-- from the first `trace ` on
+abbrev pub from_trace : List ℕ → List ℕ
+from_trace [] = []
+from_trace (b ∷ rest) = if begins (b ∷ rest) (codes "trace ") then b ∷ rest else from_trace rest
+
+-- a word without `b'`, `0x` and quotes (39)
+abbrev pub plain_word : List ℕ → List ℕ
+plain_word word = filter (λ b. not (b == 39)) (without (without word (codes "b'")) (codes "0x"))
+
+-- a line with a further word, after a space if it isn't the first; what stands between two spaces is none
+abbrev pub add_word : List ℕ → List ℕ → List ℕ
+add_word line word = if length word == 0 then line
+    else (if length line == 0 then plain_word word else line ++ 32 ∷ plain_word word)
+
+abbrev pub plain_line : List ℕ → List ℕ
+plain_line text = fold add_word [] (slice_split (λ b. b == 32) (from_trace (spaced text)))
+
+-- each line of a text, with LF after it
+abbrev pub plain_text : List ℕ → List ℕ
+plain_text text = flat_map (λ line. plain_line line ++ 10 ∷ []) (slice_split (λ b. b == 10) text)
+
+-- a line that isn't blank
+abbrev pub is_written : List ℕ → Bool
+is_written text = nat_lt 0 (count_by (λ b. not (b == 32) && not (b == 9) && not (b == 13)) text)
+
+abbrev pub written_lines : List ℕ → ℕ
+written_lines text = count_by is_written (slice_split (λ b. b == 10) text)
+
+-- how many lines are passed over, if any are
+abbrev pub passed_text : ℕ → List ℕ
+passed_text count = if count == 0 then []
+    else codes "passed over " ++ (decimal count ++ codes " other lines of the log\n")

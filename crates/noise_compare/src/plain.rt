@@ -1,0 +1,127 @@
+//! The lines that people log, as `trace` prints them.
+
+ghost use Rattle.std.specs.Prelude.{◌≡◌, ◌≤◌, ◌==◌, ◌&&◌, ◌++◌, not, IfOk, OnOk, count_by, drop, length, map, slice_range};
+ghost use Rattle.std.specs.List.{filter, slice_split};
+ghost use Rattle.noise_compare.specs.Plain.{add_word, begins, from_trace, is_written, passed_text, plain_byte, plain_line, plain_text, plain_word, spaced, without, written_lines};
+
+use crate::line::parts;
+use std::alloc::{AllocError, Global};
+
+/// The lines of a log, each as `trace` prints it: from its word `trace` on, with single spaces, in lower case, and
+/// without `0x` and the quotes of `b'..'`.
+pub fn plain_text(alloc: Global, text: &[u8]) -> Result<Vec<u8>, AllocError>
+    ensures { IfOk result (λ plain. plain.items ≡ plain_text text.now) }
+{
+    let texts = parts(alloc, text, b'\n')?;
+    let mut plain = Vec::new(alloc);
+    for text in texts.iter() {
+        let line = plain_line(alloc, *text)?;
+        plain.extend_from_slice(&line)?;
+        plain.push(b'\n')?;
+    }
+    Ok(plain)
+}
+
+fn plain_line(alloc: Global, text: &[u8]) -> Result<Vec<u8>, AllocError>
+    ensures { IfOk result (λ line. line.items ≡ plain_line text.now) }
+{
+    let text = spaced(alloc, text)?;
+    let words = parts(alloc, from_trace(&text), b' ')?;
+    let mut line = Vec::new(alloc);
+    for word in words.iter() {
+        add_word(alloc, *word, &mut line)?;
+    }
+    Ok(line)
+}
+
+// The text in lower case, with spaces for tabs and carriage returns, and full stops for bytes that aren't printed.
+fn spaced(alloc: Global, text: &[u8]) -> Result<Vec<u8>, AllocError>
+    ensures { IfOk result (λ v. v.items ≡ spaced text.now) }
+{
+    text.iter().map(|b| plain_byte(*b)).collect(alloc)
+}
+
+fn plain_byte(b: u8) -> u8
+    ensures { result ≡ plain_byte b }
+{
+    if b == 9 || b == 13 {
+        32
+    } else if b < 32 || 126 < b {
+        46
+    } else if 65 <= b && b <= 90 {
+        b ^ 32
+    } else {
+        b
+    }
+}
+
+// The text from `trace ` on, or nothing where it has none.
+fn from_trace(text: &[u8]) -> &[u8]
+    ensures { result.now ≡ from_trace text.now }
+{
+    for i in 0..text.len() {
+        let rest = &text[i..];
+        if begins(rest, b"trace ") {
+            return rest;
+        }
+    }
+    &[]
+}
+
+fn begins(text: &[u8], front: &[u8]) -> bool
+    ensures { result ≡ begins text.now front.now }
+{
+    front.len() <= text.len() && &text[..front.len()] == front
+}
+
+fn without<'a>(word: &'a [u8], front: &[u8]) -> &'a [u8]
+    ensures { result.now ≡ without word.now front.now }
+{
+    if begins(word, front) { &word[front.len()..] } else { word }
+}
+
+fn add_word(alloc: Global, word: &[u8], line: &mut Vec<u8>) -> Result<(), AllocError>
+    ensures { OnOk result (line.new.items ≡ add_word line.old.items word.now) }
+{
+    if word.is_empty() {
+        return Ok(());
+    }
+    let plain = plain_word(alloc, word)?;
+    if !line.is_empty() {
+        line.push(b' ')?;
+    }
+    line.extend_from_slice(&plain)
+}
+
+// A word without `b'`, `0x` and quotes.
+fn plain_word(alloc: Global, word: &[u8]) -> Result<Vec<u8>, AllocError>
+    ensures { IfOk result (λ v. v.items ≡ plain_word word.now) }
+{
+    let bare = without(without(word, b"b'"), b"0x");
+    bare.iter().copied().filter(|b| *b != 39).collect(alloc)
+}
+
+/// Appends how many lines of a log are passed over, if any are.
+pub fn push_passed(alloc: Global, count: usize, text: &mut Vec<u8>) -> Result<(), AllocError>
+    ensures { OnOk result (text.new.items ≡ text.old.items ++ passed_text count) }
+{
+    if count == 0 {
+        return Ok(());
+    }
+    let line = format!(in alloc; "passed over {count} other lines of the log\n")?;
+    text.extend_from_slice(line.as_bytes())
+}
+
+/// How many lines of a text aren't blank.
+pub fn written_lines(alloc: Global, text: &[u8]) -> Result<usize, AllocError>
+    ensures { IfOk result (λ n. n ≡ written_lines text.now) }
+{
+    let texts = parts(alloc, text, b'\n')?;
+    Ok(texts.iter().filter(|text| is_written(**text)).count())
+}
+
+fn is_written(text: &[u8]) -> bool
+    ensures { result ≡ is_written text.now }
+{
+    0 < text.iter().filter(|b| **b != 32 && **b != 9 && **b != 13).count()
+}

@@ -1,0 +1,92 @@
+-- The mistakes that give what was logged.
+use Rattle.std.specs.Prelude.{Bool, not, List, [], ◌∷◌}
+use Rattle.std.specs.List.{filter}
+use Rattle.noise_mistakes.specs.Keys.{key_explains}
+use Rattle.noise_mistakes.specs.Mixing.{hash_state, name_explains}
+use Rattle.noise_mistakes.specs.Secrets.{secret_explains}
+use Rattle.noise_mistakes.specs.States.{fits}
+use Rattle.noise_mistakes.specs.Texts.{text_explains}
+use Rattle.noise_mistakes.specs.declared.state.Kind.{Kind}
+use Rattle.noise_mistakes.specs.declared.state.Kind.TheVariants as kind
+use Rattle.noise_mistakes.specs.declared.state.Situation.{Situation}
+use Rattle.noise_mistakes.specs.declared.state.Logged.{Logged}
+use Rattle.noise_mistakes.specs.declared.mistake.NameMistake.TheVariants as name
+use Rattle.noise_mistakes.specs.declared.mistake.HashMistake.TheVariants as hash
+use Rattle.noise_mistakes.specs.declared.mistake.SecretMistake.TheVariants as secret
+use Rattle.noise_mistakes.specs.declared.mistake.TextMistake.TheVariants as text
+use Rattle.noise_mistakes.specs.declared.mistake.KeyMistake.TheVariants as key
+use Rattle.noise_mistakes.specs.declared.mistake.Mistake.{Mistake}
+use Rattle.noise_mistakes.specs.declared.mistake.Mistake.TheVariants.{Name, Hash, Secret, Text, Key}
+
+-- the values that a party with the mistake has after the step are those that were logged
+unfoldable pub explains : Mistake → Situation → Logged → Bool
+explains (Name mistake) at logged = name_explains mistake at logged
+explains (Hash mistake) at logged = fits logged at.bytes.now (hash_state mistake at)
+explains (Secret mistake) at logged = secret_explains mistake at logged
+explains (Text mistake) at logged = text_explains mistake at logged
+explains (Key mistake) at logged = key_explains mistake at logged
+
+-- ---- the mistakes that are tried at a step, in their order
+
+abbrev pub name_mistakes : List Mistake
+name_mistakes = Name name.Hashed ∷ Name name.Padded ∷ Name name.LowerCase ∷ Name name.ChainingKeyOfZeros ∷ []
+
+abbrev pub data_mistakes : List Mistake
+data_mistakes = Hash hash.LeftOut ∷ Hash hash.LengthInFront ∷ Hash hash.DataFirst ∷ Hash hash.StepsLeftOut ∷ []
+
+abbrev pub ephemeral_mistakes : List Mistake
+ephemeral_mistakes = Hash hash.LeftOut ∷ Hash hash.LengthInFront ∷ Hash hash.DataFirst ∷ Hash hash.KeyLeftOut
+    ∷ Hash hash.KeyMixed ∷ Hash hash.StepsLeftOut ∷ []
+
+abbrev pub agreement_mistakes : List Mistake
+agreement_mistakes = Secret secret.InputsExchanged ∷ Secret secret.OutputsExchanged ∷ Secret secret.Reversed
+    ∷ Secret secret.CountedFromZero ∷ Secret secret.Unchained ∷ Secret secret.ShortBlocks
+    ∷ Secret secret.ChainingKeyKept ∷ Secret secret.NonceKept ∷ Secret secret.LeftOut ∷ Secret secret.HashedToo
+    ∷ Secret secret.Other ∷ Secret secret.StepsLeftOut ∷ []
+
+abbrev pub psk_mistakes : List Mistake
+psk_mistakes = Secret secret.InputsExchanged ∷ Secret secret.OutputsExchanged ∷ Secret secret.Reversed
+    ∷ Secret secret.CountedFromZero ∷ Secret secret.Unchained ∷ Secret secret.ShortBlocks
+    ∷ Secret secret.ChainingKeyKept ∷ Secret secret.NonceKept ∷ Secret secret.LeftOut ∷ Secret secret.KeyAlone
+    ∷ Secret secret.HashLeftOut ∷ Secret secret.Other ∷ Secret secret.StepsLeftOut ∷ []
+
+abbrev pub text_mistakes : List Mistake
+text_mistakes = Text text.Clear ∷ Text text.TagLeftOff ∷ Text text.TagAdded ∷ Text text.BigEndian ∷ Text text.FirstBytes
+    ∷ Text text.BigEndianFirstBytes ∷ Text text.NonceFromOne ∷ Text text.NoAssociatedData ∷ Text text.EarlierHash
+    ∷ Text text.HashLeftOut ∷ Text text.TextHashed ∷ Text text.TagNotHashed ∷ Text text.LengthHashed
+    ∷ Text text.NonceKept ∷ Text text.NonceRaised ∷ Text text.StepsLeftOut ∷ []
+
+abbrev pub opening_mistakes : List Mistake
+opening_mistakes = Key key.Exchanged ∷ Key key.SplitOfHash ∷ Key key.NonceFromOne ∷ []
+
+abbrev pub renewal_mistakes : List Mistake
+renewal_mistakes = Key key.NonceSetBack ∷ Key key.RekeyLeftOut ∷ Key key.RekeyByNonce ∷ Key key.RekeyByZero
+    ∷ Key key.RekeyByOnes ∷ Key key.RekeyLastBytes ∷ Key key.Exchanged ∷ []
+
+abbrev pub transport_mistakes : List Mistake
+transport_mistakes = Key key.Exchanged ∷ Key key.NonceSetBack ∷ Key key.NonceFromOne ∷ []
+
+unfoldable pub mistakes_of : Kind → List Mistake
+mistakes_of kind.Name = name_mistakes
+mistakes_of kind.Data = data_mistakes
+mistakes_of kind.Ephemeral = ephemeral_mistakes
+mistakes_of kind.Agreement = agreement_mistakes
+mistakes_of kind.Secret = psk_mistakes
+mistakes_of kind.Text = text_mistakes
+mistakes_of kind.Opening = opening_mistakes
+mistakes_of kind.Renewal = renewal_mistakes
+mistakes_of kind.Transport = transport_mistakes
+
+-- those of them that give what was logged, in the same order
+abbrev pub found_mistakes : Situation → Logged → List Mistake
+found_mistakes at logged = filter (λ mistake. explains mistake at logged) (mistakes_of at.kind)
+
+-- ---- what a party that refuses right bytes may have wrong
+
+abbrev pub refusal_mistakes : List Mistake
+refusal_mistakes = Text text.NoAssociatedData ∷ Text text.EarlierHash ∷ Text text.LaterHash ∷ Text text.BigEndian
+    ∷ Text text.FirstBytes ∷ Text text.BigEndianFirstBytes ∷ []
+
+-- those that don't give these values, so that a party with them refuses a right tag
+abbrev pub refusing_mistakes : Situation → Logged → List Mistake
+refusing_mistakes at logged = filter (λ mistake. not (explains mistake at logged)) refusal_mistakes

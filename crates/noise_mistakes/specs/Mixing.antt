@@ -1,0 +1,71 @@
+-- The values that mistakes of the start and of MixHash give.
+use Rattle.std.specs.Prelude.{ℕ, ◌-◌, ◌&&◌, Bool, List, [], ◌∷◌, ◌++◌, Option, Some, None, length, map, nat_le, replicate, take, bit_xor, if◌then◌else◌}
+use Rattle.std.specs.Str.{bytes_eq}
+use Rattle.std.specs.Int.{w16, to_be_bytes}
+use Rattle.sha2.specs.Sha256.{sha256}
+use Rattle.noise_kdf.specs.Hkdf.{first_output, second_output}
+use Rattle.noise_mistakes.specs.States.{has, key_fits, nonce_fits}
+use Rattle.noise_mistakes.specs.declared.state.State.{State}
+use Rattle.noise_mistakes.specs.declared.state.Situation.{Situation}
+use Rattle.noise_mistakes.specs.declared.state.Logged.{Logged}
+use Rattle.noise_mistakes.specs.declared.mistake.NameMistake.{NameMistake}
+use Rattle.noise_mistakes.specs.declared.mistake.NameMistake.TheVariants.{Hashed, Padded, LowerCase, ChainingKeyOfZeros}
+use Rattle.noise_mistakes.specs.declared.mistake.HashMistake.{HashMistake}
+use Rattle.noise_mistakes.specs.declared.mistake.HashMistake.TheVariants.{LeftOut, LengthInFront, DataFirst, KeyLeftOut, KeyMixed, StepsLeftOut}
+
+-- 32 bytes of a text: cut, or with zeros after it
+abbrev pub padded : List ℕ → List ℕ
+padded text = take 32 text ++ replicate (32 - length text) 0
+
+-- the hash with which a handshake of this name begins (Noise 5.2)
+abbrev pub started : List ℕ → List ℕ
+started name = if nat_le (length name) 32 then padded name else sha256 name
+
+-- `A` to `Z` are 65 to 90
+abbrev pub lower : ℕ → ℕ
+lower b = if nat_le 65 b && nat_le b 90 then bit_xor b 32 else b
+
+-- the hash and the chaining key are these
+abbrev pub start_fits : Logged → State → List ℕ → List ℕ → Bool
+start_fits logged right hash chaining_key = has logged.hash hash && has logged.chaining_key chaining_key
+    && key_fits logged.key right.key && nonce_fits logged.nonce right.nonce
+
+unfoldable pub name_explains : NameMistake → Situation → Logged → Bool
+name_explains Hashed at logged = start_fits logged at.right (sha256 at.name.now) (sha256 at.name.now)
+name_explains Padded at logged = start_fits logged at.right (padded at.name.now) (padded at.name.now)
+name_explains LowerCase at logged =
+    start_fits logged at.right (started (map lower at.name.now)) (started (map lower at.name.now))
+name_explains ChainingKeyOfZeros at logged = start_fits logged at.right at.right.hash (replicate 32 0)
+
+-- ---- MixHash
+
+-- the length of a text, as two bytes
+abbrev pub length_of : List ℕ → List ℕ
+length_of text = to_be_bytes w16 (length text)
+
+-- a state with another hash
+abbrev pub with_hash : State → List ℕ → State
+with_hash state hash = record { hash = hash; chaining_key = state.chaining_key; key = state.key; nonce = state.nonce }
+
+-- MixKey of an input, from this chaining key
+abbrev pub with_key : State → List ℕ → List ℕ → State
+with_key state chaining_key input = record {
+  hash = state.hash;
+  chaining_key = first_output chaining_key input;
+  key = Some (second_output chaining_key input);
+  nonce = 0;
+}
+
+-- MixHash of the data, and MixKey too where the right step changes the chaining key
+abbrev pub redone : Situation → State
+redone at = if bytes_eq at.right.chaining_key at.before.chaining_key
+    then with_hash at.agreed (sha256 (at.agreed.hash ++ at.data.now))
+    else with_key (with_hash at.agreed (sha256 (at.agreed.hash ++ at.data.now))) at.agreed.chaining_key at.data.now
+
+unfoldable pub hash_state : HashMistake → Situation → State
+hash_state LeftOut at = with_hash at.right at.before.hash
+hash_state LengthInFront at = with_hash at.right (sha256 (at.before.hash ++ length_of at.data.now ++ at.data.now))
+hash_state DataFirst at = with_hash at.right (sha256 (at.data.now ++ at.before.hash))
+hash_state KeyLeftOut at = with_hash at.before at.right.hash
+hash_state KeyMixed at = with_key at.right at.before.chaining_key at.data.now
+hash_state StepsLeftOut at = redone at

@@ -1,0 +1,76 @@
+-- The values that mistakes of `s` and of a payload give.
+use Rattle.std.specs.Prelude.{ℕ, ◌+◌, ◌-◌, Bool, List, [], ◌∷◌, ◌++◌, Option, Some, None, count_by, is_some, length, nat_lt, replicate, take, if◌then◌else◌}
+use Rattle.std.specs.Int.{w64, to_be_bytes, to_le_bytes}
+use Rattle.sha2.specs.Sha256.{sha256}
+use Rattle.noise_aead.specs.Sealing.{nonce_of, sealed}
+use Rattle.noise_mistakes.specs.Mixing.{length_of, redone, with_hash}
+use Rattle.noise_mistakes.specs.Secrets.{with_nonce}
+use Rattle.noise_mistakes.specs.States.{fits}
+use Rattle.noise_mistakes.specs.declared.state.State.{State}
+use Rattle.noise_mistakes.specs.declared.state.Situation.{Situation}
+use Rattle.noise_mistakes.specs.declared.state.Logged.{Logged}
+use Rattle.noise_mistakes.specs.declared.mistake.TextMistake.{TextMistake}
+use Rattle.noise_mistakes.specs.declared.mistake.TextMistake.TheVariants.{Clear, TagLeftOff, TagAdded, BigEndian, FirstBytes, BigEndianFirstBytes, NonceFromOne, NoAssociatedData, EarlierHash, LaterHash, HashLeftOut, TextHashed, TagNotHashed, LengthHashed, NonceKept, NonceRaised, StepsLeftOut}
+
+-- the right state, with the hash of these bytes
+abbrev pub hashed : Situation → List ℕ → State
+hashed at bytes = with_hash at.right (sha256 (at.before.hash ++ bytes))
+
+-- a text under this key, if there is one
+abbrev pub sealed_under : Option (List ℕ) → List ℕ → List ℕ → List ℕ → List ℕ
+sealed_under None nonce ad text = text
+sealed_under (Some key) nonce ad text = sealed key nonce ad text
+
+-- the text under this nonce and with this associated data, and MixHash of it, are what was logged
+abbrev pub bytes_fit : Situation → Logged → List ℕ → Bool
+bytes_fit at logged bytes = fits logged bytes (hashed at bytes)
+
+abbrev pub nonce_fits_text : Situation → Logged → List ℕ → Bool
+nonce_fits_text at logged nonce = bytes_fit at logged (sealed_under at.before.key nonce at.before.hash at.text.now)
+
+abbrev pub ad_fits_text : Situation → Logged → List ℕ → Bool
+ad_fits_text at logged ad = bytes_fit at logged (sealed_under at.before.key (nonce_of at.before.nonce) ad at.text.now)
+
+-- ---- nonces that are none
+
+abbrev pub big_endian : ℕ → List ℕ
+big_endian n = 0 ∷ 0 ∷ 0 ∷ 0 ∷ to_be_bytes w64 n
+
+abbrev pub first_bytes : ℕ → List ℕ
+first_bytes n = to_le_bytes w64 n ++ 0 ∷ 0 ∷ 0 ∷ 0 ∷ []
+
+abbrev pub big_endian_first_bytes : ℕ → List ℕ
+big_endian_first_bytes n = to_be_bytes w64 n ++ 0 ∷ 0 ∷ 0 ∷ 0 ∷ []
+
+-- the number after a nonce, as it fits 8 bytes
+abbrev pub one_more : ℕ → ℕ
+one_more n = if nat_lt n 0xffff_ffff_ffff_ffff then n + 1 else n
+
+-- ---- what the mistakes give
+
+-- the hash before some step, as associated data, gives what was logged
+abbrev pub earlier_hash_explains : Situation → Logged → Bool
+earlier_hash_explains at logged = nat_lt 0 (count_by (λ hash. ad_fits_text at logged hash) at.hashes.now)
+
+abbrev pub without_tag : List ℕ → List ℕ
+without_tag bytes = take (length bytes - 16) bytes
+
+unfoldable pub text_explains : TextMistake → Situation → Logged → Bool
+text_explains Clear at logged = fits logged at.text.now (with_hash at.before (sha256 (at.before.hash ++ at.text.now)))
+text_explains TagLeftOff at logged = fits logged (without_tag at.bytes.now)
+    (with_hash at.before (sha256 (at.before.hash ++ without_tag at.bytes.now)))
+text_explains TagAdded at logged = bytes_fit at logged (at.text.now ++ replicate 16 0)
+text_explains BigEndian at logged = nonce_fits_text at logged (big_endian at.before.nonce)
+text_explains FirstBytes at logged = nonce_fits_text at logged (first_bytes at.before.nonce)
+text_explains BigEndianFirstBytes at logged = nonce_fits_text at logged (big_endian_first_bytes at.before.nonce)
+text_explains NonceFromOne at logged = nonce_fits_text at logged (nonce_of (one_more at.before.nonce))
+text_explains NoAssociatedData at logged = ad_fits_text at logged []
+text_explains EarlierHash at logged = earlier_hash_explains at logged
+text_explains LaterHash at logged = ad_fits_text at logged at.right.hash
+text_explains HashLeftOut at logged = fits logged at.bytes.now (with_hash at.right at.before.hash)
+text_explains TextHashed at logged = fits logged at.bytes.now (hashed at at.text.now)
+text_explains TagNotHashed at logged = fits logged at.bytes.now (hashed at (without_tag at.bytes.now))
+text_explains LengthHashed at logged = fits logged at.bytes.now (hashed at (length_of at.data.now ++ at.data.now))
+text_explains NonceKept at logged = fits logged at.bytes.now (with_nonce at.right at.before.nonce)
+text_explains NonceRaised at logged = fits logged at.bytes.now (with_nonce at.right (one_more at.right.nonce))
+text_explains StepsLeftOut at logged = fits logged at.bytes.now (redone at)

@@ -1,0 +1,136 @@
+//! The mistakes that are tried.
+
+/// A mistake at the start with the protocol name.
+#[derive(Clone, Copy, PartialEq, Eq)]
+pub enum NameMistake {
+    /// It is hashed, also where it has at most 32 bytes.
+    Hashed,
+    /// It is padded or cut to 32 bytes, also where it has more.
+    Padded,
+    /// Its letters are lower-case.
+    LowerCase,
+    /// The chaining key begins as zeros, and not as the hash.
+    ChainingKeyOfZeros,
+}
+
+/// A mistake of a step that calls MixHash on data.
+#[derive(Clone, Copy, PartialEq, Eq)]
+pub enum HashMistake {
+    /// MixHash is left out.
+    LeftOut,
+    /// The length of the data, two bytes, is hashed in front of it.
+    LengthInFront,
+    /// The data is hashed before the hash.
+    DataFirst,
+    /// At `e`: MixKey of a pattern with a psk is left out.
+    KeyLeftOut,
+    /// At `e`: MixKey is called where the pattern has no psk.
+    KeyMixed,
+    /// The steps before it since the last line that agrees are left out.
+    StepsLeftOut,
+}
+
+/// A mistake of a step that mixes a secret: a DH result or a psk.
+#[derive(Clone, Copy, PartialEq, Eq)]
+pub enum SecretMistake {
+    /// The chaining key is HKDF's input, and the secret its key.
+    InputsExchanged,
+    /// The last two outputs of HKDF are exchanged.
+    OutputsExchanged,
+    /// The secret's bytes are reversed.
+    Reversed,
+    /// HKDF counts its outputs from 0.
+    CountedFromZero,
+    /// HKDF's later outputs don't take the ones before them.
+    Unchained,
+    /// HMAC pads its keys to 32 bytes, and not to the 64 of a block.
+    ShortBlocks,
+    /// The chaining key stays as it was.
+    ChainingKeyKept,
+    /// The nonce isn't set to 0.
+    NonceKept,
+    /// The secret isn't mixed.
+    LeftOut,
+    /// The secret is hashed too.
+    HashedToo,
+    /// At `psk`: MixKey in place of MixKeyAndHash.
+    KeyAlone,
+    /// At `psk`: the second output of HKDF isn't hashed.
+    HashLeftOut,
+    /// It is another secret of the run.
+    Other,
+    /// The steps before it since the last line that agrees are left out.
+    StepsLeftOut,
+}
+
+/// A mistake of `s` or of a payload.
+#[derive(Clone, Copy, PartialEq, Eq)]
+pub enum TextMistake {
+    /// There is a key, and the text isn't encrypted.
+    Clear,
+    /// There is a key, and the bytes are taken without the tag, in the clear.
+    TagLeftOff,
+    /// There is no key, and 16 zero bytes follow the text.
+    TagAdded,
+    /// The 8 bytes of the nonce are big-endian.
+    BigEndian,
+    /// The nonce is in the first 8 of 12 bytes.
+    FirstBytes,
+    /// The nonce is in the first 8 of 12 bytes, big-endian.
+    BigEndianFirstBytes,
+    /// The nonce is one greater.
+    NonceFromOne,
+    /// There is no associated data.
+    NoAssociatedData,
+    /// The associated data is the hash before an earlier step.
+    EarlierHash,
+    /// The associated data is the hash after the text.
+    LaterHash,
+    /// MixHash is left out.
+    HashLeftOut,
+    /// MixHash takes the text, and not the encrypted bytes.
+    TextHashed,
+    /// MixHash takes the encrypted bytes without the tag.
+    TagNotHashed,
+    /// MixHash takes the length, two bytes, too.
+    LengthHashed,
+    /// The nonce stays as it was.
+    NonceKept,
+    /// The nonce is raised once more.
+    NonceRaised,
+    /// The steps before it since the last line that agrees are left out.
+    StepsLeftOut,
+}
+
+/// A mistake of a key of the transport.
+#[derive(Clone, Copy, PartialEq, Eq)]
+pub enum KeyMistake {
+    /// Split takes the hash, and not nothing.
+    SplitOfHash,
+    /// It is another key of the transport.
+    Exchanged,
+    /// The nonce is one greater.
+    NonceFromOne,
+    /// Rekey sets the nonce to 0.
+    NonceSetBack,
+    /// Rekey is left out.
+    RekeyLeftOut,
+    /// Rekey's nonce is that of the next message.
+    RekeyByNonce,
+    /// Rekey's nonce is 0.
+    RekeyByZero,
+    /// Rekey's nonce has 12 bytes `ff`.
+    RekeyByOnes,
+    /// Rekey takes the last 32 of the 48 bytes.
+    RekeyLastBytes,
+}
+
+/// A mistake.
+#[derive(Clone, Copy, PartialEq, Eq)]
+pub enum Mistake {
+    Name(NameMistake),
+    Hash(HashMistake),
+    Secret(SecretMistake),
+    Text(TextMistake),
+    Key(KeyMistake),
+}

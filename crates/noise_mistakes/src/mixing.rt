@@ -1,0 +1,155 @@
+//! Mistakes of the start, and of steps that call MixHash.
+
+ghost use Rattle.std.specs.Prelude.{◌≡◌, ◌≤◌, ◌-◌, ◌++◌, Some, IfOk, length, map, replicate, take};
+ghost use Rattle.sha2.specs.Sha256.{sha256};
+ghost use Rattle.noise_mistakes.specs.Mixing.{hash_state, length_of, lower, name_explains, padded, redone, start_fits, started, with_hash, with_key};
+
+use crate::mistake::{HashMistake, NameMistake};
+use crate::state::{Logged, Situation, State, has, key_fits, nonce_fits};
+use noise_kdf::expand2;
+use sha2::{Digest, Sha256};
+use std::alloc::{AllocError, Global};
+
+/// Whether a mistake at the start gives the logged values.
+#[tactic(auto, unfolding(crate::specs::Mixing::name_explains))]
+pub(crate) fn name_explains(
+    alloc: Global,
+    mistake: NameMistake,
+    at: &Situation<'_>,
+    logged: &Logged,
+) -> Result<bool, AllocError>
+    ensures { IfOk result (λ b. b ≡ name_explains mistake at.now logged.now) }
+{
+    match mistake {
+        NameMistake::Hashed => {
+            let hash: [u8; 32] = Sha256::digest(at.name);
+            Ok(start_fits(logged, &at.right, &hash, &hash))
+        }
+        NameMistake::Padded => {
+            let hash = padded(alloc, at.name)?;
+            Ok(start_fits(logged, &at.right, &hash, &hash))
+        }
+        NameMistake::LowerCase => {
+            let name = lower_case(alloc, at.name)?;
+            let hash = started(alloc, &name)?;
+            Ok(start_fits(logged, &at.right, &hash, &hash))
+        }
+        NameMistake::ChainingKeyOfZeros => {
+            Ok(start_fits(logged, &at.right, &at.right.hash, &[0; 32]))
+        }
+    }
+}
+
+fn start_fits(logged: &Logged, right: &State, hash: &[u8], chaining_key: &[u8]) -> bool
+    ensures { result ≡ start_fits logged.now right.now hash.now chaining_key.now }
+{
+    has(&logged.hash, hash)
+        && has(&logged.chaining_key, chaining_key)
+        && key_fits(&logged.key, &right.key)
+        && nonce_fits(&logged.nonce, right.nonce)
+}
+
+// 32 bytes: cut, or with zeros after them.
+fn padded(alloc: Global, text: &[u8]) -> Result<Vec<u8>, AllocError>
+    ensures { IfOk result (λ v. v.items ≡ padded text.now) }
+{
+    let mut padded = Vec::from_slice(alloc, text)?;
+    padded.resize(32, 0)?;
+    Ok(padded)
+}
+
+fn started(alloc: Global, name: &[u8]) -> Result<Vec<u8>, AllocError>
+    ensures { IfOk result (λ v. v.items ≡ started name.now) }
+{
+    if name.len() <= 32 {
+        return padded(alloc, name);
+    }
+    let hash: [u8; 32] = Sha256::digest(name);
+    Vec::from_slice(alloc, &hash)
+}
+
+fn lower_case(alloc: Global, text: &[u8]) -> Result<Vec<u8>, AllocError>
+    ensures { IfOk result (λ v. v.items ≡ map lower text.now) }
+{
+    text.iter().map(|b| lower(*b)).collect(alloc)
+}
+
+fn lower(b: u8) -> u8
+    ensures { result ≡ lower b }
+{
+    if 65 <= b && b <= 90 { b ^ 32 } else { b }
+}
+
+/// The state after a step that calls MixHash, with a mistake.
+#[tactic(auto, unfolding(crate::specs::Mixing::hash_state))]
+pub(crate) fn hash_state(mistake: HashMistake, at: &Situation<'_>) -> State
+    ensures { result ≡ hash_state mistake at.now }
+{
+    match mistake {
+        HashMistake::LeftOut => with_hash(&at.right, at.before.hash),
+        HashMistake::LengthInFront => {
+            with_hash(&at.right, mixed_with_length(&at.before.hash, at.data))
+        }
+        HashMistake::DataFirst => with_hash(&at.right, mixed(at.data, &at.before.hash)),
+        HashMistake::KeyLeftOut => with_hash(&at.before, at.right.hash),
+        HashMistake::KeyMixed => with_key(&at.right, &at.before.chaining_key, at.data),
+        HashMistake::StepsLeftOut => redone(at),
+    }
+}
+
+pub(crate) fn redone(at: &Situation<'_>) -> State
+    ensures { result ≡ redone at.now }
+{
+    let hashed = with_hash(&at.agreed, mixed(&at.agreed.hash, at.data));
+    if at.right.chaining_key.as_slice() == at.before.chaining_key.as_slice() {
+        hashed
+    } else {
+        with_key(&hashed, &at.agreed.chaining_key, at.data)
+    }
+}
+
+pub(crate) fn with_hash(state: &State, hash: [u8; 32]) -> State
+    ensures { result ≡ with_hash state.now hash }
+{
+    State {
+        hash,
+        chaining_key: state.chaining_key,
+        key: state.key,
+        nonce: state.nonce,
+    }
+}
+
+// MixKey, from this chaining key.
+pub(crate) fn with_key(state: &State, chaining_key: &[u8; 32], input: &[u8]) -> State
+    ensures { result ≡ with_key state.now chaining_key.now input.now }
+{
+    let (chaining_key, key) = expand2(chaining_key, input);
+    State {
+        hash: state.hash,
+        chaining_key,
+        key: Some(key),
+        nonce: 0,
+    }
+}
+
+// The hash of both.
+pub(crate) fn mixed(hash: &[u8], data: &[u8]) -> [u8; 32]
+    ensures { result ≡ sha256 (hash.now ++ data.now) }
+{
+    let mut hasher = Sha256::new();
+    hasher.update(hash);
+    hasher.update(data);
+    hasher.finalize()
+}
+
+// The hash of a hash, and of data with its length, two bytes, in front.
+pub(crate) fn mixed_with_length(hash: &[u8; 32], data: &[u8]) -> [u8; 32]
+    requires { length data.now ≤ 65535 }
+    ensures { result ≡ sha256 (hash.now ++ length_of data.now ++ data.now) }
+{
+    let mut hasher = Sha256::new();
+    hasher.update(hash);
+    hasher.update((data.len() as u16).to_be_bytes());
+    hasher.update(data);
+    hasher.finalize()
+}

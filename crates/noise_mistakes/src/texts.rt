@@ -1,0 +1,216 @@
+//! Mistakes of `s` and of a payload.
+
+ghost use Rattle.std.specs.Prelude.{◌≡◌, ◌≤◌, ◌++◌, ◌-◌, ◌+◌, [], IfOk, length, replicate, take};
+ghost use Rattle.sha2.specs.Sha256.{sha256};
+ghost use Rattle.noise_aead.specs.Sealing.{nonce_of, sealed};
+ghost use Rattle.noise_mistakes.specs.Mixing.{length_of, with_hash};
+ghost use Rattle.noise_mistakes.specs.States.{fits};
+ghost use Rattle.noise_mistakes.specs.Texts.{ad_fits_text, big_endian, big_endian_first_bytes, bytes_fit, earlier_hash_explains, first_bytes, hashed, nonce_fits_text, one_more, sealed_under, text_explains, without_tag};
+
+use crate::mistake::TextMistake;
+use crate::mixing::{mixed, mixed_with_length, redone, with_hash};
+use crate::secrets::with_nonce;
+use crate::state::{Logged, Situation, State};
+use byteorder::{BigEndian, ByteOrder, LittleEndian};
+use noise_aead::{nonce, seal_in_place};
+use std::alloc::{AllocError, Global};
+
+/// Whether a mistake gives the logged values.
+#[tactic(auto, unfolding(crate::specs::Texts::text_explains))]
+pub(crate) fn text_explains(
+    alloc: Global,
+    mistake: TextMistake,
+    at: &Situation<'_>,
+    logged: &Logged,
+) -> Result<bool, AllocError>
+    ensures { IfOk result (λ b. b ≡ text_explains mistake at.now logged.now) }
+{
+    let n = at.before.nonce;
+    match mistake {
+        TextMistake::Clear => Ok(clear_fits(at, logged, at.text)),
+        TextMistake::TagLeftOff => Ok(clear_fits(at, logged, without_tag(at.bytes))),
+        TextMistake::TagAdded => tag_explains(alloc, at, logged),
+        TextMistake::BigEndian => big_endian_explains(alloc, at, logged),
+        TextMistake::FirstBytes => nonce_fits_text(alloc, at, logged, &first_bytes(n)),
+        TextMistake::BigEndianFirstBytes => {
+            nonce_fits_text(alloc, at, logged, &big_endian_first_bytes(n))
+        }
+        TextMistake::NonceFromOne => next_nonce_explains(alloc, at, logged),
+        TextMistake::NoAssociatedData => ad_fits_text(alloc, at, logged, &[]),
+        TextMistake::EarlierHash => earlier_hash_explains(alloc, at, logged),
+        TextMistake::LaterHash => ad_fits_text(alloc, at, logged, &at.right.hash),
+        TextMistake::HashLeftOut => {
+            Ok(logged.fits(at.bytes, &with_hash(&at.right, at.before.hash)))
+        }
+        TextMistake::TextHashed => Ok(logged.fits(at.bytes, &hashed(at, at.text))),
+        TextMistake::TagNotHashed => Ok(logged.fits(at.bytes, &hashed(at, without_tag(at.bytes)))),
+        TextMistake::LengthHashed => Ok(logged.fits(at.bytes, &with_length(at))),
+        TextMistake::NonceKept => Ok(logged.fits(at.bytes, &with_nonce(&at.right, n))),
+        TextMistake::NonceRaised => {
+            Ok(logged.fits(at.bytes, &with_nonce(&at.right, one_more(at.right.nonce))))
+        }
+        TextMistake::StepsLeftOut => Ok(logged.fits(at.bytes, &redone(at))),
+    }
+}
+
+// Whether these bytes in the clear, and MixHash of them, are what was logged.
+fn clear_fits(at: &Situation<'_>, logged: &Logged, bytes: &[u8]) -> bool
+    ensures { result ≡ fits logged.now bytes.now (with_hash at.now.before (sha256 (at.now.before.hash ++ bytes.now))) }
+{
+    let hash = mixed(&at.before.hash, bytes);
+    logged.fits(bytes, &with_hash(&at.before, hash))
+}
+
+fn tag_explains(
+    alloc: Global,
+    at: &Situation<'_>,
+    logged: &Logged,
+) -> Result<bool, AllocError>
+    ensures { IfOk result (λ b. b ≡ bytes_fit at.now logged.now (at.now.text.now ++ replicate 16 0)) }
+{
+    let mut bytes = Vec::from_slice(alloc, at.text)?;
+    bytes.extend_from_slice(&[0; 16])?;
+    Ok(bytes_fit(at, logged, &bytes))
+}
+
+fn big_endian_explains(
+    alloc: Global,
+    at: &Situation<'_>,
+    logged: &Logged,
+) -> Result<bool, AllocError>
+    ensures { IfOk result (λ b. b ≡ nonce_fits_text at.now logged.now (big_endian at.now.before.nonce)) }
+{
+    let nonce = big_endian(at.before.nonce);
+    nonce_fits_text(alloc, at, logged, &nonce)
+}
+
+fn next_nonce_explains(
+    alloc: Global,
+    at: &Situation<'_>,
+    logged: &Logged,
+) -> Result<bool, AllocError>
+    ensures { IfOk result (λ b. b ≡ nonce_fits_text at.now logged.now (nonce_of (one_more at.now.before.nonce))) }
+{
+    let next = nonce(one_more(at.before.nonce));
+    nonce_fits_text(alloc, at, logged, &next)
+}
+
+fn earlier_hash_explains(
+    alloc: Global,
+    at: &Situation<'_>,
+    logged: &Logged,
+) -> Result<bool, AllocError>
+    ensures { IfOk result (λ b. b ≡ earlier_hash_explains at.now logged.now) }
+{
+    let mut found = false;
+    for hash in at.hashes {
+        if ad_fits_text(alloc, at, logged, hash)? {
+            found = true;
+        }
+    }
+    Ok(found)
+}
+
+fn nonce_fits_text(
+    alloc: Global,
+    at: &Situation<'_>,
+    logged: &Logged,
+    nonce: &[u8; 12],
+) -> Result<bool, AllocError>
+    ensures { IfOk result (λ b. b ≡ nonce_fits_text at.now logged.now nonce.now) }
+{
+    let bytes = sealed_under(alloc, &at.before.key, nonce, &at.before.hash, at.text)?;
+    Ok(bytes_fit(at, logged, &bytes))
+}
+
+fn ad_fits_text(
+    alloc: Global,
+    at: &Situation<'_>,
+    logged: &Logged,
+    ad: &[u8],
+) -> Result<bool, AllocError>
+    requires { length ad.now ≤ 65535 }
+    ensures { IfOk result (λ b. b ≡ ad_fits_text at.now logged.now ad.now) }
+{
+    let right = nonce(at.before.nonce);
+    let bytes = sealed_under(alloc, &at.before.key, &right, ad, at.text)?;
+    Ok(bytes_fit(at, logged, &bytes))
+}
+
+fn bytes_fit(at: &Situation<'_>, logged: &Logged, bytes: &[u8]) -> bool
+    ensures { result ≡ bytes_fit at.now logged.now bytes.now }
+{
+    logged.fits(bytes, &hashed(at, bytes))
+}
+
+fn hashed(at: &Situation<'_>, bytes: &[u8]) -> State
+    ensures { result ≡ hashed at.now bytes.now }
+{
+    with_hash(&at.right, mixed(&at.before.hash, bytes))
+}
+
+fn with_length(at: &Situation<'_>) -> State
+    ensures { result ≡ hashed at.now (length_of at.now.data.now ++ at.now.data.now) }
+{
+    with_hash(&at.right, mixed_with_length(&at.before.hash, at.data))
+}
+
+fn without_tag(bytes: &[u8]) -> &[u8]
+    ensures { result.now ≡ without_tag bytes.now }
+{
+    let end = bytes.len().saturating_sub(16);
+    &bytes[..end]
+}
+
+/// A text under a key, if there is one.
+pub(crate) fn sealed_under(
+    alloc: Global,
+    key: &Option<[u8; 32]>,
+    nonce: &[u8; 12],
+    ad: &[u8],
+    text: &[u8],
+) -> Result<Vec<u8>, AllocError>
+    requires ad_fits { length ad.now ≤ 65535 }
+    requires text_fits { length text.now ≤ 65535 }
+    ensures { IfOk result (λ v. v.items ≡ sealed_under key.now nonce.now ad.now text.now) }
+{
+    let mut bytes = Vec::from_slice(alloc, text)?;
+    match key {
+        None => Ok(bytes),
+        Some(key) => {
+            let tag = seal_in_place(key, nonce, ad, &mut bytes);
+            bytes.extend_from_slice(&tag)?;
+            Ok(bytes)
+        }
+    }
+}
+
+fn big_endian(n: u64) -> [u8; 12]
+    ensures { result ≡ big_endian n }
+{
+    let mut nonce = [0; 12];
+    BigEndian::write_u64(&mut nonce[4..], n);
+    nonce
+}
+
+fn first_bytes(n: u64) -> [u8; 12]
+    ensures { result ≡ first_bytes n }
+{
+    let mut nonce = [0; 12];
+    LittleEndian::write_u64(&mut nonce, n);
+    nonce
+}
+
+fn big_endian_first_bytes(n: u64) -> [u8; 12]
+    ensures { result ≡ big_endian_first_bytes n }
+{
+    let mut nonce = [0; 12];
+    BigEndian::write_u64(&mut nonce, n);
+    nonce
+}
+
+pub(crate) fn one_more(n: u64) -> u64
+    ensures { result ≡ one_more n }
+{
+    if n < u64::MAX { n + 1 } else { n }
+}
