@@ -1,6 +1,6 @@
 -- A refused message that ends the handshake, by one that doesn't.
 use Rattle.std.proofs.Common.{◌≡◌, ◌≤◌, ◌⊎◌, inl, inr, ℕ, List, true, false, refl, sym, subst, ◌∙◌, ap, arith}
-use Rattle.noise_c.proofs.Common.{Plan, Party, NoiseHandshake, NoiseResult, IsUsable, KeepsParty, WasRefused}
+use Rattle.noise_c.proofs.Common.{Plan, Party, NoiseHandshake, NoiseResult, KeepsParty, WasRefused}
 use Rattle.noise_handshake.specs.Matching.{ended_party}
 use Rattle.noise_c.specs.Outcomes.{ReadOutcome}
 use Rattle.noise_c.specs.Outcomes.ReadOutcome.{accepted, wants_dh_result, wants_psk, declined, refused, too_long, unusable}

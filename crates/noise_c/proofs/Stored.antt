@@ -1,6 +1,6 @@
 -- The struct matches what the handshake stood for.
 use Rattle.std.proofs.Common.{◌≡◌, ℕ, ◌+◌, ◌-◌, ◌++◌, ◌≤◌, List, length, drop, length-append, drop-drop, ap, sym, subst, ◌∙◌, refl, arith, slice_range}
-use Rattle.noise_c.proofs.Common.{drop-append_seam, Plan, IsValid, Cause, ReadFault, HandshakeValue, ended_as, message_len_of, with_later, after_late_unread, IsLateWhole, Table, Party, Accepts, Matches, after_message, after_own, after_not_read, DoesNotRead, Writes, NoiseHandshake, public_in, agreement_in, text_from_c, handshake_from_c, IsPatternOf, IsUsable, KeepsParty, WasRead, WasWritten}
+use Rattle.noise_c.proofs.Common.{drop-append_seam, Plan, IsValid, Cause, ReadFault, HandshakeValue, ended_as, message_len_of, with_later, after_late_unread, IsLateWhole, Table, Party, Accepts, Matches, after_message, after_own, Writes, NoiseHandshake, public_in, agreement_in, text_from_c, handshake_from_c, IsPatternOf, IsUsable, KeepsParty, WasRead, WasWritten}
 use Rattle.noise_handshake.specs.declared.late_faults.LateUnread.{LateUnread}
 use Rattle.noise_c.specs.declared.codes.numbers.TheConstants.{HANDSHAKE}
 use Rattle.noise_c.proofs.Numbers.{IsPlain}

@@ -1,7 +1,6 @@
-use Rattle.std.proofs.Common.{◌≡◌, ℕ, List, length, inl, ap, refl, arith, rules}
+use Rattle.std.proofs.Common.{◌≡◌, List, length, inl, ap, refl, arith, rules}
 use Rattle.noise_c.proofs.Common.{TableEntry, handshake_from_c, table_in}
 use Rattle.noise_c.proofs.Moved.{results-moved, usable-results}
-use Rattle.noise_c.specs.declared.structs.NoiseAnswer.{NoiseAnswer}
 use Rattle.noise_c.proofs.late.noise_answer.Goals as goal
 
 pub returns-then-count-eq8 : goal.returns-then-count-eq8

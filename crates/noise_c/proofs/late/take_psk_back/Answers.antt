@@ -1,4 +1,4 @@
-use Rattle.std.proofs.Common.{arith, rules, ◌≡◌, ℕ, length}
+use Rattle.std.proofs.Common.{arith, rules, ◌≡◌, length}
 use Rattle.noise_c.proofs.Unset.{takes-last, takes-none}
 use Rattle.noise_c.proofs.late.take_psk_back.Goals as goal
 

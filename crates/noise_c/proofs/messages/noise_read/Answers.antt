@@ -1,4 +1,4 @@
-use Rattle.std.proofs.Common.{◌≡◌, ◌≤◌, refl, arith}
+use Rattle.std.proofs.Common.{◌≤◌, refl, arith}
 use Rattle.noise_c.proofs.messages.noise_read.Goals.{else-code-ge-AGREEMENT-via-then-code-ge-AGREEMENT+else-code-le-TAG, else-code-ge-AGREEMENT-via-else-code-ge-AGREEMENT}
 use Rattle.noise_c.proofs.Refused.{ends}
 use Rattle.noise_c.proofs.messages.noise_read.Goals as goal

@@ -1,6 +1,6 @@
 use Rattle.std.specs.Prelude.{Ok, Err, drop, ◌+◌, ◌-◌}
-use Rattle.std.proofs.Common.{false, ◌≡◌, ◌≤◌, ◌⊎◌, ℕ, List, inr, length, refl, ap, sym, subst, ◌∙◌, arith}
-use Rattle.noise_c.proofs.Common.{Result, false≢true, Table, Short, Tag, Agreement, ReadFault, Want, HandshakeValue, LeavesLateUnread, WantsPskToRead, Matches, DoesNotRead, Party, Refuses, read_code, NoiseResult, public_in, agreement_in, handshake_from_c, IsUsable, ReportsWant}
+use Rattle.std.proofs.Common.{false, ◌≡◌, ◌≤◌, ◌⊎◌, ℕ, List, length, refl, ap, sym, subst, ◌∙◌, arith}
+use Rattle.noise_c.proofs.Common.{Result, false≢true, Table, Short, Tag, Agreement, ReadFault, Want, HandshakeValue, LeavesLateUnread, WantsPskToRead, DoesNotRead, Party, Refuses, read_code, NoiseResult, handshake_from_c, IsUsable, ReportsWant}
 use Rattle.noise_handshake.specs.declared.late_faults.LateUnread.{LateUnread}
 use Rattle.noise_handshake.specs.declared.late_faults.Want.TheVariants.{Psk}
 use Rattle.noise_c.specs.HalfStructs.{IsAround}
