@@ -238,10 +238,10 @@ def definitions(module):
 
 
 def must_agree(base, other, calls, level):
-    """A function that one text calls and the other defines has to be the same to its caller."""
+    """A function that one text calls and the other defines has to be the same to its caller. (What neither defines is the system's.)"""
     for name in sorted(calls):
-        if name in base and base[name] != other.get(name):
-            raise Failure(f"{name} isn't called at {level} as it is defined:\n{base[name]}\n{other.get(name)}")
+        if base.get(name) != other.get(name) or name in HOT and name not in base:
+            raise Failure(f"{name} isn't called at {level} as it is defined:\n{base.get(name)}\n{other.get(name)}")
 
 
 def calls_of(text):
