@@ -1,5 +1,6 @@
-// A slow reader at the end of a WebSocket of the package ws: all comes, and the sender waits meanwhile.
+// A slow reader at the end of a WebSocket of the package ws: all comes, and the sender waits meanwhile. And a stranger's message of 90 MiB isn't taken.
 import assert from 'node:assert/strict';
+import { once } from 'node:events';
 import { NoiseSocket, load } from '../../bindings/js/noise.mjs';
 import { webSockets } from './ws.mjs';
 
@@ -31,5 +32,13 @@ await sending;
 assert.equal(got, COUNT * SIZE);
 assert.ok(most < 24 << 20, `${most} bytes on the way`);
 await Promise.all([a.close(), b.close()]);
+
+const [stranger, taken] = await pair();
+const opened = NoiseSocket.open(taken, { ...NN, responder: true });
+stranger.on('error', () => {});
+if (stranger.readyState === 0) await once(stranger, 'open');
+stranger.send(new Uint8Array(90 << 20));
+await assert.rejects(opened, ({ code, cause }) => code === 'NOISE_CUT' && cause.code === 'WS_ERR_UNSUPPORTED_MESSAGE_LENGTH');
+stranger.terminate();
 close();
 console.log(`js: ${got >> 20} MiB over a WebSocket of the package ws to a slow reader, at most ${most >> 20} MiB of them on the way`);
