@@ -1,10 +1,10 @@
-// What the short listings of docs/JAVASCRIPT.md and README.md take as given.
+// What the short listings of docs/JAVASCRIPT.md and the package's README.md take as given.
 declare const [message, payload, prologue, received, remoteStatic]: Uint8Array[];
 declare const psks: Uint8Array[];
 declare const pskOf: Map<string, Uint8Array>;
 declare const [pattern, responder]: [string, boolean];
 declare const [staticKey, key]: import('yulimosar').KeyPair[];
-declare const other: Buffer;
+declare const server: Uint8Array;
 declare const judge: (remoteStatic: Uint8Array) => boolean;
 declare const socket: WebSocket;
 declare const channel: import('yulimosar').NoiseSocket;
