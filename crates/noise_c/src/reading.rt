@@ -74,7 +74,8 @@ pub fn read_stream_to(
     requires { is_stream_receiver stream.old ≡ true }
     ensures known { is_stream_receiver stream.new ≡ true }
     ensures left { IfOk result (λ left. left ≤ length came.old) }
-    ensures rest { IfOk result (λ left. drop (length came.old - left) came.new ≡ drop (length came.old - left) came.old) }
+    ensures rest { IfOk result
+        (λ left. drop (length came.old - left) came.new ≡ drop (length came.old - left) came.old) }
     ensures unchanged { OnErr result
         ((stream.new ≡ stream.old) × (came.new ≡ came.old) × (out.new.items ≡ out.old.items)) }
     ensures reads { (v : TransportState) (s : ReaderState) → ReaderMatches (stream_receiver_from_c stream.old) v s

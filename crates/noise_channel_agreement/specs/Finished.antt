@@ -10,8 +10,8 @@ use Rattle.noise_duel.specs.Collision.{Collision}
 use Rattle.noise_duel.specs.Messages.{HandshakeMessage, Exchanged, Start, begun_as, messages_of}
 
 -- Two parties of one pattern, each made without a fault, with equal psks and keys that agree, have finished: each has
--- written or accepted a message for each of the pattern's, of which there is some, and there was a key at the last. What
--- a network did to them isn't said, and nothing of one is compared with the other's.
+-- written or accepted a message for each of the pattern's, of which there is some, and there was a key at the last.
+-- What a network did to them isn't said, and nothing of one is compared with the other's.
 pub record HaveFinished (p : Plan) (a b : Start) (ps qs : List HandshakeMessage) (v w : Party) : Type 0 where
   pub initiator : IsSetUp p Initiator a
   pub responder : IsSetUp p Responder b
@@ -24,8 +24,8 @@ pub record HaveFinished (p : Plan) (a b : Start) (ps qs : List HandshakeMessage)
   pub passed_too : w.passed ≡ length p.messages
   pub keyed : is_some (cipher_key v.history) ≡ true
 
--- Of the messages at one place one party wrote the first, and the other accepted the second in place of it, or the other
--- way round: it is forged.
+-- Of the messages at one place one party wrote the first, and the other accepted the second in place of it, or the
+-- other way round: it is forged.
 pub record IsForgedMessage (ps qs : List HandshakeMessage) (place : ℕ) : Type 0 where
   pub left : List ℕ
   pub right : List ℕ

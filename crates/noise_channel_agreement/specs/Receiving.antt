@@ -80,8 +80,8 @@ abbrev pub HandsOut : TransportState → List ℕ → List ℕ → List ℕ → 
 HandsOut writer came before after whole =
     (handed : List ℕ) × (after ≡ before ++ handed) × IsFrontOrForged writer came handed whole
 
--- All that the writer's calls put out came: all that it took was appended, and that is whole exactly if it has ended the
--- stream.
+-- All that the writer's calls put out came: all that it took was appended, and that is whole exactly if it has ended
+-- the stream.
 abbrev pub HandsOutAll : TransportState → List ℕ → List ℕ → List ℕ → Bool → Type 0
 HandsOutAll writer came before after whole =
     (calls : List Call) (u : WriterState) → WritesAll (outgoing writer) (Speaks 0) calls u → came ≡ bytes_put calls

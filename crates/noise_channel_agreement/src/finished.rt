@@ -24,7 +24,8 @@ pub fn streams<K: Keys>(
     handshake: Handshake<K>,
     interval: u64,
 ) -> Option<(StreamSender, StreamReceiver)>
-    ensures when { IsSome result ↔ ((handshake.ended ≡ false) × (handshake.passed ≡ length handshake.pattern.messages)) }
+    ensures when { IsSome result
+        ↔ ((handshake.ended ≡ false) × (handshake.passed ≡ length handshake.pattern.messages)) }
     ensures matches { (v : Party) → Matches K.public_of K.agreement handshake v → IfSome result
         (λ r. WriterMatches r.0 (transport_of v interval) (Speaks 0)
         × ReaderMatches r.1 (transport_of v interval) (Listens 0)) }

@@ -45,7 +45,8 @@ pub fn read_to(
     out: &mut Vec<u8>,
 ) -> Result<usize, AllocError>
     ensures left { IfOk result (λ left. left ≤ length came.old) }
-    ensures rest { IfOk result (λ left. drop (length came.old - left) came.new ≡ drop (length came.old - left) came.old) }
+    ensures rest { IfOk result
+        (λ left. drop (length came.old - left) came.new ≡ drop (length came.old - left) came.old) }
     ensures unchanged { OnErr result
         ((receiver.new ≡ receiver.old) × (came.new ≡ came.old) × (out.new.items ≡ out.old.items)) }
     ensures reads { (v : TransportState) (s : ReaderState) → ReaderMatches receiver.old v s

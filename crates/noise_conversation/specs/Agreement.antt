@@ -20,7 +20,8 @@ use Rattle.noise_conversation.specs.Setup.{BothStarts, IsReportedFault, fault_of
 
 module _ {K : Type 0} (public_of : K → Own → Option (List ℕ)) (agreement : K → Own → List ℕ → Option (List ℕ)) where
   -- Two ends have one history after a run; what each accepted is the first of what the other wrote, up to a forged
-  -- message, in the run and by the report's own entries and frames; and the ends left hold the keys of the next messages.
+  -- message, in the run and by the report's own entries and frames; and the ends left hold the keys of the next
+  -- messages.
   pub record HaveAgreed (p : Plan) (interval : ℕ) (events : List Event) (duel : DuelValue K K) (report : Report)
       (last : Sides) : Type 0 where
     pub history : HaveOneHistory last
