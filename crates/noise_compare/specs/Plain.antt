@@ -2,6 +2,7 @@
 use Rattle.std.specs.Prelude.{ℕ, ◌==◌, ◌&&◌, ◌||◌, Bool, not, List, [], ◌∷◌, ◌++◌, codes, count_by, decimal, drop, flat_map, fold, if◌then◌else◌, length, map, nat_le, nat_lt, take, bit_xor}
 use Rattle.std.specs.List.{filter, slice_split}
 use Rattle.std.specs.Str.{bytes_eq}
+use Rattle.noise_compare.specs.Report.{ended}
 
 -- A tab and a carriage return are spaces, and `A` to `Z` are lower-case. A full stop stands for a byte that isn't printed.
 abbrev pub plain_byte : ℕ → ℕ
@@ -45,7 +46,9 @@ is_written text = nat_lt 0 (count_by (λ b. not (b == 32) && not (b == 9) && not
 abbrev pub written_lines : List ℕ → ℕ
 written_lines text = count_by is_written (slice_split (λ b. b == 10) text)
 
+unfoldable pub passed_line : ℕ → List ℕ
+passed_line count = codes "lines passed over: " ++ ended (decimal count)
+
 -- how many lines are passed over, if any are
 abbrev pub passed_text : ℕ → List ℕ
-passed_text count = if count == 0 then []
-    else codes "passed over " ++ (decimal count ++ codes " other lines of the log\n")
+passed_text count = if count == 0 then [] else passed_line count

@@ -6,9 +6,7 @@ ghost use Rattle.noise_compare.specs.Advice.{IsAdvice, mistakes_text, refusing_t
 ghost use Rattle.noise_compare.specs.Report.{ended};
 
 use crate::report::push_line;
-use noise_mistakes::{
-    Kind, Logged, Mistake, Situation, mistakes, mistakes_of, sentence,
-};
+use noise_mistakes::{Kind, Logged, Mistake, Situation, mistakes, mistakes_of, sentence};
 use std::alloc::{AllocError, Global};
 
 /// Appends what is said of the mistakes that give the logged values at this step.

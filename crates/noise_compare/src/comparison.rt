@@ -6,9 +6,9 @@ ghost use Rattle.noise_compare.specs.Differences.{Agrees, IsFirstDifference};
 ghost use Rattle.noise_compare.specs.Findings.{IsReport, step_after};
 
 use crate::difference::{Difference, first_difference, next_step};
+use crate::facts::Facts;
 use crate::line::Line;
 use crate::report::{agreement_text, difference_text, ending_text};
-use crate::facts::Facts;
 use crate::sentences::{of_end, of_place, of_values};
 use std::alloc::{AllocError, Global};
 

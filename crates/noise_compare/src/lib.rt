@@ -18,5 +18,5 @@ pub use comparison::{Finding, LogReport, compare_lines};
 pub use difference::{Difference, first_difference};
 pub use facts::Facts;
 pub use line::Line;
-pub use plain::{plain_text, push_passed, written_lines};
 pub use log::{LogFault, push_schedule, read_log};
+pub use plain::{plain_text, push_passed, written_lines};

@@ -80,7 +80,11 @@ impl Parts {
             text: &self.text,
             name: &facts.name,
             secret: self.secret,
-            secrets: if self.kind == Kind::Secret { &facts.psks } else { &facts.results },
+            secrets: if self.kind == Kind::Secret {
+                &facts.psks
+            } else {
+                &facts.results
+            },
             hashes: &self.hashes,
             keys: &self.keys,
         }

@@ -2,7 +2,7 @@
 
 ghost use Rattle.std.specs.Prelude.{◌≡◌, ◌≤◌, ◌==◌, ◌&&◌, ◌++◌, not, IfOk, OnOk, count_by, drop, length, map, slice_range};
 ghost use Rattle.std.specs.List.{filter, slice_split};
-ghost use Rattle.noise_compare.specs.Plain.{add_word, begins, from_trace, is_written, passed_text, plain_byte, plain_line, plain_text, plain_word, spaced, without, written_lines};
+ghost use Rattle.noise_compare.specs.Plain.{add_word, begins, from_trace, is_written, passed_line, passed_text, plain_byte, plain_line, plain_text, plain_word, spaced, without, written_lines};
 
 use crate::line::parts;
 use std::alloc::{AllocError, Global};
@@ -56,6 +56,7 @@ fn plain_byte(b: u8) -> u8
 }
 
 // The text from `trace ` on, or nothing where it has none.
+#[tactic(auto, using(crate::proofs::PlainLemmas::passed_place))]
 fn from_trace(text: &[u8]) -> &[u8]
     ensures { result.now ≡ from_trace text.now }
 {
@@ -77,7 +78,11 @@ fn begins(text: &[u8], front: &[u8]) -> bool
 fn without<'a>(word: &'a [u8], front: &[u8]) -> &'a [u8]
     ensures { result.now ≡ without word.now front.now }
 {
-    if begins(word, front) { &word[front.len()..] } else { word }
+    if begins(word, front) {
+        &word[front.len()..]
+    } else {
+        word
+    }
 }
 
 fn add_word(alloc: Global, word: &[u8], line: &mut Vec<u8>) -> Result<(), AllocError>
@@ -105,11 +110,26 @@ fn plain_word(alloc: Global, word: &[u8]) -> Result<Vec<u8>, AllocError>
 pub fn push_passed(alloc: Global, count: usize, text: &mut Vec<u8>) -> Result<(), AllocError>
     ensures { OnOk result (text.new.items ≡ text.old.items ++ passed_text count) }
 {
+    let line = passed_text(alloc, count)?;
+    text.extend_from_slice(&line)
+}
+
+fn passed_text(alloc: Global, count: usize) -> Result<Vec<u8>, AllocError>
+    ensures { IfOk result (λ text. text.items ≡ passed_text count) }
+{
     if count == 0 {
-        return Ok(());
+        Ok(Vec::new(alloc))
+    } else {
+        passed_line(alloc, count)
     }
-    let line = format!(in alloc; "passed over {count} other lines of the log\n")?;
-    text.extend_from_slice(line.as_bytes())
+}
+
+#[tactic(auto, unfolding(crate::specs::Plain::passed_line))]
+fn passed_line(alloc: Global, count: usize) -> Result<Vec<u8>, AllocError>
+    ensures { IfOk result (λ text. text.items ≡ passed_line count) }
+{
+    let line = format!(in alloc; "lines passed over: {count}\n")?;
+    Vec::from_slice(alloc, line.as_bytes())
 }
 
 /// How many lines of a text aren't blank.
@@ -123,5 +143,8 @@ pub fn written_lines(alloc: Global, text: &[u8]) -> Result<usize, AllocError>
 fn is_written(text: &[u8]) -> bool
     ensures { result ≡ is_written text.now }
 {
-    0 < text.iter().filter(|b| **b != 32 && **b != 9 && **b != 13).count()
+    0 < text
+        .iter()
+        .filter(|b| **b != 32 && **b != 9 && **b != 13)
+        .count()
 }

@@ -53,7 +53,11 @@ fn last_that_agrees<'a, 'b>(
     None
 }
 
-fn last_of_role<'a, 'b>(log: &'a [Line<'b>], index: usize, expected: &Line<'_>) -> Option<&'a Line<'b>> {
+fn last_of_role<'a, 'b>(
+    log: &'a [Line<'b>],
+    index: usize,
+    expected: &Line<'_>,
+) -> Option<&'a Line<'b>> {
     let mut found = None;
     for (number, line) in log.iter().enumerate() {
         if number < index && line.word(1) == expected.word(1) {
@@ -114,7 +118,10 @@ pub(crate) fn of_place(
     text.extend_from_slice(b"due is ".as_slice())?;
     push_place(next, &mut text)?;
     text.push(b'\n')?;
-    push_line("a step out of order, or too many, or under another name", &mut text)?;
+    push_line(
+        "a step out of order, or too many, or under another name",
+        &mut text,
+    )?;
     Ok(text)
 }
 

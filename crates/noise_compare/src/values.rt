@@ -32,7 +32,11 @@ fn logged_in(alloc: Global, word: &[u8]) -> Result<Option<Vec<u8>>, AllocError> 
 
 // Likewise of a hash or a chaining key: a line of the transport has none.
 fn logged_if_any(alloc: Global, word: &[u8]) -> Result<Option<Vec<u8>>, AllocError> {
-    if word == b"-".as_slice() { Ok(None) } else { logged_in(alloc, word) }
+    if word == b"-".as_slice() {
+        Ok(None)
+    } else {
+        logged_in(alloc, word)
+    }
 }
 
 fn number_in(word: &[u8]) -> Option<u64> {
@@ -44,7 +48,9 @@ fn number_in(word: &[u8]) -> Option<u64> {
         if *digit < b'0' || b'9' < *digit {
             return None;
         }
-        number = number.checked_mul(10)?.checked_add(u64::from(*digit - b'0'))?;
+        number = number
+            .checked_mul(10)?
+            .checked_add(u64::from(*digit - b'0'))?;
     }
     Some(number)
 }
@@ -55,7 +61,11 @@ pub(crate) fn state_in(line: &Line<'_>) -> State {
     State {
         hash: array_in(line.word(8)),
         chaining_key: array_in(line.word(9)),
-        key: if key == b"-".as_slice() { None } else { Some(array_in(key)) },
+        key: if key == b"-".as_slice() {
+            None
+        } else {
+            Some(array_in(key))
+        },
         nonce: number_in(line.word(11)).unwrap_or(0),
     }
 }
@@ -86,11 +96,19 @@ pub(crate) fn kind_in(line: &Line<'_>) -> Kind {
 }
 
 fn of_start(name: &[u8]) -> Kind {
-    if name == b"name".as_slice() { Kind::Name } else { Kind::Data }
+    if name == b"name".as_slice() {
+        Kind::Name
+    } else {
+        Kind::Data
+    }
 }
 
 fn of_transport(name: &[u8]) -> Kind {
-    if name == b"renewed".as_slice() { Kind::Renewal } else { Kind::Transport }
+    if name == b"renewed".as_slice() {
+        Kind::Renewal
+    } else {
+        Kind::Transport
+    }
 }
 
 fn of_token(name: &[u8]) -> Kind {

@@ -2,7 +2,6 @@
 use Rattle.std.specs.Prelude.{ℕ, ◌==◌, ◌&&◌, Bool, true, List, [], Option, Some, None, Vec}
 use Rattle.std.specs.Str.{bytes_eq}
 use Rattle.std.specs.Global.{Global}
-
 use Rattle.noise_mistakes.specs.declared.state.State.{State}
 use Rattle.noise_mistakes.specs.declared.state.Logged.{Logged}
 

@@ -56,14 +56,14 @@ fn split_of_hash(at: &Situation<'_>, logged: &Logged) -> bool
 fn other_key_explains(at: &Situation<'_>, logged: &Logged) -> bool
     ensures { result ≡ other_key_explains at.now logged.now }
 {
-    0 < at.keys.iter().filter(|key| fits_with_key(at, logged, *key)).count()
+    0 < at
+        .keys
+        .iter()
+        .filter(|key| fits_with_key(at, logged, *key))
+        .count()
 }
 
-fn rekey_by_nonce(
-    alloc: Global,
-    at: &Situation<'_>,
-    logged: &Logged,
-) -> Result<bool, AllocError>
+fn rekey_by_nonce(alloc: Global, at: &Situation<'_>, logged: &Logged) -> Result<bool, AllocError>
     ensures { IfOk result (λ b. b ≡ rekey_explains at.now logged.now (nonce_of at.now.right.nonce)) }
 {
     let next = nonce(at.right.nonce);

@@ -50,17 +50,33 @@ fn secret_state(mistake: SecretMistake, at: &Situation<'_>) -> State
             applied(at.kind, before, &expanded(&at.secret, chaining_key))
         }
         SecretMistake::OutputsExchanged => {
-            applied(at.kind, before, &exchanged(at.kind, &expanded(chaining_key, &at.secret)))
+            applied(
+                at.kind,
+                before,
+                &exchanged(at.kind, &expanded(chaining_key, &at.secret)),
+            )
         }
         SecretMistake::Reversed => after_secret(at, &reversed(at.secret)),
         SecretMistake::CountedFromZero => {
-            applied(at.kind, before, &counted_from_zero(&hmac(chaining_key, &[&at.secret])))
+            applied(
+                at.kind,
+                before,
+                &counted_from_zero(&hmac(chaining_key, &[&at.secret])),
+            )
         }
         SecretMistake::Unchained => {
-            applied(at.kind, before, &unchained(&hmac(chaining_key, &[&at.secret])))
+            applied(
+                at.kind,
+                before,
+                &unchained(&hmac(chaining_key, &[&at.secret])),
+            )
         }
         SecretMistake::ShortBlocks => {
-            applied(at.kind, before, &short_outputs(&short_hmac(chaining_key, &at.secret)))
+            applied(
+                at.kind,
+                before,
+                &short_outputs(&short_hmac(chaining_key, &at.secret)),
+            )
         }
         SecretMistake::ChainingKeyKept => with_chaining_key(&at.right, *chaining_key),
         SecretMistake::NonceKept => with_nonce(&at.right, at.before.nonce),
@@ -70,7 +86,11 @@ fn secret_state(mistake: SecretMistake, at: &Situation<'_>) -> State
         SecretMistake::HashLeftOut => with_hash(&at.right, at.before.hash),
         SecretMistake::Other => at.right,
         SecretMistake::StepsLeftOut => {
-            applied(at.kind, &at.agreed, &expanded(&at.agreed.chaining_key, &at.secret))
+            applied(
+                at.kind,
+                &at.agreed,
+                &expanded(&at.agreed.chaining_key, &at.secret),
+            )
         }
     }
 }
@@ -78,7 +98,11 @@ fn secret_state(mistake: SecretMistake, at: &Situation<'_>) -> State
 fn after_secret(at: &Situation<'_>, secret: &[u8; 32]) -> State
     ensures { result ≡ after_secret at.now secret.now }
 {
-    applied(at.kind, &at.before, &expanded(&at.before.chaining_key, secret))
+    applied(
+        at.kind,
+        &at.before,
+        &expanded(&at.before.chaining_key, secret),
+    )
 }
 
 fn reversed(mut secret: [u8; 32]) -> [u8; 32]
@@ -167,7 +191,11 @@ fn padded_by(mut key: [u8; 32], pad: u8) -> [u8; 32]
 fn applied(kind: Kind, before: &State, outputs: &Outputs) -> State
     ensures { result ≡ applied kind before.now outputs.now }
 {
-    if is_psk(kind) { mixed_key_and_hash(before, outputs) } else { mixed_key(before, outputs) }
+    if is_psk(kind) {
+        mixed_key_and_hash(before, outputs)
+    } else {
+        mixed_key(before, outputs)
+    }
 }
 
 fn is_psk(kind: Kind) -> bool

@@ -61,11 +61,7 @@ fn clear_fits(at: &Situation<'_>, logged: &Logged, bytes: &[u8]) -> bool
     logged.fits(bytes, &with_hash(&at.before, hash))
 }
 
-fn tag_explains(
-    alloc: Global,
-    at: &Situation<'_>,
-    logged: &Logged,
-) -> Result<bool, AllocError>
+fn tag_explains(alloc: Global, at: &Situation<'_>, logged: &Logged) -> Result<bool, AllocError>
     ensures { IfOk result (λ b. b ≡ bytes_fit at.now logged.now (at.now.text.now ++ replicate 16 0)) }
 {
     let mut bytes = Vec::from_slice(alloc, at.text)?;
