@@ -1,6 +1,7 @@
-// What a pattern's tokens show: which private keys are enough for each key, who might have written each message, and whether a recording of it is accepted
-// again. `rowsOf` decides, and SENTENCES has the words. Nothing here is graded, and nothing here is proved. A pattern is data: `messages`, each with `from`,
-// `tokens` and `pieces` (of which `kind` and `sealed` count), `before` with the tokens of both pre-messages, and `oneWay`. There is no DOM here.
+// What a pattern's tokens show: which private keys are enough for each key, who can have written each message, and whether a recording of it is accepted
+// again. `rowsOf` decides, and SENTENCES has the words; `noise explain` says the same in the same words, and checks/web compares the two. Nothing here is
+// graded. A pattern is data: `messages`, each with `from`, `tokens` and `pieces` (of which `kind` and `sealed` count), `before` with the tokens of both
+// pre-messages, and `oneWay`. There is no DOM here.
 
 const OTHER = { initiator: 'responder', responder: 'initiator' };
 const ROLES = ['initiator', 'responder'];
@@ -8,21 +9,23 @@ const DHS = ['ee', 'es', 'se', 'ss'];
 const KEYS = ['initiator e', 'initiator s', 'responder e', 'responder s'];
 
 /** The words of each fact. A name in braces is filled in. */
-const SENTENCES = {
-  seen: 'In the clear: everybody sees it.',
-  everybody: 'No DH is mixed in: everybody can compute this key.',
-  psk: 'The psk alone.',
+export const SENTENCES = Object.freeze({
+  seen: 'in the clear: everybody sees it',
+  everybody: 'no DH is mixed in: everybody can compute it.',
+  psk: 'the {psks} alone.',
   key: '{ways}{psk}.',
-  part: ' Who takes the {role}’s part needs only {keys} of its own{psk}.',
-  untagged: 'Anyone: it has no tag.',
-  openWriter: 'Anyone: everybody can compute the key.',
-  anyone: 'Anyone, with an e of its own.',
-  pskWriter: 'Who has the psk.',
-  writer: 'Who has {ways}{psk}.',
-  isNew: 'Refused: the {role}’s e is new each time.',
-  again: 'Accepted again: the {role} puts in no e before.',
-  bare: 'Accepted again: it has no tag.',
-};
+  part: ' Whoever takes the {role}’s part needs only {keys} of its own{psk}.',
+  untagged: 'anyone: it has no tag.',
+  openWriter: 'anyone: everybody can compute the key.',
+  anyone: 'anyone, with an e of its own.',
+  pskWriter: 'whoever has the {psks}.',
+  writer: 'whoever has {ways}{psk}.',
+  isNew: 'refused: the {role}’s e is new each time.',
+  again: 'accepted again: the {role} puts in no e before.',
+  bare: 'accepted again: it has no tag.',
+});
+const pskWord = (psks) => ['', 'psk'][psks] ?? 'psks';
+const inEachCase = (psks) => (psks ? `; and in each case the ${pskWord(psks)}` : '');
 
 /** What a designer has to see. */
 const WARNINGS = {
@@ -31,10 +34,14 @@ const WARNINGS = {
 };
 
 /** What the tables mean, and what isn't judged. */
-export const MEANING = 'Private keys are meant, and all public keys count as known; e is made for one handshake, s is kept. '
-  + '“Or” parts ways of which each is enough. Where an s comes in a message, the application has to compare it.';
-export const UNJUDGED = 'These are facts of tokens, and no proof. Not judged: how well payloads are authenticated and kept secret, and how well identities '
-  + 'are hidden. Sections 7.7 and 7.8 of the standard grade the fundamental patterns; Noise Explorer grades and analyses one’s own.';
+export const MEANING = [
+  'Private keys are meant, and all public keys count as known; e is made for one handshake, s is kept.',
+  '“Or” parts ways of which each is enough. Where an s comes in a message, the application has to compare it.',
+];
+export const UNJUDGED = [
+  'These are facts of tokens. Not judged: how well payloads are authenticated and kept secret, and how well identities are hidden.',
+  'Sections 7.7 and 7.8 of the standard grade the fundamental patterns; Noise Explorer grades and analyses one’s own.',
+];
 
 const filled = (text, values) => text.replace(/\{(\w+)\}/g, (_, name) => values[name] ?? '');
 
@@ -61,7 +68,7 @@ const isMixed = (token) => token === 'psk' || DHS.includes(token);
 
 /** What is mixed in by these tokens: the DHs, and how many psks. */
 const mixedOf = (tokens) => ({ dhs: DHS.filter((dh) => tokens.includes(dh)), psks: tokens.filter((token) => token === 'psk').length });
-export const mixedWords = ({ dhs, psks }) => [...dhs, ...(psks ? [psks > 1 ? `psk (${psks})` : 'psk'] : [])].join(', ') || 'nothing';
+export const mixedWords = ({ dhs, psks }) => [...dhs, ...(psks ? [pskWord(psks)] : [])].join(', ') || 'nothing';
 
 /** What a party could do that takes the place of the one to read: which of the keys it chooses itself are enough, or undefined. */
 function ownPart({ before, messages }, role, until, dhs) {
@@ -74,13 +81,11 @@ function keyRow(plan, { name, to, until, isTransport }, tokens) {
   const mixed = mixedOf(tokens);
   const { dhs, psks } = mixed;
   const row = { name, of: 'key', mixed };
-  if (dhs.length === 0) return psks ? { ...row, fact: 'psk' } : { ...row, fact: 'everybody', warns: true };
-  const psk = psks ? ' and the psk' : '';
-  const ways = waysOf(dhs);
+  if (dhs.length === 0) return psks ? { ...row, fact: 'psk', values: { psks: pskWord(psks) } } : { ...row, fact: 'everybody', warns: true };
+  const ways = waysOf(dhs);    // each DH has two ways, so there are at least two
   const part = isTransport ? undefined : ownPart(plan, to, until, dhs);
-  const manyPsk = psks && ways.length > 1 ? '; and in each case the psk' : psk;
-  const own = part && { role: to, keys: part.map((key) => `an ${key}`).join(' and '), psk };
-  return { ...row, fact: 'key', ways, values: { ways: capital(waysWords(ways)), psk: manyPsk }, part: own };
+  const own = part && { role: to, keys: part.map((key) => `an ${key}`).join(' and '), psk: psks ? ` and the ${pskWord(psks)}` : '' };
+  return { ...row, fact: 'key', ways, values: { ways: waysWords(ways), psk: inEachCase(psks) }, part: own };
 }
 
 /** The rows of the keys: each s that is sent, each payload, and the transport. */
@@ -103,16 +108,16 @@ function keyRows(plan) {
   return [...rows, keyRow(plan, { name: 'Transport, recorded', isTransport: true }, tokens)];
 }
 
-/** Who might have written a message, by what is mixed in at its last tag. */
+/** Who can have written a message, by what is mixed in at its last tag. */
 function writerOf({ before, messages }, from, until, tokens, isTagged) {
   if (!isTagged) return { fact: 'untagged' };
   const { dhs, psks } = mixedOf(tokens);
   if (dhs.length + psks === 0) return { fact: 'openWriter' };
   const choosesE = !before[from].includes('e') && messages.slice(0, until).some((message) => message.from === from && message.tokens.includes('e'));
   const rest = choosesE ? dhs.filter((dh) => !areEnough([dh], [`${from} e`])) : dhs;
-  if (rest.length === 0) return { fact: psks ? 'pskWriter' : 'anyone' };
+  if (rest.length === 0) return { fact: psks ? 'pskWriter' : 'anyone', values: { psks: pskWord(psks) } };
   const ways = waysOf(rest, KEYS.filter((key) => !choosesE || key !== `${from} e`));
-  return { fact: 'writer', ways, values: { ways: waysWords(ways), psk: psks ? (ways.length > 1 ? '; and in each case the psk' : ' and the psk') : '' } };
+  return { fact: 'writer', ways, values: { ways: waysWords(ways), psk: inEachCase(psks) } };
 }
 
 /** Whether a recording is accepted again: not if it has a tag, and the reader has put in an e before. */
@@ -141,28 +146,26 @@ function messageRows(plan) {
 export const rowsOf = (plan) => ({ keys: keyRows(plan), messages: messageRows(plan) });
 
 /** A fact in words: of a row of the keys. */
-export const keySentence = ({ fact, values, part }) => filled(SENTENCES[fact], values ?? {}) + (part ? filled(SENTENCES.part, part) : '');
-export const writerSentence = ({ writer }) => filled(SENTENCES[writer.fact], writer.values ?? {});
-export const againSentence = ({ again }) => filled(SENTENCES[again.fact], again.values ?? {});
+export const keyWords = ({ fact, values, part }) => filled(SENTENCES[fact], values ?? {}) + (part ? filled(SENTENCES.part, part) : '');
+export const writerWords = ({ writer }) => filled(SENTENCES[writer.fact], writer.values ?? {});
+export const againWords = ({ again }) => filled(SENTENCES[again.fact], again.values ?? {});
 
-/** What a designer has to see, in sentences. */
-export function warningsOf(plan) {
-  const { messages, before } = plan;
+/** The same as the text of a cell. */
+export const keySentence = (row) => capital(keyWords(row)) + (row.fact === 'seen' ? '.' : '');
+export const writerSentence = (row) => capital(writerWords(row));
+export const againSentence = (row) => capital(againWords(row));
+
+/** Of each static key that is named, and that no DH mixes. */
+export function unmixedOf({ messages, before }) {
   const unmixed = ROLES.filter((role) => {
     const isNamed = before[role].includes('s') || messages.some(({ from, tokens }) => from === role && tokens.includes('s'));
     return isNamed && !messages.some(({ tokens }) => tokens.some((token) => DHS.includes(token) && token[ROLES.indexOf(role)] === 's'));
   });
-  const open = keyRows(plan).filter(({ warns }) => warns);
-  return [...open.map(({ name }) => filled(WARNINGS.everybody, { name })), ...unmixed.map((role) => filled(WARNINGS.unmixed, { role }))];
+  return unmixed.map((role) => filled(WARNINGS.unmixed, { role }));
 }
 
-/** All that is found, as lines of text: a name and its sentences, in the order of the tables. */
-export function lines(plan) {
-  const { keys, messages } = rowsOf(plan);
-  return [
-    ...keys.map((row) => `${row.name}: ${mixedWords(row.mixed)} mixed in. ${keySentence(row)}`),
-    ...messages.map((row) => `${row.name}: ${writerSentence(row)} ${againSentence(row)}`),
-    ...warningsOf(plan).map((says) => `Warning: ${says}`),
-    MEANING, UNJUDGED,
-  ];
+/** What a designer has to see, in sentences. */
+export function warningsOf(plan) {
+  const open = keyRows(plan).filter(({ warns }) => warns);
+  return [...open.map(({ name }) => filled(WARNINGS.everybody, { name })), ...unmixedOf(plan)];
 }

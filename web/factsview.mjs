@@ -36,8 +36,8 @@ export function showFacts(box, plan) {
   const messageRows = messages.map((row) => element('tr', '', rowHead(row.name), cell('td', writerSentence(row)), cell('td', againSentence(row))));
   box.replaceChildren(
     table('Private keys that are enough to compute each key', ['Key of', 'Mixed in', 'Enough'], keyRows),
-    table('Who might have written a message, and a recording of it', ['Message', 'Written by', 'Sent again'], messageRows),
-    element('p', 'hint', MEANING), element('p', 'hint', UNJUDGED),
+    table('Who can have written a message, and what becomes of a recording of it', ['Message', 'Written by', 'Sent again'], messageRows),
+    element('p', 'hint', MEANING.join(' ')), element('p', 'hint', UNJUDGED.join(' ')),
   );
 }
 

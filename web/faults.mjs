@@ -7,30 +7,43 @@ import { linesOf } from './plan.mjs';
 export const RULES = Object.freeze({
   1: ['{token} needs the {owner}’s {key}, which is neither sent before this place nor named above “...”.', 'Let the {owner} send {key} earlier, or name it above “...”.'],
   2: ['The {sender} has sent {token} already.', 'Leave the second one out.'],
+  above: ['The {sender}’s {token} is named above “...” already.', 'Leave the second one out.'],
   3: ['{token} is mixed in already, and adds nothing the second time.', 'Leave the second one out.'],
-  4: ['The {sender} encrypts here, {after} is mixed in, and {missing} isn’t: what it encrypts could depend on no fresh key of its own.', '{mend}.'],
+  4: ['The {sender} encrypts here, {after} is mixed in, and {missing} isn’t: what it encrypts could depend on no fresh key of its own.', '{mend}'],
   5: ['The {sender} encrypts here after psk, and has sent no e: the same key and nonce could come again.', 'Let the {sender} send e before it.'],
 });
-/** The same for each kind of malformed line, by its code in include/noise.h: a title, a sentence, and how to mend it. */
+/** How to mend rule 4. */
+const MIXES = Object.freeze({
+  lacks: ['Let the {lacks} send {key}, and mix {dh} after it.'],
+  first: ['Mix {dh} in message {message}.'],
+  after: ['Mix {dh} in message {message}, after {after}.'],
+});
+/** The same for each kind of malformed line, by its code in include/noise.h: a sentence, and how to mend it. All these are also those of `noise explain`. */
 export const FORMS = Object.freeze({
-  30: ['this isn’t a heading', 'The first line is a name of 1 to 8 upper-case letters and digits, then psk places such as psk0 or psk0+psk2, then a colon.', 'For example: MINE:'],
-  31: ['no arrow at the start', 'The line has to begin with two spaces, an arrow (-> or <-) and one space.', 'For example: two spaces, then “-> e”.'],
-  32: ['not a token', '{what} isn’t a token.', 'The tokens are e, s, ee, es, se, ss and psk, with a comma and a space between two.'],
-  33: ['not a key known before', 'Above “...” a line has e, s or “e, s”, the initiator’s first, and “...” comes once, after them.', 'Move this line, or leave it out.'],
-  34: ['the other party’s turn', 'It is the other party’s turn.', 'Turn the arrow around: the initiator (->) begins, and then they alternate.'],
-  35: ['psk isn’t where the heading says', 'psk0 in the heading is a psk before message 1, pskN one at the end of message N; none is elsewhere.', 'Set the places by the boxes.'],
-  36: ['the name is taken', 'This name belongs to a fundamental pattern, and the text is another one.', 'Give it a name of its own.'],
-  37: ['too many, or none', 'A pattern has at most 8 messages, and each has from 1 to 8 tokens besides psk.', 'Leave some out, or add one.'],
-  38: ['no message', 'There is no message.', 'Add a line such as “  -> e”.'],
+  30: ['The first line has to be a name of 1 to 8 upper-case letters and digits, then psk places such as psk0 or psk0+psk2, then a colon.', 'For example: MINE:'],
+  31: ['The line has to begin with two spaces, an arrow (-> or <-) and one space.', 'For example: two spaces, then “-> e”.'],
+  32: ['This isn’t a token.', 'The tokens are e, s, ee, es, se, ss and psk, with a comma and a space between two.'],
+  33: ['Above “...” a line has e, s or “e, s”, the initiator’s first, and “...” comes once, after them.', 'Move this line, or leave it out.'],
+  34: ['It is the other party’s turn.', 'Turn the arrow around: the initiator (->) begins, and then they alternate.'],
+  35: ['psk0 in the heading is a psk before message 1, pskN one at the end of message N; none is elsewhere.', 'Change the heading, or move the tokens.'],
+  36: ['This name belongs to a fundamental pattern, and the text is another one.', 'Give it a name of its own.'],
+  37: ['A message has from 1 to 8 tokens besides psk, and this one has more.', 'Leave some out.'],
+  38: ['There is no message.', 'Add a line such as “  -> e”.'],
 });
 /** What stands in the place of an entry of FORMS where the line shows more. */
 const CLOSER = Object.freeze({
-  empty: ['an empty line', 'The line is empty.', 'Leave it out.'],
-  dots: ['“...” is missing', 'A key that is known before the first message stands above a line of two spaces and “...”, and that line is missing.', 'Put “...” below this line.'],
-  space: ['a space at the end', 'A space is at the end of the line.', 'Take it out.'],
-  arrow: ['another arrow', 'The arrow is written as two characters: -> or <-.', 'Write it so.'],
-  comment: ['a comment', 'The library takes no comments.', 'Take them out.'],
+  empty: ['The line is empty.', 'Leave it out.'],
+  dots: ['A key that is known before the first message stands above a line of two spaces and “...”, and that line is missing.', 'Put “...” below the lines of such keys.'],
+  space: ['A space is at the end of the line.', 'Take it out.'],
+  arrow: ['The arrow is written as two characters: -> or <-.', 'Write it so.'],
+  comment: ['The library takes no comments.', 'Take them out.'],
+  none: ['A token has to stand here, and none does.', 'Write one, for example e, or take the comma before it out.'],
+  beyond: ['The heading has a psk place beyond the last message.', 'Leave it out, or add messages.'],
+  ninth: ['A pattern has at most 8 messages, and this is one more.', 'Leave it out.'],
+  alone: ['A message has from 1 to 8 tokens besides psk, and this one has none.', 'Add one, for example e.'],
 });
+/** How many messages a pattern has at most. */
+export const MOST = 8;
 export const WORDS = new Set(['e', 's', 'ee', 'es', 'se', 'ss', 'psk']);
 export const OTHER = Object.freeze({ initiator: 'responder', responder: 'initiator' });
 
@@ -57,11 +70,13 @@ function span(lines, n, from = 0, to = lines[n].line.length) {
   return [start + from, start + Math.max(to, from)];
 }
 
+const wrongToken = (tokens) => tokens?.find(({ name }) => !WORDS.has(name));
+
 function spanInLine(lines, n, code) {
   const { line, tokens } = lines[n];
   const token = (found) => (found ? span(lines, n, found.start, found.end) : span(lines, n));
   if (/\s$/.test(line) && line.trim() !== '') return span(lines, n, line.trimEnd().length);
-  if (code === 32) return token(tokens?.find(({ name }) => !WORDS.has(name)));
+  if (code === 32) return token(wrongToken(tokens));
   if (code === 34) return span(lines, n, 2, 4);
   if (code === 35) return n === 0 ? span(lines, n, line.indexOf('psk')) : token(tokens?.find(({ name }) => name === 'psk'));
   if (code === 36) return span(lines, n, 0, /^[A-Z0-9]*/.exec(line)[0].length);
@@ -95,10 +110,13 @@ export function mixPlace(lines, dh) {
   return places.find(({ lacks }) => lacks) ?? places.sort((a, b) => a.n - b.n || a.at - b.at)[1];
 }
 
+const filled = (text, values) => text.replace(/\{(\w+)\}/g, (_, name) => values[name]);
+
 function mixWords(lines, dh) {
   const { n, at, lacks, key } = mixPlace(lines, dh);
-  if (lacks) return `Let the ${lacks} send ${key}, and mix ${dh} after it`;
-  return `Mix ${dh} in message ${n - firstOf(lines) + 1}${at < 0 ? '' : `, after ${lines[n].tokens[at].name}`}`;
+  if (lacks) return filled(MIXES.lacks[0], { lacks, key, dh });
+  const message = n - firstOf(lines) + 1;
+  return at < 0 ? filled(MIXES.first[0], { dh, message }) : filled(MIXES.after[0], { dh, message, after: lines[n].tokens[at].name });
 }
 
 /** What a broken rule is about, by name: the words that are filled in. */
@@ -113,6 +131,7 @@ export function brokenRule(lines, { rule, message, token }) {
     const owner = has('initiator', name[0]) ? 'responder' : 'initiator';
     return { token: name, sender, owner, key: owner === 'initiator' ? name[0] : name[1] };
   }
+  if (rule === 2) return { token: name, sender, isAbove: keyPlace(lines, sender, name).at < 0 };
   if (rule !== 4) return { token: name, sender };
   const names = lines.slice(firstOf(lines), firstOf(lines) + message).flatMap(({ tokens }, n) => tokens.slice(0, n === message - 1 ? token : undefined).map((it) => it.name));
   const needs = sender === 'initiator' ? [['se', 'ee'], ['ss', 'es']] : [['es', 'ee'], ['ss', 'se']];
@@ -120,16 +139,22 @@ export function brokenRule(lines, { rule, message, token }) {
   return { token: name, sender, after, missing, mend: mixWords(lines, missing) };
 }
 
-const filled = (text, values) => text.replace(/\{(\w+)\}/g, (_, name) => values[name]);
+/** What a line of too many tokens, or of none, or a line too many says. */
+function limitOf(lines, n) {
+  if (n >= firstOf(lines) + MOST) return CLOSER.ninth;
+  return lines[n].tokens?.every(({ name }) => name === 'psk') ? CLOSER.alone : FORMS[37];    // of a text that is too long line 1 is told
+}
 
 function closerOf(lines, n, code) {
-  const { line } = lines[n];
+  const { line, tokens } = lines[n];
   if (line.trim() === '' && code === 31) return CLOSER.empty;
   if (/#/.test(line) && [30, 31, 32].includes(code)) return CLOSER.comment;
   if (code === 34 && forgottenDots(lines, n) !== undefined) return CLOSER.dots;
   if (/\s$/.test(line) && [30, 31, 32].includes(code)) return CLOSER.space;
   if (code === 31 && /[→←⟶⟵⇒⇐]/.test(line)) return CLOSER.arrow;
-  return FORMS[code];
+  if (code === 32 && wrongToken(tokens)?.name.trim() === '') return CLOSER.none;
+  if (code === 35 && n === 0) return CLOSER.beyond;
+  return code === 37 ? limitOf(lines, n) : FORMS[code];
 }
 
 /** Which section of the standard a rule follows, and where that is. */
@@ -139,7 +164,7 @@ const sectionOf = (rule) => (rule === 5 ? '9.3' : '7.3');
 /** The token that isn't one, between quotes. */
 function whatIs(line, [from, to]) {
   const it = line.slice(from, to);
-  return it.trim() === '' ? 'What is here' : `“${visible(it.slice(0, 40))}${it.length > 40 ? '…' : ''}”`;
+  return it.trim() === '' ? '' : `: “${visible(it.slice(0, 40))}${it.length > 40 ? '…' : ''}”`;
 }
 
 /**
@@ -150,15 +175,16 @@ export function explain(text, fault) {
   const lines = linesOf(text);
   if (fault.rule) {
     const values = brokenRule(lines, fault);
-    const [says, mend] = RULES[fault.rule].map((it) => filled(it, values));
+    const [says, mend] = RULES[values.isAbove ? 'above' : fault.rule].map((it) => filled(it, values));
     const [number, where] = [sectionOf(fault.rule), ` is broken at ${placeOf(lines, fault)}`];
     return { title: `Rule ${fault.rule}${where}`, where, rule: fault.rule, section: { number, url: SECTIONS[number] }, says, mend, span: spanOfRule(lines, fault) };
   }
   const n = Math.min(fault.line, lines.length) - 1;
-  const [title, says, mend] = closerOf(lines, n, fault.code);
+  const [says, mend] = closerOf(lines, n, fault.code);
   const at = spanInLine(lines, n, fault.code);
   const [start] = span(lines, n);
-  return { title: `Line ${fault.line}: ${title}`, says: filled(says, { what: whatIs(lines[n].line, at.map((it) => it - start)) }), mend, span: at };
+  const what = fault.code === 32 ? whatIs(lines[n].line, at.map((it) => it - start)) : '';
+  return { title: `Line ${fault.line}${what}`, says, mend, span: at };
 }
 
 /** Why a message, a datagram or a set-up was refused. */

@@ -140,7 +140,7 @@ function ruleMends(lines, verdict) {
     return n === lines.length - 1 ? [[`Leave message ${message} out`, textOf(plain(lines).slice(0, -1))]] : [];
   }
   if (rule === 5) return [[`Let the ${sender} send e before`, sending(lines, n, lines[n]?.tokens[0].name === 'psk' ? 1 : 0, sender, 'e')]];
-  return [[mend, mixed(lines, missing, n)]];
+  return [[mend.replace(/\.$/, ''), mixed(lines, missing, n)]];
 }
 
 /** The kinds of faults of a line, by code, in the order in which they are looked for. */

@@ -1,6 +1,6 @@
 // All faults of a text that reading can see. The first is the library's; the others are this page's own reading of the format and of the five rules, and
 // checks/web compares its first with the library's. There is no DOM here.
-import { WORDS, firstOf } from './faults.mjs';
+import { MOST, WORDS, firstOf } from './faults.mjs';
 import { linesOf } from './plan.mjs';
 
 const ROLES = ['initiator', 'responder'];
@@ -8,7 +8,6 @@ const DHS = ['ee', 'es', 'se', 'ss'];
 const HEADING = /^[A-Z][A-Z0-9]{0,7}(?:psk[0-8](?:\+psk[0-8])*)?:$/;
 /** For each role the DHs that rule 4 asks for, each with the one that it comes with. */
 const NEEDS = { initiator: [['se', 'ee'], ['ss', 'es']], responder: [['es', 'ee'], ['ss', 'se']] };
-const MOST = 8;
 
 const other = (role) => ROLES[1 - ROLES.indexOf(role)];
 
@@ -55,9 +54,11 @@ class Reading {
     Object.assign(this, { known: new Set(), mixed: new Set(), found: [], met: new Set() });
   }
 
+  /** A broken rule: what lacks is told once, and so is a rule at a place. */
   fault(key, place) {
-    if (this.met.has(key)) return;
-    this.met.add(key);
+    const at = `${place.rule} ${place.message} ${place.token}`;
+    if (this.met.has(key) || this.met.has(at)) return;
+    this.met.add(key).add(at);
     this.found.push({ ...place, code: 39 });
   }
 

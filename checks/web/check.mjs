@@ -53,22 +53,22 @@ async function faults() {
     ['MINE:\n  -> e\n  <- e, ee, ee\n', 'ee', 'Rule 3'],
     ['MINE:\n  -> e, s\n  <- e, se\n', 'se', 'Rule 4'],
     ['MINEpsk0:\n  -> psk, s\n', 's', 'Rule 5'],
-    ['mine:\n  -> e\n', 'mine:', 'Line 1: this isn’t a heading'],
-    ['MINE:\n -> e\n', ' -> e', 'Line 2: no arrow at the start'],
-    ['MINE:\n  -> e, foo, s\n', 'foo', 'Line 2: not a token'],
-    ['MINE:\n  -> e \n', ' ', 'Line 2: a space at the end'],
-    ['MINE:\n  -> e\n  -> e, ee\n', '->', 'Line 3: the other party’s turn'],
-    ['MINE:\n  -> e, psk\n', 'psk', 'Line 2: psk isn’t where the heading says'],
-    ['XX:\n  -> e\n', 'XX', 'Line 1: the name is taken'],
-    ['MINE:\n  <- s\n  -> s\n  ...\n  -> e, es\n', '  -> s', 'Line 3: not a key known before'],
-    ['MINE:\n  -> e\n  <- e, e, e, e, e, e, e, e, e\n', '  <- e, e, e, e, e, e, e, e, e', 'Line 3: too many, or none'],
-    ['MINE:\n', 'MINE:', 'Line 2: no message'],
-    ['MINE:\n  -> e\n\n', ' ', 'Line 3: an empty line'],
+    ['mine:\n  -> e\n', 'mine:', 'Line 1. The first line has to be a name'],
+    ['MINE:\n -> e\n', ' -> e', 'Line 2. The line has to begin with two spaces'],
+    ['MINE:\n  -> e, foo, s\n', 'foo', 'Line 2: “foo”. This isn’t a token.'],
+    ['MINE:\n  -> e \n', ' ', 'Line 2. A space is at the end of the line.'],
+    ['MINE:\n  -> e\n  -> e, ee\n', '->', 'Line 3. It is the other party’s turn.'],
+    ['MINE:\n  -> e, psk\n', 'psk', 'Line 2. psk0 in the heading is a psk before message 1'],
+    ['XX:\n  -> e\n', 'XX', 'Line 1. This name belongs to a fundamental pattern'],
+    ['MINE:\n  <- s\n  -> s\n  ...\n  -> e, es\n', '  -> s', 'Line 3. Above “...” a line has e, s'],
+    ['MINE:\n  -> e\n  <- e, e, e, e, e, e, e, e, e\n', '  <- e, e, e, e, e, e, e, e, e', 'Line 3. A message has from 1 to 8 tokens besides psk, and this one has more.'],
+    ['MINE:\n', 'MINE:', 'Line 2. There is no message.'],
+    ['MINE:\n  -> e\n\n', ' ', 'Line 3. The line is empty.'],
   ];
-  for (const [text, marked, title] of cases) {
+  for (const [text, marked, said] of cases) {
     await page.type('text', text);
     assert.equal(await page.evaluate('document.querySelector("mark").textContent'), marked, text);
-    assert.ok((await page.evaluate('document.querySelector("#verdict .title").textContent')).startsWith(title), text);
+    assert.ok((await page.evaluate('document.getElementById("verdict").textContent')).startsWith(said), text);
     assert.equal(await page.evaluate('document.getElementById("step").getAttribute("aria-disabled")'), 'true');
     assert.equal(await page.evaluate('document.getElementById("step").title'), 'The pattern isn’t valid.');
     assert.equal(await page.evaluate('document.getElementById("text").getAttribute("aria-invalid")'), 'true');

@@ -43,7 +43,7 @@ export class Walk {
     await this.page.run('localStorage.clear()');
     await this.page.open();
     await hand.type('#text', FAULTY);
-    assert.match(await this.of('verdict'), /^Line 2: “\.\.\.” is missing\. .*that line is missing/);
+    assert.match(await this.of('verdict'), /^Line 2\. .*“\.\.\.”, and that line is missing/);
     await hand.press('#mends button');
     assert.equal(await this.text(), MENDED);
     assert.equal(await this.page.evaluate('document.activeElement.id'), 'text');

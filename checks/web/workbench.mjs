@@ -159,7 +159,7 @@ async function leaks(page) {
   await page.click('#copy-link');
   assert.match(await page.textOf('copied'), /^No link is copied: a link has at most 2000 characters of a pattern/);
   await page.type('text', 'MINE:\n  -> e, \u202esecret\n');
-  assert.match(await page.textOf('verdict'), /“\\u\{202e\}secret” isn’t a token/);
+  assert.match(await page.textOf('verdict'), /“\\u\{202e\}secret”\. This isn’t a token/);
   await page.type('text', XX);
   await page.type('payload', 'a\u202eb');
   await page.begin();

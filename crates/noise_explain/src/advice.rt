@@ -15,10 +15,18 @@ pub enum Advice {
     SpaceAtEnd,
     /// A line is empty.
     Empty,
+    /// A line has a comment.
+    Comment,
     /// The first line is no heading.
     Heading,
     /// The first line is one of tokens.
     HeadingMissing,
+    /// The first line is one of a vector file.
+    VectorHeading,
+    /// Spaces stand before the heading.
+    HeadingIndented,
+    /// A name has a modifier that isn't psk.
+    Modifier,
     /// A name has lower-case letters.
     NameCase,
     /// A name is too long.
@@ -79,12 +87,18 @@ impl Advice {
             Advice::Tab => "A tab stands in the line.",
             Advice::SpaceAtEnd => "A space is at the end of the line.",
             Advice::Empty => "The line is empty.",
+            Advice::Comment => "The library takes no comments.",
             Advice::Heading =>
                 "The first line has to be a name of 1 to 8 upper-case letters and digits, then psk places such as \
                  psk0 or psk0+psk2, then a colon.",
             Advice::HeadingMissing => {
                 "The first line has to be the heading, and this is a line of tokens."
             }
+            Advice::VectorHeading => {
+                "A vector file begins with the line \"vector 2\", and this is a later line of one."
+            }
+            Advice::HeadingIndented => "Spaces stand before the heading.",
+            Advice::Modifier => "The modifiers are psk0 to psk8, and another one stands here.",
             Advice::NameCase => {
                 "A name is of upper-case letters and digits, and a lower-case letter stands here."
             }
@@ -115,7 +129,8 @@ impl Advice {
             Advice::DotsMissing =>
                 "A key that is known before the first message stands above a line of two spaces and \"...\", and \
                  that line is missing.",
-            Advice::PskTokens => "The psk tokens aren't where the heading says.",
+            Advice::PskTokens =>
+                "psk0 in the heading is a psk before message 1, pskN one at the end of message N; none is elsewhere.",
             Advice::PskBeyond => "The heading has a psk place beyond the last message.",
             Advice::NameTaken => {
                 "This name belongs to a fundamental pattern, and the text is another one."
@@ -143,8 +158,12 @@ impl Advice {
             Advice::Tab => "Write spaces in its place.",
             Advice::SpaceAtEnd => "Take it out.",
             Advice::Empty => "Leave it out.",
+            Advice::Comment => "Take them out.",
             Advice::Heading => "For example: MINE:",
             Advice::HeadingMissing => "Put a heading above it, for example: MINE:",
+            Advice::VectorHeading => "Put \"vector 2\" above it.",
+            Advice::HeadingIndented => "Take as many away from the front of each line.",
+            Advice::Modifier => "Write the messages out under a name of your own.",
             Advice::NameCase => "Write the name in upper case.",
             Advice::NameLength => "Shorten it.",
             Advice::NameFirst => "Put a letter before it.",
@@ -165,8 +184,7 @@ impl Advice {
                 "Turn the arrow around: the initiator (->) begins, and then they alternate."
             }
             Advice::DotsMissing => "Put \"...\" below the lines of such keys.",
-            Advice::PskTokens =>
-                "psk0 is before message 1, pskN at the end of message N: change the heading, or move the tokens.",
+            Advice::PskTokens => "Change the heading, or move the tokens.",
             Advice::PskBeyond => "Leave it out, or add messages.",
             Advice::NameTaken => "Give it a name of its own.",
             Advice::NinthMessage => "Leave it out.",

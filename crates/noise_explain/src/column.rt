@@ -68,7 +68,7 @@ pub(crate) fn after_arrow(line: &[u8]) -> &[u8]
 }
 
 // The column of the first piece of a list of tokens that isn't a token with a comma and a space after it.
-fn piece_column(list: &[u8]) -> usize
+pub(crate) fn piece_column(list: &[u8]) -> usize
     ensures { IsWrongPiece list.now result }
 {
     let mut left = list;

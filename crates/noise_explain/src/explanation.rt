@@ -8,9 +8,11 @@ ghost use Rattle.noise_explain.specs.Explained.{TextBeginsWith, IsExplained, Say
 ghost use Rattle.noise_explain.specs.Shown.{right_head};
 
 use crate::advice::Advice;
+use crate::all_rules::other_rules;
 use crate::column::column_of;
 use crate::excerpt::{caret_lines, push_sentence, right_head, unread_head, wrong_head};
 use crate::facts::fact_lines;
+use crate::other_lines::push_other_lines;
 use crate::place::{Place, line_at};
 use crate::rule_place::rule_place;
 use crate::rule_sentences::rule_sentences;
@@ -104,7 +106,7 @@ fn explain_text(
     };
     let mut reported = wrong_head(alloc, name, place, Fault::Text(fault))?;
     reported.extend_from_slice(&caret_lines(alloc, line, place.column)?)?;
-    reported.extend_from_slice(&advice_lines(alloc, fault_advice(text, fault, place.column))?)?;
+    reported.extend_from_slice(&told_lines(alloc, text, fault, place.column)?)?;
     Ok(Explained {
         text: reported,
         status: 2,
@@ -127,11 +129,24 @@ fn explain_rule(
     let place = rule_place(pattern, fault);
     let mut reported = wrong_head(alloc, name, place, Fault::Rule(fault))?;
     reported.extend_from_slice(&caret_lines(alloc, line_at(text, place.line), place.column)?)?;
-    reported.extend_from_slice(&rule_lines(alloc, pattern, fault)?)?;
+    reported.extend_from_slice(&all_rule_lines(alloc, pattern, fault)?)?;
     Ok(Explained {
         text: reported,
         status: 1,
     })
+}
+
+// What is wrong with a text at this fault, whose line has this column, and then with its later lines.
+fn told_lines(
+    alloc: Global,
+    text: &[u8],
+    fault: TextFault,
+    column: usize,
+) -> Result<Vec<u8>, AllocError> {
+    let advice = fault_advice(text, fault, column);
+    let mut said = advice_lines(alloc, advice)?;
+    push_other_lines(alloc, text, fault.line, advice, &mut said)?;
+    Ok(said)
 }
 
 // What is wrong with a text, and what mends it.
@@ -139,6 +154,19 @@ fn advice_lines(alloc: Global, advice: Advice) -> Result<Vec<u8>, AllocError> {
     let mut text = Vec::new(alloc);
     push_sentence(advice.says(), &mut text)?;
     push_sentence(advice.mends(), &mut text)?;
+    Ok(text)
+}
+
+// The same of a rule, and then of the others that are broken.
+fn all_rule_lines(
+    alloc: Global,
+    pattern: &Pattern,
+    fault: RuleFault,
+) -> Result<Vec<u8>, AllocError> {
+    let mut text = rule_lines(alloc, pattern, fault)?;
+    for other in &other_rules(alloc, pattern, fault)? {
+        text.extend_from_slice(&rule_lines(alloc, pattern, *other)?)?;
+    }
     Ok(text)
 }
 

@@ -1,30 +1,29 @@
-//! What a valid pattern's messages have in them, and what their keys are made of.
+//! What a valid pattern's messages have in them, and what their tokens show.
 
-ghost use Rattle.std.specs.Prelude.{◌≡◌, ◌≤◌, ◌++◌, OnOk, codes, length};
+ghost use Rattle.std.specs.Prelude.{◌≡◌, ◌≤◌, ◌<◌, ◌++◌, OnOk, codes, length};
+ghost use Rattle.noise_names.specs.Pieces.{tokens_of};
 
 use crate::excerpt::push_sentence;
-use crate::known::{Spot, sender_of};
-use crate::party_facts::push_party_facts;
-use crate::progress::{Progress, progress_at};
-use noise_lines::{role_word, token_word};
+use crate::fact_words::{mixed_words, push, push_again, push_enough, push_writer};
+use crate::known::sender_of;
+use crate::mixed::{Mixed, mixed_by};
+use crate::parties::{Part, chooses, is_fresh, is_unmixed, own_part};
+use crate::piece_lines::{push_key_line, push_message_line, push_payload_line, tokens_of};
+use noise_lines::role_word;
 use noise_names::{Role, Token, ValidPattern};
 use std::alloc::{AllocError, Global};
 
-/// The messages, each with its pieces and what is mixed in by its payload; the transport; and what follows for the
-/// parties.
+/// The messages, each with its pieces, who can compute the keys of these, who can have written it, and whether a
+/// recording of it is accepted; the same of the transport.
 pub fn fact_lines(alloc: Global, pattern: &ValidPattern) -> Result<Vec<u8>, AllocError> {
     let mut text = Vec::new(alloc);
     for index in 0..pattern.pattern().messages().len() {
         push_message(alloc, pattern, index as u8 + 1, &mut text)?;
     }
     push_transport(alloc, pattern, &mut text)?;
-    push_party_facts(alloc, pattern.pattern(), &mut text)?;
-    push_sentence(UNJUDGED, &mut text)?;
+    push_notes(pattern, &mut text)?;
     Ok(text)
 }
-
-const UNJUDGED: &str =
-    "These are facts about the tokens. How well a payload is authenticated or kept secret isn't judged.";
 
 fn push_message(
     alloc: Global,
@@ -35,181 +34,194 @@ fn push_message(
     requires first { 1 ≤ message }
     requires last { message ≤ length pattern.now.messages }
 {
-    let overhead = pattern.overhead(message);
-    let number = usize::from(message);
-    let sender = role_word(sender_of(number));
-    let line = format!(in alloc;
-        "message {number}, of the {sender}, is {overhead} bytes longer than its payload"
-    )?;
-    push_sentence(line.as_str(), text)?;
-    let end = push_pieces(alloc, pattern, number, text)?;
-    let by_then = progress_at(pattern.pattern(), end.spot);
-    push_payload(alloc, end.at, by_then.is_keyed, text)?;
-    push_mixed(alloc, by_then, text)?;
-    let who = if by_then.is_keyed {
-        who_computes(alloc, by_then)?
-    } else {
-        String::from_str(alloc, "The payload is in the clear: there is no key yet.")?
-    };
-    push_fact(who.as_str(), text)
+    push_message_line(alloc, pattern, message, text)?;
+    let tokens = tokens_of(pattern, message);
+    for index in 0..tokens.len() {
+        let key = tokens[index];
+        if key == Token::E || key == Token::S {
+            push_sent(alloc, pattern, message, index as u8, key, text)?;
+        }
+    }
+    push_payload(alloc, pattern, message, tokens.len() as u8, text)?;
+    push_origin(alloc, pattern, message, text)
 }
 
-// The place after the last token of a message, and the byte at which its payload begins.
-#[derive(Clone, Copy)]
-struct PiecesEnd {
-    spot: Spot,
-    at: usize,
-}
-
-// The pieces of a message before its payload.
-fn push_pieces(
+// A key that is sent, and who can compute the key that encrypts it.
+fn push_sent(
     alloc: Global,
     pattern: &ValidPattern,
-    number: usize,
+    message: u8,
+    token: u8,
+    key: Token,
     text: &mut Vec<u8>,
-) -> Result<PiecesEnd, AllocError> {
-    let mut end = PiecesEnd {
-        spot: Spot {
-            message: number,
-            token: 0,
-        },
-        at: 0,
-    };
-    let Some(message) = pattern.pattern().messages().get(number.saturating_sub(1)) else {
-        return Ok(end);
-    };
-    for token in message.tokens() {
-        let is_keyed = progress_at(pattern.pattern(), end.spot).is_keyed;
-        end = PiecesEnd {
-            at: push_piece(alloc, *token, is_keyed, end.at, text)?,
-            spot: Spot {
-                message: number,
-                token: end.spot.token.saturating_add(1),
-            },
-        };
+) -> Result<(), AllocError>
+    requires first { 1 ≤ message }
+    requires last { message ≤ length pattern.now.messages }
+    requires token { token < length (tokens_of pattern.now message) }
+    requires few { token < 10 }
+{
+    push_key_line(alloc, pattern, message, token, key, text)?;
+    if key == Token::S && pattern.has_key_before(message, token) {
+        push("    key of s: ", text)?;
+        push_computed(alloc, pattern, message, token, text)?;
     }
-    Ok(end)
+    Ok(())
 }
 
-// The line of a key that is sent: its place, counted from byte 0. Other tokens have none. Gives the byte after it.
-fn push_piece(
-    alloc: Global,
-    token: Token,
-    is_keyed: bool,
-    at: usize,
-    text: &mut Vec<u8>,
-) -> Result<usize, AllocError> {
-    let is_encrypted = token == Token::S && is_keyed;
-    let len: usize = match token {
-        Token::S if is_encrypted => 48,
-        Token::E | Token::S => 32,
-        _ => return Ok(at),
-    };
-    let word = token_word(token);
-    let last = at.saturating_add(len).saturating_sub(1);
-    let how = if is_encrypted {
-        ", encrypted, the last 16 its tag"
-    } else {
-        ", in the clear"
-    };
-    let line = format!(in alloc; "{word}: bytes {at} to {last}{how}")?;
-    push_fact(line.as_str(), text)?;
-    Ok(at.saturating_add(len))
-}
-
+// The payload after so many tokens, and who can compute the key that encrypts it.
 fn push_payload(
     alloc: Global,
-    at: usize,
-    is_keyed: bool,
+    pattern: &ValidPattern,
+    message: u8,
+    count: u8,
     text: &mut Vec<u8>,
-) -> Result<(), AllocError> {
-    let how = if is_keyed {
-        "encrypted, and 16 bytes of tag after it"
-    } else {
-        "in the clear"
-    };
-    let line = format!(in alloc; "payload: from byte {at} on, {how}")?;
-    push_fact(line.as_str(), text)
+) -> Result<(), AllocError>
+    requires first { 1 ≤ message }
+    requires last { message ≤ length pattern.now.messages }
+    requires token { count ≤ length (tokens_of pattern.now message) }
+{
+    push_payload_line(alloc, pattern, message, count, text)?;
+    if pattern.has_key_before(message, count) {
+        push("    key of payload: ", text)?;
+        push_computed(alloc, pattern, message, count, text)?;
+    }
+    Ok(())
 }
 
-// The transport, which has what is mixed in by the end of the last message.
+// What is mixed into the key before a token of a message, and who can compute it.
+fn push_computed(
+    alloc: Global,
+    pattern: &ValidPattern,
+    message: u8,
+    token: u8,
+    text: &mut Vec<u8>,
+) -> Result<(), AllocError>
+    requires first { 1 ≤ message }
+{
+    let passed = usize::from(message) - 1;
+    let mixed = mixed_by(pattern.pattern(), passed, usize::from(token));
+    let reader = sender_of(usize::from(message)).other();
+    let part = own_part(pattern.pattern(), reader, passed, mixed);
+    push_enough_of(alloc, mixed, reader, part, text)
+}
+
+fn push_enough_of(
+    alloc: Global,
+    mixed: Mixed,
+    reader: Role,
+    part: Part,
+    text: &mut Vec<u8>,
+) -> Result<(), AllocError> {
+    text.extend_from_slice(&mixed_words(alloc, mixed)?)?;
+    push(" mixed in. ", text)?;
+    push_enough(alloc, mixed, reader, part, text)?;
+    push("\n", text)
+}
+
+// Who can have written a message, and whether a recording of it is accepted.
+fn push_origin(
+    alloc: Global,
+    pattern: &ValidPattern,
+    message: u8,
+    text: &mut Vec<u8>,
+) -> Result<(), AllocError>
+    requires first { 1 ≤ message }
+    requires last { message ≤ length pattern.now.messages }
+{
+    push("    it can be written by ", text)?;
+    if pattern.has_key(message) {
+        let number = usize::from(message);
+        push_tagged(alloc, pattern, sender_of(number), number, text)
+    } else {
+        push(UNTAGGED, text)
+    }
+}
+
+const UNTAGGED: &str =
+    "anyone: it has no tag.\n    a recording of it is accepted again: it has no tag.\n";
+
+// The same of what has a tag, after so many messages.
+fn push_tagged(
+    alloc: Global,
+    pattern: &ValidPattern,
+    writer: Role,
+    passed: usize,
+    text: &mut Vec<u8>,
+) -> Result<(), AllocError> {
+    let mixed = mixed_by(pattern.pattern(), passed, 0);
+    let rest = if chooses(pattern.pattern(), writer, Token::E, passed) {
+        mixed.without_e(writer)
+    } else {
+        mixed
+    };
+    push_writer(alloc, mixed, rest, text)?;
+    push("\n    a recording of it is ", text)?;
+    let reader = writer.other();
+    push_again(reader, is_fresh(pattern.pattern(), reader, passed), text)?;
+    push("\n", text)
+}
+
+// The transport: who can compute its keys later, and the same for each party that sends.
 fn push_transport(
     alloc: Global,
     pattern: &ValidPattern,
     text: &mut Vec<u8>,
 ) -> Result<(), AllocError> {
-    let by_then = progress_at(
-        pattern.pattern(),
-        Spot {
-            message: pattern.pattern().messages().len(),
-            token: 10,
-        },
-    );
-    let line = if pattern.one_way() {
-        "transport, of the initiator alone"
+    let count = pattern.pattern().messages().len();
+    let head = if pattern.one_way() {
+        "  transport, of the initiator alone\n    key of a recording: "
     } else {
-        "transport, of both parties"
+        "  transport, of both parties\n    key of a recording: "
     };
-    push_sentence(line, text)?;
-    push_mixed(alloc, by_then, text)?;
-    push_fact(who_computes(alloc, by_then)?.as_str(), text)
+    push(head, text)?;
+    let mixed = mixed_by(pattern.pattern(), count, 0);
+    push_enough_of(alloc, mixed, Role::Responder, Part::Neither, text)?;
+    push("    the initiator's can be written by ", text)?;
+    push_tagged(alloc, pattern, Role::Initiator, count, text)?;
+    if pattern.one_way() {
+        return Ok(());
+    }
+    push("    the responder's can be written by ", text)?;
+    push_tagged(alloc, pattern, Role::Responder, count, text)
 }
 
-// The line of what is mixed in.
-fn push_mixed(alloc: Global, by_then: Progress, text: &mut Vec<u8>) -> Result<(), AllocError> {
-    let mut line = String::from_str(alloc, "mixed in by then:")?;
-    push_if(by_then.ee, " ee", &mut line)?;
-    push_if(by_then.es, " es", &mut line)?;
-    push_if(by_then.se, " se", &mut line)?;
-    push_if(by_then.ss, " ss", &mut line)?;
-    push_if(by_then.psk, " psk", &mut line)?;
-    push_if(!by_then.has_dh() && !by_then.psk, " nothing", &mut line)?;
-    push_fact(line.as_str(), text)
+// Static keys that no DH mixes, and what all this means.
+fn push_notes(pattern: &ValidPattern, text: &mut Vec<u8>) -> Result<(), AllocError> {
+    push_unmixed(pattern, Role::Initiator, text)?;
+    push_unmixed(pattern, Role::Responder, text)?;
+    push_sentence(MEANING, text)?;
+    push_sentence(EITHER, text)?;
+    push_sentence(UNJUDGED, text)?;
+    push_sentence(ELSEWHERE, text)
 }
 
-fn push_if(is_said: bool, word: &str, line: &mut String) -> Result<(), AllocError> {
-    if is_said {
-        line.push_str(word)?;
-    }
-    Ok(())
-}
+const MEANING: &str =
+    "Private keys are meant, and all public keys count as known; e is made for one handshake, s is kept.";
 
-// Who can compute keys that are made of these DHs and psks. A DH needs one of its two private keys.
-fn who_computes(alloc: Global, by_then: Progress) -> Result<String, AllocError> {
-    let psk = if by_then.psk {
-        " and the pre-shared secret"
-    } else {
-        ""
-    };
-    if !by_then.has_dh() {
-        return String::from_str(alloc, without_dh(by_then.psk));
-    }
-    if by_then.ee {
-        return String::from_str(alloc, "Of these, ee is made of ephemeral keys alone.");
-    }
-    match (by_then.es, by_then.se) {
-        (false, false) => format!(in alloc;
-            "Whoever has the static private key of either party{psk} can compute these keys."
-        ),
-        (true, true) => format!(in alloc;
-            "Whoever has the static private keys of both parties{psk} can compute these keys."
-        ),
-        (true, false) => one_static(alloc, Role::Responder, psk),
-        (false, true) => one_static(alloc, Role::Initiator, psk),
-    }
-}
+const EITHER: &str =
+    "\"Or\" parts ways of which each is enough. Where an s comes in a message, the application has to compare it.";
 
-fn without_dh(psk: bool) -> &'static str {
-    if psk {
-        "No DH is mixed, only psk: whoever has the pre-shared secret can compute these keys."
-    } else {
-        "No DH is mixed: everybody can compute these keys."
-    }
-}
+const UNJUDGED: &str =
+    "These are facts of tokens. Not judged: how well payloads are authenticated and kept secret, and how well \
+     identities are hidden.";
 
-fn one_static(alloc: Global, role: Role, psk: &str) -> Result<String, AllocError> {
-    let owner = role_word(role);
-    format!(in alloc; "Whoever has the {owner}'s static private key{psk} can compute these keys.")
+const ELSEWHERE: &str =
+    "Sections 7.7 and 7.8 of the standard grade the fundamental patterns; Noise Explorer grades and analyses \
+     one's own.";
+
+fn push_unmixed(pattern: &ValidPattern, party: Role, text: &mut Vec<u8>) -> Result<(), AllocError> {
+    let all = mixed_by(pattern.pattern(), pattern.pattern().messages().len(), 0);
+    if !is_unmixed(pattern.pattern(), party, all) {
+        return Ok(());
+    }
+    push("  Warning: the ", text)?;
+    push(role_word(party), text)?;
+    push(
+        "'s s is named, and no DH mixes it: nothing shows that the ",
+        text,
+    )?;
+    push(role_word(party), text)?;
+    push(" has its private key.\n", text)
 }
 
 /// Appends a line of four spaces and a fact of the message or the transport above.

@@ -2,15 +2,19 @@
 #![tactic(auto)]
 
 mod advice;
+mod all_rules;
 mod column;
 mod excerpt;
 mod explanation;
+mod fact_words;
 mod facts;
 mod frame_piece;
 mod known;
-mod party_facts;
+mod mixed;
+mod other_lines;
+mod parties;
+mod piece_lines;
 mod place;
-mod progress;
 mod rule_place;
 mod rule_sentences;
 mod text_advice;

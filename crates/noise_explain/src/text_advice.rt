@@ -14,6 +14,8 @@ pub fn fault_advice(text: &[u8], fault: TextFault, column: usize) -> Advice {
     let (_, piece) = line.split_at(column.saturating_sub(1).min(line.len()));
     match fault.kind {
         TextFaultKind::Heading if text.is_empty() => Advice::Heading,
+        TextFaultKind::Heading | TextFaultKind::Arrow | TextFaultKind::Token
+            if line.contains(&b'#') => { Advice::Comment }
         TextFaultKind::Heading => slip(line).unwrap_or(heading_advice(line, piece)),
         TextFaultKind::Arrow => slip(line).unwrap_or(arrow_advice(line)),
         TextFaultKind::Token => slip(line).unwrap_or(token_advice(piece)),
@@ -56,8 +58,15 @@ fn end_slip(last: Option<u8>) -> Option<Advice>
 
 // What is wrong with a first line, where the piece at its fault begins with these bytes.
 fn heading_advice(line: &[u8], piece: &[u8]) -> Advice {
-    if line.starts_with(b"  ".as_slice()) || has_arrow(line) {
+    if is_of_vectors(line) {
+        return Advice::VectorHeading;
+    }
+    let words = without_spaces(line);
+    if has_arrow(words) {
         return Advice::HeadingMissing;
+    }
+    if words.len() < line.len() {
+        return Advice::HeadingIndented;
     }
     let Some(first) = piece.first().copied() else {
         return Advice::ColonMissing;
@@ -68,6 +77,8 @@ fn heading_advice(line: &[u8], piece: &[u8]) -> Advice {
         Advice::NameFirst
     } else if first.is_ascii_uppercase() || first.is_ascii_digit() {
         Advice::NameLength
+    } else if piece.len() < line.len() && is_modifier(piece) {
+        Advice::Modifier
     } else if first.is_ascii_lowercase() {
         Advice::NameCase
     } else {
@@ -81,6 +92,20 @@ fn modifiers_advice(piece: &[u8]) -> Advice {
     } else {
         Advice::ColonMissing
     }
+}
+
+// Whether the line is one of those that a vector file begins with, below the first.
+fn is_of_vectors(line: &[u8]) -> bool {
+    line.starts_with(b"protocol ".as_slice())
+        || line.starts_with(b"prologue ".as_slice())
+        || line.starts_with(b"interval ".as_slice())
+        || line.starts_with(b"initiator ".as_slice())
+        || line.starts_with(b"responder ".as_slice())
+}
+
+// Whether a modifier of the standard or of an extension, other than psk, is at the front.
+fn is_modifier(piece: &[u8]) -> bool {
+    piece.starts_with(b"fallback".as_slice()) || piece.starts_with(b"hfs".as_slice())
 }
 
 fn has_arrow(line: &[u8]) -> bool {
@@ -130,11 +155,18 @@ fn turn_advice(text: &[u8], number: usize) -> Advice {
         3 => is_keys(first) && first.starts_with(b"  ->".as_slice()),
         _ => false,
     };
-    if is_known {
+    if is_known && (has_dots(line_at(text, 3)) || has_dots(line_at(text, 4))) {
+        Advice::Dots
+    } else if is_known {
         Advice::DotsMissing
     } else {
         Advice::Turn
     }
+}
+
+// Whether a line is nearly the one between pre-messages and messages.
+fn has_dots(line: &[u8]) -> bool {
+    without_spaces(line).starts_with(b"..".as_slice())
 }
 
 // Whether a line has a static key alone, or both keys of a party.
