@@ -56,17 +56,22 @@ fn plain_byte(b: u8) -> u8
 }
 
 // The text from `trace ` on, or nothing where it has none.
-#[tactic(auto, using(crate::proofs::PlainLemmas::passed_place))]
 fn from_trace(text: &[u8]) -> &[u8]
     ensures { result.now ≡ from_trace text.now }
 {
     for i in 0..text.len() {
-        let rest = &text[i..];
-        if begins(rest, b"trace ") {
-            return rest;
+        if begins_at(text, i, b"trace ") {
+            return &text[i..];
         }
     }
     &[]
+}
+
+fn begins_at(text: &[u8], i: usize, front: &[u8]) -> bool
+    requires { i ≤ length text.now }
+    ensures { result ≡ begins (drop i text.now) front.now }
+{
+    begins(&text[i..], front)
 }
 
 fn begins(text: &[u8], front: &[u8]) -> bool

@@ -8,7 +8,7 @@ returns c = λ first. (
   first,
   c.index-log-found.result,
   c.index-log-found.is,
-  c.in_ok-advice.advice.items,
-  c.in_ok-advice.ensures,
+  c.deref.result.now,
+  rw c.deref.ensures.value c.in_ok-advice.ensures,
   c.in_ok-difference_text.ensures,
 )
