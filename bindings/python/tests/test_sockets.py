@@ -380,6 +380,8 @@ def test_abort_ends_a_close_that_waits():
     client, server, _, _ = pair("NN", tcp=True)
     full(client)
     closing = in_thread(client.close)
+    while not client._closed:
+        time.sleep(0.001)
     time.sleep(0.1)
     started = time.monotonic()
     client.abort()
