@@ -1,4 +1,4 @@
-use Rattle.std.proofs.Common.{List, ℕ, Ok, Err, ap, inl, inr, refl}
+use Rattle.std.proofs.Common.{List, ℕ, Ok, Err, ap, inr}
 use Rattle.noise_conversation.proofs.Common.{slice_range}
 use Rattle.noise_conversation.proofs.message.reads_as.Goals as goal
 
@@ -33,6 +33,3 @@ returns-in-Err-clause-reads g c v matches = record {
 
 pub returns-in-Ok-clause-message : goal.returns-in-Ok-clause-message
 returns-in-Ok-clause-message g c = inr ((c.in-Ok.from, c.in-Ok.to), c.in-Ok.ensures.range, c.in-Ok.ensures.beyond, c.is_same.ensures)
-
-pub returns-in-Err-clause-message : goal.returns-in-Err-clause-message
-returns-in-Err-clause-message g c = inl (c.in-Err.ensures.unchanged, refl)
