@@ -15,9 +15,10 @@ import random
 import subprocess
 import sys
 import tempfile
+from collections.abc import Callable
 from typing import NamedTuple
 
-from mistaken import Key, Keys, Session, digest, run
+from mistaken import Event, Key, Keys, Session, digest, run
 
 BOTH = ("initiator", "responder", "both")
 SAID = ("the mistake that gives your values:", "each of these mistakes gives your values:")
@@ -83,8 +84,8 @@ HARMLESS = ("carriage returns", "byte order mark", "prefix", "indentation", "upp
 
 
 def harmless(difference: str, lines: list[str]) -> bytes:
-    def each(change: object) -> list[str]:
-        return [" ".join(change(word) if len(word) >= 32 else word for word in line.split(" ")) for line in lines]  # type: ignore[operator]
+    def each(change: Callable[[str], str]) -> list[str]:
+        return [" ".join(change(word) if len(word) >= 32 else word for word in line.split(" ")) for line in lines]
 
     end, front = "\n", b""
     if difference == "carriage returns":
@@ -120,7 +121,7 @@ def session_of(pattern: str, prologue: bytes, seed: int) -> Session:
     return session._replace(psks=[secret(seed, f"psk {place}") for place in session.places])
 
 
-def vector(program: str, session: Session, events: list[tuple[str, bytes, bytes]], *, is_expected: bool) -> str:
+def vector(program: str, session: Session, events: list[Event]) -> str:
     """The vector file that DEBUGGING.md asks for: the template with the keys, payloads and frames of the run."""
     name = f"Noise_{session.pattern}_25519_ChaChaPoly_SHA256"
     text = subprocess.run([program, "template", name], stdout=subprocess.PIPE, text=True, check=True).stdout
@@ -134,7 +135,7 @@ def vector(program: str, session: Session, events: list[tuple[str, bytes, bytes]
     lines = [line for line in text.splitlines() if not line.startswith("say")]
     lines += [f"say {role} {payload.hex() or '-'} -" for role, payload, _ in events]
     counts = {"initiator": 0, "responder": 0}
-    for role, payload, frame in events if is_expected else []:
+    for role, payload, frame in events:
         other = "responder" if role == "initiator" else "initiator"
         lines += [f"expect wrote {role} {counts[role]} {frame.hex()}", f"expect payload {other} {payload.hex() or '-'}"]
         counts[role] += 1
@@ -164,7 +165,7 @@ def main(words: list[str]) -> int:
             events, log = run(session, mistakes, lambda n: b"" if case.is_empty else b"payload %d" % (n + 1), 3)
             shown = [line for line in log if role == "both" or f"trace {role} " in line]
             log_path.write_bytes(harmless(difference, shown))
-            file_path.write_text(vector(program, session, list(events), is_expected=True))
+            file_path.write_text(vector(program, session, events))
             command = "test" if mistake.startswith("length") else "compare"
             files = [str(file_path)] if command == "test" else [str(log_path), str(file_path)]
             ran = subprocess.run([program, command, *files], stdout=subprocess.PIPE, stderr=subprocess.STDOUT, text=True, check=False)
