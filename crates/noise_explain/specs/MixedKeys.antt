@@ -1,8 +1,5 @@
 -- What is mixed into the keys at a place of a pattern (Noise, 5.3), and which private keys are enough for that.
 use Rattle.std.specs.Prelude.{ℕ, zero, suc, Bool, true, false, not, ◌&&◌, ◌||◌, List, [], fold, slice_get, take, unwrap_or}
-use Rattle.std.specs.List.{list_any}
-use Rattle.noise_names.specs.declared.token.Role.{Role}
-use Rattle.noise_names.specs.declared.token.Role.TheVariants.{Initiator, Responder}
 use Rattle.noise_names.specs.declared.token.Token.{Token}
 use Rattle.noise_names.specs.declared.token.Token.TheVariants.{E, S, Ee, Es, Se, Ss, Psk}
 use Rattle.noise_names.specs.Plan.{Plan}
