@@ -253,7 +253,7 @@ class Party:
         if self.mistake == "ss-as-es" and token == "ss":
             token = "es"
         mine, theirs = (token[0], token[1]) if self.is_initiator else (token[1], token[0])
-        answer = getattr(self.own, mine).agree(self.remote[theirs])
+        answer: bytes = getattr(self.own, mine).agree(self.remote[theirs])
         return answer[::-1] if self.mistake == "dh-reversed" else answer
 
     def mix_token(self, token: str) -> None:
