@@ -12,7 +12,7 @@ use std::alloc::{AllocError, Global};
 const MOST: usize = 40;
 
 // What is wrong with each later line that can't be read alone, and what mends it. What was said of the first one isn't
-// said again, and nothing is where all lines are indented.
+// said again, and nothing is where all lines are indented, or are those of a vector file.
 pub(crate) fn push_other_lines(
     alloc: Global,
     text: &[u8],
@@ -20,7 +20,7 @@ pub(crate) fn push_other_lines(
     first_advice: Advice,
     said: &mut Vec<u8>,
 ) -> Result<(), AllocError> {
-    if first_advice == Advice::HeadingIndented {
+    if first_advice == Advice::HeadingIndented || first_advice == Advice::VectorHeading {
         return Ok(());
     }
     let mut rest = text;
