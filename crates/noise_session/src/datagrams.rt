@@ -10,9 +10,7 @@ ghost use Rattle.noise_session.specs.DatagramCalls.{DatagramsOpen, DatagramsSeal
 
 use crate::limits::NONCE_LEN;
 use crate::window::Ring;
-use crate::{
-    DatagramFault, DatagramReceiver, DatagramSender, SendFault, Transport, Window,
-};
+use crate::{DatagramFault, DatagramReceiver, DatagramSender, SendFault, Transport, Window};
 use noise_handshake::Opened;
 use std::marker::Model;
 
