@@ -7,50 +7,28 @@
    public keys, computes X25519 where a call asks for it, and keeps the state in structs, the opaque
    structs. All lengths are in bytes. "Noise, 5.3" is section 5.3 of the standard.
 
-   THE ORDER OF CALLS
-
-       noise_start                once, by each party
-       noise_write, noise_read    in turn; the initiator writes first. At NOISE_WANTED call
-                                  noise_answer, at NOISE_WANTED_PSK noise_set_psk; then call again
-       noise_remote_static        the other party's static key: compare it with the one you expect
-       noise_finish_stream        for bytes with an end, over TCP: noise_stream_write, _end, _read,
-                                  _is_cut
-       noise_finish               or for messages in order, in frames of your own: noise_seal, _open
-       noise_finish_datagrams     or for datagrams, over UDP: noise_datagram_seal, _open
-       noise_finish_ciphers       or for packets of your own: noise_cipher_encrypt, _decrypt
-       noise_wipe                 the handshake, and each other struct once it is no longer used
-
-   The first of the four noise_finish calls uses the handshake up: another one returns ENDED. It
-   gives two structs, one to send and one to receive; a thread may have either. In a one-way
-   pattern (N, K, X) the responder can't send, and the initiator can't receive: NOISE_ONE_WAY
-   (Noise, 7.4).
+   noise_start begins a handshake. Then the parties write and read its messages in turn, the
+   initiator first: noise_write, noise_read. Where these return WANTED, call noise_answer; at
+   WANTED_PSK noise_set_psk; then call again. At the end compare noise_remote_static with the key
+   that you expect, and make one of noise_finish_stream, noise_finish, noise_finish_datagrams and
+   noise_finish_ciphers: that uses the handshake up, and gives two structs, one to send and one to
+   receive; a thread may have either. In a one-way pattern (N, K, X) the responder can't send, and
+   the initiator can't receive: ONE_WAY (Noise, 7.4). At last noise_wipe overwrites each struct.
 
    A call returns a code for each wrong value. No length and no content of an opaque struct makes a
    call stop the process or access memory that it wasn't given. An opaque struct begins with a mark
-   of its type and of its layout's version. So a call refuses one of zeros, of another type, or of a
-   build with another layout by NOISE_STRUCT.
+   of its type and of its layout's version: a call refuses one of zeros, of another type, or of a
+   build with another layout by STRUCT.
 
-   WHAT THE CALLER MUST ENSURE, since no call can check it
-   - A pointer that has a count may be NULL if the count is 0: see the end of this header. No other
-     pointer may be NULL. Each leads to as many bytes as its count or its type says. An opaque
-     struct's address is a multiple of 8.
-   - The bytes at a pointer that isn't const overlap those of no other pointer of the call. Only the
-     calls that have one buffer, as noise_read, work in place.
-   - A key never encrypts two texts at one nonce: whoever sees both messages learns the xor of the
-     texts, and can forge messages of that nonce. So never use a copy of a struct that writes or
-     encrypts beside the original: not one from a file, and not a forked process's. Don't set the
-     nonce of a cipher state for sending back. A struct may be moved.
-   - Each handshake has a new ephemeral key pair. A pair that was used before makes the same keys
-     again.
+   WHAT THE CALLER MUST ENSURE, since no call can check it; docs/C.md says why
+   - A pointer that has a count may be NULL if the count is 0, and no other may. Each leads to as
+     many bytes as its count or its type says. An opaque struct's address is a multiple of 8.
+   - The bytes at a pointer that isn't const overlap those of no other pointer of the call.
+   - No copy of a struct writes or encrypts beside the original, as one from a file or a forked
+     process's; the nonce of a cipher state for sending isn't set back. A struct may be moved.
+   - Each handshake has a new ephemeral key pair.
    - Calls that take an opaque struct as const may run at once, on any number of threads; any other
-     call has the struct for itself. Different structs need no lock: the library has no other state.
-   - X25519 may give all zeros; OpenSSL returns an error then. To refuse such a key (Noise, 12.1)
-     don't pass the result to noise_answer, and end the handshake.
-
-   WIPING. Opaque structs hold psks, results of X25519 and keys until the caller overwrites them
-   with noise_wipe; so do the setup, a psk, a result, and the ephemeral secret key. No call keeps a
-   pointer. noise_wipe_stack overwrites what calls leave on the stack: at most 14 KB, as
-   checks/c-library/stack.c measures on x86-64. */
+     call has the struct for itself. Different structs need no lock. */
 #ifndef NOISE_H
 #define NOISE_H
 
@@ -81,9 +59,9 @@ enum noise_code {
     NOISE_STATIC_MISSING = 5, NOISE_REMOTE_MISSING = 6, NOISE_REMOTE_UNEXPECTED = 7,
     NOISE_PSK_COUNT = 8, NOISE_NOT_YOUR_TURN = 10, NOISE_TOO_LONG = 11, NOISE_DONE = 12,
     NOISE_ENDED = 13, NOISE_AGREEMENT = 14, NOISE_SHORT = 15, NOISE_TAG = 16, NOISE_EXHAUSTED = 17,
-    NOISE_ROOM = 18, NOISE_NOT_DONE = 19, NOISE_WANTED = 20, NOISE_ONE_WAY = 22,
-    NOISE_STRUCT = 23, NOISE_LENGTH = 24, NOISE_WINDOW = 25, NOISE_RESERVED = 26, NOISE_OLD = 27,
-    NOISE_REPEATED = 28, NOISE_NOT_DUE = 29, NOISE_HEADING = 30, NOISE_ARROW = 31, NOISE_TOKEN = 32,
+    NOISE_ROOM = 18, NOISE_NOT_DONE = 19, NOISE_WANTED = 20, NOISE_ONE_WAY = 22, NOISE_STRUCT = 23,
+    NOISE_LENGTH = 24, NOISE_WINDOW = 25, NOISE_RESERVED = 26, NOISE_OLD = 27, NOISE_REPEATED = 28,
+    NOISE_NOT_DUE = 29, NOISE_HEADING = 30, NOISE_ARROW = 31, NOISE_TOKEN = 32,
     NOISE_PRE_MESSAGE = 33, NOISE_TURN = 34, NOISE_PSK_PLACE = 35, NOISE_NAME_TAKEN = 36,
     NOISE_LIMIT = 37, NOISE_ENDING = 38, NOISE_RULE = 39, NOISE_WANTED_PSK = 40, NOISE_END = 41,
     NOISE_MORE = 42, NOISE_CLOSED = 43, NOISE_CUT = 44
@@ -93,14 +71,13 @@ enum {
     NOISE_KEY_LEN = 32,           /* a public key, a result of X25519, a psk, a handshake hash */
     NOISE_TAG_LEN = 16,           /* a message has so many bytes more than its payload, */
     NOISE_STREAM_OVERHEAD = 18,   /* a frame of a stream: 2 of its length, 16 of the tag, */
-    NOISE_DATAGRAM_OVERHEAD = 24, /* and a datagram: 8 of the nonce, 16 of the tag. A message has at
-                                     most 65535 (Noise, 3), so a payload at most 65519 */
-    NOISE_MAX_MESSAGE = 65535, NOISE_MAX_FRAME = 65537, NOISE_MAX_DATAGRAM = 65543,
-    NOISE_MAX_PROLOGUE = 65535, NOISE_MAX_PSKS = 9
+    NOISE_DATAGRAM_OVERHEAD = 24, /* a datagram: 8 of the nonce, 16 of the tag */
+    NOISE_MAX_MESSAGE = 65535,    /* so a payload has at most 65519 (Noise, 3) */
+    NOISE_MAX_FRAME = 65537, NOISE_MAX_DATAGRAM = 65543, NOISE_MAX_PROLOGUE = 65535,
+    NOISE_MAX_PSKS = 9
 };
 
-/* The opaque structs: the caller provides the memory, and only the library reads and changes the
-   content. */
+/* The opaque structs: the caller provides the memory, and only the library uses the content. */
 typedef struct { NOISE_ALIGNED unsigned char opaque[1472]; } noise_handshake;
 typedef struct { NOISE_ALIGNED unsigned char opaque[64]; } noise_stream_sender;
 typedef struct { NOISE_ALIGNED unsigned char opaque[64]; } noise_stream_receiver;
@@ -113,40 +90,32 @@ typedef struct { NOISE_ALIGNED unsigned char opaque[48]; } noise_cipher;
 /* A public key, or none if present is 0. */
 typedef struct { uint8_t present; uint8_t bytes[32]; } noise_key;
 
-/* What a party starts a handshake with. noise_setup setup = {0} is the initiator, without keys or
-   psks. */
+/* What a party starts a handshake with: {0} is the initiator, without keys or psks. */
 typedef struct {
     uint8_t responder;            /* 0: the initiator; any other value: the responder */
-    noise_key e, s;               /* this party's public keys: each for which the pattern has a
-                                     token of this party */
-    noise_key remote_e, remote_s; /* the other party's: those of its pre-message, as the responder's
-                                     s in IK */
-    uint8_t psk_count;            /* how many psks there are, at most 9: those of the first psk
-                                     tokens, in order. The calls ask for the others when their
-                                     tokens come: NOISE_WANTED_PSK */
+    noise_key e, s;               /* this party's: each for which it has a token in the pattern */
+    noise_key remote_e, remote_s; /* those of the other's pre-message, as the responder's s in IK */
+    uint8_t psk_count;            /* how many psks, at most 9: those of the first psk tokens. For
+                                     the others the calls return NOISE_WANTED_PSK */
     uint8_t psks[9][32];
 } noise_setup;
 
-/* What a call reports beside its code. The comments name the codes at which a field is set; at
-   others it stays. */
+/* What a call reports. A field is set at the codes that are named here; at others it stays. */
 typedef struct {
-    size_t from;          /* OK: where the payload begins that was read; 0 of calls that write */
-    size_t len;           /* OK: the length of the payload that was read, or of the message that was
-                             written. ROOM of noise_write: the length that the message would have */
+    size_t from;          /* OK: where the payload that was read begins; 0 of calls that write */
+    size_t len;           /* OK: its length, or that of the message that was written. ROOM of
+                             noise_write: the length that the message would have */
     uint8_t token;        /* SHORT, TAG of noise_read, noise_try_read: at which token, from 0 */
-    uint8_t of_static;    /* WANTED: which key pair of this party: 0 ephemeral, 1 static */
-    uint8_t remote[32];   /* WANTED: with this public key. WANTED_PSK: the other's static key, or
-                             zeros */
+    uint8_t of_static;    /* WANTED: which key pair of this party: 0 ephemeral, 1 static, */
+    uint8_t remote[32];   /* and which public key. WANTED_PSK: the other's static key, or zeros */
     uint8_t remote_known; /* WANTED_PSK: 1 if that key is known before the psk token, else 0 */
 } noise_result;
 
 typedef struct {
-    size_t from;   /* OK of noise_stream_read, noise_frame_find: where payload or message begins */
-    size_t len;    /* OK of these: its length. OK of noise_stream_write, _end, noise_frame_message:
-                      how many bytes to send */
+    size_t from;   /* OK of noise_stream_read, noise_frame_find: where payload or message begins, */
+    size_t len;    /* and its length. OK of the calls that write: how many bytes to send */
     size_t used;   /* OK, END of noise_stream_read, noise_frame_find: how many first bytes of the
-                      buffer aren't needed any more. OK of noise_stream_write: how many first bytes
-                      of the payload were written */
+                      buffer, and OK of noise_stream_write: of the payload, are done with */
     size_t wanted; /* MORE: so many bytes are missing; exact once the frame's first 2 are there */
 } noise_stream_result;
 
@@ -154,16 +123,15 @@ typedef struct {
     uint8_t messages;    /* how many messages the pattern has, 1 to 8 */
     uint8_t passed;      /* how many of them have been written or read */
     uint8_t ended;       /* 1 if a refused message or noise_finish has ended it, else 0 */
-    uint8_t writes_next; /* 1 if this party writes the next message, else 0; after the last one it
-                            says nothing */
+    uint8_t writes_next; /* 1 if this party writes the next message, else 0; says nothing after the
+                            last */
 } noise_stage_result;
 
 typedef struct {
     size_t line;      /* the codes 30 to 38: the line, counted from 1 */
     uint8_t rule;     /* RULE: the lowest rule, 1 to 5, broken at the first place where any is */
-    uint8_t message;  /* RULE: the message, counted from 1; the transport counts as one more */
-    uint8_t token;    /* RULE: the token, counted from 0; in the transport 0: initiator, 1:
-                         responder */
+    uint8_t message;  /* RULE: the message, from 1; the transport counts as one more */
+    uint8_t token;    /* RULE: the token, from 0; in the transport the party: 1 is the responder */
     uint8_t messages; /* OK: how many messages the pattern has */
 } noise_pattern_result;
 
@@ -173,19 +141,17 @@ enum noise_token {
     NOISE_TOKEN_SE = 5, NOISE_TOKEN_SS = 6, NOISE_TOKEN_PSK = 7, NOISE_TOKEN_PAYLOAD = 8
 };
 
-/* The keys that a party passes to noise_start: 1 for each key of noise_setup that must be there,
-   else 0; a remote key must not be there then. */
+/* 1 for each key of noise_setup that a party must pass to noise_start, else 0; a remote key must
+   not be there then. */
 typedef struct { uint8_t e, s, remote_e, remote_s; } noise_keys_needed;
 
 typedef struct {
     uint8_t messages;            /* 1 to 8; the initiator writes the first, then they take turns */
-    uint8_t one_way;             /* 1: one message alone, and only the initiator sends afterwards
-                                    (Noise, 7.4); else 0 */
+    uint8_t one_way;             /* 1 if only the initiator sends afterwards (Noise, 7.4), else 0 */
     uint8_t psks;                /* how many psk tokens */
     noise_keys_needed needed[2]; /* of the initiator, of the responder */
-    uint8_t pre_messages[2][2];  /* tokens of the initiator's and the responder's pre-message, 0
-                                    after the last */
-    uint8_t tokens[8][10];       /* tokens of each message, 0 after the last */
+    uint8_t pre_messages[2][2];  /* the tokens of their pre-messages, 0 after the last */
+    uint8_t tokens[8][10];       /* the tokens of each message, 0 after the last */
 } noise_pattern_info;
 
 /* A piece of a message: len bytes from `from` on, of which the last 16 are a tag if encrypted is 1.
@@ -206,9 +172,8 @@ size_t noise_stream_sender_size(void), noise_stream_receiver_size(void);
 size_t noise_sender_size(void), noise_receiver_size(void);
 size_t noise_datagram_sender_size(void), noise_datagram_receiver_size(void);
 
-/* Gives a sentence that says what a code means, with a zero byte after it, and returns its length.
-   noise_text, at the end, returns the same sentence. */
-size_t noise_sentence(uint32_t code, uint8_t sentence[80]);
+/* Gives a static text, a sentence that says what a code means, and returns its length. */
+size_t noise_sentence(uint32_t code, const char **sentence);
 
 /* HANDSHAKES, by the HandshakeState of Noise, 5.3. */
 
@@ -236,6 +201,11 @@ uint32_t noise_answer(noise_handshake *h, uint8_t of_static, const uint8_t remot
    Codes: STRUCT · PSK_COUNT (no psk token that is still to come lacks one). */
 uint32_t noise_set_psk(noise_handshake *h, const uint8_t psk[32]);
 
+/* Takes back the last psk that no message has used yet, if there is one: that which was set for a
+   message that noise_try_read then refused.
+   Codes: STRUCT. */
+uint32_t noise_unset_psk(noise_handshake *h);
+
 /* Writes the next message, with this payload, to the start of out (WriteMessage). The bytes after
    it are unchanged. Noise, 7.7 says how well each payload is protected: at first not at all.
    Codes: STRUCT · ENDED · DONE · NOT_YOUR_TURN · TOO_LONG (it would have more than 65535 bytes) ·
@@ -251,7 +221,8 @@ uint32_t noise_write(noise_handshake *h, const uint8_t *payload, size_t payload_
 uint32_t noise_read(noise_handshake *h, uint8_t *message, size_t message_len, noise_result *result);
 
 /* Reads as noise_read does, but SHORT and TAG leave the handshake as it was, and the message: for
-   messages that a stranger can send, as datagrams. Drop such a message, and wait for another.
+   messages that a stranger can send, as datagrams. Drop such a message, and wait for another; call
+   noise_unset_psk first for each psk that was set for it.
    Codes: those of noise_read. */
 uint32_t noise_try_read(noise_handshake *h, uint8_t *message, size_t message_len,
     noise_result *result);
@@ -275,11 +246,8 @@ uint32_t noise_remote_static(const noise_handshake *h, noise_key *key);
    Codes: STRUCT. */
 uint32_t noise_stage(const noise_handshake *h, noise_stage_result *result);
 
-/* Checks the text of a pattern, as noise_start does (Noise, 7.3, 9.3). Rule 1: both public keys of
-   a DH token come earlier. Rule 2: a party sends one e and one s. Rule 3: a DH token occurs once.
-   Rule 4: a party encrypts after a DH of its static key only if the DH of its ephemeral key with
-   the same key of the other party came earlier. Rule 5: a party encrypts after a psk only after an
-   e of its own. A valid pattern isn't necessarily a secure one.
+/* Checks the text of a pattern, as noise_start does (Noise, 7.3, 9.3): docs/C.md has the five
+   rules. A valid pattern isn't necessarily a secure one.
    Codes: HEADING to ENDING · RULE. */
 uint32_t noise_check_pattern(const uint8_t *text, size_t text_len, noise_pattern_result *result);
 
@@ -307,9 +275,8 @@ uint32_t noise_frame_message(uint8_t *buffer, size_t buffer_len, size_t message_
    Codes: MORE. */
 uint32_t noise_frame_find(const uint8_t *buffer, size_t buffer_len, noise_stream_result *result);
 
-/* STREAMS: bytes in order, with an end, in frames. A stream that ends is whole: a reader that gets
-   END has got all that the other party wrote before noise_stream_end, unless a message was
-   forged. */
+/* STREAMS: bytes in order, with an end, in frames. A reader that gets END has got all that the
+   other party wrote before noise_stream_end, unless a message was forged. */
 
 /* Makes the two structs of a handshake whose messages have all passed (Noise, 5.2), and uses it
    up: its keys, psks and results of X25519 are zeros, and it has ended. noise_hash and
@@ -344,8 +311,7 @@ uint32_t noise_stream_read(noise_stream_receiver *r, uint8_t *buffer, size_t buf
    Codes: STRUCT · CUT. */
 uint32_t noise_stream_is_cut(const noise_stream_receiver *r, size_t left);
 
-/* MESSAGES IN ORDER, for frames of your own over a stream. A message is 16 bytes longer than its
-   payload. */
+/* MESSAGES IN ORDER, each 16 bytes longer than its payload, for frames of your own. */
 
 /* Makes the two structs for messages, as noise_finish_stream does; `interval` counts messages.
    Codes: STRUCT · NOT_DONE · ENDED. */
@@ -372,7 +338,7 @@ uint32_t noise_open(noise_receiver *r, uint8_t *message, size_t message_len, noi
 uint32_t noise_sender_nonce(const noise_sender *s, uint64_t *nonce);
 uint32_t noise_receiver_nonce(const noise_receiver *r, uint64_t *nonce);
 
-/* DATAGRAMS, for a network that loses, repeats and reorders (Noise, 11.4). The handshake itself
+/* DATAGRAMS, for a network that loses, repeats and reorders (Noise, 11.4); the handshake itself
    needs its messages in order, each once. A datagram begins with its nonce, in 8 bytes, the highest
    first, and is 24 bytes longer than its payload. */
 
@@ -437,222 +403,37 @@ uint32_t noise_cipher_nonce(const noise_cipher *c, uint64_t *nonce);
 uint32_t noise_cipher_set_nonce(noise_cipher *c, uint64_t nonce);
 
 /* Overwrites bytes with zeros; the compiler can't remove the writes. */
-static inline void noise_wipe(void *at, size_t len) {
-    volatile unsigned char *byte = (volatile unsigned char *)at;
-    while (len--) *byte++ = 0;
-}
+static inline void noise_wipe(void *at, size_t len);
 
 #ifdef __GNUC__
-/* Overwrites 16 KB of stack below the caller's frame: call it from the function that last called
-   with a secret. */
-__attribute__((noinline, unused)) static void noise_wipe_stack(void) {
-    unsigned char stack[16384];
-    noise_wipe(stack, sizeof stack);
-}
+/* Overwrites 16 KB of stack below the caller's frame, more than calls use (at most 14 KB): call it
+   from the function that last called with a secret. */
+__attribute__((noinline, unused)) static void noise_wipe_stack(void);
 #endif
 
-/* Returns a sentence that says what a code means; of a number that is no code, that it is none. */
-static inline const char *noise_text(uint32_t code) {
-    switch (code) {
-    case NOISE_OK: return "The call succeeded.";
-    case NOISE_NAME: return "No fundamental pattern with 25519, ChaChaPoly, SHA256 has this name.";
-    case NOISE_PATTERN: return "The pattern text has a fault: noise_check_pattern says where.";
-    case NOISE_EPHEMERAL_MISSING: return "The setup lacks this party's ephemeral public key.";
-    case NOISE_STATIC_MISSING: return "The setup lacks this party's static public key.";
-    case NOISE_REMOTE_MISSING: return "The setup lacks a key of the other party's pre-message.";
-    case NOISE_REMOTE_UNEXPECTED: return "The setup has a remote key that isn't in a pre-message.";
-    case NOISE_PSK_COUNT: return "There are more psks than psk tokens.";
-    case NOISE_NOT_YOUR_TURN: return "It is the other party's turn.";
-    case NOISE_TOO_LONG: return "The message would be or is too long.";
-    case NOISE_DONE: return "All messages of the handshake have passed.";
-    case NOISE_ENDED: return "The handshake has ended, since a message was refused.";
-    case NOISE_AGREEMENT: return "A result of X25519 is missing in a struct that was changed.";
-    case NOISE_SHORT: return "The message has too few bytes.";
-    case NOISE_TAG: return "A tag is wrong: keys, psks or prologues differ, or bytes changed.";
-    case NOISE_EXHAUSTED: return "The nonce is 2^64 - 1: this key encrypts and decrypts no more.";
-    case NOISE_ROOM: return "The buffer is too short for the message.";
-    case NOISE_NOT_DONE: return "Messages of the handshake are still due.";
-    case NOISE_WANTED: return "A result of X25519 is needed: pass it to noise_answer; call again.";
-    case NOISE_ONE_WAY: return "In a one-way pattern only the initiator sends.";
-    case NOISE_STRUCT: return "The struct holds no state that a call could have made.";
-    case NOISE_LENGTH: return "The prologue, message or associated data has more than 65535 bytes.";
-    case NOISE_WINDOW: return "The window is not 64, 256 or 1024.";
-    case NOISE_RESERVED: return "The datagram has the nonce 2^64 - 1, which no datagram may have.";
-    case NOISE_OLD: return "The datagram is older than the window.";
-    case NOISE_REPEATED: return "A datagram with this nonce was opened before.";
-    case NOISE_NOT_DUE: return "A payload of this length can not be written now.";
-    case NOISE_HEADING: return "Line 1 isn't a base name, its modifiers in order, and a colon.";
-    case NOISE_ARROW: return "The line does not begin with two spaces, an arrow and a space.";
-    case NOISE_TOKEN: return "A word of the line is not a token.";
-    case NOISE_PRE_MESSAGE: return "A pre-message has tokens other than e and s, or is misplaced.";
-    case NOISE_TURN: return "The line is a message of the wrong party.";
-    case NOISE_PSK_PLACE: return "The psk tokens are not where the heading says.";
-    case NOISE_NAME_TAKEN: return "The base name is that of another pattern, a fundamental one.";
-    case NOISE_LIMIT: return "A ninth message, no token but psk, or more than eight others.";
-    case NOISE_ENDING: return "The line has no line feed, or there is no message.";
-    case NOISE_RULE: return "The pattern breaks a rule of validity.";
-    case NOISE_WANTED_PSK: return "A psk is needed: pass it to noise_set_psk; call again.";
-    case NOISE_END: return "The other party has ended the stream, and all of it came.";
-    case NOISE_MORE: return "The frame is not complete.";
-    case NOISE_CLOSED: return "The stream was ended or refused before.";
-    case NOISE_CUT: return "The connection ended before the stream did.";
-    default: return "This number is not a code of the library.";
-    }
-}
+/* Returns the sentence of noise_sentence. */
+static inline const char *noise_text(uint32_t code);
 
 /* Computes X25519 of one of this party's secret keys, the static one unless of_static is 0, and a
-   public key of the other party; 0 if there is no result, as for all zeros. */
+   public key of the other party; 0 if there is no result, as for all zeros (Noise, 12.1). */
 typedef int noise_dh(void *context, uint8_t of_static, const uint8_t remote[32],
     uint8_t result[32]);
 
-/* Passes on the result of X25519 that a call wants: 0 if there is none. */
-static inline int noise_answer_with(noise_handshake *h, const noise_result *want, noise_dh *dh,
-    void *context) {
-    uint8_t result[32];
-    int ok = dh(context, want->of_static, want->remote, result)
-        && noise_answer(h, want->of_static, want->remote, result) == NOISE_OK;
-    noise_wipe(result, sizeof result);
-    return ok;
-}
-
-/* NULL WITH A COUNT OF 0. The functions of the library accept no NULL. So each that takes bytes and
-   their count is also a macro (C11, 7.1.4) for an inline function. That replaces NULL by the
-   address of a byte that nobody reads or writes. A call that doesn't use this header, as by dlsym
-   or from another language, must not pass NULL. */
-static inline const uint8_t *noise_in(const uint8_t *at, size_t len) {
-    return at || len ? at : (const uint8_t *)"";
-}
-static inline uint8_t *noise_out(uint8_t *at, size_t len) {
-    static uint8_t none;
-    return at || len ? at : &none;
-}
-static inline uint32_t noise_start_inline(noise_handshake *h, const uint8_t *pattern, size_t len,
-    const uint8_t *prologue, size_t count, const noise_setup *setup) {
-    return noise_start(h, noise_in(pattern, len), len, noise_in(prologue, count), count, setup);
-}
-static inline uint32_t noise_write_inline(noise_handshake *h, const uint8_t *payload, size_t len,
-    uint8_t *out, size_t room, noise_result *result) {
-    return noise_write(h, noise_in(payload, len), len, noise_out(out, room), room, result);
-}
-static inline uint32_t noise_read_inline(noise_handshake *h, uint8_t *message, size_t len,
-    noise_result *result) {
-    return noise_read(h, noise_out(message, len), len, result);
-}
-static inline uint32_t noise_try_read_inline(noise_handshake *h, uint8_t *message, size_t len,
-    noise_result *result) {
-    return noise_try_read(h, noise_out(message, len), len, result);
-}
-static inline uint32_t noise_check_pattern_inline(const uint8_t *text, size_t len,
-    noise_pattern_result *result) {
-    return noise_check_pattern(noise_in(text, len), len, result);
-}
-static inline uint32_t noise_pattern_inline(const uint8_t *pattern, size_t len,
-    noise_pattern_info *info, noise_pattern_result *result) {
-    return noise_pattern(noise_in(pattern, len), len, info, result);
-}
-static inline uint32_t noise_layout_inline(const uint8_t *pattern, size_t len, uint8_t message,
-    size_t payload_len, noise_message_layout *layout) {
-    return noise_layout(noise_in(pattern, len), len, message, payload_len, layout);
-}
-static inline uint32_t noise_frame_message_inline(uint8_t *buffer, size_t len, size_t message_len,
-    noise_stream_result *result) {
-    return noise_frame_message(noise_out(buffer, len), len, message_len, result);
-}
-static inline uint32_t noise_frame_find_inline(const uint8_t *buffer, size_t len,
-    noise_stream_result *result) {
-    return noise_frame_find(noise_in(buffer, len), len, result);
-}
-static inline uint32_t noise_stream_write_inline(noise_stream_sender *s, const uint8_t *payload,
-    size_t len, uint8_t *out, size_t room, noise_stream_result *result) {
-    return noise_stream_write(s, noise_in(payload, len), len, noise_out(out, room), room, result);
-}
-static inline uint32_t noise_stream_end_inline(noise_stream_sender *s, uint8_t *out, size_t len,
-    noise_stream_result *result) {
-    return noise_stream_end(s, noise_out(out, len), len, result);
-}
-static inline uint32_t noise_stream_read_inline(noise_stream_receiver *r, uint8_t *buffer,
-    size_t len, noise_stream_result *result) {
-    return noise_stream_read(r, noise_out(buffer, len), len, result);
-}
-static inline uint32_t noise_seal_inline(noise_sender *s, const uint8_t *payload, size_t len,
-    uint8_t *out, size_t room, noise_result *result) {
-    return noise_seal(s, noise_in(payload, len), len, noise_out(out, room), room, result);
-}
-static inline uint32_t noise_seal_in_place_inline(noise_sender *s, uint8_t *buffer, size_t len,
-    size_t payload_len, noise_result *result) {
-    return noise_seal_in_place(s, noise_out(buffer, len), len, payload_len, result);
-}
-static inline uint32_t noise_open_inline(noise_receiver *r, uint8_t *message, size_t len,
-    noise_result *result) {
-    return noise_open(r, noise_out(message, len), len, result);
-}
-static inline uint32_t noise_datagram_seal_inline(noise_datagram_sender *s, const uint8_t *payload,
-    size_t len, uint8_t *out, size_t room, noise_result *result) {
-    return noise_datagram_seal(s, noise_in(payload, len), len, noise_out(out, room), room, result);
-}
-static inline uint32_t noise_datagram_seal_in_place_inline(noise_datagram_sender *s,
-    uint8_t *buffer, size_t len, size_t payload_len, noise_result *result) {
-    return noise_datagram_seal_in_place(s, noise_out(buffer, len), len, payload_len, result);
-}
-static inline uint32_t noise_datagram_open_inline(noise_datagram_receiver *r, uint8_t *datagram,
-    size_t len, noise_result *result) {
-    return noise_datagram_open(r, noise_out(datagram, len), len, result);
-}
-static inline uint32_t noise_cipher_encrypt_inline(noise_cipher *c, const uint8_t *ad,
-    size_t count, uint8_t *buffer, size_t len, size_t text_len, noise_result *result) {
-    buffer = noise_out(buffer, len);
-    return noise_cipher_encrypt(c, noise_in(ad, count), count, buffer, len, text_len, result);
-}
-static inline uint32_t noise_cipher_decrypt_inline(noise_cipher *c, const uint8_t *ad,
-    size_t count, uint8_t *message, size_t len, noise_result *result) {
-    message = noise_out(message, len);
-    return noise_cipher_decrypt(c, noise_in(ad, count), count, message, len, result);
-}
-#define noise_start noise_start_inline
-#define noise_write noise_write_inline
-#define noise_read noise_read_inline
-#define noise_try_read noise_try_read_inline
-#define noise_check_pattern noise_check_pattern_inline
-#define noise_pattern noise_pattern_inline
-#define noise_layout noise_layout_inline
-#define noise_frame_message noise_frame_message_inline
-#define noise_frame_find noise_frame_find_inline
-#define noise_stream_write noise_stream_write_inline
-#define noise_stream_end noise_stream_end_inline
-#define noise_stream_read noise_stream_read_inline
-#define noise_seal noise_seal_inline
-#define noise_seal_in_place noise_seal_in_place_inline
-#define noise_open noise_open_inline
-#define noise_datagram_seal noise_datagram_seal_inline
-#define noise_datagram_seal_in_place noise_datagram_seal_in_place_inline
-#define noise_datagram_open noise_datagram_open_inline
-#define noise_cipher_encrypt noise_cipher_encrypt_inline
-#define noise_cipher_decrypt noise_cipher_decrypt_inline
-
-/* noise_write, noise_read and noise_try_read with a function for X25519, which is called as often
-   as a result is wanted: four times at most for a message. WANTED is returned only where that
-   function gives none. */
-static inline uint32_t noise_write_with(noise_handshake *h, const uint8_t *payload, size_t len,
-    uint8_t *out, size_t out_len, noise_result *result, noise_dh *dh, void *context) {
-    uint32_t code;
-    do code = noise_write(h, payload, len, out, out_len, result);
-    while (code == NOISE_WANTED && noise_answer_with(h, result, dh, context));
-    return code;
-}
+/* Write or read as noise_write, noise_read and noise_try_read do, with a function for X25519. It is
+   called as often as a result is wanted, four times at most for a message. WANTED is returned only
+   where that function gives none. */
+static inline uint32_t noise_write_with(noise_handshake *h, const uint8_t *payload,
+    size_t payload_len, uint8_t *out, size_t out_len, noise_result *result, noise_dh *dh,
+    void *context);
 static inline uint32_t noise_read_with(noise_handshake *h, uint8_t *message, size_t message_len,
-    noise_result *result, noise_dh *dh, void *context) {
-    uint32_t code;
-    do code = noise_read(h, message, message_len, result);
-    while (code == NOISE_WANTED && noise_answer_with(h, result, dh, context));
-    return code;
-}
-static inline uint32_t noise_try_read_with(noise_handshake *h, uint8_t *message, size_t message_len,
-    noise_result *result, noise_dh *dh, void *context) {
-    uint32_t code;
-    do code = noise_try_read(h, message, message_len, result);
-    while (code == NOISE_WANTED && noise_answer_with(h, result, dh, context));
-    return code;
-}
+    noise_result *result, noise_dh *dh, void *context);
+static inline uint32_t noise_try_read_with(noise_handshake *h, uint8_t *message,
+    size_t message_len, noise_result *result, noise_dh *dh, void *context);
+
+/* The inline functions; and NULL with a count of 0, which the library itself doesn't take: each
+   call with bytes and their count is also a macro for an inline function that passes an address. A
+   call that doesn't use this header, as by dlsym or from another language, must not pass NULL. */
+#include "noise_inline.h"
 
 #ifdef __cplusplus
 }

@@ -64,6 +64,11 @@ func Answer(h *Handshake, ofStatic uint8, remote *byte, answer *byte) uint32
 //go:noescape
 func SetPsk(h *Handshake, psk *byte) uint32
 
+// UnsetPsk is noise_unset_psk.
+//
+//go:noescape
+func UnsetPsk(h *Handshake) uint32
+
 // Write is noise_write.
 //
 //go:noescape

@@ -70,6 +70,11 @@ func SetPsk(h *Handshake, psk *byte) uint32 {
 	return uint32(C.noise_set_psk((*C.noise_handshake)(unsafe.Pointer(h)), (*C.uint8_t)(unsafe.Pointer(psk))))
 }
 
+// UnsetPsk is noise_unset_psk.
+func UnsetPsk(h *Handshake) uint32 {
+	return uint32(C.noise_unset_psk((*C.noise_handshake)(unsafe.Pointer(h))))
+}
+
 // Write is noise_write.
 func Write(h *Handshake, payload *byte, payloadLen uint, out *byte, outLen uint, result *Result) uint32 {
 	return uint32(C.noise_write((*C.noise_handshake)(unsafe.Pointer(h)), (*C.uint8_t)(unsafe.Pointer(payload)), C.size_t(payloadLen), (*C.uint8_t)(unsafe.Pointer(out)), C.size_t(outLen), (*C.noise_result)(unsafe.Pointer(result))))
