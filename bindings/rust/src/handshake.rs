@@ -2,6 +2,7 @@ use crate::header::{OK, WANTED, WANTED_PSK};
 use crate::raw::{self, CallResult, Held, Stage};
 use crate::{Datagrams, Dh, Ephemeral, Error, ReceiveCipherState, SendCipherState, Transport};
 use core::fmt;
+use core::ops::Range;
 
 /// A handshake, message by message. The parties write in turn, the initiator first; `finish`, `finish_datagrams` or `finish_ciphers` uses it up.
 ///
@@ -32,6 +33,8 @@ pub struct Handshake<S: Dh, E: Ephemeral> {
     static_key: Option<S>,
     ephemeral: E,
     options: Options,
+    is_asked: bool, // for the psk of a message that is read
+    chosen: usize,  // psks for that message
 }
 
 // What a builder says of the time after the start.
@@ -62,7 +65,7 @@ impl<S: Dh, E: Ephemeral> Handshake<S, E> {
         ephemeral: E,
         options: Options,
     ) -> Self {
-        Handshake { memory, stage, static_key, ephemeral, options }
+        Handshake { memory, stage, static_key, ephemeral, options, is_asked: false, chosen: 0 }
     }
 
     /// Writes the next message, with this payload, to the start of `out`, and returns its length. At an error, as `WantedPsk`, nothing is changed.
@@ -84,10 +87,12 @@ impl<S: Dh, E: Ephemeral> Handshake<S, E> {
     /// Reads the message that is due, in place, and returns its payload. `Short` and `Tag` end the handshake; otherwise an error, as `WantedPsk`,
     /// changes nothing.
     pub fn read<'m>(&mut self, message: &'m mut [u8]) -> Result<&'m mut [u8], Error> {
-        self.read_by(raw::Handshake::read, message)
+        let payload = self.read_by(raw::Handshake::read, message)?;
+        Ok(&mut message[payload])
     }
 
     /// Reads as `read` does, but an error changes nothing, neither the handshake nor the message: for a message that anybody may have sent, as a datagram.
+    /// A psk that was chosen for a refused message is taken back.
     ///
     #[cfg_attr(any(feature = "x25519", feature = "openssl"), doc = "```")]
     #[cfg_attr(not(any(feature = "x25519", feature = "openssl")), doc = "```ignore")]
@@ -105,23 +110,44 @@ impl<S: Dh, E: Ephemeral> Handshake<S, E> {
     /// # Ok(()) }
     /// ```
     pub fn try_read<'m>(&mut self, message: &'m mut [u8]) -> Result<&'m mut [u8], Error> {
-        self.read_by(raw::Handshake::try_read, message)
+        match self.read_by(raw::Handshake::try_read, message) {
+            Ok(payload) => Ok(&mut message[payload]),
+            Err(error) => {
+                if !matches!(error, Error::WantedPsk { .. }) {
+                    self.take_back();
+                }
+                Err(error)
+            }
+        }
     }
 
-    fn read_by<'m>(
+    // Takes the psks back that were chosen for a message: another one may be of another party.
+    fn take_back(&mut self) {
+        for _ in 0..core::mem::take(&mut self.chosen) {
+            self.memory.unset_psk();
+            self.options.lacking_psks += 1;
+        }
+    }
+
+    fn read_by(
         &mut self,
         read: fn(&mut raw::Handshake, &mut [u8], &mut CallResult) -> u32,
-        message: &'m mut [u8],
-    ) -> Result<&'m mut [u8], Error> {
+        message: &mut [u8],
+    ) -> Result<Range<usize>, Error> {
         let mut result = CallResult::default();
+        self.is_asked = false;
         loop {
             match read(&mut self.memory, message, &mut result) {
                 OK => {
                     self.pass();
-                    return Ok(&mut message[result.from..result.from + result.len]);
+                    self.chosen = 0;
+                    return Ok(result.from..result.from + result.len);
                 }
                 WANTED => self.answer(&result)?,
-                WANTED_PSK => return Err(result.wanted_psk()),
+                WANTED_PSK => {
+                    self.is_asked = true;
+                    return Err(result.wanted_psk());
+                }
                 code => {
                     self.stage = self.memory.stage();
                     return Err(Error::of(code, Some(result.token)));
@@ -155,7 +181,7 @@ impl<S: Dh, E: Ephemeral> Handshake<S, E> {
     }
 
     /// Passes the secret of the first psk token that has none: after `WantedPsk`, or before. `PskCount`: no token that is still to come lacks its
-    /// secret. A secret that was passed can't be replaced: if it is wrong, the other party's message is refused with `Tag`.
+    /// secret. If it is wrong, the other party's message is refused with `Tag`; `try_read` then takes it back.
     ///
     #[cfg_attr(any(feature = "x25519", feature = "openssl"), doc = "```")]
     #[cfg_attr(not(any(feature = "x25519", feature = "openssl")), doc = "```ignore")]
@@ -183,6 +209,7 @@ impl<S: Dh, E: Ephemeral> Handshake<S, E> {
         match self.memory.set_psk(secret) {
             OK => {
                 self.options.lacking_psks -= 1;
+                self.chosen += usize::from(core::mem::take(&mut self.is_asked));
                 Ok(())
             }
             code => Err(Error::of(code, None)),

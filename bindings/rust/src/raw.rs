@@ -237,6 +237,7 @@ calls! {
         setup: *const Setup,
     ) -> u32;
     fn noise_answer(h: *mut Handshake, of_static: u8, remote: *const u8, answer: *const u8) -> u32;
+    fn noise_unset_psk(h: *mut Handshake) -> u32;
     fn noise_set_psk(h: *mut Handshake, psk: *const u8) -> u32;
     fn noise_write(
         h: *mut Handshake,
@@ -455,6 +456,11 @@ impl Handshake {
     pub(crate) fn set_psk(&mut self, psk: &[u8; KEY_LEN]) -> u32 {
         // SAFETY: see above.
         unsafe { noise_set_psk(self, psk.as_ptr()) }
+    }
+
+    pub(crate) fn unset_psk(&mut self) {
+        // SAFETY: see above.
+        unsafe { noise_unset_psk(self) };
     }
 
     pub(crate) fn write(&mut self, payload: &[u8], out: &mut [u8], result: &mut CallResult) -> u32 {

@@ -390,6 +390,26 @@ fn each_peer_has_its_secret() {
     }
 }
 
+// A stranger names the key of a client, whose secret is chosen then: that of the client that comes next isn't that one.
+#[test]
+fn a_secret_of_a_refused_message_is_taken_back() {
+    let (mut stranger, mut server) = client_and_late_server("IKpsk1", Toy(13), &[9; 32]);
+    let mut message = [0; 200];
+    let len = stranger.write(b"payload", &mut message).unwrap();
+    for _ in 0..3 {
+        assert_eq!(server.try_read(&mut message[..len]), Err(Error::WantedPsk { remote_static: Some([13; 32]) }));
+        server.set_psk(&[2; 32]).unwrap();
+        assert_eq!(server.try_read(&mut message[..len]), Err(Error::Tag { token: Some(5) }));
+        assert!(server.lacks_psk());
+    }
+    let (mut client, _) = client_and_late_server("IKpsk1", Toy(11), &[1; 32]);
+    let len = client.write(b"payload", &mut message).unwrap();
+    assert_eq!(server.try_read(&mut message[..len]), Err(Error::WantedPsk { remote_static: Some([11; 32]) }));
+    server.set_psk(&[1; 32]).unwrap();
+    assert_eq!(server.try_read(&mut message[..len]).unwrap(), b"payload");
+    assert!(!server.lacks_psk() && server.remote_static() == Some([11; 32]));
+}
+
 #[test]
 fn a_wanted_secret_changes_nothing() {
     let (mut client, mut server) = client_and_late_server("IKpsk1", Toy(11), &[1; 32]);
