@@ -29,6 +29,7 @@ export class Handshake {
   #static;
   #agreements = new Agreements();
   #opening;    // the first 32 bytes of the first message that was read: the other party's ephemeral key, where it has one
+  #chosen = 0;    // psks for the message that is read
   #started = false;
   #busy = false;
 
@@ -46,9 +47,8 @@ export class Handshake {
     freeLater(this, [['handshake', this.#place]]);
     try {
       this.#start(ephemeralKey?.publicKey ?? PLACEHOLDER);
-      const lacksPsk = this.#lacksPsk();
-      if (lacksPsk !== (rest.pskFor !== undefined)) throw new NoiseError('NOISE_PSK_COUNT');
-      if (lacksPsk && ephemeralKey) this.#start(ephemeralKey.publicKey);    // it was passed one
+      if (this.#lacksPsk() !== (rest.pskFor !== undefined)) throw new NoiseError('NOISE_PSK_COUNT');
+      if (rest.pskFor && ephemeralKey) this.#start(ephemeralKey.publicKey);    // it was passed one
     } catch (error) {
       this.dispose();
       throw error;
@@ -62,8 +62,7 @@ export class Handshake {
 
   /** Whether a psk token lacks its secret. If so this passes one, and the handshake has to be started again. */
   #lacksPsk() {
-    const lib = library();
-    return lib.x.noise_set_psk(this.#place, lib.put('answer', PLACEHOLDER)[0]) === code.OK;
+    return library().x.noise_set_psk(this.#place, library().put('answer', PLACEHOLDER)[0]) === code.OK;
   }
 
   #here() {
@@ -119,6 +118,14 @@ export class Handshake {
     const taken = lib.x.noise_set_psk(this.#here(), lib.put('answer', psk)[0]);
     lib.wipe('answer');
     must(taken);
+    this.#chosen += 1;
+  }
+
+  /** Keeps nothing of a message that was refused, neither its ephemeral key nor the psks that were chosen for it. */
+  #forget(opening, error) {
+    if (this.#place !== undefined) [this.#opening, this.#agreements] = [opening, new Agreements()];
+    for (; this.#place !== undefined && this.#chosen > 0; this.#chosen -= 1) library().x.noise_unset_psk(this.#place);
+    throw error;
   }
 
   async #agree(ofStatic, remote) {
@@ -168,22 +175,17 @@ export class Handshake {
    * @returns {Promise<Uint8Array>}
    */
   async tryRead(message) {
-    const opening = this.#opening;
-    try {
-      return await this.#readBy(library().x.noise_try_read, message);
-    } catch (error) {
-      // Nothing is kept of what was refused.
-      if (this.#agreements && (error.code === 'NOISE_TAG' || error.code === 'NOISE_SHORT')) [this.#opening, this.#agreements] = [opening, new Agreements()];
-      throw error;
-    }
+    return this.#readBy(library().x.noise_try_read, message, true);
   }
 
-  async #readBy(call, message) {
+  async #readBy(call, message, isTried = false) {
     const own = copyOf(message, 'message');
     return this.#alone(async () => {
-      const lib = library();
+      const [lib, opening] = [library(), this.#opening];
       this.#opening ??= own.slice(0, 32);
-      const result = await this.#answered((place) => call(place, ...lib.put('message', own), lib.at.result));
+      this.#chosen = 0;
+      const read = this.#answered((place) => call(place, ...lib.put('message', own), lib.at.result));
+      const result = await (isTried ? read.catch((error) => this.#forget(opening, error)) : read);
       const payload = lib.view(lib.at.message + result.from, result.len).slice();
       lib.wipe('message', own.length);
       return payload;

@@ -7,7 +7,7 @@
 const EXPORTS = {
   noise_version: '>i', noise_check_pattern: 'ppp>i', noise_start: 'pppppp>i', noise_write: 'pppppp>i', noise_read: 'pppp>i', noise_try_read: 'pppp>i',
   noise_pattern: 'pppp>i', noise_layout: 'ppipp>i',
-  noise_answer: 'pipp>i', noise_set_psk: 'pp>i', noise_stage: 'pp>i', noise_message_len: 'ppp>i', noise_hash: 'pp>i', noise_remote_static: 'pp>i',
+  noise_answer: 'pipp>i', noise_set_psk: 'pp>i', noise_unset_psk: 'p>i', noise_stage: 'pp>i', noise_message_len: 'ppp>i', noise_hash: 'pp>i', noise_remote_static: 'pp>i',
   noise_finish: 'pcpp>i', noise_finish_stream: 'pcpp>i', noise_finish_datagrams: 'pipp>i', noise_finish_ciphers: 'ppp>i',
   noise_seal: 'pppppp>i', noise_open: 'pppp>i', noise_sender_nonce: 'pp>i', noise_receiver_nonce: 'pp>i',
   noise_datagram_seal: 'pppppp>i', noise_datagram_open: 'pppp>i', noise_datagram_sender_nonce: 'pp>i',

@@ -17,7 +17,7 @@ test('values', async (t) => {
     assert.ok([lib.x.noise_handshake_size(), ...Object.values(lib.at), ...lib.put('name', text('NN')), lib.take('handshake')].every(isNumber));
     const module = new WebAssembly.Module(await readFile(new URL('../noise_c.wasm', import.meta.url)));
     const functions = WebAssembly.Module.exports(module).filter(({ kind }) => kind === 'function').map(({ name }) => name);
-    const unused = ['noise_seal_in_place', 'noise_datagram_seal_in_place', 'noise_sentence', 'noise_unset_psk'];
+    const unused = ['noise_seal_in_place', 'noise_datagram_seal_in_place', 'noise_sentence'];
     assert.deepEqual(Object.keys(lib.x).sort(), functions.filter((name) => !unused.includes(name)).sort());
     for (const interval of [2n, -1, 1.5, NaN, '2', null, 2 ** 53]) assert.throws(() => new Handshake({ pattern: 'NN' }).finish({ interval }), RangeError);
   });
@@ -95,5 +95,17 @@ test('values', async (t) => {
     await it.responder.read(await it.initiator.write(text('last')));
     assert.deepEqual(it.initiator.hash, it.responder.hash);
     assert.deepEqual(it.initiator.remoteStatic, two.publicKey);
+  });
+
+  await t.test('a psk that was chosen for a refused message is taken back', async () => {
+    const [server, client, other] = [await KeyPair.generate(), await KeyPair.generate(), await KeyPair.generate()];
+    const psk = (number) => new Uint8Array(32).fill(number);
+    const pskOf = new Map([[hex(client.publicKey), psk(1)], [hex(other.publicKey), psk(2)]]);
+    const responder = new Handshake({ pattern: 'IKpsk1', responder: true, staticKey: server, pskFor: (key) => pskOf.get(hex(key)) });
+    const first = (staticKey, secret) => new Handshake({ pattern: 'IKpsk1', staticKey, remoteStatic: server.publicKey, psks: [secret] }).write(text('first'));
+    const claimed = { publicKey: other.publicKey, agree: async () => psk(9) };    // who sends it hasn't the private key
+    for (let n = 0; n < 3; n += 1) await assert.rejects(responder.tryRead(await first(claimed, psk(2))), refused('NOISE_TAG'));
+    assert.deepEqual(await responder.tryRead(await first(client, psk(1))), text('first'));
+    assert.deepEqual(responder.remoteStatic, client.publicKey);
   });
 });
