@@ -1,8 +1,11 @@
 -- What is on the output of a log that is compared.
-use Rattle.std.proofs.Common.{◌≡◌, sym, subst, ℕ, List, Option}
+use Rattle.std.proofs.Common.{◌≡◌, sym, subst, ℕ, List, Option, Some, None, Result, Ok, Err}
+use Rattle.std.specs.Prelude.{IfOk}
 use Rattle.noise_tool.proofs.Common.{IfSome, status_of, AppendsPrefix, LeavesOutput, Fault}
 use Rattle.noise_compare.specs.declared.comparison.LogReport.{LogReport}
-use Rattle.noise_tool.specs.Comparing.{Compares, ComparesPrefix}
+use Rattle.noise_tool.specs.Comparing.{Compares, ComparesPrefix, IfMade}
+use Rattle.noise_tool.specs.declared.comparison.Comparison.{Comparison}
+use Rattle.noise_tool.specs.declared.comparison.Comparison.TheVariants.{Made, Wrong}
 use Rattle.noise_tool.proofs.ExplainLemmas.{left-at-three}
 
 -- a fault from outside, after a part of the report
@@ -15,3 +18,13 @@ begun-left {O = O} contents log file a why middle new report three left compares
   compares = compares;
   grown = subst (λ (o : O). AppendsPrefix a (contents o) report.text.items) (sym (left-at-three contents why middle new three left)) grown;
 }
+
+-- what is made of a log and of a run of the file's text is the report on their bytes, where these are known
+pub made-known : (r : Result Comparison Fault) (Runs : List ℕ → Type 0) (log file : Option (List ℕ)) (text : List ℕ)
+    → IfSome log (λ bytes. text ≡ bytes) → IfSome file Runs → ((f : List ℕ) → Runs f → IfOk r (λ made. IfMade made (Compares text f)))
+    → IfOk r (λ made. IfMade made (λ report. IfSome log (λ l. IfSome file (λ f. Compares l f report))))
+made-known (Err why) Runs log file text read runs made = tt
+made-known (Ok (Wrong why)) Runs log file text read runs made = tt
+made-known (Ok (Made report)) Runs None file text read runs made = tt
+made-known (Ok (Made report)) Runs (Some bytes) None text read runs made = tt
+made-known (Ok (Made report)) Runs (Some bytes) (Some f) text read runs made = subst (λ (l : List ℕ). Compares l f report) read (made f runs)

@@ -1,4 +1,4 @@
-use Rattle.std.proofs.Common.{refl}
+use Rattle.std.proofs.Common.{refl, sym}
 use Rattle.noise_tool.proofs.Common.{traces_of, bytes_of}
 use Rattle.noise_tool.proofs.comparison.compare_traced.Goals as goal
 
@@ -17,7 +17,7 @@ returns-in-Ok-clause-made c = λ file runs. record {
     shown = runs.shown refl;
     words_are = c.in_ok-right.ensures;
   };
-  compared = c.in_ok-report.report.text.items;
-  reported = rw (c.deref-in-Ok.ensures.value, c.deref-2-in-Ok.ensures.value) at c.in_ok-report.ensures;
-  text_is = c.in_ok-with_others-in-Ok.ensures.text;
+  compared = c.in_ok-report-in-Ok.report.text.items;
+  reported = rw (c.deref-in-Ok.ensures.value, c.deref-in-Ok-2.ensures.value, sym c.in_ok-with_others-in-Ok.ensures.finding) at c.in_ok-report-in-Ok.ensures;
+  text_is = rw (c.saturating_sub-others.ensures, c.in_ok-written_lines-in-Ok.ensures, c.len.ensures, c.in-Ok.lines.ok.0) at c.in_ok-with_others-in-Ok.ensures.text;
 }
