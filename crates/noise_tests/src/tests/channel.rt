@@ -96,10 +96,16 @@ fn a_stream_is_read_to_its_end(rt: HostRuntime) {
 fn a_stream_is_read_in_pieces(rt: HostRuntime) {
     let mut receiver = StreamReceiver::new(Receiver::from_parts(half(Role::Responder)));
     let mut out = Vec::new(rt.alloc());
-    let left = read_to(&mut receiver, &mut came()[..30], &mut out).expect(&rt, "memory");
+    let mut first = [0; 30];
+    first[..20].copy_from_slice(&HI);
+    first[20..].copy_from_slice(&YOU[..10]);
+    let left = read_to(&mut receiver, &mut first, &mut out).expect(&rt, "memory");
     assert!(rt; left == 10);
     assert!(rt; out.as_slice() == b"hi".as_slice());
-    let whole = read_to_end(&mut receiver, &mut came()[20..], &mut out).expect(&rt, "memory");
+    let mut rest = [0; 39];
+    rest[..21].copy_from_slice(&YOU);
+    rest[21..].copy_from_slice(&END);
+    let whole = read_to_end(&mut receiver, &mut rest, &mut out).expect(&rt, "memory");
     assert!(rt; whole);
     assert!(rt; out.as_slice() == b"hiyou".as_slice());
 }
@@ -108,7 +114,10 @@ fn a_stream_is_read_in_pieces(rt: HostRuntime) {
 fn a_stream_that_is_cut_is_not_whole(rt: HostRuntime) {
     let mut receiver = StreamReceiver::new(Receiver::from_parts(half(Role::Responder)));
     let mut out = Vec::new(rt.alloc());
-    let whole = read_to_end(&mut receiver, &mut came()[..41], &mut out).expect(&rt, "memory");
+    let mut cut = [0; 41];
+    cut[..20].copy_from_slice(&HI);
+    cut[20..].copy_from_slice(&YOU);
+    let whole = read_to_end(&mut receiver, &mut cut, &mut out).expect(&rt, "memory");
     assert!(rt; !whole);
     assert!(rt; out.as_slice() == b"hiyou".as_slice());
 }
