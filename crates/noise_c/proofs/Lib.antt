@@ -19,3 +19,5 @@ pub mod Ciphering
 pub mod Describing
 pub mod Layouts
 pub mod Received
+pub mod Talking
+pub mod Programs

@@ -16,7 +16,7 @@ use Rattle.noise_c.specs.HandedIn.WritesByDhResults.{ready as writes_now, handed
 -- ---- a DH result more
 
 -- the DH result after those of the entries
-either : (es : List TableEntry) (e : TableEntry) (own : Own) (key : List ℕ)
+pub either : (es : List TableEntry) (e : TableEntry) (own : Own) (key : List ℕ)
     → dh_result_in (es ++ e ∷ []) own key ≡ option_or (dh_result_in es own key) (dh_result_in (e ∷ []) own key)
 either es e own key =
     ap (option_map (λ (t : TableEntry). t.answer)) (find-append (is_for own key) es (e ∷ []))
@@ -47,7 +47,7 @@ module _ (own : Own) (key x : List ℕ) where
     at true e = refl
     at false e = cc
 
-  only-one : (o : Own) (k y : List ℕ) → dh_result_in (entry ∷ []) o k ≡ Some y → (o ≡ own) × (k ≡ key) × (y ≡ x)
+  pub only-one : (o : Own) (k y : List ℕ) → dh_result_in (entry ∷ []) o k ≡ Some y → (o ≡ own) × (k ≡ key) × (y ≡ x)
   only-one o k y e = at (is_for o k entry) refl e where
     at : (b : Bool) → is_for o k entry ≡ b → option_map (λ (t : TableEntry). t.answer) (cond b (Some entry) None) ≡ Some y
         → (o ≡ own) × (k ≡ key) × (y ≡ x)

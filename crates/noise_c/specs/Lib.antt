@@ -12,5 +12,6 @@ pub mod DatagramStructs
 pub mod CipherStructs
 pub mod StreamStructs
 pub mod Outcomes
+pub mod TwoPrograms
 pub mod PatternInfo
 pub mod MessageLayouts

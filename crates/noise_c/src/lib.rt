@@ -23,4 +23,5 @@ mod streams;
 mod structs;
 mod supplied_keys;
 mod texts;
+pub mod two_programs;
 mod version;

@@ -1,0 +1,18 @@
+use Rattle.noise_c.proofs.Programs.{agree-both}
+use Rattle.noise_c.proofs.two_programs.two_programs_agree.Goals as goal
+
+pub returns : goal.returns
+returns c =
+    agree-both
+    (record {
+      once = c.accepted_once.ensures;
+      accepts = c.written_is_accepted.ensures.accepts;
+      next = c.written_is_accepted.ensures.next;
+      turned = c.written_is_accepted.ensures.turned;
+    })
+    (record {
+      once = c.accepted_once.ensures;
+      apart = c.refused_once.ensures.apart;
+      whole = c.first_act_as_all.ensures.whole;
+    })
+    c.starts_are_counterparts.ensures

@@ -1,0 +1,21 @@
+//! Two programs, each with a handshake of its own: what comes of their calls where each reads what the other wrote.
+
+ghost use Rattle.noise_c.specs.TwoPrograms.{TwoProgramsAgree};
+
+use crate::laws::first_act_as_all;
+use noise_handshake::laws::{
+    accepted_once, refused_once, starts_are_counterparts, written_is_accepted,
+};
+
+/// Two programs that begin with one valid pattern, equal prologue and psks, and keys whose DH results agree, and that
+/// each read what the other wrote: each payload that is handed out is the writer's, no message is refused, and both end
+/// with one hash and with halves that face each other.
+pub fn two_programs_agree()
+    ensures { TwoProgramsAgree }
+{
+    accepted_once();
+    refused_once();
+    written_is_accepted();
+    starts_are_counterparts();
+    first_act_as_all();
+}
