@@ -20,4 +20,5 @@ pub mod Describing
 pub mod Layouts
 pub mod Received
 pub mod Talking
+pub mod Transcribing
 pub mod Programs

@@ -26,6 +26,8 @@ use Rattle.noise_c.specs.Outcomes.ReadOutcome.{accepted, wants_dh_result as read
 use Rattle.noise_c.specs.TwoPrograms.{Secrets, Passed, IsNextPsk, Calls, Program, HasRun, HaveTalked, IsFront, IsTaken, TakesNext, Face, Agree, TwoProgramsAgree, messages_in, start_by}
 use Rattle.noise_c.specs.TwoPrograms.Calls.{none, wrote, took, answered, set_psk, kept}
 use Rattle.noise_c.proofs.Runs.{either, only-one, keeps-next}
+use Rattle.noise_duel.specs.SetUpAlike.{material_of}
+use Rattle.noise_c.proofs.Transcribing.{Showing, Told, told, shares-left, shares-right}
 use Rattle.noise_c.proofs.Talking.{Talk, silent, speaks, hears, Laws, Together, together, same-passed}
 
 -- ---- what outcomes say
@@ -290,7 +292,7 @@ module _ (v w : Party) (h : Counterparts v w) (interval : ℕ) where
 
 -- ---- two programs
 
-module _ (laws : Laws) (reading : Reading)
+module _ (laws : Laws) (reading : Reading) (showing : Showing)
     (starts : (p : Plan) (prologue : List ℕ) (psks : List (List ℕ)) (own theirs : Own → Option (List ℕ))
     (agree their_agree : Own → List ℕ → Option (List ℕ)) (known their_known : Remote)
     → StartAsCounterparts p prologue psks own theirs agree their_agree known their_known) where
@@ -309,11 +311,16 @@ module _ (laws : Laws) (reading : Reading)
       let left = walk reading.whole p g.secrets v0 g.begun g.last g.written g.read (begins p Initiator g t.initiator) t.initiator.calls in
       let right = walk reading.whole p h.secrets w0 h.begun h.last h.written h.read (begins p Responder h t.responder) t.responder.calls in
       let both = together laws v0 w0 left.party right.party g.written g.read h.written h.read t.valid faced2 left.talk right.talk t.there t.back in
+      let tale = told laws showing (material_of a b) v0 w0 left.party right.party g.written g.read h.written h.read t.valid faced2
+      (record { left = shares-left p a b; right = shares-right p a b t.dh_results }) left.talk right.talk t.there t.back in
       let level : g.last.passed ≡ h.last.passed → Counterparts left.party right.party =
       λ e. both.equal (sym left.stands.keeps.matches.passed ∙ e ∙ right.stands.keeps.matches.passed) in
       record {
         there = both.there;
         back = both.back;
+        payloads = tale.payloads;
+        by_initiator = tale.ours;
+        by_responder = tale.theirs;
         next_there = λ m more e ends next after results new code o.
             let n = both.next_there m more e in
             taken reading p h.secrets right.party h.last right.stands m n.0 n.1 ends next after results new code o;

@@ -57,11 +57,11 @@ turn-plus r n m e =
     ap (turn_from r) one ∙ turn-next r n
 
 -- the roles and counts of two that have come equally far
-both-speak : (v w : Party) → Counterparts v w → Speaks v → Speaks w → ⊥
+pub both-speak : (v w : Party) → Counterparts v w → Speaks v → Speaks w → ⊥
 both-speak v w c a b =
     other-not v.role (sym a.turn ∙ ap (turn_from Initiator) (sym (ap (λ (z : Party). z.passed) c.there)) ∙ b.turn ∙ ap (λ (z : Party). z.role) c.there)
 
-both-listen : (v w : Party) → Counterparts v w → Listens v → Listens w → ⊥
+pub both-listen : (v w : Party) → Counterparts v w → Listens v → Listens w → ⊥
 both-listen v w c a b =
     other-not (other v.role) (sym a.turn ∙ ap (turn_from Initiator) (sym (ap (λ (z : Party). z.passed) c.there)) ∙ b.turn ∙ ap (λ (z : Party). other z.role) c.there)
 
@@ -71,10 +71,10 @@ speaks-twice v c payload a b =
 
 -- ---- fronts
 
-no-front : (m : Passed) (ms : List Passed) → IsFront (messages_in (m ∷ ms)) [] → ⊥
+pub no-front : (m : Passed) (ms : List Passed) → IsFront (messages_in (m ∷ ms)) [] → ⊥
 no-front m ms f = cc
 
-front-heads : (m k : Passed) (ms ks : List Passed) → IsFront (messages_in (m ∷ ms)) (messages_in (k ∷ ks))
+pub front-heads : (m k : Passed) (ms ks : List Passed) → IsFront (messages_in (m ∷ ms)) (messages_in (k ∷ ks))
     → (m.message ≡ k.message) × IsFront (messages_in ms) (messages_in ks)
 front-heads m k ms ks f = search (rules)
 
@@ -98,7 +98,7 @@ pub record Ahead (v : Party) (m : Passed) (ws rs : List Passed) (c : List (List 
   pub none_read : rs ≡ []
   pub last_is : last ≡ after_own v c m.payload
 
-ahead : (v last : Party) (c : List (List ℕ)) (m : Passed) (ws rs : List Passed) → Speaks v
+pub ahead : (v last : Party) (c : List (List ℕ)) (m : Passed) (ws rs : List Passed) → Speaks v
     → Talk (after_own v c m.payload) ws rs last → IsFront (messages_in rs) [] → Ahead v m ws rs c last
 ahead v last c m ws rs s (silent _) f = record { no_more = refl; none_read = refl; last_is = refl }
 ahead v last c m ws rs s (speaks _ _ d k _ _ writes more) f = absurd (speaks-twice v c m.payload s writes.speaks)

@@ -9,8 +9,8 @@ use Rattle.noise_keys.specs.Table.{TableEntry}
 use Rattle.noise_handshake.specs.Setup.{psks_of}
 use Rattle.noise_handshake.specs.Party.{Party}
 use Rattle.noise_handshake.specs.Counterparts.{DhResultsAgree, shown_before}
-use Rattle.noise_duel.specs.Messages.{Start}
-use Rattle.noise_duel.specs.Conversation.{KeyMaterial, conversation, start_in}
+use Rattle.noise_duel.specs.Messages.{Start, begun_as}
+use Rattle.noise_duel.specs.Conversation.{conversation}
 use Rattle.noise_duel.specs.SetUpAlike.{material_of}
 use Rattle.noise_c.specs.declared.structs.NoiseHalf.{NoiseHalf}
 use Rattle.noise_c.specs.declared.structs.NoiseHandshake.{NoiseHandshake}
@@ -128,9 +128,9 @@ those_by role n (m ∷ ms) =
 -- the transcript's messages with these payloads, which both programs' keys and psks determine (Noise 5.3)
 abbrev pub transcript_of : Plan → Program → Program → List (List ℕ) → List Passed
 transcript_of p g h payloads =
-    let w : KeyMaterial = material_of (start_by g) (start_by h) in
     map (λ m. record { message = m.message; payload = m.payload })
-    (conversation w p 0 w.psks (start_in w p g.prologue) payloads)
+    (conversation (material_of (start_by g) (start_by h)) p 0 g.secrets.psks (begun_as p Initiator (start_by g)).history
+    payloads)
 
 -- Each half of one party is the counterpart of the other's: it has the same key, nonce and interval, and the other role.
 pub record Face (sender receiver their_sender their_receiver : NoiseHalf) : Type 0 where
@@ -156,9 +156,9 @@ TakesNext written read k = (m : Passed) (more : List Passed) → written ≡ rea
 pub record Agree (p : Plan) (g h : Program) : Type 0 where
   pub there : IsFront h.read g.written
   pub back : IsFront g.read h.written
-  --pub payloads : List (List ℕ)
-  --pub by_initiator : g.written ≡ those_by Initiator 0 (transcript_of p g h payloads)
-  --pub by_responder : h.written ≡ those_by Responder 0 (transcript_of p g h payloads)
+  pub payloads : List (List ℕ)
+  pub by_initiator : g.written ≡ those_by Initiator 0 (transcript_of p g h payloads)
+  pub by_responder : h.written ≡ those_by Responder 0 (transcript_of p g h payloads)
   pub next_there : TakesNext g.written h.read h.last
   pub next_back : TakesNext h.written g.read g.last
   pub hash : g.last.passed ≡ h.last.passed → g.last.hash ≡ h.last.hash

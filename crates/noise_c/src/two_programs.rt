@@ -4,7 +4,8 @@ ghost use Rattle.noise_c.specs.TwoPrograms.{TwoProgramsAgree};
 
 use crate::laws::first_act_as_all;
 use noise_handshake::laws::{
-    accepted_once, refused_once, starts_are_counterparts, written_is_accepted,
+    accepted_once, refused_once, shown_is_known, starts_are_counterparts, tokens_match,
+    written_is_accepted,
 };
 
 /// Two programs that begin with one valid pattern, equal prologue and psks, and keys whose DH results agree, and that
@@ -16,6 +17,8 @@ pub fn two_programs_agree()
     accepted_once();
     refused_once();
     written_is_accepted();
+    shown_is_known();
+    tokens_match();
     starts_are_counterparts();
     first_act_as_all();
 }

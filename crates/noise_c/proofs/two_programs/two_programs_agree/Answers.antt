@@ -1,3 +1,4 @@
+use Rattle.noise_names.specs.Plan.{places_of}
 use Rattle.noise_c.proofs.Programs.{agree-both}
 use Rattle.noise_c.proofs.two_programs.two_programs_agree.Goals as goal
 
@@ -14,5 +15,11 @@ returns c =
       once = c.accepted_once.ensures;
       apart = c.refused_once.ensures.apart;
       whole = c.first_act_as_all.ensures.whole;
+    })
+    (record {
+      known = c.shown_is_known.ensures.known;
+      dh_result = c.shown_is_known.ensures.dh_result;
+      sent = c.tokens_match.ensures.sent;
+      there = λ party p t. c.tokens_match.ensures.occurs party t (places_of p);
     })
     c.starts_are_counterparts.ensures
