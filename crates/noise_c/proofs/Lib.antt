@@ -22,3 +22,4 @@ pub mod Received
 pub mod Talking
 pub mod Transcribing
 pub mod Programs
+pub mod Toying

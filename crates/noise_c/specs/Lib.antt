@@ -13,5 +13,6 @@ pub mod CipherStructs
 pub mod StreamStructs
 pub mod Outcomes
 pub mod TwoPrograms
+pub mod Toys
 pub mod PatternInfo
 pub mod MessageLayouts

@@ -23,5 +23,6 @@ mod streams;
 mod structs;
 mod supplied_keys;
 mod texts;
+pub mod toys;
 pub mod two_programs;
 mod version;

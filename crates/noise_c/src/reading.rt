@@ -167,7 +167,7 @@ pub fn read_after_finish(
 }
 
 // Memory for a half.
-const NO_HALF: NoiseHalf = NoiseHalf {
+pub(crate) const NO_HALF: NoiseHalf = NoiseHalf {
     mark: 0,
     party: 0,
     one_way: 0,

@@ -45,6 +45,7 @@ pub struct NoiseHandshake {
 /// What a handshake starts from: the role, the public keys of its own and of the other party's pre-message, and the
 /// psks of the first psk tokens, in their order.
 #[repr(C)]
+#[derive(Drop)]
 pub struct NoiseSetup {
     pub responder: u8,
     pub e: NoiseKey,
@@ -122,6 +123,7 @@ pub struct NoiseCipher {
 /// What a call reports beside its number: a place or a length; the token of a refusal; the DH result that is wanted,
 /// or, where a psk is, the other party's static key, which is known unless `remote_known` is 0.
 #[repr(C)]
+#[derive(Drop)]
 pub struct NoiseResult {
     pub from: usize,
     pub len: usize,
