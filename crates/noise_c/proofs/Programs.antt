@@ -1,8 +1,8 @@
 -- The calls of a program on its struct, beside what its party writes and accepts.
-use Rattle.std.proofs.Common.{rules, ◌≡◌, ◌⊎◌, inl, inr, ℕ, zero, suc, ◌+◌, ◌<◌, ◌≤◌, List, [], ◌∷◌, ◌++◌, length, take, drop, refl, ap, sym, subst, ◌∙◌, arith, drop-drop, append_assoc}
+use Rattle.std.proofs.Common.{◌≡◌, ◌⊎◌, inl, inr, ℕ, zero, suc, ◌+◌, ◌<◌, ◌≤◌, List, [], ◌∷◌, ◌++◌, length, take, drop, refl, ap, sym, subst, ◌∙◌, arith, drop-drop, append_assoc}
 use Rattle.std.specs.Prelude.{true, false, slice_range}
 use Rattle.std.specs.Option.{option_or}
-use Rattle.noise_c.proofs.Common.{Bool, Option, Some, None, count_by, Plan, IsValid, Own, Role, Token, Table, TableEntry, dh_result_in, Party, Matches, Accepts, Refuses, Writes, DoesNotRead, after_message, after_own, with_later, tokens_at, tokens_now, psks_of, party_at_start, Remote, drop-append_seam, DhResults, AreAmong, ActsAsAll, FirstActAsAll, with_dh_results, NoiseHandshake, NoiseResult, IsAdded, IsUsable, KeepsParty, WasDeclined, WasRead, WasRefused, WasWritten, agreement_in, begun_in, cause_code, handshake_from_c, psks_in, public_in, read_code, remote_of, role_in, table_in, table_of, Agreement, Short, Tag, ReadFault, Cause}
+use Rattle.noise_c.proofs.Common.{Bool, Option, Some, None, count_by, Plan, Own, Role, Token, Table, TableEntry, dh_result_in, Party, Accepts, Refuses, DoesNotRead, after_message, after_own, tokens_at, tokens_now, psks_of, party_at_start, Remote, drop-append_seam, DhResults, AreAmong, FirstActAsAll, with_dh_results, NoiseHandshake, NoiseResult, IsUsable, KeepsParty, WasRead, WasWritten, agreement_in, begun_in, cause_code, handshake_from_c, psks_in, public_in, read_code, remote_of, table_in, table_of, Agreement, Short, Tag, ReadFault, Cause}
 use Rattle.noise_names.specs.Tokens.{is_psk, other}
 use Rattle.noise_names.specs.Plan.{is_one_way}
 use Rattle.noise_names.specs.declared.token.Role.TheVariants.{Initiator, Responder}
@@ -14,21 +14,19 @@ use Rattle.noise_session.specs.Halves.{HalfValue}
 use Rattle.noise_session.specs.TransportValue.{SenderMatches, ReceiverMatches, transport_of}
 use Rattle.noise_session.specs.Transport.{transport_key}
 use Rattle.noise_duel.specs.Messages.{Start, begun_as}
-use Rattle.noise_c.specs.declared.structs.NoiseHalf.{NoiseHalf}
 use Rattle.noise_c.specs.declared.structs.NoiseSetup.{NoiseSetup}
 use Rattle.noise_c.specs.HandedIn.{dh_results_in}
-use Rattle.noise_c.specs.HandshakeStructs.{ForParty, IsStarted}
+use Rattle.noise_c.specs.HandshakeStructs.{ForParty}
 use Rattle.noise_c.specs.HalfStructs.{half_from_c}
-use Rattle.noise_c.specs.Finishing.{AreHalvesOf}
 use Rattle.noise_c.specs.Outcomes.{WriteOutcome, ReadOutcome}
 use Rattle.noise_c.specs.Outcomes.WriteOutcome.{written, wants_dh_result as write_wants, wants_psk as write_wants_psk, withheld, no_room, unusable as write_unusable}
 use Rattle.noise_c.specs.Outcomes.ReadOutcome.{accepted, wants_dh_result as read_wants, wants_psk as read_wants_psk, declined, refused, too_long, unusable as read_unusable}
-use Rattle.noise_c.specs.TwoPrograms.{Secrets, Passed, IsNextPsk, Calls, Program, HasRun, HaveTalked, IsFront, IsTaken, TakesNext, Face, Agree, TwoProgramsAgree, messages_in, start_by}
+use Rattle.noise_c.specs.TwoPrograms.{Secrets, Passed, Calls, Program, HasRun, TwoProgramsAgree, start_by}
 use Rattle.noise_c.specs.TwoPrograms.Calls.{none, wrote, took, answered, set_psk, kept}
 use Rattle.noise_c.proofs.Runs.{either, only-one, keeps-next}
 use Rattle.noise_duel.specs.SetUpAlike.{material_of}
-use Rattle.noise_c.proofs.Transcribing.{Showing, Told, told, shares-left, shares-right}
-use Rattle.noise_c.proofs.Talking.{Talk, silent, speaks, hears, Laws, Together, together, same-passed}
+use Rattle.noise_c.proofs.Transcribing.{Showing, told, shares-left, shares-right}
+use Rattle.noise_c.proofs.Talking.{Talk, silent, speaks, hears, Laws, together}
 
 -- ---- what outcomes say
 
@@ -330,10 +328,16 @@ module _ (laws : Laws) (reading : Reading) (showing : Showing)
         hash = λ e. left.stands.keeps.matches.history.hash_is
             ∙ ap (λ (z : Party). hash z.history) (sym (level e).there)
             ∙ sym right.stands.keeps.matches.history.hash_is;
-        halves = λ e interval s r x y made made_too.
-            let c = level e in
-            let mine = made.stand p (with_dh_results left.party (dh_results_in g.last)) left.stands.keeps in
-            let theirs = made_too.stand p (with_dh_results right.party (dh_results_in h.last)) right.stands.keeps in
+        halves = λ interval s r x y made made_too.
+            let v1 : Party = with_dh_results left.party (dh_results_in g.last) in
+            let w1 : Party = with_dh_results right.party (dh_results_in h.last) in
+            let all : left.party.passed ≡ length p.messages =
+            made.done p v1 left.stands.keeps ∙ ap (λ (q : Plan). length q.messages) (sym (pattern-is p g.secrets left.party g.last left.stands)) in
+            let all_too : right.party.passed ≡ length p.messages =
+            made_too.done p w1 right.stands.keeps ∙ ap (λ (q : Plan). length q.messages) (sym (pattern-is p h.secrets right.party h.last right.stands)) in
+            let c = both.equal (all ∙ sym all_too) in
+            let mine = made.stand p v1 left.stands.keeps in
+            let theirs = made_too.stand p w1 right.stands.keeps in
             record {
               there = faced left.party right.party c interval (half_from_c s) (half_from_c y) mine.0 theirs.1;
               back = faced right.party left.party (laws.turned left.party right.party c) interval (half_from_c x) (half_from_c r) theirs.0 mine.1;

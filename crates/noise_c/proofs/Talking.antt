@@ -1,6 +1,5 @@
 -- Two parties that have come equally far, and what each writes and accepts from there on.
-use Rattle.std.proofs.Common.{rules, ◌≡◌, ℕ, zero, suc, ◌+◌, ◌<◌, List, [], ◌∷◌, ◌++◌, length, map, refl, ap, sym, subst, ◌∙◌, arith}
-use Rattle.std.specs.Prelude.{true, false}
+use Rattle.std.proofs.Common.{rules, ◌≡◌, ℕ, zero, suc, ◌+◌, List, [], ◌∷◌, ◌++◌, refl, ap, sym, subst, ◌∙◌, arith}
 use Rattle.noise_names.specs.declared.token.Role.{Role}
 use Rattle.noise_names.specs.declared.token.Role.TheVariants.{Initiator, Responder}
 use Rattle.noise_names.specs.Tokens.{other, turn_from}
@@ -8,7 +7,7 @@ use Rattle.noise_names.specs.Validity.{IsValid}
 use Rattle.noise_handshake.specs.Party.{Party, Accepts, Speaks, Listens}
 use Rattle.noise_handshake.specs.Writing.{Writes}
 use Rattle.noise_handshake.specs.Matching.{after_message, after_own}
-use Rattle.noise_handshake.specs.Counterparts.{Counterparts, counterpart}
+use Rattle.noise_handshake.specs.Counterparts.{Counterparts}
 use Rattle.noise_c.specs.TwoPrograms.{Passed, IsFront, messages_in}
 
 -- What a party writes and accepts, each list in order.

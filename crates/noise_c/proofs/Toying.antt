@@ -1,7 +1,7 @@
 -- Programs with keys for tests: their calls, joined, and the law's premises.
-use Rattle.std.proofs.Common.{◌≡◌, inl, inr, ◌⊎◌, ℕ, ◌+◌, ◌<◌, ◌≤◌, List, [], ◌∷◌, ◌++◌, length, take, refl, ap, sym, subst, ◌∙◌, arith, append-nil}
-use Rattle.std.specs.Prelude.{slice_range, true, false, unwrap_or}
-use Rattle.noise_c.proofs.Common.{Bool, Option, Some, None, is_some, max, Plan, IsValid, Own, Role, Table, TableEntry, IsUsable, NoiseHandshake, NoiseResult, psks_of, setup_fault, fault_in, code_of, setup_code, start_code, public_in, table_of, remote_of, role_in, IsPatternOf, E, S, Remote}
+use Rattle.std.proofs.Common.{◌≡◌, ℕ, ◌+◌, ◌<◌, ◌≤◌, List, [], ◌∷◌, ◌++◌, length, take, refl, ap, sym, subst, ◌∙◌, arith}
+use Rattle.std.specs.Prelude.{slice_range, true, false}
+use Rattle.noise_c.proofs.Common.{Bool, Option, Some, None, is_some, max, nat_eq, nat_tests, Plan, IsValid, Own, Role, TableEntry, NoiseHandshake, NoiseResult, psks_of, setup_fault, fault_in, code_of, public_in, table_of, remote_of, IsPatternOf, E, S, Remote}
 use Rattle.noise_names.specs.declared.token.Role.TheVariants.{Initiator, Responder}
 use Rattle.noise_names.specs.Tokens.{other}
 use Rattle.noise_keys.specs.Keys.{key_of}
@@ -9,14 +9,13 @@ use Rattle.noise_keys.specs.declared.xor_keys.XorKeys.{XorKeys}
 use Rattle.noise_keys.specs.declared.faults.SetupFault.{SetupFault}
 use Rattle.noise_keys.specs.declared.faults.SetupFault.TheVariants as setup
 use Rattle.noise_handshake.specs.Setup.{has_before}
-use Rattle.noise_handshake.specs.Counterparts.{DhResultsAgree, keys_if, shown_before, xor_agreement, xor_public}
-use Rattle.noise_c.specs.declared.structs.NoiseSetup.{NoiseSetup}
+use Rattle.noise_handshake.specs.Counterparts.{DhResultsAgree, keys_if, xor_agreement, xor_public}
 use Rattle.noise_c.specs.HandshakeStructs.{IsStarted, Supplies, key_from_c, key_to_c}
 use Rattle.noise_c.specs.Outcomes.{ReadOutcome, WriteOutcome}
 use Rattle.noise_c.specs.Outcomes.WriteOutcome.{written, wants_dh_result as write_wants, wants_psk as write_wants_psk, withheld, no_room, unusable as write_unusable}
 use Rattle.noise_c.specs.Outcomes.ReadOutcome.{accepted, wants_dh_result as read_wants, wants_psk as read_wants_psk, declined, refused, too_long, unusable as read_unusable}
-use Rattle.noise_c.specs.TwoPrograms.{Agree, Calls, HasRun, HaveTalked, Passed, Program, TwoProgramsAgree, messages_in, start_by}
-use Rattle.noise_c.specs.TwoPrograms.Calls.{none, wrote, took, answered, set_psk, kept}
+use Rattle.noise_c.specs.TwoPrograms.{Agree, Calls, HaveTalked, Passed, Program, TwoProgramsAgree, start_by}
+use Rattle.noise_c.specs.TwoPrograms.Calls.{none, wrote, took, answered}
 use Rattle.noise_c.specs.Toys.{Leads, Passes, toy_secrets, toy_setup}
 
 -- ---- calls, joined
@@ -194,3 +193,6 @@ module _ (law : TwoProgramsAgree) (shown : RemoteIsShown) (xor : XorKeysAgree) (
   pub handed : three ≡ payload
   handed = ap (λ (m : Passed). m.payload) (third (of m1.message payload) (of m3.message payload) (of m1.message one) (of m1.message one) (of m3.message three)
       (of m1.message one) agreed.there.0 agreed.there.1)
+
+pub code-is : (n k : ℕ) → nat_eq n k ≡ true → n ≡ k
+code-is n k e = grind (arith, nat_tests)

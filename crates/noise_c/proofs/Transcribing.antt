@@ -1,7 +1,7 @@
 -- What two parties write that have come equally far: the messages of the transcript.
-use Rattle.std.proofs.Common.{rules, ◌≡◌, ℕ, ◌+◌, ◌<◌, List, [], ◌∷◌, ◌++◌, length, map, drop, refl, ap, sym, subst, ◌∙◌, arith}
-use Rattle.std.specs.Prelude.{true, false, if◌then◌else◌, unwrap_or}
-use Rattle.noise_c.proofs.Common.{Bool, Option, Some, None, Token, E, S, Ee, Es, Se, Ss, Role, Plan, IsValid, Own, Party, Accepts, Writes, Writer, writer, Given, Remote, after_message, after_own, dh_result_of, own_at, remote_at, tokens_at, tokens_now, has_psk, occurs, is_dh, or_right}
+use Rattle.std.proofs.Common.{◌≡◌, ℕ, ◌+◌, List, [], ◌∷◌, ◌++◌, map, refl, ap, sym, subst, ◌∙◌}
+use Rattle.std.specs.Prelude.{true, if◌then◌else◌, unwrap_or}
+use Rattle.noise_c.proofs.Common.{Bool, Option, Some, Token, E, S, Ee, Es, Se, Ss, Role, Plan, IsValid, Own, Party, Accepts, Writes, Writer, writer, Given, Remote, after_message, after_own, dh_result_of, own_at, remote_at, tokens_at, tokens_now, has_psk, occurs, is_dh, or_right}
 use Rattle.noise_names.specs.declared.token.Token.TheVariants.{Psk}
 use Rattle.noise_names.specs.declared.token.Role.TheVariants.{Initiator, Responder}
 use Rattle.noise_names.specs.Tokens.{other, same_role, same_token, turn_from}
@@ -10,16 +10,15 @@ use Rattle.noise_names.specs.Validity.{is_among}
 use Rattle.noise_handshake.specs.Passed.{passed_places}
 use Rattle.noise_state.specs.History.{History}
 use Rattle.noise_keys.specs.declared.keys.Own.TheVariants.{Ephemeral, Static}
-use Rattle.noise_handshake.specs.Message.{message_bytes, after_payload}
-use Rattle.noise_handshake.specs.Party.{Speaks, other_psks}
+use Rattle.noise_handshake.specs.Message.{message_bytes}
+use Rattle.noise_handshake.specs.Party.{other_psks}
 use Rattle.noise_handshake.specs.Setup.{has_token, public_keys}
-use Rattle.noise_handshake.specs.RemoteKeys.{remote-own}
 use Rattle.noise_handshake.specs.Counterparts.{Counterparts, GivesDhResult, DhResultsAgree, keys_if, shown_after}
 use Rattle.noise_duel.specs.Messages.{HandshakeMessage, Start}
 use Rattle.noise_duel.specs.Conversation.{KeyMaterial, carried_by, carried_at, conversation}
 use Rattle.noise_duel.specs.SetUpAlike.{material_of}
 use Rattle.noise_c.specs.TwoPrograms.{Passed, IsFront, messages_in, those_by}
-use Rattle.noise_c.proofs.Talking.{Talk, silent, speaks, hears, Laws, Ahead, ahead, both-speak, both-listen, front-heads, no-front, same-passed}
+use Rattle.noise_c.proofs.Talking.{Talk, silent, speaks, hears, Laws, ahead, both-speak, both-listen, front-heads, no-front}
 
 -- a party's keys and DH results are those of the key material
 pub record Shares (m : KeyMaterial) (p : Plan) (role : Role) (own : Own → Option (List ℕ)) (agree : Own → List ℕ → Option (List ℕ))

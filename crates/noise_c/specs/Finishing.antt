@@ -54,8 +54,9 @@ pub record UsesUp (old new : NoiseHandshake) (code : ℕ) : Type 0 where
 abbrev pub HalvesMatch : NoiseHalf → NoiseHalf → TransportState → Type 0
 HalvesMatch sender receiver w = SenderMatches (half_from_c sender) w × ReceiverMatches (half_from_c receiver) w
 
--- these are the two halves of what the handshake leaves (5.2, 11.3)
+-- these are the two halves of what the handshake leaves, once all messages have passed (5.2, 11.3)
 pub record AreHalvesOf (k : NoiseHandshake) (interval : ℕ) (sender receiver : NoiseHalf) : Type 0 where
+  pub done : ForParty k (λ _ v. v.passed ≡ length v.pattern.messages)
   pub stand : ForParty k (λ _ v. HalvesMatch sender receiver (transport_of v interval))
   pub known : (is_half SENDER sender ≡ true) × (is_half RECEIVER receiver ≡ true)
 

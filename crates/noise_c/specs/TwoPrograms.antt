@@ -132,7 +132,8 @@ transcript_of p g h payloads =
     (conversation (material_of (start_by g) (start_by h)) p 0 g.secrets.psks (begun_as p Initiator (start_by g)).history
     payloads)
 
--- Each half of one party is the counterpart of the other's: it has the same key, nonce and interval, and the other role.
+-- Each half of one party is the counterpart of the other's: it has the same key, nonce and interval, and the other
+-- role.
 pub record Face (sender receiver their_sender their_receiver : NoiseHalf) : Type 0 where
   pub there : half_from_c their_receiver
       ≡ record (half_from_c sender) { role = other (half_from_c sender).role }
@@ -151,8 +152,9 @@ IsTaken k m = (ends : Bool) (next : NoiseHandshake) (after : List ℕ) (results 
 abbrev pub TakesNext : List Passed → List Passed → NoiseHandshake → Type 0
 TakesNext written read k = (m : Passed) (more : List Passed) → written ≡ read ++ m ∷ more → IsTaken k m
 
--- What comes of it: each payload that was handed out is the writer's, the messages are the transcript's, what comes next
--- is taken, and once all messages have passed both hashes are one, and the halves of one party face the other's.
+-- What comes of it: each payload that was handed out is the writer's, the messages are the transcript's, what comes
+-- next is taken, and once equally many messages have passed both hashes are one; and the halves that both finish
+-- with face each other.
 pub record Agree (p : Plan) (g h : Program) : Type 0 where
   pub there : IsFront h.read g.written
   pub back : IsFront g.read h.written
@@ -162,7 +164,7 @@ pub record Agree (p : Plan) (g h : Program) : Type 0 where
   pub next_there : TakesNext g.written h.read h.last
   pub next_back : TakesNext h.written g.read g.last
   pub hash : g.last.passed ≡ h.last.passed → g.last.hash ≡ h.last.hash
-  pub halves : g.last.passed ≡ h.last.passed → (interval : ℕ) (s r t u : NoiseHalf)
+  pub halves : (interval : ℕ) (s r t u : NoiseHalf)
       → AreHalvesOf g.last interval s r → AreHalvesOf h.last interval t u → Face s r t u
 
 -- Of two such programs that comes.

@@ -1,14 +1,13 @@
 //! Two programs in one function, with keys for tests: what the law of two programs asks for can be met. No export calls
 //! it, and the static library has none of it.
 
-ghost use Rattle.std.specs.Prelude.{◌≡◌, ◌∷◌, [], ◌<◌, ◌≤◌, ◌×◌, ℕ, List, Option, IfSome, None, slice_range, take, true, length};
+ghost use Rattle.std.specs.Prelude.{◌≡◌, ◌+◌, ◌∷◌, [], ◌≤◌, Option, IfSome, None, slice_range, take, true, length};
 ghost use Rattle.noise_names.specs.Plan.{Plan};
 ghost use Rattle.noise_names.specs.Validity.{IsValid};
-ghost use Rattle.noise_handshake.specs.Counterparts.{xor_agreement};
-ghost use Rattle.noise_c.specs.HandshakeStructs.{own_in, fault_in, IsPatternOf, IsStarted};
+ghost use Rattle.noise_c.specs.HandshakeStructs.{fault_in, IsPatternOf, IsStarted};
 ghost use Rattle.noise_c.specs.Finishing.{AreHalvesOf};
 ghost use Rattle.noise_c.specs.Toys.{Leads, Passes, toy_setup};
-ghost use Rattle.noise_c.specs.TwoPrograms.{Face, Passed};
+ghost use Rattle.noise_c.specs.TwoPrograms.{Face};
 
 use crate::codes::numbers::{OK, WANTED};
 use crate::late::noise_answer;
