@@ -1,5 +1,6 @@
 -- Programs with keys for tests: their calls, joined, and the law's premises.
-use Rattle.std.proofs.Common.{◌≡◌, ℕ, ◌+◌, ◌<◌, ◌≤◌, List, [], ◌∷◌, ◌++◌, length, take, refl, ap, sym, subst, ◌∙◌, arith}
+use Rattle.std.proofs.Common.{rules, ◌≡◌, ℕ, ◌+◌, ◌-◌, drop, length-drop, ◌<◌, ◌≤◌, List, [], ◌∷◌, ◌++◌, length, take, refl, ap, sym, subst, ◌∙◌, arith}
+use Rattle.std.proofs.lemmas.List.{drop-append-le, take-append-le}
 use Rattle.std.specs.Prelude.{slice_range, true, false}
 use Rattle.noise_c.proofs.Common.{Bool, Option, Some, None, is_some, max, nat_eq, nat_tests, Plan, IsValid, Own, Role, TableEntry, NoiseHandshake, NoiseResult, psks_of, setup_fault, fault_in, code_of, public_in, table_of, remote_of, IsPatternOf, E, S, Remote}
 use Rattle.noise_names.specs.declared.token.Role.TheVariants.{Initiator, Responder}
@@ -196,3 +197,30 @@ module _ (law : TwoProgramsAgree) (shown : RemoteIsShown) (xor : XorKeysAgree) (
 
 pub code-is : (n k : ℕ) → nat_eq n k ≡ true → n ≡ k
 code-is n k e = grind (arith, nat_tests)
+
+pub read-fits : (k next : NoiseHandshake) (message after : List ℕ) (results new : NoiseResult) (code : ℕ)
+    → ReadOutcome true k message results next after new code → code ≡ 0 → new.from + new.len ≤ length after
+read-fits k next message after results new _ (accepted u r l d f) e = l
+read-fits k next message after results new _ (read_wants a b f) e = absurd (omega (arith, e))
+read-fits k next message after results new _ (read_wants_psk a b f) e = absurd (omega (arith, e))
+read-fits k next message after results new _ (declined code low a b c f) e = absurd (grind (arith, e, low))
+read-fits k next message after results new _ (refused code low high a b c d f) e = absurd (omega (arith, e, low))
+read-fits k next message after results new _ (too_long a b c d) e = absurd (omega (arith, e))
+read-fits k next message after results new _ (read_unusable a b c) e = absurd (omega (arith, e))
+
+-- a place in the first bytes is that place in all
+range-in-front : (front rest : List ℕ) (i n : ℕ) → i + n ≤ length front → slice_range (front ++ rest) i (i + n) ≡ slice_range front i (i + n)
+range-in-front front rest i n h =
+    ap (take (i + n - i)) (drop-append-le i front rest (omega (arith, h)))
+    ∙ take-append-le (i + n - i) (drop i front) rest (omega (arith, h, length-drop i front))
+
+pub passes : (keys theirs : XorKeys) (payload out after rest : List ℕ) (len i n : ℕ) (from sent to taken : NoiseHandshake)
+    → Leads keys from (record { message = take len out; payload = payload } ∷ []) [] sent
+    → i + n ≤ length after
+    → Leads theirs to [] (record { message = take len out; payload = slice_range after i (i + n) } ∷ []) taken
+    → Passes keys theirs payload (slice_range (after ++ rest) i (i + n)) from sent to taken
+passes keys theirs payload out after rest len i n from sent to taken f h g = record {
+  message = take len out;
+  writes = f;
+  reads = subst (λ (z : List ℕ). Leads theirs to [] (record { message = take len out; payload = z } ∷ []) taken) (sym (range-in-front after rest i n h)) g;
+}

@@ -110,7 +110,7 @@ fn read(
     keys: &XorKeys,
     message: &mut [u8],
 ) -> Option<(usize, usize)>
-    ensures { IfSome result (λ r. Leads keys.now handshake.old []
+    ensures { IfSome result (λ r. (r.0 + r.1 ≤ length message.new) × Leads keys.now handshake.old []
         (record { message = message.old; payload = slice_range message.new r.0 (r.0 + r.1) } ∷ []) handshake.new) }
 {
     let mut results = NO_RESULT;
@@ -147,7 +147,8 @@ fn pass(
         (slice_range buffer.new r.0 (r.0 + r.1)) from.old from.new to.old to.new) }
 {
     let len = write(from, keys, payload, buffer)?;
-    read(to, their_keys, &mut buffer[..len])
+    let place = read(to, their_keys, &mut buffer[..len])?;
+    Some(place)
 }
 
 /// What two programs have at the end: where the last payload is in the buffer, the handshake hash of each, and the
