@@ -160,7 +160,7 @@ module _ (whole : FirstActAsAll) where
       let count : length due.used ≡ psks_of (take v.passed p.messages) =
       due.count ∙ ap (λ (n : ℕ). psks_of (take n p.messages)) now in
       let left : v.psks ≡ (handshake_from_c p k).psks ++ psk ∷ due.later =
-      st.psks ∙ ap (λ (n : ℕ). drop n s.psks) (sym count) 
+      st.psks ∙ ap (λ (n : ℕ). drop n s.psks) (sym count)
       ∙ ap (drop (length due.used)) (due.psks_are ∙ append_assoc due.used (handshake_from_c p k).psks (psk ∷ due.later))
       ∙ drop-append_seam due.used ((handshake_from_c p k).psks ++ psk ∷ due.later) in
       walk p s v next last ws rs

@@ -130,8 +130,11 @@ module _ (laws : Laws) where
     there = (m ∷ [], refl);
     back = ([], refl);
     equal = λ e. absurd (passed-on v w c m.payload h e);
-    next_there = λ k more e. (c, subst (λ (z : Passed). Accepts w z.message c z.payload) (only m k more e)
-        (laws.accepts v w m.payload m.message c valid h writes));
+    next_there = λ k more e. (
+      c,
+      subst (λ (z : Passed). Accepts w z.message c z.payload) (only m k more e)
+          (laws.accepts v w m.payload m.message c valid h writes),
+    );
     next_back = λ k more e. absurd (beyond-none k more e);
   }
 

@@ -1,4 +1,4 @@
-use Rattle.std.proofs.Common.{◌≡◌, List, ℕ, [], ◌∷◌, take, sym, subst}
+use Rattle.std.proofs.Common.{[], ◌∷◌, take, sym, subst}
 use Rattle.noise_c.specs.declared.structs.NoiseHandshake.{NoiseHandshake}
 use Rattle.noise_c.specs.Toys.{Leads}
 use Rattle.noise_c.proofs.Toying.{begun, joined, writes-one, written-fits, write-wants}
@@ -7,8 +7,7 @@ use Rattle.noise_c.proofs.toys.write.Goals as goal
 pub returns-in-0 : goal.returns-in-0
 returns-in-0 c =
     let w = c.noise_write in
-    let k = c.asked.handshake in
-    (
+    let k = c.asked.handshake in (
       written-fits k w.new.handshake c.args.payload.now c.asked.out w.new.out c.asked.results w.new.results w.result w.ensures.outcome c.in-0.is,
       joined c.args.keys.now c.args.handshake.now k w.new.handshake
           (record { message = take w.new.results.len w.new.out; payload = c.args.payload.now } ∷ []) [] c.asked.invariant
