@@ -4,6 +4,8 @@ pub mod DatagramEntries
 pub mod Fronts
 pub mod Exactly
 pub mod Fit
+pub mod Joined
+pub mod Lacking
 pub mod Framed
 pub mod Faults
 pub mod Payloads

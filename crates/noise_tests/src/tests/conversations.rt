@@ -151,6 +151,38 @@ fn renews_after_the_handshake(rt: HostRuntime) {
     assert!(rt; frames.as_str() == wanted.as_str());
 }
 
+// The frames of two messages come joined: the first with 3 bytes of the second, and then the rest.
+#[test]
+fn frames_joined_and_cut(rt: HostRuntime) {
+    let alloc = rt.alloc();
+    let pattern = pattern(&rt, b"NN", &[]);
+    let lines = handshake_lines(alloc, &pattern).expect(&rt, "memory");
+    let (duel, _) = conversed(&rt, alloc, pattern, &[], &lines);
+    let second = framed(sealed(&rekey(&KEY), 1));
+    let mut piece = Vec::from_slice(alloc, &framed(sealed(&KEY, 0))).expect(&rt, "memory");
+    piece.extend_from_slice(&second[..3]).expect(&rt, "memory");
+    let rest = Vec::from_slice(alloc, &second[3..]).expect(&rt, "memory");
+    let events = [
+        Event::Write(
+            Role::Initiator,
+            Vec::from_slice(alloc, b"hi").expect(&rt, "memory"),
+        ),
+        Event::Write(
+            Role::Initiator,
+            Vec::from_slice(alloc, b"hi").expect(&rt, "memory"),
+        ),
+        Event::Raw(Role::Responder, piece),
+        Event::Raw(Role::Responder, rest),
+    ];
+    let (_, report) = duel.run(alloc, &events).expect(&rt, "memory");
+    let entries = format!(in alloc; "{:?}", report.entries).expect(&rt, "memory");
+    assert!(rt;
+        entries.as_str()
+            == "[(Initiator, Wrote(0)), (Initiator, Wrote(1)), (Responder, Payload([104, 105])), \
+(Responder, Held(3)), (Responder, Payload([104, 105]))]"
+    );
+}
+
 #[test]
 fn over_a_network(rt: HostRuntime) {
     let pattern = pattern(&rt, b"NN", &[]);
