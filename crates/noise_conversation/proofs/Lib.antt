@@ -10,6 +10,7 @@ pub mod Framed
 pub mod Faults
 pub mod Payloads
 pub mod Places
+pub mod Pieces
 pub mod HashReported
 pub mod Xor
 pub mod Mixed
