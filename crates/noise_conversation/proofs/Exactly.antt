@@ -5,7 +5,7 @@ use Rattle.noise_handshake.specs.declared.faults.Cause.{Cause}
 use Rattle.noise_handshake.specs.declared.faults.ReadFault.{ReadFault}
 use Rattle.noise_handshake.specs.Matching.{DoesNotRead}
 use Rattle.noise_session.specs.Steps.StepValue.{Dropped, Exhausted}
-use Rattle.noise_session.specs.Taking.Judges.{refused, dropped, exhausted}
+use Rattle.noise_session.specs.Taking.Judges.{dropped, exhausted}
 use Rattle.noise_session.specs.Exactly.{AcceptedExactly}
 use Rattle.noise_conversation.specs.Exactly.{IsDropped, HasNoNonce, ReportedExactly, IsReadResult, ReadExactly}
 use Rattle.noise_handshake.specs.declared.faults.ReadFault.TheVariants as read

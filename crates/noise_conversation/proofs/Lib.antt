@@ -4,10 +4,13 @@ pub mod DatagramEntries
 pub mod Fronts
 pub mod Exactly
 pub mod Fit
+pub mod Joined
+pub mod Lacking
 pub mod Framed
 pub mod Faults
 pub mod Payloads
 pub mod Places
+pub mod Pieces
 pub mod HashReported
 pub mod Xor
 pub mod Mixed

@@ -4,6 +4,8 @@ pub mod Conversed
 pub mod Datagrams
 pub mod Entries
 pub mod Exactly
+pub mod Joined
+pub mod Lacking
 pub mod Lines
 pub mod Mixed
 pub mod Payloads

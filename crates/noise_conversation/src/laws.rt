@@ -4,6 +4,8 @@ ghost use Rattle.noise_conversation.specs.Agreement.{HashIsReported};
 ghost use Rattle.noise_conversation.specs.Datagrams.{DatagramEntriesAgree, DatagramKeysCome, DatagramsAreReported};
 ghost use Rattle.noise_conversation.specs.Entries.{EntriesCome, KeysCome};
 ghost use Rattle.noise_conversation.specs.Exactly.{ReadExactly, ReportedExactly};
+ghost use Rattle.noise_conversation.specs.Joined.{JoinedFramesCanCome, JoinedFramesCome, JoinedFramesComeWhole};
+ghost use Rattle.noise_conversation.specs.Lacking.{LacksAtDh};
 ghost use Rattle.noise_conversation.specs.Payloads.{PayloadsAreReported};
 ghost use Rattle.noise_conversation.specs.Setup.{XorKeysHaveDhResults};
 ghost use Rattle.noise_conversation.specs.Turns.{LinesTakeTurns};
@@ -11,7 +13,7 @@ ghost use Rattle.noise_conversation.specs.Turns.{LinesTakeTurns};
 use noise_duel::laws::{datagrams_agree, ends_agree, ends_match};
 use noise_handshake::Keys;
 use noise_handshake::laws::{accepted_once, refused_once};
-use noise_session::laws::{accepted_exactly, end_is_reported, judged_once};
+use noise_session::laws::{accepted_exactly, end_is_reported, judged_once, written_is_taken};
 
 /// Two parties whose `XorKeys` have both key pairs have a DH result at each DH of every pattern.
 pub fn xor_keys_have_dh_results()
@@ -39,6 +41,23 @@ pub fn reported_exactly()
 {
     accepted_exactly();
     judged_once();
+}
+
+/// A party that has the public keys which its message sends lacks a DH result at a DH token alone.
+pub fn lacks_at_dh()
+    ensures { LacksAtDh }
+{}
+
+/// Of two ends that have come equally far one writes payloads, and its frames, joined, come to the other, cut anywhere:
+/// two frames in one piece, or one frame in two. At any time the first payloads are accepted, in order, and nothing is
+/// refused or left. Once all bytes have come all payloads are accepted, and the ends have come equally far again.
+pub fn joined_frames_come()
+    ensures so_far { JoinedFramesCome }
+    ensures whole { JoinedFramesComeWhole }
+    ensures can { JoinedFramesCanCome }
+{
+    judged_once();
+    written_is_taken();
 }
 
 /// Where both ends of a duel report one hash, they have the one hash that the laws on agreement speak of.

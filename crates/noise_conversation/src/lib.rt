@@ -1,6 +1,7 @@
 //! A whole conversation between two ends of equal setup: the handshake and what follows, in one call.
 #![tactic(auto)]
 
+mod arrival;
 mod clash;
 mod conversation;
 mod datagrams;
@@ -13,6 +14,7 @@ mod message;
 mod network;
 mod prologues;
 
+pub use arrival::run_pieces;
 pub use clash::{HashClash, find_clash, find_mix_hash_clash};
 pub use conversation::converse;
 pub use datagrams::run_datagrams;

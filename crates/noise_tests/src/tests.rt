@@ -8,6 +8,7 @@ mod datagram_conversations;
 mod datagram_duels;
 mod datagrams;
 mod duels;
+mod finished;
 mod frames;
 mod handshake;
 mod kdf;

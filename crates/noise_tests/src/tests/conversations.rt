@@ -5,7 +5,7 @@ ghost use Rattle.std.specs.Prelude.{IsSome};
 use super::transport::{KEY, sealed};
 use noise_aead::rekey;
 use noise_conversation::laws::xor_keys_have_dh_results;
-use noise_conversation::{converse, lines_fit, run_events};
+use noise_conversation::{converse, lines_fit, run_events, run_pieces};
 use noise_duel::{Cuts, Duel, Event, Report};
 use noise_handshake::XorKeys;
 use noise_names::{Pattern, PskPlaces, Role, ValidPattern, fundamental};
@@ -149,6 +149,37 @@ fn renews_after_the_handshake(rt: HostRuntime) {
     let wanted = [framed(sealed(&KEY, 0)), framed(sealed(&rekey(&KEY), 1))];
     let wanted = format!(in alloc; "{:?}", wanted).expect(&rt, "memory");
     assert!(rt; frames.as_str() == wanted.as_str());
+}
+
+// The frames of two messages come joined: the first with 3 bytes of the second, and then the rest.
+#[test]
+fn frames_joined_and_cut(rt: HostRuntime) {
+    let alloc = rt.alloc();
+    let pattern = pattern(&rt, b"NN", &[]);
+    let lines = handshake_lines(alloc, &pattern).expect(&rt, "memory");
+    let (duel, _) = conversed(&rt, alloc, pattern, &[], &lines);
+    let second = framed(sealed(&rekey(&KEY), 1));
+    let mut piece = Vec::from_slice(alloc, &framed(sealed(&KEY, 0))).expect(&rt, "memory");
+    piece.extend_from_slice(&second[..3]).expect(&rt, "memory");
+    let rest = Vec::from_slice(alloc, &second[3..]).expect(&rt, "memory");
+    let mut writes = Vec::new(alloc);
+    for _ in 0..2 {
+        let payload = Vec::from_slice(alloc, b"hi").expect(&rt, "memory");
+        writes
+            .push(Event::Write(Role::Initiator, payload))
+            .expect(&rt, "memory");
+    }
+    let (duel, _) = duel.run(alloc, &writes).expect(&rt, "memory");
+    let pieces = [
+        Event::Raw(Role::Responder, piece),
+        Event::Raw(Role::Responder, rest),
+    ];
+    let (_, report) = run_pieces(alloc, duel, &pieces).expect(&rt, "memory");
+    let entries = format!(in alloc; "{:?}", report.entries).expect(&rt, "memory");
+    assert!(rt;
+        entries.as_str()
+            == "[(Responder, Payload([104, 105])), (Responder, Held(3)), (Responder, Payload([104, 105]))]"
+    );
 }
 
 #[test]
