@@ -15,7 +15,8 @@ LEVELS = {"v3": ["-march=x86-64-v3"], "v4": ["-march=x86-64-v4", "-Xclang", "-ta
 # The functions, and for which levels each is compiled: where the last is missing, the one before is faster on a processor of that level.
 HOT = {"rand_chacha::guts::refill4": ["v3", "v4"], "noise_poly::Poly1305::take_fours": ["v3", "v4"], "noise_poly::Poly1305::take_aligned": ["v3", "v4"],
        "sha2::block256::compress": ["v3"], "noise_state::cipher::CipherState::encrypt": ["v3", "v4"],
-       "noise_state::cipher::CipherState::decrypt": ["v3", "v4"], "noise_aead::authenticator::tag": ["v3", "v4"]}
+       "noise_state::cipher::CipherState::decrypt": ["v3", "v4"], "noise_aead::keystream::apply": ["v3", "v4"],
+       "noise_aead::authenticator::tag": ["v3", "v4"]}
 
 # The labels that a function has for itself, and those of constants that the whole text shares.
 OWN, SHARED = "BB|CPI|JTI|func_end|tmp", "_?static|_?switch"

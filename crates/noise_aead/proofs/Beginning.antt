@@ -1,5 +1,5 @@
 -- The first half of block 0 is the one-time key, and the generator then stands at block 1.
-use Rattle.std.proofs.Common.{◌≡◌, ◌+◌, ◌*◌, ◌^◌, List, ℕ, take, ap, ◌∙◌, arith}
+use Rattle.std.proofs.Common.{◌≡◌, ◌+◌, ◌*◌, ◌%◌, ◌^◌, List, ℕ, take, ap, ◌∙◌, arith}
 use Rattle.noise_aead.proofs.Common.{ChaCha, number, tag_of, authenticated, byte_from, generator_at, keystream_xor, seal_tag, stream_bytes, xored, tag_of-seal}
 use Rattle.noise_aead.specs.Sealing.{bytes_from}
 
@@ -14,6 +14,14 @@ block-next key nonce words after at moved =
     let next : 16 * (front * 2 ^ 32 + 0) + 16 ≡ 16 * (front * 2 ^ 32 + 1) = omega arith in
     moved ∙ ap (λ (g : ChaCha). record g { word_pos = g.word_pos + 16 }) at
     ∙ ap (λ (p : ℕ). record (generator_at key nonce 1) { word_pos = p }) next
+
+-- the generator then stands at the beginning of a block
+pub at-block : (key nonce : List ℕ) (words after : ChaCha) → words ≡ generator_at key nonce 0 → after ≡ record words { word_pos = words.word_pos + 16 }
+    → after.word_pos % 16 ≡ 0
+at-block key nonce words after at moved =
+    let front : ℕ = number (take 4 nonce) in
+    let place : after.word_pos ≡ 16 * (front * 2 ^ 32 + 1) = ap (λ (g : ChaCha). g.word_pos) (block-next key nonce words after at moved) in
+    omega (arith, place)
 
 -- the tag of a ciphertext, by the one-time key
 pub tag-first : (key nonce ad ciphertext one_time_key tag : List ℕ) (words : ChaCha) → words ≡ generator_at key nonce 0

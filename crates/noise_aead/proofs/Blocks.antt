@@ -1,8 +1,10 @@
 -- The keystream's words in order, and their bytes.
-use Rattle.std.proofs.Common.{◌≡◌, ℕ, suc, ◌+◌, ◌*◌, ◌/◌, ◌%◌, ◌^◌, ◌<◌, List, [], ◌∷◌, ◌++◌, length, get_or, map, refl, ap, ◌∙◌, arith}
+use Rattle.std.proofs.Common.{◌≡◌, ℕ, suc, ◌+◌, ◌*◌, ◌/◌, ◌%◌, ◌^◌, ◌<◌, ◌≤◌, List, [], ◌∷◌, ◌++◌, length, get_or, take, drop, map, refl, ap, sym, ◌∙◌, arith, length-append, length-drop, length-take-le}
 use Rattle.std.proofs.lemmas.List.FromFn.{get_or-map-range_with_len, length-map-range_with_len}
-use Rattle.noise_aead.proofs.Common.{w32, to_le_bytes, byte_at, flat_map, range_with_len, Each1, digits_l, number_l, ChaCha, word_at, next_word, byte_from}
+use Rattle.noise_aead.proofs.Common.{w32, to_le_bytes, byte_at, flat_map, range_with_len, Each1, bit_xor, digits_l, number_l, zip2, ChaCha, word_at, next_word, byte_from, length-xored, xored}
 use Rattle.noise_aead.specs.Sealing.{bytes_from}
+use Rattle.noise_aead.proofs.Masking.{xored_more, zip2-xored}
+use borrow.Rule.Slice.PartMut.{put_mid}
 
 -- ---- bytes of words
 
@@ -61,6 +63,12 @@ byte_from-later g h i k e =
     ap (λ (x : ChaCha). byte_from x k) e
     ∙ byte_of_word (word_at 10 g.key g.stream) (k % 4) ((64 * i + k) % 4) (g.word_pos + 16 * i + k / 4) (g.word_pos + (64 * i + k) / 4) within place
 
+pub block-later : (g h after : ChaCha) (i : ℕ) → h ≡ record g { word_pos = g.word_pos + 16 * i }
+    → after ≡ record h { word_pos = h.word_pos + 16 } → after ≡ record g { word_pos = g.word_pos + 16 * (i + 1) }
+block-later g h after i at moved =
+    let place : g.word_pos + 16 * i + 16 ≡ g.word_pos + 16 * (i + 1) = omega arith in
+    moved ∙ ap (λ (x : ChaCha). record x { word_pos = x.word_pos + 16 }) at ∙ ap (λ (p : ℕ). record g { word_pos = p }) place
+
 pub length_bytes_from : (g : ChaCha) (n : ℕ) → length (bytes_from g n) ≡ n
 unfolding bytes_from
 length_bytes_from g n = length-map-range_with_len (byte_from g) 0 n
@@ -68,3 +76,34 @@ length_bytes_from g n = length-map-range_with_len (byte_from g) 0 n
 pub get_or-bytes_from : (g : ChaCha) (n k : ℕ) → k < n → get_or (bytes_from g n) k 0 ≡ byte_from g k
 unfolding bytes_from
 get_or-bytes_from g n k h = get_or-map-range_with_len (byte_from g) 0 n k k 0 h (omega arith)
+
+-- ---- text
+
+-- a block of text with the bytes that are read for it
+pub xored_words : (g : ChaCha) (text stream new : List ℕ) → length text ≡ 64 → stream ≡ bytes_from g 64 → new ≡ zip2 bit_xor text stream
+    → new ≡ xored (byte_from g) 0 text
+unfolding bytes_from
+xored_words g text stream new len bytes is =
+    is ∙ ap (zip2 bit_xor text) bytes ∙ ap (λ (n : ℕ). zip2 bit_xor text (map (byte_from g) (range_with_len 0 n))) (sym len)
+    ∙ zip2-xored (byte_from g) 0 text
+
+-- block i of a text whose blocks before it are done
+pub block_done : (g h : ChaCha) (text done stream new : List ℕ) (i : ℕ) → 64 * i + 64 ≤ length text → h ≡ record g { word_pos = g.word_pos + 16 * i }
+    → stream ≡ bytes_from h 64 → done ≡ xored (byte_from g) 0 (take (64 * i) text) ++ drop (64 * i) text
+    → new ≡ zip2 bit_xor (take 64 (drop (64 * i) done)) stream
+    → put_mid (64 * i) 64 done new ≡ xored (byte_from g) 0 (take (64 * i + 64) text) ++ drop (64 * i + 64) text
+block_done g h text done stream new i fits at bytes before is =
+    let front : List ℕ = take (64 * i) text in
+    let same : length done ≡ length text =
+    omega (
+      arith,
+      ap length before,
+      length-append (xored (byte_from g) 0 front) (drop (64 * i) text),
+      length-xored (byte_from g) 0 front,
+      length-take-le (64 * i) text (omega arith),
+      length-drop (64 * i) text,
+    ) in
+    let here : List ℕ = take 64 (drop (64 * i) done) in
+    let len : length here ≡ 64 = length-take-le 64 (drop (64 * i) done) (omega (arith, length-drop (64 * i) done)) in
+    xored_more (byte_from g) (byte_from h) text done new (64 * i) 64 (64 * i + 64) (omega arith) fits (λ k. byte_from-later g h i k at) before
+    (xored_words h here stream new len bytes is)

@@ -72,13 +72,8 @@ xored_more f g text done new a n e end fits same before now =
     ∙ sym (append_assoc front (xored f (a + 0) next) (drop e text))
     ∙ ap (λ (bytes : List ℕ). bytes ++ drop e text) (sym whole)
 
--- a text of one block
-pub xored_block : (f : ℕ → ℕ) (text new : List ℕ) → length text ≡ 64
-    → new ≡ zip2 bit_xor (take 64 text) (map f (range_with_len 0 64)) → new ++ drop 64 text ≡ xored f 0 text
-xored_block f text new len e =
-    let whole : take 64 text ≡ text = take_all 64 text (omega arith) in
-    let none : drop 64 text ≡ [] = drop_of_length-le text {i = 64} (omega arith) in
-    ap (λ (bytes : List ℕ). new ++ bytes) none ∙ append-nil new ∙ e
-    ∙ ap (λ (bytes : List ℕ). zip2 bit_xor bytes (map f (range_with_len 0 64))) whole
-    ∙ ap (λ (n : ℕ). zip2 bit_xor text (map f (range_with_len 0 n))) (sym len)
-    ∙ zip2-xored f 0 text
+-- when all of the text is done
+pub all_done : (f : ℕ → ℕ) (text done : List ℕ) (e : ℕ) → e ≡ length text → done ≡ xored f 0 (take e text) ++ drop e text → done ≡ xored f 0 text
+all_done f text done e end is =
+    is ∙ ap (λ (bytes : List ℕ). xored f 0 (take e text) ++ bytes) (drop_of_length-le text {i = e} (omega arith)) ∙ append-nil (xored f 0 (take e text))
+    ∙ ap (xored f 0) (take_all e text (omega arith))

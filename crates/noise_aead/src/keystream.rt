@@ -1,5 +1,5 @@
 //! The keystream of a key and a nonce (RFC 8439, 2.3 and 2.4), in blocks of 64 bytes.
-ghost use Rattle.std.specs.Prelude.{◌≡◌, ◌+◌, ◌*◌, ◌^◌, ◌<◌, ◌≤◌, ℕ, length, bit_xor};
+ghost use Rattle.std.specs.Prelude.{◌≡◌, ◌+◌, ◌*◌, ◌^◌, ◌/◌, ◌%◌, ◌<◌, ◌≤◌, ℕ, length, bit_xor};
 ghost use Rattle.std.specs.Simd.Lanes.{zip2, number_l, digits_l};
 ghost use Rattle.noise_aead.specs.Sealing.{byte_from, bytes_from, generator_at, xored};
 
@@ -96,21 +96,68 @@ pub fn xor64(text: &mut [u8; 64], stream: &[u8; 64])
     *text = both.to_array();
 }
 
-/// Xors the text with the keystream from the generator's place on.
-#[inline(always)]
+/// Xors the text with the keystream from the generator's place on, which is the beginning of a block.
+///
+/// It is a function of its own in the library, so that `dist/levels.py` can take it for each level of the processor.
+#[inline(never)]
 pub fn apply(words: &mut ChaCha20Rng, text: &mut [u8])
     requires fits { length text.old ≤ 65535 }
+    requires beginning { words.old.word_pos % 16 ≡ 0 }
     requires room { words.old.word_pos + 2 ^ 15 < 2 ^ 68 }
     ensures { text.new ≡ xored (byte_from words.old) 0 text.old }
 {
     let whole = text.len() / BLOCK_LEN;
-    for i in 0..whole {
-        apply_block(words, &mut text[BLOCK_LEN * i..BLOCK_LEN * i + BLOCK_LEN]);
+    // The generator makes four blocks at once: these three came with the block of the one-time key.
+    let first = whole.min(3);
+    let groups = (whole - first) / 4;
+    apply_blocks(words, &mut text[..BLOCK_LEN * first]);
+    for i in 0..groups {
+        let start = BLOCK_LEN * (first + 4 * i);
+        apply_four(words, &mut text[start..start + 4 * BLOCK_LEN]);
     }
+    let start = BLOCK_LEN * (first + 4 * groups);
+    apply_blocks(words, &mut text[start..BLOCK_LEN * whole]);
     let rest = &mut text[BLOCK_LEN * whole..];
     if !rest.is_empty() {
         apply_front(words, rest);
     }
+}
+
+// Whole blocks of text.
+#[inline(always)]
+fn apply_blocks(words: &mut ChaCha20Rng, text: &mut [u8])
+    requires whole { length text.old ≡ 64 * (length text.old / 64) }
+    requires room { words.old.word_pos + 16 * (length text.old / 64) < 2 ^ 68 }
+    ensures text { text.new ≡ xored (byte_from words.old) 0 text.old }
+    ensures words { words.new ≡ record words.old { word_pos = words.old.word_pos + 16 * (length text.old / 64) } }
+{
+    for i in 0..text.len() / BLOCK_LEN {
+        apply_block(words, &mut text[BLOCK_LEN * i..BLOCK_LEN * i + BLOCK_LEN]);
+    }
+}
+
+// Four whole blocks of text.
+//
+// The generator is set to the place where it stands, so that the compiler knows that it has no word left: it then makes
+// four blocks, and none of the 64 words needs a test whether more have to be made. All are read before the text is
+// written, since the compiler takes it that this may change the generator.
+#[inline(always)]
+fn apply_four(words: &mut ChaCha20Rng, text: &mut [u8])
+    requires whole { length text.old ≡ 256 }
+    requires beginning { words.old.word_pos % 16 ≡ 0 }
+    requires room { words.old.word_pos + 64 < 2 ^ 68 }
+    ensures text { text.new ≡ xored (byte_from words.old) 0 text.old }
+    ensures words { words.new ≡ record words.old { word_pos = words.old.word_pos + 64 } }
+{
+    words.set_word_pos(words.get_word_pos() / 16 * 16);
+    let a = block(words);
+    let b = block(words);
+    let c = block(words);
+    let d = block(words);
+    xor_block(&mut text[..64], &a);
+    xor_block(&mut text[64..128], &b);
+    xor_block(&mut text[128..192], &c);
+    xor_block(&mut text[192..256], &d);
 }
 
 // A whole block of text.
@@ -122,8 +169,17 @@ fn apply_block(words: &mut ChaCha20Rng, text: &mut [u8])
     ensures words { words.new ≡ record words.old { word_pos = words.old.word_pos + 16 } }
 {
     let stream = block(words);
+    xor_block(text, &stream);
+}
+
+// A whole block of text with what is read for it.
+#[inline(always)]
+fn xor_block(text: &mut [u8], stream: &[u8; 64])
+    requires { length text.old ≡ 64 }
+    ensures { text.new ≡ zip2 bit_xor text.old stream.now }
+{
     if let Some(text) = text.first_chunk_mut::<64>() {
-        xor64(text, &stream);
+        xor64(text, stream);
     }
 }
 

@@ -1,7 +1,12 @@
 use Rattle.std.proofs.Common.{List, ℕ, ◌++◌, refl, ap, ◌∙◌}
 use Rattle.noise_aead.proofs.Common.{seal_tag}
-use Rattle.noise_aead.proofs.Beginning.{tag-first, text-next}
+use Rattle.noise_aead.proofs.Beginning.{at-block, tag-first, text-next}
 use Rattle.noise_aead.proofs.encryption.seal_in_place.Goals as goal
+
+pub apply-requires-clause-beginning : goal.apply-requires-clause-beginning
+apply-requires-clause-beginning c =
+    at-block c.args.key.now c.args.nonce.now c.generator-words.result c.half_block-one_time_key.new.words (c.generator-words.ensures.place 0 refl)
+    c.half_block-one_time_key.ensures.words
 
 pub returns : goal.returns
 returns c =
