@@ -179,11 +179,12 @@ class Channel:
         refuse_text(payload)
         with self._out, _from_buffer(payload) as data:
             sender, result, size = self._sends(), self._write_result, len(data)
-            frames = bytearray(size + -(-size // MAX_PAYLOAD) * STREAM_OVERHEAD)
+            length = size + -(-size // MAX_PAYLOAD) * STREAM_OVERHEAD
+            frames = bytearray(length)
             start = end = 0
             with _from_buffer(frames) as room:
                 while start < size:
-                    if code := _stream_write(sender, data + start, size - start, room + end, len(room) - end, result):
+                    if code := _stream_write(sender, data + start, size - start, room + end, length - end, result):
                         raise CallError(Code(code))
                     start += result.used
                     end += result.len
@@ -313,12 +314,12 @@ class Channel:
         at, result = self._receiver._at, self._read_result    # type: ignore[union-attr]
         if at is None:
             raise CallError(None, CLOSED_HERE)
-        place, left = self._came.left()
+        came = self._came
+        place, left = came.place + came.start, came.end - came.start
         code = _stream_read(at[0], place, left, result)
         if not code:
-            payload = Payload(place + getattr(result, "from"), result.len)
-            self._came.use(result.used)
-            return payload    # type: ignore[no-any-return]
+            came.start += result.used
+            return Payload(place + getattr(result, "from"), result.len)    # type: ignore[no-any-return]
         if code == Code.END:
             self._reads_no_more = True
             self._came.drop()
@@ -348,28 +349,28 @@ _spare: list[_Room] = []    # rooms of the size ROOM that no channel uses
 class _Came:
     """What came and isn't used yet."""
 
-    __slots__ = ("_room", "_start", "_end")
+    __slots__ = ("_room", "place", "start", "end")
 
     def __init__(self) -> None:
-        self._room = _EMPTY
-        self._start = self._end = 0
+        self._room, self.place = _EMPTY, _EMPTY.place
+        self.start = self.end = 0
 
     def __bool__(self) -> bool:
-        return self._end > self._start
+        return self.end > self.start
 
     def add(self, data: Buffer) -> None:
         with memoryview(data) as view, view.cast("B") if view.format != "B" or view.ndim != 1 else view as more:
             count = len(more)
-            if self._end + count > self._room.size:
-                left = self._end - self._start
+            if self.end + count > self._room.size:
+                left = self.end - self.start
                 self._move(_Room(left + max(left, count)))
-            self._room.view[self._end:self._end + count] = more
-        self._end += count
+            self._room.view[self.end:self.end + count] = more
+        self.end += count
 
     def space(self) -> memoryview:
         """Where more can be written, of which `took` says how much was."""
-        if self._room.size < ROOM or self._room.size - self._end < ROOM // 4:
-            left = self._end - self._start
+        if self._room.size < ROOM or self._room.size - self.end < ROOM // 4:
+            left = self.end - self.start
             if left > ROOM // 2:
                 self._move(_Room(left + ROOM // 2))
             else:
@@ -377,34 +378,34 @@ class _Came:
                     self._move(_spare.pop())
                 except IndexError:
                     self._move(_Room(ROOM))
-        return self._room.view[self._end:]
+        return self._room.view[self.end:]
 
     def took(self, count: int) -> None:
-        self._end += count
+        self.end += count
 
     def left(self) -> tuple[Any, int]:
         """Where the bytes begin, until more comes, and how many there are."""
-        return self._room.place + self._start, self._end - self._start
+        return self._room.place + self.start, self.end - self.start
 
     def use(self, count: int) -> None:
         """The first bytes aren't needed any more."""
-        self._start += count
+        self.start += count
 
     def settle(self) -> None:
         """Leaves a room for what is left alone, which is less than a frame."""
-        left = self._end - self._start
+        left = self.end - self.start
         if self._room.size >= ROOM or not left:
             self._move(_Room(left) if left else _EMPTY)
 
     def drop(self) -> None:
         """Nothing of it is needed any more."""
-        self._start = self._end
+        self.start = self.end
         self._move(_EMPTY)
 
     def _move(self, room: _Room) -> None:
         """Moves what is left into another room."""
-        left, old = self._end - self._start, self._room
-        room.view[:left] = old.view[self._start:self._end]
-        self._room, self._start, self._end = room, 0, left
+        left, old = self.end - self.start, self._room
+        room.view[:left] = old.view[self.start:self.end]
+        self._room, self.place, self.start, self.end = room, room.place, 0, left
         if old.size == ROOM and len(_spare) < 4:
             _spare.append(old)

@@ -254,9 +254,10 @@ class _Below(asyncio.BufferedProtocol):
             self.channel._settle()
 
     def _pump(self) -> None:
+        following = self.channel._next
         while not self.over and not self.paused and self._asking is None:
             try:
-                event = self.channel._next()
+                event = following()
             except Exception as fault:
                 self.break_off(fault)
                 return
