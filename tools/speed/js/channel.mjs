@@ -1,5 +1,6 @@
 // How fast a channel over TCP moves bytes beside node:tls with ChaCha20-Poly1305: channel.mjs [ROUNDS] [BYTES OF A WRITE] [MEGABYTES]. A second process
-// reads. Both run in turn; a figure is the median over the rounds. It needs the command openssl, which makes the certificate.
+// reads. Both run in turn; a figure is the median over the rounds. The processor's time holds beside other work, too. It needs the command openssl,
+// which makes the certificate.
 import { execFileSync, fork } from 'node:child_process';
 import { once } from 'node:events';
 import { mkdtempSync, readFileSync, rmSync } from 'node:fs';
@@ -60,15 +61,15 @@ const KINDS = {
 
 /** Sends so many writes, and gives megabytes a second, and microseconds of the processor for each write at the sender and at the reader. */
 async function sample(kind, port, reader, payload, writes) {
-  const { write, end } = await KINDS[kind](port);
+  const connection = await KINDS[kind](port);
   const came = once(reader, 'message');
   const [cpu, begun] = [process.cpuUsage(), process.hrtime.bigint()];
   for (let n = 0; n < writes; n += 1) {
-    const done = write(payload);
+    const done = connection.write(payload);
     if (done) await done;
   }
   const { user, system } = process.cpuUsage(cpu);
-  const ended = end();
+  const ended = connection.end();
   const [{ count, microseconds }] = await came;
   const nanoseconds = Number(process.hrtime.bigint() - begun);
   await ended;
@@ -108,8 +109,13 @@ async function write() {
     const [speed, sends, reads] = ['speed', 'sends', 'reads'].map((name) => median(all.map((it) => it[name])).toFixed(1));
     console.log(`${kind}: ${speed} MB/s by writes of ${size} bytes; each takes ${sends} µs of the sender's processor and ${reads} µs of the reader's`);
   }
-  const ratios = samples.channel.map(({ speed }, n) => speed / samples['node:tls'][n].speed);
-  console.log(`ratio: ${median(ratios).toFixed(2)} (${Math.min(...ratios).toFixed(2)} to ${Math.max(...ratios).toFixed(2)}) in ${rounds} rounds, load ${loadavg()[0].toFixed(1)}`);
+  const ratio = (of) => {
+    const all = samples.channel.map((it, n) => of(it, samples['node:tls'][n]));
+    return `${median(all).toFixed(2)} (${Math.min(...all).toFixed(2)} to ${Math.max(...all).toFixed(2)})`;
+  };
+  const slower = ({ sends, reads }) => Math.max(sends, reads);
+  console.log(`times as fast as node:tls: ${ratio((our, their) => our.speed / their.speed)}, by the slower side's processor ${ratio((our, their) => slower(their) / slower(our))}`);
+  console.log(`${rounds} rounds, load ${loadavg()[0].toFixed(1)}, node ${process.version}, OpenSSL ${process.versions.openssl}`);
 }
 
 await load();
