@@ -105,7 +105,7 @@ mod kept {
     use std::cell::RefCell;
 
     std::thread_local! {
-        static LAST: RefCell<Option<(String, Pattern)>> = const { RefCell::new(None) };
+        static LAST: RefCell<Option<(String, Pattern)>> = RefCell::new(None);
     }
 
     pub(super) fn get(text: &str) -> Option<Pattern> {

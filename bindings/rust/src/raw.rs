@@ -437,7 +437,7 @@ pub(crate) fn frame_find(buffer: &[u8], result: &mut StreamResult) -> u32 {
 // How often this thread asked of a pattern.
 #[cfg(all(test, feature = "std"))]
 std::thread_local! {
-    pub(crate) static ASKED: core::cell::Cell<usize> = const { core::cell::Cell::new(0) };
+    pub(crate) static ASKED: core::cell::Cell<usize> = core::cell::Cell::new(0);
 }
 
 impl PatternInfo {
