@@ -106,8 +106,12 @@ async function write() {
   }
   reader.disconnect();
   for (const [kind, all] of Object.entries(samples)) {
-    const [speed, sends, reads] = ['speed', 'sends', 'reads'].map((name) => median(all.map((it) => it[name])).toFixed(1));
-    console.log(`${kind}: ${speed} MB/s by writes of ${size} bytes; each takes ${sends} µs of the sender's processor and ${reads} µs of the reader's`);
+    const [sends, reads] = ['sends', 'reads'].map((name) => {
+      const times = all.map((it) => it[name]);
+      return `${median(times).toFixed(1)} µs, at least ${Math.min(...times).toFixed(1)},`;
+    });
+    const speed = median(all.map((it) => it.speed)).toFixed(1);
+    console.log(`${kind}: ${speed} MB/s by writes of ${size} bytes; each takes ${sends} of the sender's processor and ${reads} of the reader's`);
   }
   const ratio = (of) => {
     const all = samples.channel.map((it, n) => of(it, samples['node:tls'][n]));
