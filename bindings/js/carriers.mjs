@@ -1,6 +1,6 @@
 // What moves the frames of a channel: a WebSocket, a WebSocketStream, a pair of WHATWG streams, or a stream of Node. Each has
 //   ready()          waits until it is open;
-//   write(frames)    sends frames together, and waits until the carrier has taken them;
+//   write(frames)    sends frames together, and gives a promise that waits until the carrier has taken them, or nothing where it has;
 //   pull()           the next bytes that came, or undefined where the connection has ended;
 //   discard()        drops what comes from now on, so that the other party can read on;
 //   close(isOver)    once all is sent that was written, ends this party's half; unless it `isOver`, since the other party has ended its stream, waits after
@@ -19,6 +19,8 @@ import { ofWebSocket, ofWebSocketStream } from './websocket.mjs';
  *   readonly connecting?: boolean,
  *   readonly destroyed?: boolean,
  *   readonly errored?: Error | null,
+ *   readonly writable?: boolean,
+ *   readonly writableLength?: number,
  *   allowHalfOpen?: boolean,
  *   setNoDelay?: (isOn: boolean) => unknown,
  *   on: (event: 'error', listener: (error: Error) => void) => unknown,
@@ -95,10 +97,20 @@ function ofNode(stream) {
   stream.on('error', (error) => { first ??= error; });
   const broken = (error) => cut(first ?? error);
   const read = () => chunks.next().then(({ value, done }) => (done ? undefined : value), (error) => { throw broken(error); });
-  const written = (bytes) => new Promise((resolve, reject) => { stream.write(bytes, (error) => { if (error) reject(broken(error)); else resolve(); }); });
+  const write = (frames) => {
+    let outcome;
+    let settle = (error) => { outcome = { error }; };
+    stream.write(joined(frames), (error) => settle(error));
+    // A socket passes what it is given to the system in the call, and has nothing left then. What fails isn't writable any more.
+    if (stream.writable === true && stream.writableLength === 0) return undefined;
+    return new Promise((resolve, reject) => {
+      settle = (error) => { if (error) reject(broken(error)); else resolve(); };
+      if (outcome) settle(outcome.error);
+    });
+  };
   return {
     ready: async () => {},
-    write: (frames) => written(joined(frames)),
+    write,
     pull: read,
     discard: () => { drained = drain(read); },
     close: async (isOver) => {

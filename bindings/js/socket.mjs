@@ -3,6 +3,7 @@ import { NoiseError } from './codes.mjs';
 import { bytesOf, copyOf } from './bytes.mjs';
 import { opened } from './opening.mjs';
 import { OWN, mustBeOwn } from './own.mjs';
+import { Sending } from './sending.mjs';
 import { MOST } from './stream.mjs';
 import { Turns, Waiting, mustGoOn, unlessAborted, within } from './waiting.mjs';
 
@@ -19,11 +20,9 @@ export class NoiseSocket {
   #carrier;
   #incoming;
   #stream;
-  #kept;    // the handshake's last frame, until something else is sent
   #receiving = new Waiting();
-  #sending = new Waiting();
+  #sending;
   #receives = new Turns();
-  #sends = new Turns();
   #hasEnded = false;    // this party
   #isEnded;    // by the other, or it sends nothing
   #closing;
@@ -39,7 +38,7 @@ export class NoiseSocket {
     this.#carrier = carrier;
     this.#incoming = incoming;
     this.#stream = stream;
-    this.#kept = kept;
+    this.#sending = new Sending(carrier, kept);
     this.#isEnded = isSilent;
     /**
      * The handshake hash.
@@ -84,31 +83,13 @@ export class NoiseSocket {
     this.#carrier.destroy(error);
   }
 
-  /** Throws once something couldn't be sent, or was refused: what comes after it isn't sealed. */
-  #mustSend() {
-    if (this.#sending.isOver) throw this.#sending.reason;
-  }
-
-  /** Sends frames in their turn, after what was kept back. */
-  async #put(...frames) {
-    this.#mustSend();
-    const all = [...this.#kept.splice(0), ...frames];
-    if (all.length === 0) return;
-    try {
-      await this.#sending.for(this.#carrier.write(all));
-    } catch (error) {
-      this.#sending.end(error);
-      throw error;
-    }
-  }
-
   /** Work in its turn. What has begun when the signal aborts was sent in part: the channel ends. */
   async #inTurn(signal, work) {
     let isBegun = false;
     const abort = () => { if (isBegun) this.#fail(signal.reason); };
     signal?.addEventListener('abort', abort);
     try {
-      await this.#sends.take(() => {
+      await this.#sending.take(() => {
         isBegun = true;
         return work();
       }, signal);
@@ -118,8 +99,9 @@ export class NoiseSocket {
   }
 
   /**
-   * Sends a payload, and waits until the connection has taken it. One of more than 65519 bytes comes as several, and of an empty one nothing is sent. A
-   * signal that aborts before the payload's turn takes nothing from the channel; later it ends the channel, since the other party may get a part.
+   * Sends a payload, and waits until the connection has taken it. One of more than 65519 bytes comes as several, and of an empty one nothing is sent. In
+   * a loop of such calls the program's timers and other connections have their turn. A signal that aborts before the payload's turn takes nothing from the
+   * channel; later it ends the channel, since the other party may get a part.
    * @param {Uint8Array} payload
    * @param {{ signal?: Signal }} [options]
    * @returns {Promise<void>}
@@ -128,9 +110,12 @@ export class NoiseSocket {
     this.#mustBeOpen();
     mustGoOn(signal);
     bytesOf(payload, 'payload');
-    const isNow = this.#sends.isIdle && !signal;
-    if (isNow && payload.length <= MOST) await this.#sends.take(() => this.#putPayload(payload));
-    else await this.#sendCopy(copyOf(payload, 'payload'), signal);
+    if (this.#sending.isIdle && !signal && payload.length <= MOST) {
+      const taken = this.#putPayload(payload);
+      if (taken) await this.#sending.take(() => taken);
+    } else {
+      await this.#sendCopy(copyOf(payload, 'payload'), signal);
+    }
   }
 
   async #sendCopy(payload, signal) {
@@ -140,10 +125,10 @@ export class NoiseSocket {
   }
 
   /** Seals at once: the payload may change afterwards. */
-  async #putPayload(payload) {
-    this.#mustSend();
+  #putPayload(payload) {
+    this.#sending.mustGoOn();
     const frame = this.#stream.write(payload);
-    if (frame.length > 0) await this.#put(frame);
+    return frame.length > 0 ? this.#sending.put(frame) : undefined;
   }
 
   /**
@@ -159,10 +144,10 @@ export class NoiseSocket {
   }
 
   async #putEnd() {
-    this.#mustSend();
+    this.#sending.mustGoOn();
     const frame = this.#stream.end();
     this.#hasEnded = true;
-    await this.#put(frame);
+    await this.#sending.put(frame);
   }
 
   /**
@@ -171,11 +156,11 @@ export class NoiseSocket {
    */
   async flush() {
     this.#mustBeOpen();
-    await this.#sends.take(() => this.#put());
+    await this.#sending.take(() => this.#sending.put());
   }
 
   #flushLater() {
-    if (this.#kept.length > 0 && !this.#sending.isOver) this.#sends.take(() => this.#put()).catch(() => {});    // the next call of send rejects
+    if (this.#sending.hasKept) this.#sending.take(() => this.#sending.put()).catch(() => {});    // the next call of send rejects
   }
 
   /**
@@ -188,14 +173,29 @@ export class NoiseSocket {
     this.#mustBeOpen();
     mustGoOn(signal);
     this.#flushLater();
-    return this.#receives.take(() => this.#next(signal), signal);
+    const found = this.#receives.isIdle ? this.#found() : undefined;
+    return found ? found.value : this.#receives.take(() => this.#next(signal), signal);
+  }
+
+  /** The next payload as `value`, or undefined in its place for the end, where it has come. */
+  #found() {
+    try {
+      const found = this.#incoming.found(this.#look);
+      if (found) this.#isEnded = found.value === undefined;
+      return found;
+    } catch (error) {
+      this.#fail(error);
+      throw error;
+    }
   }
 
   async #next(signal) {
     if (this.#receiving.isOver) throw this.#receiving.reason;
+    const came = this.#found();
+    if (came) return came.value;
     const wait = (promise) => unlessAborted(promise, signal);
     try {
-      const found = this.#incoming.found(this.#look) ?? await this.#receiving.for(this.#incoming.next(this.#look, { wait }));
+      const found = await this.#receiving.for(this.#incoming.next(this.#look, { wait }));
       if (!found && this.#stream.isCut(this.#incoming.left)) throw new NoiseError('NOISE_CUT');
       this.#isEnded = found?.value === undefined;
       return found?.value;
@@ -276,9 +276,9 @@ export class NoiseSocket {
     if (this.#receiving.isOver) return;
     this.#receiving.end(new NoiseError('NOISE_DISPOSED'));
     this.#carrier.discard();
-    await within(timeout, this.#sends.take(async () => {
+    await within(timeout, this.#sending.take(async () => {
       if (isWhole && !this.#hasEnded) await this.#putEnd().catch(() => {});    // the responder of a one-way pattern has none
-      await this.#put();
+      await this.#sending.put();
       await this.#carrier.close(this.#isEnded);
     }));
     this.#fail(new NoiseError('NOISE_CUT'));

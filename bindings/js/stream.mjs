@@ -46,7 +46,7 @@ export class Stream extends Sealed {
     const number = lib.x.noise_stream_write(sender, ...lib.put('payload', payload), lib.at.message, ROOM, lib.at.result);
     lib.wipe('payload', payload.length);
     must(number);
-    return lib.view(lib.at.message, lib.streamResult().len).slice();
+    return new Uint8Array(lib.view(lib.at.message, lib.streamResult().len));    // `slice` takes longer
   }
 
   /** The frame of the end. */
@@ -68,7 +68,7 @@ export class Stream extends Sealed {
     if (number === code.CLOSED && !this.isCut(0)) return { wanted: 0, used: 0 };    // it came before
     if (number === code.END) return { wanted: 0, used: result.used };
     must(number);
-    const value = lib.view(lib.at.message + result.from, result.len).slice();
+    const value = new Uint8Array(lib.view(lib.at.message + result.from, result.len));
     lib.wipe('message', count);
     return { wanted: 0, used: result.used, value };
   }

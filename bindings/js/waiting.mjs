@@ -113,6 +113,9 @@ export function within(milliseconds, promise) {
 
 export const pause = (milliseconds) => new Promise((resolve) => { setTimeout(resolve, milliseconds); });
 
+/** Lets timers and connections have their turn, in Node. A browser has no such call, and needs none: it takes nothing at once. */
+export const turn = () => new Promise((resolve) => { (globalThis.setImmediate ?? queueMicrotask)(resolve); });
+
 /** Drops what is read until the end. */
 export async function drain(read) {
   try {

@@ -2,6 +2,7 @@
 import { spawnSync } from 'node:child_process';
 import { once } from 'node:events';
 import { connect, createServer } from 'node:net';
+import { Duplex } from 'node:stream';
 import { fileURLToPath } from 'node:url';
 import { NoiseError, NoiseSocket } from '../noise.mjs';
 
@@ -33,6 +34,22 @@ export async function nobody() {
 export function pair(...strategies) {
   const [up, down] = [new TransformStream(undefined, ...strategies), new TransformStream(undefined, ...strategies)];
   return [{ readable: down.readable, writable: up.writable }, { readable: up.readable, writable: down.writable }];
+}
+
+/** Both ends of a connection by streams of Node, which take at once what is written; once it has `refuses`, one calls that instead. */
+export function duplexes() {
+  const write = function write(bytes, _, done) {
+    if (this.refuses) {
+      this.refuses(done);
+      return;
+    }
+    this.other.push(bytes);
+    done();
+  };
+  const [one, two] = [0, 1].map(() => new Duplex({ read: () => {}, write }));
+  Object.assign(one, { other: two });
+  Object.assign(two, { other: one });
+  return [one, two];
 }
 
 /** What NoiseSocket uses of a WebSocket. */

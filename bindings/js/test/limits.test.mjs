@@ -3,7 +3,7 @@ import test from 'node:test';
 import assert from 'node:assert/strict';
 import { once } from 'node:events';
 import { KeyPair, NoiseSocket, load } from '../noise.mjs';
-import { NN, channels, openSockets, outcome, overTcp, pair, refused, sockets, text } from './connections.mjs';
+import { NN, channels, duplexes, openSockets, outcome, overTcp, pair, refused, sockets, text } from './connections.mjs';
 
 const EVENTS = ['message', 'close', 'open'];
 
@@ -128,6 +128,27 @@ test('limits', { timeout: 300000 }, async (t) => {
     }
     assert.equal(n, count);
     await Promise.all([closed, b.close()]);
+  });
+
+  await t.test('who sends what is always taken at once leaves timers their turn', async () => {
+    const [a] = await channels(duplexes());
+    let isOver = false;
+    setTimeout(() => { isOver = true; }, 20);
+    for (let n = 0; n < 50000 && !isOver; n += 1) await a.send(text('x'));
+    assert.ok(isOver);
+    a.destroy();
+  });
+
+  await t.test('a stream that refuses a write, at once or later, ends the channel with its error', async () => {
+    for (const later of [(work) => work(), setImmediate]) {
+      const [near, far] = duplexes();
+      const [a, b] = await channels([near, far]);
+      near.refuses = (done) => later(() => done(new Error('full')));
+      await assert.rejects(a.send(text('x')), (error) => error.code === 'NOISE_CUT' && error.cause.message === 'full');
+      await assert.rejects(a.send(text('x')), refused('NOISE_CUT'));
+      a.destroy();
+      b.destroy();
+    }
   });
 
   await t.test('200 channels at once', async () => {

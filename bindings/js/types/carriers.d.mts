@@ -15,7 +15,7 @@ export function carrierOf(it: any): {
     destroy: (reason: any) => void;
 } | {
     ready: () => Promise<void>;
-    write: (frames: any) => Promise<any>;
+    write: (frames: any) => Promise<any> | undefined;
     pull: () => any;
     discard: () => void;
     close: (isOver: any) => Promise<void>;
@@ -32,6 +32,8 @@ export type NodeStream = AsyncIterable<Uint8Array> & {
     readonly connecting?: boolean | undefined;
     readonly destroyed?: boolean | undefined;
     readonly errored?: Error | null | undefined;
+    readonly writable?: boolean | undefined;
+    readonly writableLength?: number | undefined;
     allowHalfOpen?: boolean | undefined;
     setNoDelay?: ((isOn: boolean) => unknown) | undefined;
     on: (event: 'error', listener: (error: Error) => void) => unknown;

@@ -34,7 +34,7 @@ export function opened(connection: any, options: any): Promise<{
         destroy: (reason: any) => void;
     } | {
         ready: () => Promise<void>;
-        write: (frames: any) => Promise<any>;
+        write: (frames: any) => Promise<any> | undefined;
         pull: () => any;
         discard: () => void;
         close: (isOver: any) => Promise<void>;

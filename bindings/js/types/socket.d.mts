@@ -28,8 +28,9 @@ export class NoiseSocket implements AsyncIterable<Uint8Array> {
      */
     readonly remoteStatic: Uint8Array | undefined;
     /**
-     * Sends a payload, and waits until the connection has taken it. One of more than 65519 bytes comes as several, and of an empty one nothing is sent. A
-     * signal that aborts before the payload's turn takes nothing from the channel; later it ends the channel, since the other party may get a part.
+     * Sends a payload, and waits until the connection has taken it. One of more than 65519 bytes comes as several, and of an empty one nothing is sent. In
+     * a loop of such calls the program's timers and other connections have their turn. A signal that aborts before the payload's turn takes nothing from the
+     * channel; later it ends the channel, since the other party may get a part.
      * @param {Uint8Array} payload
      * @param {{ signal?: Signal }} [options]
      * @returns {Promise<void>}

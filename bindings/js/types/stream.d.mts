@@ -19,7 +19,7 @@ export class Stream extends Sealed {
     /** @private */
     private static kinds;
     /** The frame of a payload of at most MOST bytes. Of no bytes there is none, and it is empty. */
-    write(payload: any): any;
+    write(payload: any): Uint8Array;
     /** The frame of the end. */
     end(): any;
     /** What the library reads at the start of these bytes, of which it is shown so many: a payload, undefined for the end, or how many more are wanted. */
@@ -34,7 +34,7 @@ export class Stream extends Sealed {
     } | {
         wanted: number;
         used: any;
-        value: any;
+        value: Uint8Array;
     };
     /** Whether a connection that ends with so many bytes left cuts the stream. */
     isCut(left: any): boolean;

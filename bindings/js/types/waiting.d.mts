@@ -30,6 +30,7 @@ export class Waiting {
     #private;
 }
 export function pause(milliseconds: any): Promise<any>;
+export function turn(): Promise<any>;
 /**
  * What is used of an AbortSignal.
  */

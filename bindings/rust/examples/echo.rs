@@ -34,7 +34,11 @@ fn main() -> io::Result<()> {
         builder = builder.psk(psk);
     }
     match listens {
-        None => send(Stream::anonymous(TcpStream::connect(address)?, builder.initiator()?)?, facts.is_one_way()),
+        None => {
+            let below = TcpStream::connect(address)?;
+            below.set_nodelay(true)?;
+            send(Stream::anonymous(below, builder.initiator()?)?, facts.is_one_way())
+        }
         Some(address) => {
             let listener = TcpListener::bind(address)?;
             println!("{}", listener.local_addr()?);

@@ -123,7 +123,7 @@ impl<'a, S: Dh> Builder<'a, S> {
     }
 
     fn begin<E: Ephemeral>(self, responder: u8) -> Result<Handshake<S, E>, Error> {
-        let pattern = Pattern::new(self.pattern)?;
+        let pattern = Pattern::of_handshake(self.pattern)?;
         // Where psks are late, one at least has to lack.
         if self.psk_count > pattern.psks() || (self.psk_count < pattern.psks()) != self.late_psks {
             return Err(Error::PskCount);

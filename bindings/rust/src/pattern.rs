@@ -45,6 +45,19 @@ impl Pattern {
         }
     }
 
+    // The same for a handshake. A program begins most of its handshakes by one pattern: with std each thread keeps the last, of which the library isn't
+    // asked again.
+    pub(crate) fn of_handshake(pattern: &str) -> Result<Pattern, Error> {
+        #[cfg(feature = "std")]
+        if let Some(kept) = kept::get(pattern) {
+            return Ok(kept);
+        }
+        let asked = Pattern::new(pattern)?;
+        #[cfg(feature = "std")]
+        kept::set(pattern, &asked);
+        Ok(asked)
+    }
+
     /// How many messages the handshake has, 1 to 8. The initiator writes the first; then the parties take turns.
     pub fn messages(&self) -> usize {
         self.0.messages.into()
@@ -85,6 +98,29 @@ impl fmt::Debug for Pattern {
     }
 }
 
+// The last pattern of this thread's handshakes; of a thread that ends there is none.
+#[cfg(feature = "std")]
+mod kept {
+    use super::Pattern;
+    use std::cell::RefCell;
+
+    std::thread_local! {
+        static LAST: RefCell<Option<(String, Pattern)>> = RefCell::new(None);
+    }
+
+    pub(super) fn get(text: &str) -> Option<Pattern> {
+        let of_text = |last: &RefCell<Option<(String, Pattern)>>| match &*last.borrow() {
+            Some((kept, pattern)) if kept == text => Some(pattern.clone()),
+            _ => None,
+        };
+        LAST.try_with(of_text).ok().flatten()
+    }
+
+    pub(super) fn set(text: &str, pattern: &Pattern) {
+        let _ = LAST.try_with(|last| *last.borrow_mut() = Some((text.into(), pattern.clone())));
+    }
+}
+
 const SUITE: &[u8] = b"_25519_ChaChaPoly_SHA256";
 
 // Passes on the protocol name of a pattern's name; a text and a protocol name as they are.
@@ -101,4 +137,25 @@ pub(crate) fn with_name<R>(pattern: &str, call: impl FnOnce(&[u8]) -> R) -> R {
         len = end;
     }
     call(&name[..len])
+}
+
+#[cfg(all(test, feature = "std", any(feature = "x25519", feature = "openssl")))]
+mod tests {
+    use crate::raw::ASKED;
+    use crate::{Builder, Error, KeyPair};
+
+    #[test]
+    fn the_library_is_asked_of_a_pattern_once() {
+        let begin = |pattern: &str| {
+            let begun = Builder::new(pattern).static_key(KeyPair::generate().unwrap()).responder();
+            begun.map(|handshake| (handshake.lacks_psk(), ASKED.with(|asked| asked.take())))
+        };
+        assert_eq!(begin("XX"), Ok((false, 1)));
+        assert_eq!(begin("XX"), Ok((false, 0)));
+        assert_eq!(begin("IK"), Ok((false, 1)));
+        assert_eq!(begin("IL"), Err(Error::Name));
+        assert_eq!(begin("IK"), Ok((false, 1))); // of "IL": "IK" is kept
+        assert_eq!(begin("XXpsk3"), Err(Error::PskCount));
+        assert_eq!(begin("XXpsk3"), Err(Error::PskCount));
+    }
 }

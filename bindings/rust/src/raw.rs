@@ -434,9 +434,17 @@ pub(crate) fn frame_find(buffer: &[u8], result: &mut StreamResult) -> u32 {
     unsafe { noise_frame_find(buffer.as_ptr(), buffer.len(), result) }
 }
 
+// How often this thread asked of a pattern.
+#[cfg(all(test, feature = "std"))]
+std::thread_local! {
+    pub(crate) static ASKED: core::cell::Cell<usize> = core::cell::Cell::new(0);
+}
+
 impl PatternInfo {
     // What the pattern has of this protocol name or text.
     pub(crate) fn read(&mut self, pattern: &[u8]) -> u32 {
+        #[cfg(all(test, feature = "std"))]
+        ASKED.with(|asked| asked.set(asked.get() + 1));
         // SAFETY: see above.
         unsafe { noise_pattern(pattern.as_ptr(), pattern.len(), self, &mut PatternResult::default()) }
     }

@@ -125,6 +125,7 @@ fn main() -> io::Result<()> {
             Some(listener) => listener.accept()?.0,
             None => TcpStream::connect(&words.address)?,
         };
+        below.set_nodelay(true)?;
         for set in [TcpStream::set_read_timeout, TcpStream::set_write_timeout] {
             set(&below, Some(Duration::from_secs(120)))?;
         }
