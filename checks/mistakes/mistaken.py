@@ -1,4 +1,5 @@
-"""A Noise of its own (revision 34: 25519, ChaChaPoly, SHA256), both parties of which can make one of 42 mistakes, and the log that DEBUGGING.md asks for.
+"""An implementation of its own (revision 34: 25519, ChaChaPoly, SHA256), both parties of which can make one of 42 mistakes, and the log that
+DEBUGGING.md asks for.
 
 It shares nothing with the code of `noise`. A mistake is a name; "" is none. It needs python's `cryptography`.
 """

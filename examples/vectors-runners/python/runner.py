@@ -1,5 +1,5 @@
 #!/usr/bin/env python3
-"""Runs the suite of test vectors with a Noise in Python.
+"""Runs the suite of test vectors with an implementation in Python.
 
     runner.py PARTY SUITE.json [JUNIT.xml]
 
