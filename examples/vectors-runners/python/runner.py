@@ -3,7 +3,7 @@
 
     runner.py PARTY SUITE.json [JUNIT.xml]
 
-PARTY is a module beside this file, as `party_yulimosar`, with a class `Party`: copy that file, and have it call your Noise. The report has a line for
+PARTY is a module beside this file, as `party_yulimosar`, with a class `Party`: copy that file, and have it call your implementation. The report has a line for
 each flag; JUNIT.xml gets each test. The status is 0 if no test failed.
 """
 
