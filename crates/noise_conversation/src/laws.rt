@@ -1,4 +1,4 @@
-//! Properties of what two parties of one set-up accept and report.
+//! Laws of what two ends of one set-up accept and report.
 
 ghost use Rattle.noise_conversation.specs.Agreement.{HashIsReported};
 ghost use Rattle.noise_conversation.specs.Datagrams.{DatagramEntriesAgree, DatagramKeysCome, DatagramsAreReported};
@@ -32,7 +32,7 @@ pub fn read_exactly()
     refused_once();
 }
 
-/// A party that listens reports each step of a whole message in exactly one case, and so a payload exactly if the
+/// An end that listens reports each step of a whole message in exactly one case, and so a payload exactly if the
 /// message is one of that payload there.
 pub fn reported_exactly()
     ensures { ReportedExactly }
@@ -41,7 +41,7 @@ pub fn reported_exactly()
     judged_once();
 }
 
-/// Where both parties of a `Duel` report one hash, they have the one hash that the properties on agreement speak of.
+/// Where both ends of a duel report one hash, they have the one hash that the laws on agreement speak of.
 pub fn hash_is_reported<A: Keys, B: Keys>()
     ensures { HashIsReported A.public_of A.agreement B.public_of B.agreement }
 {
@@ -49,13 +49,13 @@ pub fn hash_is_reported<A: Keys, B: Keys>()
     end_is_reported::<B>();
 }
 
-/// In every run of two new parties the payloads that a role wrote by the report, and those that it accepted, are those
-/// of its handshake messages and then of its transport messages, in order.
+/// In every run of two new ends the payloads that a role wrote by the report, and those that it accepted, are those of
+/// its handshake messages and then of its transport messages, in order.
 pub fn payloads_reported()
     ensures { PayloadsAreReported }
 {}
 
-/// Where two new parties with the same psks and equal intervals have one hash, the payloads that a role received are
+/// Where two new ends with the same psks and equal intervals have one hash, the payloads that a role received are
 /// the first of those that the other wrote, up to a forged frame; or two texts that they hashed collide.
 pub fn entries_agree()
     ensures { EntriesCome }
