@@ -7,7 +7,7 @@
 # make web       puts the page, for any static server, into out/web
 # make vectors   packs the test vectors and their runners into packaging/out
 # make clean     removes what `make` built, and no proofs
-# The gate is ./check. In a tree that can't be written, name another folder by OUT.
+# CI runs ./check. In a tree that can't be written, name another folder by OUT.
 PREFIX ?= /usr/local
 export CFLAGS LDFLAGS AR PREFIX LIBDIR DESTDIR RUN
 

@@ -122,7 +122,7 @@ typedef struct {
 typedef struct {
     uint8_t messages;    /* how many messages the pattern has, 1 to 8 */
     uint8_t passed;      /* how many of them have been written or read */
-    uint8_t ended;       /* 1 if a refused message or noise_finish has ended it, else 0 */
+    uint8_t ended;       /* 1 if a refused message or a call that finishes has ended it */
     uint8_t writes_next; /* 1 if this party writes the next message, else 0; says nothing after the
                             last */
 } noise_stage_result;
@@ -280,7 +280,7 @@ uint32_t noise_frame_find(const uint8_t *buffer, size_t buffer_len, noise_stream
 
 /* Makes the two structs of a handshake whose messages have all passed (Noise, 5.2), and uses it
    up: its keys, psks and results of X25519 are zeros, and it has ended. noise_hash and
-   noise_remote_static go on. Each direction renews its key after `interval` of its frames (Noise,
+   noise_remote_static go on. Each direction is rekeyed after `interval` of its frames (Noise,
    11.3), the same number at both parties; 0 means never.
    Codes: STRUCT · NOT_DONE · ENDED. */
 uint32_t noise_finish_stream(noise_handshake *h, uint64_t interval,
@@ -343,7 +343,7 @@ uint32_t noise_receiver_nonce(const noise_receiver *r, uint64_t *nonce);
    first, and is 24 bytes longer than its payload. */
 
 /* Makes the two structs for datagrams, as noise_finish_stream does, but their keys are never
-   renewed. `window` is 64, 256 or 1024: a datagram may come after others whose nonces are less than
+   rekeyed. `window` is 64, 256 or 1024: a datagram may come after others whose nonces are less than
    `window` greater.
    Codes: WINDOW · STRUCT · NOT_DONE · ENDED. */
 uint32_t noise_finish_datagrams(noise_handshake *h, uint32_t window,

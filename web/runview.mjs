@@ -82,7 +82,7 @@ function hashLine({ initiator, responder }) {
   if (!initiator || !responder) return undefined;
   const [a, b] = [hex(initiator), hex(responder)];
   if (a !== b) return element('p', 'hash', `hash: initiator ${a.slice(0, 16)}…, responder ${b.slice(0, 16)}…`);
-  return element('p', 'hash', `hash at both ends ${a} `, copier('the hash', () => a));
+  return element('p', 'hash', `hash at both parties ${a} `, copier('the hash', () => a));
 }
 
 const headOf = (entry) => {

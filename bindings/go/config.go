@@ -35,7 +35,7 @@ type Config struct {
 	// handshake, and nothing more is sent; 32 random bytes for a key that you don't know, in place of an error, don't tell which keys you know. The
 	// context is that of VerifyPeer.
 	PSKFor func(ctx context.Context, key PublicKey) ([]PSK, error)
-	// Interval is the number of messages after which each direction renews its key; 0 is never. The same at both parties.
+	// Interval is the number of messages after which each direction is rekeyed; 0 is never. The same at both parties.
 	Interval uint64
 	// Payloads are those of the handshake: Payloads[0] goes with message 1 of the pattern, Payloads[1] with message 2, if this party writes that message.
 	Payloads [][]byte

@@ -13,7 +13,7 @@ import (
 	"time"
 )
 
-// shaken are two ends over a pipe without room, whose handshake is done.
+// shaken are two parties over a pipe without room, whose handshake is done.
 func shaken(t *testing.T) (*Conn, *Conn) {
 	t.Helper()
 	client, server := configs(t, "NN")

@@ -68,7 +68,7 @@ func Example() {
 	// Output: hello <nil>
 }
 
-// Both ends over any net.Conn, here a pipe, with a psk that both parties have.
+// Both parties over any net.Conn, here a pipe, with a psk that both parties have.
 func ExampleClient() {
 	here, there := net.Pipe()
 	config := &noise.Config{Pattern: "NNpsk0", PSKs: []noise.PSK{{7, 7, 7}}}

@@ -60,7 +60,7 @@ func TestStrangersMemory(t *testing.T) {
 		wants(t, s.Handshake(), ErrTooLong)
 		return []*Conn{s}
 	})
-	each(t, "two bytes in a stream, both ends", 8000, func(a, b net.Conn) []*Conn {
+	each(t, "two bytes in a stream, both parties", 8000, func(a, b net.Conn) []*Conn {
 		c, s := newConn(a, client, true, 0), newConn(b, server, false, 0)
 		errC, errS := both(c, s)
 		must(t, errC, errS)

@@ -66,7 +66,7 @@ func configs(t testing.TB, pattern string) (client, server *Config) {
 	return client, server
 }
 
-// connected are two ends over a connection in memory, with the handshake still to come.
+// connected are two parties over a connection in memory, with the handshake still to come.
 func connected(t testing.TB, client, server *Config) (*Conn, *Conn) {
 	t.Helper()
 	a, b := tcp(t)
@@ -101,7 +101,7 @@ func tcp(t testing.TB) (net.Conn, net.Conn) {
 	return a, b
 }
 
-// both passes the handshake at both ends.
+// both passes the handshake at both parties.
 func both(c, s *Conn) (error, error) {
 	done := make(chan error, 1)
 	go func() {

@@ -41,9 +41,9 @@ type report struct {
 	afterRead, afterClosing error // of Write after Read has failed
 }
 
-// TestRelay runs two ends through a relay that flips, cuts, repeats or drops each byte of each direction, once, with both ends closing in each order and
-// by defer, and compares what each end reports with the law: what was read is the first of what was written; an end is reported only if the other party
-// has ended its stream and all of it was read; else an error is, and after it nothing can be written, and no end is sent. With -short it is each
+// TestRelay runs two parties through a relay that flips, cuts, repeats or drops each byte of each direction, once, with both parties closing in each order and
+// by defer, and compares what each party reports with the theorem on streams: what was read is the first of what was written; an end is reported only if the
+// other party has ended its stream and all of it was read; else an error is, and after it nothing can be written, and no end is sent. With -short it is each
 // sixteenth byte.
 func TestRelay(t *testing.T) {
 	sessions, free := 0, make(chan bool, 32)
@@ -80,7 +80,7 @@ func passRelay(t *testing.T, client, server *Config, it *relayed) (sent [2]int) 
 	right, b := memoryPipe()
 	relays := [2]chan int{goRelay(it, 0, left, right), goRelay(it, 1, right, left)}
 	reports := [2]chan report{goEnd(it, newConn(a, client, true, 0), 0), goEnd(it, newConn(b, server, false, 0), 1)}
-	if it.direction >= 0 { // where both ends wait, the connections are lost
+	if it.direction >= 0 { // where both parties wait, the connections are lost
 		defer time.AfterFunc(50*time.Millisecond, func() {
 			for _, end := range []*memoryEnd{a, left, right, b} {
 				end.CloseWrite()
@@ -107,7 +107,7 @@ func passRelay(t *testing.T, client, server *Config, it *relayed) (sent [2]int) 
 	return sent
 }
 
-// judge says what of a report of party i the law doesn't allow; other is the other party's.
+// judge says what of a report of party i the theorem doesn't allow; other is the other party's.
 func (it *relayed) judge(i int, own, other *report) string {
 	written := strings.Join(relayTexts[1-i], "")
 	switch {
@@ -236,7 +236,7 @@ func (q *queue) end(ended, shut bool) {
 	q.news.Broadcast()
 }
 
-// memoryEnd is an end of a connection in memory.
+// memoryEnd is a side of a connection in memory.
 type memoryEnd struct {
 	net.Conn
 	in, out *queue

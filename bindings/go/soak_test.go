@@ -19,7 +19,7 @@ import (
 	"time"
 )
 
-// What the relay between the two ends of a channel does to one direction.
+// What the relay between the two parties of a channel does to one direction.
 const (
 	noFault   = iota
 	flipped   // a bit of a frame's message
@@ -133,7 +133,7 @@ func openDescriptors(t *testing.T) int {
 	return len(entries)
 }
 
-// joined are two ends of a connection over TCP.
+// joined are two sides of a connection over TCP.
 func joined(t *testing.T, l net.Listener) (net.Conn, net.Conn) {
 	a, err := net.Dial("tcp", l.Addr().String())
 	must(t, err)
@@ -145,7 +145,7 @@ func joined(t *testing.T, l net.Listener) (net.Conn, net.Conn) {
 	return a, b
 }
 
-// run runs both ends and the relay, and returns what was wrong.
+// run runs both parties and the relay, and returns what was wrong.
 func (it *soaked) run(client, server *Config, ready *sync.WaitGroup) (all []error) {
 	relayed := make(chan bool, 2)
 	go func() { it.relay(it.low[0], it.low[1], true); relayed <- true }()

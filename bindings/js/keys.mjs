@@ -1,4 +1,4 @@
-// Key pairs. A handshake asks an object with `publicKey`, 32 bytes, and `agree(remote)`, which gives the answer of X25519 or a promise of it.
+// Key pairs. A handshake asks an object with `publicKey`, 32 bytes, and `agree(remote)`, which gives the result of X25519 or a promise of it.
 // Those that are made here are WebCrypto's: the private key stays inside the browser.
 
 import { bytesOf, equal } from './bytes.mjs';

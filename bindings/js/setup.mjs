@@ -78,7 +78,7 @@ export function setupOf(options) {
   };
 }
 
-/** Starts a handshake at a place, and gives the library's answer. `options` are those of `setupOf`. */
+/** Starts a handshake at a place, and returns the library's code. `options` are those of `setupOf`. */
 export function start(place, options, ephemeral, staticKey) {
   const lib = library();
   const { pattern, responder, prologue, remoteStatic, remoteEphemeral, psks } = options;

@@ -1,5 +1,5 @@
 #!/usr/bin/env python3
-"""Writes the first listings of docs/GO.md and docs/RUST.md as modules that compile: listings.py FOLDER. It also compares the other listings of docs/GO.md,
+"""Writes the listing of README.md and the first ones of docs/GO.md and docs/RUST.md as modules that compile: listings.py FOLDER. It also compares the other listings of docs/GO.md,
 and those of "A psk for each peer" in docs/RUST.md, with the programs and tests that run them.
 
 FOLDER/go and FOLDER/rust get the program; their go.mod, Cargo.toml and .cargo/config.toml are those of the page, with the path of this repository.
@@ -16,9 +16,23 @@ def write(path: Path, text: str) -> None:
     path.write_text(text.replace("/path/to/this/repository", str(TOP)), encoding="utf-8")
 
 
-def listings(page: str, language: str) -> list[str]:
+README_MODULE = """package readme
+
+import (
+	"io"
+
+	"example.org/yulimosar/noise"
+)
+
+func listing(key *noise.KeyPair, other noise.PublicKey) ([]byte, error) {
+%s	return text, err
+}
+"""
+
+
+def listings(page: str, language: str, folder: str = "docs") -> list[str]:
     """The blocks of a language."""
-    text = (TOP / "docs" / page).read_text(encoding="utf-8")
+    text = (TOP / folder / page).read_text(encoding="utf-8")
     return re.findall(rf"^```{language}\n(.*?)^```$", text, re.S | re.M)
 
 
@@ -56,6 +70,8 @@ def main() -> None:
     assert first == (TOP / "bindings/go/examples/hello/main.go").read_text(encoding="utf-8"), "GO.md: the first listing isn't bindings/go/examples/hello"
     write(folder / "go/go.mod", indented("GO.md", "module example.org/hello"))
     write(folder / "go/main.go", first)
+    (lines,) = listings("README.md", "go", ".")
+    write(folder / "go/readme/readme.go", README_MODULE % lines)
     for listing in others:
         stands("GO.md", listing, "bindings/go/example_test.go")
     write(folder / "rust/Cargo.toml", indented("RUST.md", "[package]"))

@@ -72,7 +72,7 @@ static void check_windows(void) {
     }
 }
 
-// A datagram of nonce n is n, and the transport message number n of keys that are never renewed.
+// A datagram of nonce n is n, and the transport message number n of keys that are never rekeyed.
 static void check_against_transport(void) {
     for (unsigned i = 0; i < PATTERNS; i++) {
         plan p = plan_of(patterns[i], 0);

@@ -1,4 +1,4 @@
-// Two ends of one handshake in one process.
+// Two parties of one handshake in one process.
 #define _GNU_SOURCE
 #include "ends.h"
 #include <stdlib.h>

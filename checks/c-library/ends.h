@@ -1,4 +1,4 @@
-// Two ends of one handshake in one process, with a toy in the place of X25519: the answer of two public keys is their xor, as in vector
+// Two parties of one handshake in one process, with a toy in the place of X25519: the DH result of two public keys is their xor, as in vector
 // files with `xor` keys.
 #ifndef ENDS_H
 #define ENDS_H
@@ -18,7 +18,7 @@ bool is_in(uint32_t code, uint64_t codes);
 
 enum { LONGEST = NOISE_MAX_DATAGRAM + 1 };
 
-// What two ends start from.
+// What two parties start from.
 typedef struct {
     char name[80];                        // the protocol name
     char text[420];                       // the pattern's text, of a handshake that is begun by it; else empty
@@ -51,7 +51,7 @@ typedef struct {
 typedef struct {
     unsigned role;                        // 0 the initiator, 1 the responder
     noise_handshake h;
-    unsigned answers;                     // how many were supplied
+    unsigned answers;                     // how many DH results were supplied
 } end;
 
 enum { PATTERNS = 15 };
@@ -69,13 +69,13 @@ noise_setup setup_of(const plan *p, unsigned role);
 uint32_t start_with(noise_handshake *h, const plan *p, const noise_setup *setup);
 end begin(const plan *p, unsigned role);
 void hand_in(end *x, const noise_result *result);
-// Writes and reads, with each answer that is wanted.
+// Writes and reads, with each DH result that is wanted.
 uint32_t write_on(end *x, const uint8_t *payload, size_t payload_len, uint8_t *out, size_t out_len, noise_result *result);
 uint32_t read_on(end *x, uint8_t *message, size_t message_len, noise_result *result);
 // A payload whose bytes depend on the number; and a length by number, the same in each run.
 void fill(uint8_t *payload, size_t len, unsigned number);
 size_t length_of(unsigned number);
-// Passes all messages between the two ends.
+// Passes all messages between the two parties.
 void pass_all(const plan *p, end ends[2]);
 // Each finishes a copy, so that a test can have several pairs of one handshake.
 uint32_t finish(const noise_handshake *h, uint64_t interval, transport *t);

@@ -14,7 +14,7 @@ static unsigned find(const noise_handshake *h, const uint8_t bytes[32]) {
     return found;
 }
 
-// An end that lacks the psks after the first `given`.
+// A party that lacks the psks after the first `given`.
 typedef struct {
     end x;
     const plan *p;
@@ -83,7 +83,7 @@ static void must_be_alike(const noise_handshake *a, const noise_handshake *b) {
     MUST(key.present == again.present && (!key.present || is_same(key.bytes, again.bytes, 32)));
 }
 
-// All messages of two ends that lack psks, beside two with the same keys that have all: the same bytes and hashes, and the same transport.
+// All messages of two parties that lack psks, beside two with the same keys that have all: the same bytes and hashes, and the same transport.
 static void try_beside(const plan *p, unsigned given0, unsigned given1) {
     late_end late[2] = {begin_with(p, 0, given0), begin_with(p, 1, given1)};
     end whole[2] = {begin(p, 0), begin(p, 1)};

@@ -126,7 +126,7 @@ static void must_have_ended(end *x, unsigned messages, unsigned passed) {
     MUST(noise_hash(&x->h, hash) == NOISE_OK);
 }
 
-// Reads a message that isn't the right one on a copy of this end.
+// Reads a message that isn't the right one on a copy of this party.
 static uint32_t read_other(const end *reader, size_t len, noise_result *result) {
     end copy = *reader;
     static uint8_t handed[NOISE_MAX_MESSAGE + 1];
@@ -176,7 +176,7 @@ static void check_changed_messages(const plan *p) {
     }
 }
 
-// Hands in what the next write of this end wants, and writes nothing.
+// Hands in what the next write of this party wants, and writes nothing.
 static void hand_in_all(end *x) {
     noise_result result;
     for (end copy = *x; noise_write(&copy.h, payload, 0, message, sizeof message, &result) == NOISE_WANTED; copy = *x) hand_in(x, &result);
@@ -214,7 +214,7 @@ static void check_lengths(void) {
     }
 }
 
-// Each answer that is wanted, at which call, of which keys; and an answer that isn't the one that was asked for.
+// Each DH result that is wanted, at which call, of which keys; and one that isn't the one that was asked for.
 static void check_answers(void) {
     plan p = plan_of("XX", -1);
     end ends[2] = {begin(&p, 0), begin(&p, 1)};
@@ -247,7 +247,7 @@ static void check_answers(void) {
         MUST(result.of_static == 0 && is_same(result.remote, public_key(1, false), 32));
         MUST(is_same(&old, &ends[0].h, sizeof old) && is_same(message, before, len));
     }
-    end copy = ends[0];                                  // another answer than the other party's: a wrong tag
+    end copy = ends[0];                                  // another DH result than the other party's: a wrong tag
     MUST(noise_answer(&copy.h, 0, public_key(1, false), wrong) == NOISE_OK);
     MUST(noise_read(&copy.h, message, len, &result) == NOISE_TAG && result.token == 2);
     must_have_ended(&copy, 3, 1);

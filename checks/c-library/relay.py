@@ -1,8 +1,8 @@
 #!/usr/bin/env python3
-"""Two ends of one session, by ctypes, with a relay between them that flips, cuts, repeats or drops at each byte, whatever the order in which they end.
+"""Two parties of one session, by ctypes, with a relay between them that flips, cuts, repeats or drops at each byte, whatever the order in which they end.
 
-relay.py LIBRARY.so HEADER says how many sessions it tried, and fails where an end reports what the law doesn't allow: what it has is the first of what
-the other has written; it reports an end only if the other has ended and all of it came; and else it has refused a message, or reports a cut. The
+relay.py LIBRARY.so HEADER says how many sessions it tried, and fails where a party reports what the theorem on streams doesn't allow: what it has is the
+first of what the other has written; it reports an end only if the other has ended and all of it came; and else it has refused a message, or reports a cut. The
 pieces in which bytes come are another in each session. X25519 is a toy, as in the checks in C: the result of two public keys is their xor.
 """
 import ctypes

@@ -20,7 +20,7 @@ static void must_be_cut(const stream *x, size_t left, bool is) {
     MUST(noise_stream_is_cut(&x->r, left) == (is ? NOISE_CUT : NOISE_OK));
 }
 
-// Each frame is a length and the message that noise_seal makes of the same part; and the other end reads it.
+// Each frame is a length and the message that noise_seal makes of the same part; and the other party reads it.
 static void check_frames(uint64_t interval) {
     static const size_t lens[] = {1, 2, 100, 0, 17, PART - 1, PART, PART + 1, 2 * PART, 5};
     stream x[2];
@@ -379,8 +379,8 @@ static session pass_session(attack a, bool first_waits, bool second_waits) {
     return s;
 }
 
-// The law: what a reader has is the first of what the other has written; it has reported an end only if the other ended and all of it came; in any other
-// case it has refused, or reports a cut now.
+// The theorem on streams: what a reader has is the first of what the other has written; it has reported an end only if the other ended and all of it came; in any
+// other case it has refused, or reports a cut now.
 static bool judge(const session *s, unsigned role) {
     const machine *m = &s->m[role], *other_end = &s->m[!role];
     uint8_t all[LONG];

@@ -1,4 +1,4 @@
-// Two ends of one handshake, each with a thread for its sending half and one for its receiving half, with no lock round a call: those of messages in
+// Two parties of one handshake, each with a thread for its sending half and one for its receiving half, with no lock round a call: those of messages in
 // order, and then those of datagrams. The messages pass through two queues, which have locks. And calls that take
 // a struct as const, from two threads at once: it is on pages that can't be written.
 #define _GNU_SOURCE
@@ -90,7 +90,7 @@ static void pass_messages(bool datagrams) {
         MUST(pthread_create(&threads[2 * role + 1], NULL, receive_all, (void *)&roles[role]) == 0);
     }
     for (unsigned i = 0; i < 4; i++) MUST(pthread_join(threads[i], NULL) == 0);
-    printf("c-library: two ends in four threads passed %d %s each way\n", MESSAGES, datagrams ? "datagrams" : "messages");
+    printf("c-library: two parties in four threads passed %d %s each way\n", MESSAGES, datagrams ? "datagrams" : "messages");
 }
 
 // Each call that takes an opaque struct as const, again and again, on one struct of each type: two threads do so at once.

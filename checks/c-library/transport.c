@@ -1,4 +1,4 @@
-// Transport messages: sizes, refusals, what a refusal leaves, renewed keys, one-way sessions, the last nonce.
+// Transport messages: sizes, refusals, what a refusal leaves, rekeying, one-way sessions, the last nonce.
 #include "ends.h"
 
 static uint8_t message[NOISE_MAX_MESSAGE + 1], before[NOISE_MAX_MESSAGE + 1], payload[NOISE_MAX_MESSAGE + 1];
@@ -97,7 +97,7 @@ static void check_lost(void) {
     must_be_at(&t[1], 4, 0);
 }
 
-// With each interval both directions go on; with two different ones up to the first renewed key.
+// With each interval both directions go on; with two different ones up to the first rekey.
 static void check_intervals(void) {
     plan p = plan_of("IK", 2);
     static const uint64_t intervals[] = {1, 2, 3, 7, UINT64_MAX};

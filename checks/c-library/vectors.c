@@ -1,4 +1,4 @@
-// Runs of two ends, each written as a vector file NAME.vector, and beside it what `noise talk` has to print for it (NAME.wanted), from what the
+// Runs of two parties, each written as a vector file NAME.vector, and beside it what `noise talk` has to print for it (NAME.wanted), from what the
 // library returns.
 #include "ends.h"
 #include <inttypes.h>
@@ -100,7 +100,7 @@ static void put_states(run *r) {
     }
 }
 
-// What each end knows of the other at the end is what the pattern has.
+// What each party knows of the other at the end is what the pattern has.
 static void check_remote_static(run *r) {
     for (unsigned role = 0; role < 2; role++) {
         noise_key key;

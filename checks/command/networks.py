@@ -106,7 +106,7 @@ class Draws:
 
 
 class Session:
-    """What two ends start from, and the payloads of their messages: those of the handshake, and then six of the session."""
+    """What two parties start from, and the payloads of their messages: those of the handshake, and then six of the session."""
 
     def __init__(self, number):
         base, self.handshake, tokens = PATTERNS[number // 3]
@@ -164,7 +164,7 @@ class Schedule:
         self.told.append(told)
 
     def has_passed(self, role, written):
-        """An end has written, or else accepted, a message."""
+        """A party has written, or else accepted, a message."""
         if self.passed[role] < self.session.handshake:
             self.passed[role] += 1
         else:
@@ -215,7 +215,7 @@ class Schedule:
         self.event(f"raw {ROLES[role]} {hex_of(frame)}", told)
 
     def has_ended(self, role):
-        """An end has ended: it writes nothing, and takes nothing."""
+        """A party has ended: it writes nothing, and takes nothing."""
         self.ended[role] = True
         self.event(f"write {ROLES[role]} -", f"unwritten {ROLES[role]} ended")
         self.raw(role, b"\0", f"left {ROLES[role]} ended 1")
@@ -248,14 +248,14 @@ class NotMet(Exception):
 
 
 def undamaged(session):
-    """All messages come through, under both commands. Keeps their frames, and the hash that both ends tell."""
+    """All messages come through, under both commands. Keeps their frames, and the hash that both parties tell."""
     schedule = Schedule(session)
     for message in range(len(session.payloads)):
         schedule.say(message)
     said, replayed = schedule.run("talk"), schedule.run("replay")
     first, second = (line.split()[-1] for line in said[-2:])
     if said != replayed or first != second:
-        raise NotMet(f"command: talk and replay differ, or the hashes of the two ends, on\n{session.head}")
+        raise NotMet(f"command: talk and replay differ, or the hashes of the two parties, on\n{session.head}")
     session.frames = [bytes.fromhex(line.split()[3]) for line in said if line.startswith("wrote")]
     session.hash = first
 

@@ -56,7 +56,7 @@ static void shake(uint8_t secret) {
     must(noise_finish(&client, 2, &sender, &unused) == NOISE_OK && noise_finish(&server, 2, &unused_sender, &receiver) == NOISE_OK, "noise_finish");
 }
 
-/* Messages of some lengths, each also with another tag; with the keys renewed after each second. */
+/* Messages of some lengths, each also with another tag; with a rekey after each second. */
 static void seal_and_open(uint8_t secret) {
     static const size_t lengths[] = {0, 1, 15, 16, 63, 64, 65, 191, 192, 257, LONGEST};
     uint8_t message[LONGEST + 16], changed[LONGEST + 16];

@@ -1,4 +1,4 @@
-// A program that bundlers take: both ends of a channel in one page, and what came through it.
+// A program that bundlers take: both parties of a channel in one page, and what came through it.
 import { KeyPair, NoiseSocket, load } from 'yulimosar';
 
 async function run() {

@@ -1,5 +1,5 @@
-// Channels with a relay between both ends that damages one byte or message: over TCP at each byte, and over WebSockets of the package ws at each byte and
-// message: node relays.mjs [tcp] [ws]. What the ends report has to be what the law allows.
+// Channels with a relay between both parties that damages one byte or message: over TCP at each byte, and over WebSockets of the package ws at each byte and
+// message: node relays.mjs [tcp] [ws]. What the parties report has to be what the theorem on streams allows.
 import assert from 'node:assert/strict';
 import { load } from '../../bindings/js/noise.mjs';
 import { overTcp } from '../../bindings/js/test/connections.mjs';
@@ -52,7 +52,7 @@ const byWebSocket = (pair) => async (faults) => {
   return { ends, sent: (role) => sent[role], messages: (role) => messages[role], close: () => { clearTimeout(timer); breaks(); } };
 };
 
-/** One session, in which both ends send, end, and read. */
+/** One session, in which both parties send, end, and read. */
 async function session(connect, faults) {
   const link = await connect(faults);
   for (const it of link.ends) it.on('error', () => {});

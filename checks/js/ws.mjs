@@ -1,4 +1,4 @@
-// The package ws of Debian: both ends of its WebSockets.
+// The package ws of Debian: both sides of its WebSockets.
 import { once } from 'node:events';
 import { createRequire } from 'node:module';
 
@@ -7,7 +7,7 @@ const { WebSocket, WebSocketServer } = createRequire(import.meta.url)('/usr/shar
 /** As docs/JAVASCRIPT.md says. */
 const OPTIONS = { perMessageDeflate: false, maxPayload: 65535 };
 
-/** A server on 127.0.0.1 at `url`: `accept` gives the next socket that connects, and `pair` both ends of a connection. */
+/** A server on 127.0.0.1 at `url`: `accept` gives the next socket that connects, and `pair` both sides of a connection. */
 export async function webSockets() {
   const server = new WebSocketServer({ port: 0, host: '127.0.0.1', ...OPTIONS });
   await once(server, 'listening');

@@ -1,4 +1,5 @@
-"""A Noise of its own (revision 34: 25519, ChaChaPoly, SHA256), both ends of which can make one of 42 mistakes, and the log that DEBUGGING.md asks for.
+"""An implementation of its own (revision 34: 25519, ChaChaPoly, SHA256), both parties of which can make one of 42 mistakes, and the log that
+DEBUGGING.md asks for.
 
 It shares nothing with the code of `noise`. A mistake is a name; "" is none. It needs python's `cryptography`.
 """
@@ -31,7 +32,7 @@ PATTERNS: dict[str, tuple[tuple[str, ...], tuple[str, ...]]] = {
 
 
 class RefusedError(Exception):
-    """A message that an end refuses."""
+    """A message that a party refuses."""
 
 
 class Key:
@@ -116,7 +117,7 @@ class Cipher:
 
 
 class Session(NamedTuple):
-    """What both ends start from."""
+    """What both parties start from."""
 
     pattern: str
     prologue: bytes
@@ -386,7 +387,7 @@ class Event(NamedTuple):
 
 
 def run(session: Session, mistakes: dict[str, str], payloads: Callable[[int], bytes], transport: int) -> tuple[list[Event], list[str]]:
-    """The events of both ends until one refuses, and their log."""
+    """The events of both parties until one refuses, and their log."""
     log: list[str] = []
     events: list[Event] = []
     try:

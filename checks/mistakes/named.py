@@ -1,5 +1,5 @@
 #!/usr/bin/env python3
-"""Puts 42 mistakes into a Noise of its own (mistaken.py), and looks for each with `noise compare` and the log that DEBUGGING.md asks for.
+"""Puts 42 mistakes into an implementation of its own (mistaken.py), and looks for each with `noise compare` and the log that DEBUGGING.md asks for.
 
     named.py PROGRAM [SEED]
 

@@ -24,7 +24,7 @@ from yulimosar._noise import ffi, lib
 from yulimosar.codes import STREAM_OVERHEAD
 
 SOURCES = Path(__file__).resolve().parent.parent.parent / "bindings/python/src"
-# Both ends of NN, with results of X25519 that are the xor of the public keys; then the least time of a message, in ns.
+# Both parties of NN, with results of X25519 that are the xor of the public keys; then the least time of a message, in ns.
 LOOP = r"""
 #include "noise.h"
 #include <stdio.h>
@@ -238,7 +238,7 @@ def imports():
 
 def main():
     own, other = turns([ours, theirs], 5)
-    print(f"XX, both ends: {own * 1e3:.2f} ms, dissononce {other * 1e3:.2f} ms: {other / own:.1f} times")
+    print(f"XX, both parties: {own * 1e3:.2f} ms, dissononce {other * 1e3:.2f} ms: {other / own:.1f} times")
     sizes = (64, 1024, 16384)
     for size, least in zip(sizes, from_c(sizes)):
         own, placed, other, loop = messages(size)

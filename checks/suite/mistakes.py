@@ -1,5 +1,5 @@
-"""Runs the suite with a Noise in Python that makes one mistake after another: each has to fail a test whose flag names it, and without a mistake those
-tests have to pass.
+"""Runs the suite with an implementation in Python that makes one mistake after another: each has to fail a test whose flag names it, and without a mistake
+those tests have to pass.
 
     mistakes.py SUITE.json
 """
@@ -56,7 +56,7 @@ def failing(tests: list[tuple[dict, dict]], mistake: str, most: int) -> list[dic
 
 
 def with_zeros(groups: list[dict]) -> list[str]:
-    """The tests of keys that may be refused, with a Noise that refuses none, and goes on with zeros (12.1): all bytes have to be right."""
+    """The tests of keys that may be refused, with an implementation that refuses none, and goes on with zeros (12.1): all bytes have to be right."""
     agreement = mistaken.agreement
 
     def or_zeros(private: bytes, public: bytes) -> bytes:

@@ -85,7 +85,7 @@ class Schedule:
 
 
 class Keys(NamedTuple):
-    """The key pairs of a party: `xor`, or `table` with its answers."""
+    """The key pairs of a party: `xor`, or `table` with its DH results."""
 
     kind: str
     public: dict
@@ -148,7 +148,7 @@ class End:
     # ---- the handshake
 
     def is_turn(self):
-        """Whether the next message is this end's."""
+        """Whether the next message is this party's."""
         return self.passed % 2 == ROLES.index(self.role)
 
     def tokens(self):
@@ -340,7 +340,7 @@ class End:
         self.go_on(writer)
 
     def idle(self):
-        """Why this end doesn't listen, or nothing."""
+        """Why this party doesn't listen, or nothing."""
         if self.phase == "ended":
             return "ended"
         if self.phase == "handshake":
@@ -348,7 +348,7 @@ class End:
         return "silent" if self.silent_party() == other(self.role) else ""
 
     def receive(self, delivered):
-        """Bytes come to this end: they are cut into frames, each of which is read."""
+        """Bytes come to this party: they are cut into frames, each of which is read."""
         rest = delivered
         while True:
             why = self.idle()
@@ -378,7 +378,7 @@ class End:
             self.show("transport", "datagrams", f"{number} {writer} - - - - - {self.starts[writer].hex()} -")
 
     def state_line(self):
-        """Where this end stands at the end of a run."""
+        """Where this party stands at the end of a run."""
         own, theirs = self.nonces[self.role], self.nonces[other(self.role)]
         return {
             "handshake": f"state {self.role} handshake {self.passed}",
@@ -388,7 +388,7 @@ class End:
 
 
 class Datagrams:
-    """An end that has gone over to datagrams (11.4)."""
+    """A party that has gone over to datagrams (11.4)."""
 
     def __init__(self, end, window):
         self.end, self.role, self.window = end, end.role, window

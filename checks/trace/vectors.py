@@ -1,4 +1,4 @@
-"""Right vector files (docs/FILES.md), and the lines of their runs with the key schedules of both ends."""
+"""Right vector files (docs/FILES.md), and the lines of their runs with the key schedules of both parties."""
 
 import re
 from typing import NamedTuple
@@ -26,7 +26,7 @@ PATTERNS = {
 
 
 class Setup(NamedTuple):
-    """What both ends start from."""
+    """What both parties start from."""
 
     name: bytes
     pre: dict
@@ -114,7 +114,7 @@ def read(text):
 
 
 def happen(event, ends):
-    """One event between the two ends."""
+    """One event between the two parties."""
     word, role = event[0], event[1]
     end, peer = ends[role], ends[other(role)]
     if word in ("say", "write"):
@@ -130,7 +130,7 @@ def happen(event, ends):
 
 
 def datagram_happens(event, ends):
-    """One event between two ends that have gone over to datagrams."""
+    """One event between two parties that have gone over to datagrams."""
     word, role, given = event
     end, peer = ends[role], ends[other(role)]
     if word == "seal":

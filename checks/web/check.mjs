@@ -32,7 +32,7 @@ async function allPatterns() {
     await page.begin();
     await page.passAll();
     assert.match(await page.textOf('state'), /initiator is open .*responder is open/, base);
-    assert.match(await page.evaluate('document.querySelector("#current-body .hash").textContent'), /^hash at both ends [0-9a-f]{64} /, base);
+    assert.match(await page.evaluate('document.querySelector("#current-body .hash").textContent'), /^hash at both parties [0-9a-f]{64} /, base);
     // Each length in the picture is that of the message that the library has written, with a payload of two bytes.
     const labels = await page.evaluate('[...document.querySelectorAll("#picture text")].map((it) => it.textContent)');
     const drawn = labels.map((label) => /: (\d+) bytes \+ payload/.exec(label)?.[1]).filter(Boolean).map(Number);

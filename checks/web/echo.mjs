@@ -38,7 +38,7 @@ async function connection() {
   return socket;
 }
 
-/** What comes until the other end has ended its stream. */
+/** What comes until the other party has ended its stream. */
 async function readAll(channel) {
   const parts = [];
   for await (const payload of channel) parts.push(payload);

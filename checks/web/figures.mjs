@@ -17,7 +17,7 @@ const PAINTING = `const it = document.getElementById('text'); const times = [];
   }
   return times.sort((x, y) => x - y)[10];`;
 
-// Both ends of XX, and six times what WebCrypto takes for one answer of X25519: a key imported, and bits derived. The last 200 of 400: in the
+// Both parties of XX, and six times what WebCrypto takes for one result of X25519: a key imported, and bits derived. The last 200 of 400: in the
 // first ones the engine compiles what runs often.
 const RATIO = `const { Handshake, KeyPair, protocolName } = await import('../bindings/js/noise.mjs');
   const name = 'X25519';
@@ -77,5 +77,5 @@ export async function figures(browser, open) {
   }
   const [first, key, paint, ratio, rate] = [loads.sort((x, y) => x - y)[2], await run(TYPING), await run(PAINTING), await run(RATIO), await run(SEALING)];
   return `first verdict ${first.toFixed(0)} ms after the page is asked for, ${key.toFixed(2)} ms a key, ${paint.toFixed(0)} ms until it is painted, `
-    + `both ends of XX ${ratio.toFixed(2)} times six answers of X25519, sealing 16 KiB ${rate.toFixed(0)} MB/s`;
+    + `both parties of XX ${ratio.toFixed(2)} times six results of X25519, sealing 16 KiB ${rate.toFixed(0)} MB/s`;
 }

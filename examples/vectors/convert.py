@@ -146,7 +146,7 @@ class Vector:
         return self.public[role, letter]
 
     def answer(self, first, second):
-        """The DH answer of the initiator's key of the first letter and the responder's of the second."""
+        """The DH result of the initiator's key of the first letter and the responder's of the second."""
         return agreement(self.private["initiator", first], self.public_key("responder", second))
 
     def schedule(self, pattern):

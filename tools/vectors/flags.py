@@ -19,7 +19,7 @@ FLAGS = {
     "LongPrologue": ("The prologue has 65535 bytes.", "6"),
     "LongestPayload": ("The messages of the handshake have 65535 bytes.", "3"),
     "TransportSizes": ("Transport messages of many lengths, up to 65535 bytes.", "3"),
-    "Rekey": ("Keys are renewed after some messages, in each direction.", "11.3"),
+    "Rekey": ("Each direction is rekeyed after some messages.", "11.3"),
     "HighNonce": ("A transport message at a nonce that is set.", "11.4"),
     "LowOrderKey": ("The DH result is all zeros: a party refuses, or goes on with the zeros.", "12.1"),
     "NonCanonicalKey": ("A public key isn't the least number of its point. X25519 takes it, and its bytes are hashed as they are.", "12.1"),

@@ -64,7 +64,7 @@ class Setup:
 @dataclass
 class Group:
     """`name` is of the seed: the keys and payloads are drawn by it. `bad` are public keys in place of a party's own, by role and letter. After `interval`
-    messages of a direction its key is renewed."""
+    messages a direction is rekeyed."""
 
     command: Command
     name: str

@@ -194,7 +194,7 @@ def suite_of(groups: list[dict[str, Any]]) -> dict[str, Any]:
 
 
 def shared_format(groups: list[dict[str, Any]]) -> dict[str, Any]:
-    """The right conversations in the format that cacophony, snow and others read: patterns that have names, and no renewed keys."""
+    """The right conversations in the format that cacophony, snow and others read: patterns that have names, and no rekeying."""
     vectors = []
     for group in groups:
         tests = [it for it in group["tests"] if it["result"] == "valid"]

@@ -1,4 +1,4 @@
-"""A Noise of its own, revision 34 with 25519, ChaChaPoly and SHA256, that makes one of the mistakes below, or none.
+"""An implementation of its own, revision 34 with 25519, ChaChaPoly and SHA256, that makes one of the mistakes below, or none.
 
 It shares nothing with the code of `noise`. The suite takes of it only messages that a right party has to refuse; what is right comes from the command.
 A `Party` is driven as the runners of examples/vectors-runners drive any Noise.

@@ -49,7 +49,7 @@ def direction(role: str, sender: str) -> str:
 
 
 def is_renewed(group: Group, number: int) -> bool:
-    """Whether the key is renewed after a message."""
+    """Whether the key is rekeyed after a message."""
     sender = group.messages[number].sender
     count = sum(it.sender == sender for it in group.messages[group.handshake : number + 1])
     return bool(number >= group.handshake and group.interval and count % group.interval == 0)

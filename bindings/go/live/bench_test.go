@@ -10,7 +10,7 @@ import (
 	flynn "github.com/flynn/noise"
 )
 
-// BenchmarkConnect passes the handshake XX at both ends, with all of X25519, and makes what seals and opens.
+// BenchmarkConnect passes the handshake XX at both parties, with all of X25519, and makes what seals and opens.
 func BenchmarkConnect(b *testing.B) {
 	b.Run("ours", func(b *testing.B) {
 		client, server := ours(b, "XX")

@@ -10,7 +10,7 @@ import (
 	flynn "github.com/flynn/noise"
 )
 
-// TestFlynnCipherStates passes a handshake IX with flynn's, and then packets each way with associated data: in order, after keys were renewed, and with the
+// TestFlynnCipherStates passes a handshake IX with flynn's, and then packets each way with associated data: in order, after a rekey, and with the
 // nonces named (which flynn's does by its Cipher).
 func TestFlynnCipherStates(t *testing.T) {
 	for _, initiator := range []bool{true, false} {

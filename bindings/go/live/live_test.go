@@ -24,7 +24,7 @@ var patterns = []flynn.HandshakePattern{flynn.HandshakeN, flynn.HandshakeK, flyn
 
 var suite = flynn.NewCipherSuite(flynn.DH25519, flynn.CipherChaChaPoly, flynn.HashSHA256)
 
-// theirs is an end of flynn's: frames round its messages, and the sums of what passed.
+// theirs is a party of flynn's: frames round its messages, and the sums of what passed.
 type theirs struct {
 	net.Conn
 	state   *flynn.HandshakeState

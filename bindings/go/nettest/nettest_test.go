@@ -37,7 +37,7 @@ func overTCP() (net.Conn, net.Conn, func(), error) {
 	return joined(a, b)
 }
 
-// joined are the two ends of a channel, after the handshake.
+// joined are the two parties of a channel, after the handshake.
 func joined(a, b net.Conn) (net.Conn, net.Conn, func(), error) {
 	config := &noise.Config{Pattern: "NN", InsecureAcceptAnyKey: true}
 	client, err := noise.Client(a, config)

@@ -1,4 +1,4 @@
-// Connections between two ends in one program, and what tests say of them.
+// Connections between two parties in one program, and what tests say of them.
 import { spawnSync } from 'node:child_process';
 import { once } from 'node:events';
 import { connect, createServer } from 'node:net';
@@ -10,7 +10,7 @@ export const text = (s) => new TextEncoder().encode(s);
 export const refused = (code) => (error) => error instanceof NoiseError && error.code === code;
 export const NN = { pattern: 'NN', acceptAnyKey: true };
 
-/** Both ends of a connection over TCP. */
+/** Both sides of a connection over TCP. */
 export async function overTcp() {
   const server = createServer().listen(0, '127.0.0.1');
   await once(server, 'listening');
@@ -30,7 +30,7 @@ export async function nobody() {
   return address;
 }
 
-/** Both ends of a pair of WHATWG streams. */
+/** Both sides of a pair of WHATWG streams. */
 export function pair(...strategies) {
   const [up, down] = [new TransformStream(undefined, ...strategies), new TransformStream(undefined, ...strategies)];
   return [{ readable: down.readable, writable: up.writable }, { readable: up.readable, writable: down.writable }];
@@ -97,7 +97,7 @@ class Socket extends EventTarget {
   }
 }
 
-/** Both ends of a WebSocket, which aren't open yet. */
+/** Both sides of a WebSocket, which aren't open yet. */
 export function sockets() {
   const [one, two] = [new Socket(), new Socket()];
   Object.assign(one, { other: two });
@@ -112,7 +112,7 @@ export function openSockets() {
   return both;
 }
 
-/** A channel over both ends of a connection. */
+/** A channel over both sides of a connection. */
 export function channels([near, far], client = NN, server = client) {
   return Promise.all([NoiseSocket.open(near, client), NoiseSocket.open(far, { ...server, responder: true })]);
 }

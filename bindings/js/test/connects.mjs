@@ -1,4 +1,4 @@
-// Prints how many milliseconds a first connection by XX over TCP takes, with both ends in this program: the least, and the one in the middle; and the least
+// Prints how many milliseconds a first connection by XX over TCP takes, with both parties in this program: the least, and the one in the middle; and the least
 // within memory. One is from the call of `connect` until a payload has come back and both streams are ended.
 import { once } from 'node:events';
 import { connect, createServer } from 'node:net';

@@ -1,4 +1,4 @@
-// What two ends of a channel may report, whatever is between them: each has the first payloads that the other has written, in order; it reports an end only
+// What two parties of a channel may report, whatever is between them: each has the first payloads that the other has written, in order; it reports an end only
 // if the other has ended and all of it came; and else it throws. After a refusal it sends nothing. X25519 is a toy, as in checks/c-library/relay.py: the
 // result of two public keys is their xor.
 import assert from 'node:assert/strict';
@@ -6,7 +6,7 @@ import { NoiseError, NoiseSocket } from '../noise.mjs';
 import { text } from './connections.mjs';
 
 export const TEXTS = [['a first text', 'b', 'the last of the client'].map(text), ['1', 'what the server has to say', 'and good bye'].map(text)];
-/** When each end ends its stream: at once, once the other's has ended, or, without receiving at all, by close. */
+/** When each party ends its stream: at once, once the other's has ended, or, without receiving at all, by close. */
 export const ORDERS = [['ends', 'ends'], ['waits', 'ends'], ['ends', 'waits'], ['closes', 'ends'], ['ends', 'closes'], ['closes', 'closes']];
 export const NOTHING = { kind: 'nothing' };
 
@@ -28,7 +28,7 @@ export function damaged(message, { kind, at, bit }, from, number) {
   return { drop: [], repeat: [message, message], shorten: [message.slice(0, -1)], lengthen: [Uint8Array.of(...message, 0)] }[kind] ?? [message];
 }
 
-/** Sends what an end has to send, and ends it, unless the other party's end comes first, or `close` is to do it. */
+/** Sends what a party has to send, and ends it, unless the other party's end comes first, or `close` is to do it. */
 async function sendAll(channel, texts, order, report) {
   try {
     for (const it of texts) await channel.send(it);
@@ -58,7 +58,7 @@ export async function party(link, role, order) {
   return report;
 }
 
-/** Whether an end's report is one that the law allows. */
+/** Whether an end's report is one that the theorem on streams allows. */
 export function check({ link, reports }, role, order) {
   const [mine, other, written] = [reports[role], reports[1 - role], TEXTS[1 - role]];
   assert.deepEqual(mine.got, written.slice(0, mine.got.length), 'what was received is a front of what was written');

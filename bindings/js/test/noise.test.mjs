@@ -55,7 +55,7 @@ test('with the module loaded', async (t) => {
     });
   }
 
-  await t.test('both ends of XX ask WebCrypto for six results, and import four public keys', async (st) => {
+  await t.test('both parties of XX ask WebCrypto for six results, and import four public keys', async (st) => {
     const it = await parties(protocolName('XX'));
     const calls = ['importKey', 'deriveBits'].map((name) => st.mock.method(crypto.subtle, name).mock);
     await pass(it);

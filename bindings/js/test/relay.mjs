@@ -1,5 +1,5 @@
-// node relay.mjs: two ends with a relay between them that flips, cuts, repeats or drops at each byte, or over a WebSocket at each message, whatever the order
-// in which they end. What an end reports has to be what the law allows.
+// node relay.mjs: two parties with a relay between them that flips, cuts, repeats or drops at each byte, or over a WebSocket at each message, whatever the
+// order in which they end. What a party reports has to be what the theorem on streams allows.
 import assert from 'node:assert/strict';
 import { load } from '../noise.mjs';
 import { openSockets } from './connections.mjs';
@@ -74,7 +74,7 @@ function overWebSockets(faults, acted) {
 
 const tick = () => new Promise((resolve) => { setImmediate(resolve); });
 
-/** Runs both ends; where nothing happens any more, the connection breaks. */
+/** Runs both parties; where nothing happens any more, the connection breaks. */
 async function session(connect, orders, faults) {
   let acts = 0;
   const link = connect(faults, () => { acts += 1; });
@@ -101,7 +101,7 @@ async function all(connect, kinds, places) {
       assert.deepEqual([whole.reports[role].error, whole.reports[role].gotEnd], [undefined, orders[role] !== 'closes'], String(orders));
     }
     for (const direction of [0, 1]) {
-      if (orders[1 - direction] === 'closes') continue;    // that end doesn't receive
+      if (orders[1 - direction] === 'closes') continue;    // that party doesn't receive
       for (const kind of kinds) {
         const end = places(whole.link, direction, kind);
         for (let at = 0; at < end; at += 1) {

@@ -3,7 +3,7 @@ import test from 'node:test';
 import assert from 'node:assert/strict';
 import { apart } from './connections.mjs';
 
-test('behind a relay that damages one byte or message no end is reported that the law doesn’t allow', (t) => {
+test('behind a relay that damages one byte or message no end is reported that the theorem on streams doesn’t allow', (t) => {
   const { status, stdout, stderr } = apart('relay.mjs');
   assert.equal(status, 0, stderr);
   for (const line of stdout.trim().split('\n')) t.diagnostic(line);

@@ -6,7 +6,7 @@ import { NN, channels, openSockets, outcome, refused, text } from './connections
 
 const pause = (milliseconds) => new Promise((resolve) => { setTimeout(resolve, milliseconds); });
 
-/** Lets a socket be paused: what comes meanwhile waits at the other end, unsent. */
+/** Lets a socket be paused: what comes meanwhile waits at the other party, unsent. */
 function pausable(socket) {
   const take = socket.take.bind(socket);
   const waiting = [];
@@ -28,7 +28,7 @@ function pausable(socket) {
   return socket;
 }
 
-/** Both ends of a WebSocketStream, which is open at once; `break` ends it without a close. */
+/** Both sides of a WebSocketStream, which is open at once; `break` ends it without a close. */
 function socketStreams() {
   const pipes = [new TransformStream(), new TransformStream()];
   const closings = [0, 1].map(() => {
@@ -90,7 +90,7 @@ test('WebSockets', { timeout: 300000 }, async (t) => {
     assert.match(await opened, /^NOISE_(TOO_LONG|BACKLOG)$/u);
   });
 
-  await t.test('a WebSocketStream: payloads, both ends, and a text is refused', async () => {
+  await t.test('a WebSocketStream: payloads, both parties, and a text is refused', async () => {
     const [a, b] = await channels(socketStreams());
     for (const length of [1, 65519, 200000]) {
       const sent = a.send(new Uint8Array(length).fill(7));

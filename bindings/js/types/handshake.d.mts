@@ -57,7 +57,7 @@ export class Handshake {
      */
     get ephemeralPublicKey(): Uint8Array | undefined;
     /**
-     * Makes the transport, and uses this handshake up. Each direction renews its key after each `interval` of its messages; 0 is never.
+     * Makes the transport, and uses this handshake up. Each direction is rekeyed after each `interval` of its messages; 0 is never.
      * @param {{ interval?: number }} [options]
      * @returns {Transport}
      */

@@ -1,6 +1,6 @@
 /**
  * @typedef {object} SocketOptions
- * @property {number} [interval] Each direction renews its key after so many of its messages, the same number at both parties; 0 is never.
+ * @property {number} [interval] Each direction is rekeyed after so many of its messages, the same number at both parties; 0 is never.
  * @property {(remoteStatic: Uint8Array) => boolean | Promise<boolean>} [judge] Called once, as soon as the other party's static key is known, before
  * anything else is sent or read. Unless it returns true itself, the connection is closed, and `open` throws NOISE_REFUSED. In a pattern in which the
  * other party has no static key it is a TypeError.
@@ -47,7 +47,7 @@ export function opened(connection: any, options: any): Promise<{
 }>;
 export type SocketOptions = {
     /**
-     * Each direction renews its key after so many of its messages, the same number at both parties; 0 is never.
+     * Each direction is rekeyed after so many of its messages, the same number at both parties; 0 is never.
      */
     interval?: number | undefined;
     /**

@@ -22,7 +22,7 @@ export function setupOf(options: any): {
     remoteEphemeral: Uint8Array | undefined;
     psks: Uint8Array[];
 };
-/** Starts a handshake at a place, and gives the library's answer. `options` are those of `setupOf`. */
+/** Starts a handshake at a place, and returns the library's code. `options` are those of `setupOf`. */
 export function start(place: any, options: any, ephemeral: any, staticKey: any): any;
 export function wholePattern(pattern: any): any;
 export type HandshakeOptions = {

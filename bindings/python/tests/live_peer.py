@@ -26,7 +26,7 @@ def name_of(fault):
 
 
 class Run:
-    """What the words say, and what this end tells at last."""
+    """What the words say, and what this party tells at last."""
 
     def __init__(self, pattern, own, peer, psk, address, order, size):
         host, port = address.lstrip("@").rsplit(":", 1)
@@ -45,7 +45,7 @@ class Run:
         self.got, self.end = b"", "end"
 
     def parts(self):
-        """What this end sends. A part counts as written also where its call fails: a piece of it may have been sent."""
+        """What this party sends. A part counts as written also where its call fails: a piece of it may have been sent."""
         everything = sent_by(self.initiator, self.size)
         while self.wrote < self.size:
             part = everything[self.wrote:self.wrote + PART]

@@ -1,4 +1,4 @@
-"""Channel, without input and output: the law of streams behind a relay, random bytes, functions that are awaited."""
+"""Channel, without input and output: the theorem on streams behind a relay, random bytes, functions that are awaited."""
 import itertools
 import os
 import random
@@ -317,7 +317,7 @@ def test_one_thread_reads_while_another_writes():
     assert got == data
 
 
-# The law of streams, behind a relay.
+# The theorem on streams, behind a relay.
 
 TEXTS = ([b"a first text", b"b", b"the last of the client"], [b"1", b"what the server has to say", b"and good bye"])
 
@@ -402,7 +402,7 @@ def pass_relay(configured, waits, faults, pieces):
 
 
 def judge(parties):
-    """What each party says is what the law allows."""
+    """What each party says is what the theorem on streams allows."""
     for role, party in enumerate(parties):
         written = b"".join(TEXTS[1 - role])
         assert written.startswith(party.got), "what was read isn't the first of what was written"

@@ -122,7 +122,7 @@ def test_a_listener_goes_on_after_those_that_fail(keys):
 
 
 def test_a_full_disk(keys):
-    """Both ends end with status 1."""
+    """Both parties end with status 1."""
     with open("/dev/full", "wb") as full:
         server = subprocess.Popen([sys.executable, "-m", "yulimosar", "listen", "127.0.0.1:0", "--any", "--key",
                                    keys["server"][0]], stdin=subprocess.DEVNULL, stdout=full, stderr=subprocess.PIPE)
@@ -134,7 +134,7 @@ def test_a_full_disk(keys):
 
 
 def test_input_that_cannot_be_read(keys):
-    """Both ends end with status 1, though each has ended its own stream or would."""
+    """Both parties end with status 1, though each has ended its own stream or would."""
     only_written = os.open("/dev/null", os.O_WRONLY)
     server = subprocess.Popen([sys.executable, "-m", "yulimosar", "listen", "127.0.0.1:0", "--any", "--key",
                                keys["server"][0]], stdin=only_written, stdout=subprocess.DEVNULL,

@@ -48,7 +48,7 @@ def in_thread(call, *words):
 
 
 def pair(pattern="XX", tcp=False, **words):
-    """Two ends of a channel, and their sockets."""
+    """Two parties of a channel, and their sockets."""
     first, second = configs(pattern, **words)
     if tcp:
         with socket.create_server(("127.0.0.1", 0)) as listener:

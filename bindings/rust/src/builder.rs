@@ -87,7 +87,7 @@ impl<'a, S: Dh> Builder<'a, S> {
         self
     }
 
-    /// The number of messages after which each direction renews its key; 0, the default, is never. The same at both parties.
+    /// The number of messages after which each direction is rekeyed; 0, the default, is never. The same at both parties.
     pub fn interval(mut self, messages: u64) -> Self {
         self.options.interval = messages;
         self

@@ -17,8 +17,8 @@ use core::sync::atomic::{AtomicBool, Ordering};
 /// anything that keeps bytes in order, in `no_std` too (feature `alloc`). [`Connecting`] makes it. [`Stream`](crate::Stream) and
 /// [`AsyncStream`](crate::AsyncStream) are this over what reads and writes.
 ///
-/// What a party gets is the law of a stream: the bytes in [`Event::Data`] are the first of those that the other party has written; [`Event::End`] comes
-/// after all of them, and only if it has ended its stream. A refused message, and a connection that closes without an end ([`Error::Cut`]), end the channel:
+/// What a party gets of a stream is a theorem of the library: the bytes in [`Event::Data`] are the first of those that the other party has written;
+/// [`Event::End`] comes after all of them, and only if it has ended its stream. A refused message, and a connection that closes without an end ([`Error::Cut`]), end the channel:
 /// each later call of `event` returns the same error, and there is nothing more to send, also no end.
 ///
 #[cfg_attr(any(feature = "x25519", feature = "openssl"), doc = "```")]

@@ -26,7 +26,7 @@ PSK = bytes([7] * 32)
 
 
 class End:
-    """An end of dissononce's: frames round its messages."""
+    """A party of dissononce's: frames round its messages."""
 
     def __init__(self, connection, pattern, initiator, own, other):
         self.connection, self.initiator = connection, initiator

@@ -1,5 +1,5 @@
 // Channels with a program of another kind at the other end, over TCP and WebSocket, whatever the order in which both end, and behind a relay that flips,
-// cuts, repeats or drops a byte: live.mjs PEER COMMAND.., where the command takes the words of peer.py. What both report is compared with the law of
+// cuts, repeats or drops a byte: live.mjs PEER COMMAND.., where the command takes the words of peer.py. What both report is compared with the theorem of
 // docs/THEOREM.md.
 import assert from 'node:assert/strict';
 import { spawn } from 'node:child_process';
@@ -102,7 +102,7 @@ function reported(line) {
   return { count: Number(count), sum: digest, otherEnded: otherEnded === '1', ended: ended === '1', error: error === '-' ? undefined : error };
 }
 
-/** Whether what an end reports is what the law allows: a front of what was written, and an end only after all of it, and only where the other has ended. */
+/** Whether what a party reports is what the theorem on streams allows: a front of what was written, and an end only after all of it, where the other has ended. */
 function judge(mine, other, size, what) {
   assert.ok(mine.count <= size, what);
   assert.equal(mine.sum, sum(bytes(mine.count)), `${what}: other bytes`);
@@ -125,7 +125,7 @@ async function run(peer, session, between) {
   return { reports, what };
 }
 
-/** A connection that nothing damages: both ends of which receive until the end get all of it. */
+/** A connection that nothing damages: both parties of which receive until the end get all of it. */
 async function whole(peer, session, between) {
   const { reports, what } = await run(peer, session, between);
   for (const n of [0, 1]) if (session.order[n] !== 'closes' && session.order[1 - n] !== 'closes') assert.ok(reports[n].otherEnded && !reports[n].error, what);

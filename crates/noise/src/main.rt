@@ -1,5 +1,5 @@
-//! The command `noise`: handshake patterns, and two ends of a Noise session that are run on a vector file. Each call is
-//! of `noise_tool`.
+//! The command `noise`: handshake patterns, and two parties of a Noise session that are run on a vector file. Each call
+//! is of `noise_tool`.
 #![tactic(auto)]
 
 ghost use Rattle.std.specs.Prelude.{◌≡◌, true, IfErr, None};

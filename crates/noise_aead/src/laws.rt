@@ -1,5 +1,5 @@
 //! What holds of sealing for every key, nonce, associated data and text. The functions do nothing;
-//! their contracts are the laws.
+//! their contracts are the properties.
 ghost use Rattle.std.specs.Prelude.{◌≡◌, ◌+◌, ℕ, List, length};
 ghost use Rattle.noise_aead.specs.Sealing.{sealed};
 

@@ -133,7 +133,7 @@ fn is_whole(stream: &NoiseStreamReceiver, left: usize) -> bool
 /// party's stream, appends the payloads to `out`, and returns whether that is the whole stream (`noise_stream_is_cut`).
 /// Of a handshake that isn't finished it reads nothing.
 ///
-/// With the party at the other end of the same handshake, `out` gets the first bytes that this one wrote, and all of
+/// With the other party of the same handshake, `out` gets the first bytes that this one wrote, and all of
 /// them where it's the whole stream; or a message is forged, or a sealed text opens twice, or two hashed texts collide.
 pub fn read_after_finish(
     handshake: &mut NoiseHandshake,

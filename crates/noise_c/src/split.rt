@@ -61,7 +61,7 @@ fn finished(handshake: &mut NoiseHandshake) -> Result<Opened, u32>
     Ok(opened)
 }
 
-/// Makes the two halves for messages in order, whose keys are renewed after each `interval` messages (Noise, 11.3).
+/// Makes the two halves for messages in order, whose keys are rekeyed after each `interval` messages (Noise, 11.3).
 #[unsafe(no_mangle)]
 pub extern "C" fn noise_finish(
     handshake: &mut NoiseHandshake,
@@ -102,7 +102,7 @@ pub extern "C" fn noise_finish_datagrams(
     OK
 }
 
-/// Makes the two halves of a stream, whose keys are renewed after each `interval` frames (Noise, 11.3).
+/// Makes the two halves of a stream, whose keys are rekeyed after each `interval` frames (Noise, 11.3).
 #[unsafe(no_mangle)]
 pub extern "C" fn noise_finish_stream(
     handshake: &mut NoiseHandshake,

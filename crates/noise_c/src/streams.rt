@@ -101,7 +101,8 @@ pub extern "C" fn noise_stream_read(
     }
 }
 
-/// Whether the connection's end cuts the stream, with so many bytes left: OK only where the end has come and none are.
+/// Whether the connection's end truncates the stream, with so many bytes left: OK only where the end has come and none
+/// are.
 #[unsafe(no_mangle)]
 pub extern "C" fn noise_stream_is_cut(stream: &NoiseStreamReceiver, left: usize) -> u32
     ensures { JudgesCut stream.now left result }

@@ -16,12 +16,12 @@ use noise_names::{Role, ValidPattern};
 use noise_session::laws::end_is_reported;
 use std::alloc::{AllocError, Global};
 
-/// Two new ends of one pattern, with equal prologue, psks and interval and with keys that agree, say these lines to
-/// each other: the messages of the handshake, and then transport messages. Each frame comes to the other end at once,
+/// Two new parties of one pattern, with equal prologue, psks and interval and with keys that agree, say these lines to
+/// each other: the messages of the handshake, and then transport messages. Each frame comes to the other party at once,
 /// in the pieces of its line.
 ///
-/// At `Ok` each line was written, and accepted by the other end (`HaveConversed`). The errors are a fault of the setup,
-/// and lack of memory.
+/// At `Ok` each line was written, and accepted by the other party (`HaveConversed`). The errors are a fault of the
+/// setup, and lack of memory.
 pub fn converse<K: Agreeing>(
     alloc: Global,
     pattern: ValidPattern,
@@ -46,7 +46,7 @@ pub fn converse<K: Agreeing>(
     Ok(made)
 }
 
-// These lines, between two new ends of one setup.
+// These lines, between two new parties of one setup.
 fn say_lines<K: Agreeing>(
     alloc: Global,
     duel: Duel<K, K>,

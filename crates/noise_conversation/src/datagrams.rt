@@ -1,4 +1,4 @@
-//! Datagrams between two ends, over any network.
+//! Datagrams between two parties, over any network.
 
 ghost use Rattle.std.specs.Prelude.{◌≡◌, true};
 ghost use Rattle.noise_session.specs.Ends.{EndState};
@@ -15,15 +15,15 @@ use noise_handshake::Keys;
 use noise_session::Window;
 use std::alloc::{AllocError, Global};
 
-/// Both ends of a duel go over to datagrams, with this window, and any events run between them: datagrams get lost,
+/// Both parties go over to datagrams, with this window, and any events run between them: datagrams get lost,
 /// come twice or in another order, or were sealed by nobody.
 ///
-/// Where a run over frames left the two ends with one history, each payload that by the report a role opened at a nonce
-/// is the one that the other sealed as its datagram of that number, or the datagram is forged; and no nonce is opened
-/// at two places (Noise, 11.4). So it is where both ends report one hash and
+/// Where a run over frames left the two parties with one history, each payload that by the report a role opened at a
+/// nonce is the one that the other sealed as its datagram of that number, or the datagram is forged; and no nonce is
+/// opened at two places (Noise, 11.4). So it is where both parties report one hash and
 /// have the same psks, or the texts that they hashed clash at `clash_position`.
 ///
-/// At Err, for lack of memory, the ends are gone.
+/// At Err, for lack of memory, the parties are gone.
 pub fn run_datagrams<A: Keys, B: Keys>(
     alloc: Global,
     duel: Duel<A, B>,
@@ -49,7 +49,7 @@ pub fn run_datagrams<A: Keys, B: Keys>(
     Ok(made)
 }
 
-// The datagrams of both ends.
+// The datagrams of both parties.
 fn go_over<A: Keys, B: Keys>(duel: Duel<A, B>, window: Window) -> DatagramDuel
     requires initiator { is_datagram_ready duel.initiator ≡ true }
     requires responder { is_datagram_ready duel.responder ≡ true }

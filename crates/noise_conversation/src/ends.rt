@@ -1,4 +1,4 @@
-//! Two ends of equal setup.
+//! Two parties of equal setup.
 
 ghost use Rattle.std.specs.Prelude.{◌≡◌, ◌≤◌, length, IfOk, MatchResult, None};
 ghost use Rattle.noise_names.specs.Limits.{IsPattern};
@@ -18,7 +18,7 @@ use noise_session::End;
 use noise_session::laws::end_is_reported;
 use std::alloc::{AllocError, Global};
 
-// Both ends of this pattern, with equal prologue, psks and interval, each of which knows the keys of the other's
+// Both parties of this pattern, with equal prologue, psks and interval, each of which knows the keys of the other's
 // pre-message.
 pub(crate) fn make_ends<K: Agreeing>(
     alloc: Global,
@@ -59,7 +59,7 @@ pub(crate) fn make_ends<K: Agreeing>(
     Ok(Duel::new(first, second))
 }
 
-// One end.
+// One party.
 fn make_end<K: Keys>(
     alloc: Global,
     pattern: ValidPattern,

@@ -6,7 +6,7 @@ ghost use Rattle.std.specs.Prelude.{◌≡◌};
 use noise_handshake::SetupFault;
 use std::alloc::AllocError;
 
-/// Why two ends don't converse.
+/// Why two parties don't converse.
 #[derive(Clone, Copy, Debug, Drop, PartialEq, Eq)]
 pub enum ConversationFault {
     /// The setup lacks something, or has something that the pattern doesn't ask for: the initiator's fault first.

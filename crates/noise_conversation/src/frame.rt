@@ -10,9 +10,9 @@ use crate::laws::reported_exactly;
 use noise_handshake::Keys;
 use noise_session::{End, Step};
 
-/// Hands an end the last bytes of a frame, and returns whether its step is this payload.
+/// Hands a party the last bytes of a frame, and returns whether its step is this payload.
 ///
-/// Where the end listens, that is so exactly if the frame's message is one of the payload there. The end is left as
+/// Where the party listens, that is so exactly if the frame's message is one of the payload there. The party is left as
 /// `End::take` leaves it.
 pub fn comes_as<K: Keys>(end: &mut End<K>, bytes: &[u8], payload: &[u8]) -> bool
     ensures exactly { ComesExactly K.public_of K.agreement end.old bytes.now payload.now result }

@@ -1,4 +1,4 @@
-//! A whole conversation between two ends of equal setup: the handshake and what follows, in one call.
+//! A whole conversation between two parties of equal setup: the handshake and what follows, in one call.
 #![tactic(auto)]
 
 mod arrival;

@@ -1,4 +1,4 @@
-//! Two ends of equal setup over any network.
+//! Two parties of equal setup over any network.
 
 ghost use Rattle.std.specs.Prelude.{◌≤◌, length};
 ghost use Rattle.noise_events.specs.Events.{events_of};
@@ -13,10 +13,10 @@ use noise_handshake::Agreeing;
 use noise_names::ValidPattern;
 use std::alloc::Global;
 
-/// Two new ends of one pattern, with equal prologue, psks and interval and with keys that agree, and any events between
-/// them: frames get lost, come twice or in another order, or were written by nobody.
+/// Two new parties of one pattern, with equal prologue, psks and interval and with keys that agree, and any events
+/// between them: frames get lost, come twice or in another order, or were written by nobody.
 ///
-/// Where both ends then report one hash, they had all of the conversation in common, and what each accepted is the
+/// Where both parties then report one hash, they had all of the conversation in common, and what each accepted is the
 /// first of what the other wrote, up to a forged message; or two texts that they hashed collide. So by the
 /// report the payloads that a role accepted are the first of those that the other wrote, or the number of a forged
 /// frame is named; and where all of them came, open ends have equal keys for the next message.

@@ -1,4 +1,4 @@
-//! Two ends whose prologues differ, over any network.
+//! Two parties whose prologues differ, over any network.
 
 ghost use Rattle.noise_events.specs.Events.{events_of};
 ghost use Rattle.noise_duel.specs.Reports.{ReportsRun};
@@ -10,9 +10,9 @@ use noise_duel::{Duel, Event, Report};
 use noise_handshake::Keys;
 use std::alloc::{AllocError, Global};
 
-/// Runs any events between any two ends, as `Duel::run` does.
+/// Runs any events between any two parties, as `Duel::run` does.
 ///
-/// Where they are new ends of one pattern with different prologues, and both then report one hash, there is a first
+/// Where they are new parties of one pattern with different prologues, and both then report one hash, there is a first
 /// position at which two texts that they hashed differ with one digest.
 pub fn run_apart<A: Keys, B: Keys>(
     alloc: Global,

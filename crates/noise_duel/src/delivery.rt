@@ -1,4 +1,4 @@
-//! Bytes come to an end.
+//! Bytes come to a party.
 
 ghost use Rattle.std.specs.Prelude.{◌≡◌, ◌≤◌, ℕ, List, ◌++◌, length, OnOk, IfOk, IfSome};
 ghost use Rattle.noise_session.specs.Ends.{EndMatches};
@@ -16,8 +16,8 @@ use noise_names::Role;
 use noise_session::{End, Step};
 use std::alloc::{AllocError, Global};
 
-/// Hands bytes over to an end in these pieces, until they have ended or the end takes none, and returns what they came
-/// to.
+/// Hands bytes over to a party in these pieces, until they have ended or the party takes none, and returns what they
+/// came to.
 pub(crate) fn receive<K: Keys>(
     alloc: Global,
     role: Role,
@@ -35,7 +35,7 @@ pub(crate) fn receive<K: Keys>(
     report_partial(role, end.held(), entries)
 }
 
-// Hands bytes over in these pieces, and returns how many are left, and why, where the end takes none of them.
+// Hands bytes over in these pieces, and returns how many are left, and why, where the party takes none of them.
 fn receive_pieces<K: Keys>(
     alloc: Global,
     role: Role,
@@ -60,7 +60,7 @@ fn receive_pieces<K: Keys>(
     Ok(None)
 }
 
-// Hands one piece over, and returns how many of its bytes are left, and why, where the end takes none of them.
+// Hands one piece over, and returns how many of its bytes are left, and why, where the party takes none of them.
 fn receive_piece<K: Keys>(
     alloc: Global,
     role: Role,
@@ -85,7 +85,7 @@ fn receive_piece<K: Keys>(
     Ok(None)
 }
 
-// So many bytes, and why an end takes none of them, if that is its step.
+// So many bytes, and why a party takes none of them, if that is its step.
 fn left_at(step: Step<'_>, count: usize) -> Option<(Idle, usize)>
     ensures { result ≡ left_of (step_value step.entry) count }
 {

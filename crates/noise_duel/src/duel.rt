@@ -1,4 +1,4 @@
-//! Two ends of a session, and what events make of them.
+//! Two parties of a session, and what events make of them.
 
 ghost use Rattle.std.specs.Prelude.{◌≡◌, ◌↔◌, IsOk, IfOk, IfErr, OnOk, slice_get, true};
 ghost use Rattle.noise_names.specs.declared.token.Role.TheVariants.{Initiator, Responder};
@@ -29,7 +29,7 @@ use noise_session::{End, Window};
 use std::alloc::{AllocError, Global};
 use std::marker::Model;
 
-/// Two ends of one session, and nothing between them: what the one writes comes to the other only by an event.
+/// Two parties of one session, and nothing between them: what the one writes comes to the other only by an event.
 #[derive(Drop)]
 pub struct Duel<A: Keys, B: Keys> {
     initiator: End<A>,
@@ -45,7 +45,7 @@ impl<A: Keys, B: Keys> Model for Duel<A, B> {
 }
 
 impl<A: Keys, B: Keys> Duel<A, B> {
-    /// These two ends: the first is the initiator's, the second the responder's.
+    /// These two parties: the first is the initiator's, the second the responder's.
     pub fn new(initiator: End<A>, responder: End<B>) -> Duel<A, B>
         requires first { role_of (progress initiator) ≡ Initiator }
         requires second { role_of (progress responder) ≡ Responder }
@@ -72,9 +72,9 @@ impl<A: Keys, B: Keys> Duel<A, B> {
     }
 
     /// Runs events, one after another, and returns what came of each; frames are counted anew. Nothing stops the run
-    /// but lack of memory, at which the ends are gone.
+    /// but lack of memory, at which the parties are gone.
     ///
-    /// Whatever the events are: where two new ends of one pattern have opened with one hash, they have had the same
+    /// Whatever the events are: where two new parties of one pattern have opened with one hash, they have had the same
     /// conversation (Noise, 11.2), or two texts that they hashed collide.
     pub fn run(
         mut self,
@@ -95,10 +95,10 @@ impl<A: Keys, B: Keys> Duel<A, B> {
         Ok((self, report))
     }
 
-    /// Runs a conversation: each line is a payload that its role writes, whose frame comes to the other end at once, in
+    /// Runs messages in turn: each is a payload that its role writes, whose frame comes to the other party at once, in
     /// these pieces. Where a line isn't written, or isn't accepted, its entry says so, and the next one follows.
     ///
-    /// Between two new ends with their parts of one key material, lines in turn that fit all come through.
+    /// Between two new parties with their parts of one key material, lines in turn that fit all come through.
     pub fn converse(
         mut self,
         alloc: Global,
@@ -120,8 +120,8 @@ impl<A: Keys, B: Keys> Duel<A, B> {
         Ok((self, report))
     }
 
-    /// The datagrams of both parties, with this window (Noise, 11.4), if both ends are ready for them
-    /// (`End::datagram_ready`); else the duel as it was.
+    /// The datagrams of both parties, with this window (Noise, 11.4), if both parties are ready for them
+    /// (`End::datagram_ready`); else the two parties as they were.
     pub fn into_datagrams(self, window: Window) -> Result<DatagramDuel, Duel<A, B>>
         ensures when { IsOk result
             ↔ ((is_datagram_ready self.initiator ≡ true) × (is_datagram_ready self.responder ≡ true)) }
@@ -278,7 +278,7 @@ impl<A: Keys, B: Keys> Duel<A, B> {
     }
 }
 
-// The frame of this number comes to an end, if there is one.
+// The frame of this number comes to a party, if there is one.
 fn take_frame<K: Keys>(
     alloc: Global,
     role: Role,

@@ -27,7 +27,7 @@ pub enum Entry {
     Held(usize),
 }
 
-/// Why an end takes no bytes.
+/// Why a party takes no bytes.
 #[derive(Clone, Copy, Debug, PartialEq, Eq)]
 pub enum Idle {
     /// It writes the next handshake message.

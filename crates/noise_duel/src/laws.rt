@@ -1,4 +1,4 @@
-//! Laws of two ends over any network.
+//! Properties of two parties over any network.
 
 ghost use Rattle.noise_duel.specs.Agreement.{HashReports, PsksReport, KeysReport, KnowEachOther, VisiblyEqualIsOne};
 ghost use Rattle.noise_duel.specs.Below.{LawsBelow};
@@ -18,7 +18,7 @@ use noise_handshake::laws::{
 };
 use noise_session::laws::{judged_once, sent_once};
 
-// What the laws of the handshake and of an end say, in one.
+// What the properties of the handshake and of a party say, in one.
 fn laws_below()
     ensures { LawsBelow }
 {
@@ -49,21 +49,21 @@ pub fn hash_reports()
     laws_below();
 }
 
-/// A run is determined: of two ends and a list of events one list of notes and one pair of ends comes.
+/// A run is determined: of two parties and a list of events one list of notes and one pair of parties comes.
 pub fn run_once()
     ensures { RunOnce }
 {
     laws_below();
 }
 
-/// In every run of two new ends each is what the messages that it wrote and accepted made of it, and its frames are
+/// In every run of two new parties each is what the messages that it wrote and accepted made of it, and its frames are
 /// those of its own messages.
 pub fn ends_match()
     ensures stand { EndsComeOfMessages }
     ensures frame { EndsFrame }
 {}
 
-/// Two new ends that have opened with one hash had the same conversation as far as it can be seen, or two texts that
+/// Two new parties that have opened with one hash had the same conversation as far as it can be seen, or two texts that
 /// they hashed collide; the fields `one` and `payloads` say what they have in common with the same psks and DH results
 /// (Noise 11.2, 12.3).
 pub fn ends_agree()
@@ -75,8 +75,8 @@ pub fn ends_agree()
     laws_below();
 }
 
-/// For lines in turn that fit, between two new ends with their parts of one key material, there is a run; and in it all
-/// of them come through, and leave the ends that `end_after` computes of them.
+/// For lines in turn that fit, between two new parties with their parts of one key material, there is a run; and in it
+/// all of them come through, and leave the parties that `end_after` computes of them.
 pub fn lines_come_through()
     ensures come { LinesComeThrough }
     ensures leave { LinesLeave }
@@ -95,7 +95,7 @@ pub fn alike_are_parts()
 }
 
 /// `clash_position` is a position at which two histories hashed different texts with one digest, and there is one where
-/// two of their texts collide, and so where two opened ends have one hash and different conversations.
+/// two of their texts collide, and so where two parties that have finished have one hash and different conversations.
 pub fn clash_reported()
     ensures matches { ClashIsCollision }
     ensures found { ClashFound }
@@ -111,7 +111,7 @@ pub fn datagram_run_once()
 
 /// In every run of the two parties of one handshake each is what it sealed and opened. In each direction no nonce is
 /// accepted twice, and the datagram that is accepted at a nonce is the one of that number, with its payload, or a
-/// forged one (Noise 11.4). Two new ends that a run over frames has brought to one history go over to such parties.
+/// forged one (Noise 11.4). Two new parties that a run over frames has brought to one history go over to such parties.
 pub fn datagrams_agree()
     ensures agree { DatagramRunsAgree }
     ensures start { RunsMakeOneBeginning }

@@ -1,4 +1,4 @@
-//! Two ends of a session, under any schedule of events: over a stream of frames, or over datagrams.
+//! Two parties of a session, under any schedule of events: over a stream of frames, or over datagrams.
 #![tactic(auto)]
 
 mod datagram_duel;

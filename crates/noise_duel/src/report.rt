@@ -6,7 +6,7 @@ use crate::entry::Entry;
 use noise_names::Role;
 use std::alloc::Global;
 
-/// What two ends wrote in a run, and what came of its events.
+/// What two parties wrote in a run, and what came of its events.
 #[derive(Debug, Drop, PartialEq, Eq)]
 pub struct Report {
     /// The frames that the initiator wrote, in order.

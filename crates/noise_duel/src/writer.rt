@@ -1,4 +1,4 @@
-//! An end writes.
+//! A party writes.
 
 ghost use Rattle.std.specs.Prelude.{◌≡◌, ℕ, List, length, IfOk};
 ghost use Rattle.noise_session.specs.Ends.{EndMatches};
@@ -10,7 +10,7 @@ use noise_handshake::Keys;
 use noise_session::{End, SendFault};
 use std::alloc::{AllocError, Global};
 
-/// Writes a payload at an end, keeps the frame after those that it wrote before, and returns the frame's number.
+/// Writes a payload at a party, keeps the frame after those that it wrote before, and returns the frame's number.
 pub(crate) fn write<K: Keys>(
     alloc: Global,
     end: &mut End<K>,

@@ -1,5 +1,5 @@
-//! What may happen between two ends of a session, as a file or a test names it: events, cuts and windows, without the
-//! ends themselves.
+//! What may happen between two parties of a session, as a file or a test names it: events, chunks and windows, without
+//! the parties themselves.
 #![tactic(auto)]
 
 mod cuts;

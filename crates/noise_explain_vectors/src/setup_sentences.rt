@@ -1,4 +1,4 @@
-//! The sentences on an end that can't be made.
+//! The sentences on a party that can't be made.
 
 use noise_explain::push_sentence;
 use noise_keys::SetupFault;

@@ -91,7 +91,7 @@ fn push_reported(said: Sentences, lines: &mut Vec<u8>) -> Result<(), AllocError>
     push_sentence(said.mends, lines)
 }
 
-/// Explains why the two ends of a vector file can't be made. `pattern` is the file's, where it has one.
+/// Explains why the two parties of a vector file can't be made. `pattern` is the file's, where it has one.
 pub fn explain_start(
     alloc: Global,
     name: &str,

@@ -31,8 +31,8 @@ pub trait Keys: Drop {
         ensures { result ≡ agreement self.now own remote.now };
 }
 
-/// Keys whose two sides agree (Noise, 4.1): where both ends have a result of DH between their own key and the other's
-/// public key, it is the same.
+/// Keys whose two sides agree (Noise, 4.1): where both parties have a result of DH between their own key and the
+/// other's public key, it is the same.
 ///
 /// Either end may have none, as keys in a device that fails, or that refuses the other's public key (Noise, 12.1).
 pub trait Agreeing: Keys {

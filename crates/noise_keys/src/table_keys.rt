@@ -37,7 +37,7 @@ impl Entry {
 }
 
 /// Keys for tests and examples, whose DH results are in a table. **A toy, not secure at all:** there is no private key
-/// after it, and nothing but its maker sees to it that the DH results of two ends are the same.
+/// after it, and nothing but its maker sees to it that the DH results of two parties are the same.
 ///
 /// It holds at most 8 entries. The DH result of a key pair to a remote public key is that of the first entry for the
 /// two; there is none where there is no such entry, whether or not the table has a public key of that key pair.

@@ -1,4 +1,4 @@
-//! A toy whose two ends agree.
+//! A toy whose two parties agree.
 
 ghost use Rattle.std.specs.Prelude.{◌≡◌};
 ghost use Rattle.noise_keys.specs.Keys.{xored_bytes};

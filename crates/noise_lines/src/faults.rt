@@ -16,7 +16,7 @@ pub enum Fault {
     Rule(RuleFault),
     /// A psk place is greater than the number of messages.
     Place(PlaceFault),
-    /// An end can't be made of what the file gives it.
+    /// A party can't be made of what the file gives it.
     Setup(Role, SetupFault),
     /// A protocol name isn't one.
     Name(NameFault),

@@ -1,4 +1,4 @@
-//! Laws of names, patterns and their texts: each function does nothing, and its contract is the law.
+//! Properties of names, patterns and their texts: each function does nothing, and its contract is the property.
 
 ghost use Rattle.std.specs.Prelude.{◌≡◌, ◌≤◌, ℕ, List, length};
 ghost use Rattle.noise_names.specs.declared.faults.TextFault.{TextFault};

@@ -34,7 +34,7 @@ impl Model for DatagramReceiver {
 
     ghost view = { λ d. datagram_receiver_value d.receiver d.recent };
 
-    // Its key is never renewed, and some accepted nonces have the ring.
+    // Its key is never rekeyed, and some accepted nonces have the ring.
     ghost invariant = { λ d. record {
       interval : d.receiver.interval ≡ 0;
       ring : is_ring d.recent ≡ true;
@@ -44,7 +44,7 @@ impl Model for DatagramReceiver {
 impl DatagramReceiver {
     ghost use Rattle.noise_session.specs.inner.Halves.{datagram_receiver_value};
 
-    // The half that opens by the key of this one, and never renews it.
+    // The half that opens by the key of this one, and never rekeys.
     pub(crate) fn new(mut receiver: Receiver, recent: Ring) -> DatagramReceiver
         requires { is_ring recent ≡ true }
         ensures { result ≡ datagram_receiver_value receiver recent }

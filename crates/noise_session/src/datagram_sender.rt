@@ -28,14 +28,14 @@ impl Model for DatagramSender {
 
     ghost view = { λ d. datagram_sender_value d.sender };
 
-    // Its key is never renewed.
+    // Its key is never rekeyed.
     ghost invariant = { λ d. d.sender.interval ≡ 0 };
 }
 
 impl DatagramSender {
     ghost use Rattle.noise_session.specs.inner.Halves.{datagram_sender_value};
 
-    // The half that seals as this one does, and never renews its key.
+    // The half that seals as this one does, and never rekeys.
     pub(crate) fn new(mut sender: Sender) -> DatagramSender
         ensures { result ≡ datagram_sender_value sender }
     {

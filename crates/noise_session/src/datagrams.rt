@@ -18,7 +18,7 @@ use std::marker::Model;
 /// datagrams and opens those of the other, each nonce at most once.
 ///
 /// A datagram is its nonce in 8 bytes, the highest first, and the transport message of that nonce, together at most
-/// 65543 bytes. The keys are never renewed. No call takes memory, and a fault changes nothing.
+/// 65543 bytes. The keys are never rekeyed. No call takes memory, and a fault changes nothing.
 #[derive(Drop)]
 pub struct Datagrams {
     sender: DatagramSender,

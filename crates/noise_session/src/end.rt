@@ -1,4 +1,4 @@
-//! One end of a session.
+//! One party of a session.
 
 ghost use Rattle.std.specs.Prelude.{◌≡◌, ◌≤◌, [], length, true, false, IsSome, IfOk, IfSome};
 ghost use Rattle.std.specs.Option.{ForSome};
@@ -22,10 +22,10 @@ use std::alloc::{AllocError, Global};
 use std::io::{Read, Write};
 use std::marker::Model;
 
-/// One end of a session: it takes the bytes of the other end's frames, and writes its own.
+/// One party of a session: it takes the bytes of the other party's frames, and writes its own.
 ///
 /// A frame is a message after its length in 2 big-endian bytes (Noise, 3 and 13), handshake messages too: at most 65537
-/// bytes. The end opens by itself once the last handshake message has passed; the handshake with its keys is gone then.
+/// bytes. It opens by itself once the last handshake message has passed; the handshake with its keys is gone then.
 #[derive(Drop)]
 pub struct End<K: Keys> {
     state: State<K>,
@@ -59,8 +59,8 @@ impl<K: Keys> End<K> {
     ghost use Rattle.noise_session.specs.Datagrams.{DatagramsMatch, datagrams_of};
     ghost use Rattle.noise_session.specs.EndDatagrams.{is_datagram_ready};
 
-    /// An end of a session that begins with this handshake, which hasn't ended; it is open at once where all its
-    /// messages have passed. In transport the key is renewed after each `interval` messages of a direction; 0 means
+    /// A party of a session that begins with this handshake, which hasn't ended; it is open at once where all its
+    /// messages have passed. In transport the key is rekeyed after each `interval` messages of a direction; 0 means
     /// never.
     ///
     /// It reserves two buffers of 65537 bytes, which no later call grows. At Err the handshake is gone.
@@ -73,7 +73,7 @@ impl<K: Keys> End<K> {
         End::begin(alloc, DuePhase { phase })
     }
 
-    /// An end of a session that is open with this transport.
+    /// A party of a session that is open with this transport.
     ///
     /// It reserves two buffers of 65537 bytes, which no later call grows. At Err the transport is gone.
     pub fn from_transport(alloc: Global, transport: Transport) -> Result<End<K>, AllocError>
@@ -83,7 +83,7 @@ impl<K: Keys> End<K> {
         End::begin(alloc, DuePhase { phase })
     }
 
-    // A new end of this party.
+    // A new `End` of this party.
     fn begin(alloc: Global, party: DuePhase<K>) -> Result<End<K>, AllocError>
         ensures { IfOk result (λ end. end ≡ record { phase = party.phase; partial = [] }) }
     {
@@ -133,7 +133,7 @@ impl<K: Keys> End<K> {
 
     /// Takes bytes of at most one frame, and returns how many and what they came to.
     ///
-    /// Only the bytes that it holds, with the piece after them, count: where a frame is cut into pieces makes no
+    /// Only the bytes that it holds, with the piece after them, count: where a frame is divided into chunks makes no
     /// difference.
     pub fn take<'a>(&'a mut self, piece: &[u8]) -> (usize, Step<'a>)
         ensures partial { IsPartial self.old.partial }
@@ -146,7 +146,7 @@ impl<K: Keys> End<K> {
     }
 
     /// Reads the missing bytes of one frame from a reader, and no more, and returns what the frame came to. Where this
-    /// end doesn't listen it reads nothing; `Ok(None)` is an end of the input between frames.
+    /// party doesn't listen it reads nothing; `Ok(None)` is an end of the input between frames.
     ///
     /// At a fault the bytes that came are kept, and a later call goes on with them.
     pub fn receive<R: Read>(
@@ -224,7 +224,7 @@ impl<K: Keys> End<K> {
     }
 
     /// The datagrams of its party, with this window (Noise, 11.4), where `datagram_ready` holds. Their keys are never
-    /// renewed, whatever its interval is.
+    /// rekeyed, whatever its interval is.
     pub fn into_datagrams(self, window: Window) -> Datagrams
         requires { is_datagram_ready self ≡ true }
         ensures { (v : EndState) → EndMatches K.public_of K.agreement self v

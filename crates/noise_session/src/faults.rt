@@ -4,7 +4,7 @@
 /// Output.
 #[derive(Clone, Copy, Debug, PartialEq, Eq)]
 pub enum SendFault {
-    /// The other end writes the next handshake message.
+    /// The other party writes the next handshake message.
     NotYourTurn,
     /// The message would have more than 65535 bytes.
     TooLong,
@@ -12,7 +12,7 @@ pub enum SendFault {
     Agreement { token: u8 },
     /// The session has ended.
     Ended,
-    /// This end is the responder of a one-way session that is open: it writes nothing.
+    /// This party is the responder of a one-way session that is open: it writes nothing.
     OneWay,
     /// The sending nonce is 2^64 - 1, which no message has. The session has ended.
     Exhausted,

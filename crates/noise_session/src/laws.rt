@@ -1,4 +1,4 @@
-//! Laws of transport messages, of ends and of datagrams.
+//! Properties of transport messages, of parties and of datagrams.
 
 ghost use Rattle.std.specs.Prelude.{◌≡◌, ◌+◌, ◌++◌, ℕ, List, length, None, Result, Ok};
 ghost use Rattle.noise_names.specs.declared.token.Role.{Role};
@@ -34,7 +34,7 @@ pub fn message_is_due()
     ensures { (v w : TransportState) (payload : List ℕ) → Faces v w → due_message w payload ≡ next_message v payload }
 {}
 
-/// A whole message gives one step at an end, and leaves one state.
+/// A whole message gives one step at a party, and leaves one state.
 pub fn judged_once()
     ensures { (v x y : EndState) (message : List ℕ) (s t : StepValue)
         → Judges v message s x → Judges v message t y → (s ≡ t) × (x ≡ y) }
@@ -44,7 +44,7 @@ pub fn judged_once()
     transport_message_same();
 }
 
-/// A piece gives one step at an end: the same number of bytes is taken, and the same state is left.
+/// A piece gives one step at a party: the same number of bytes is taken, and the same state is left.
 pub fn taken_once()
     ensures { (v x y : EndState) (piece : List ℕ) (m n : ℕ) (s t : StepValue)
         → Takes v piece m s x → Takes v piece n t y → (m ≡ n) × (s ≡ t) × (x ≡ y) }
@@ -52,8 +52,8 @@ pub fn taken_once()
     judged_once();
 }
 
-/// An end that listens accepts a whole message exactly where it is one of some payload, and refuses a handshake message
-/// exactly where some sender's first tokens lead to that token and none lead further.
+/// A party that listens accepts a whole message exactly where it is one of some payload, and refuses a handshake
+/// message exactly where some sender's first tokens lead to that token and none lead further.
 pub fn accepted_exactly()
     ensures { AcceptedExactly }
 {
@@ -66,7 +66,7 @@ pub fn cuts_alike()
         → Takes v a (length a) More x → Takes x b n s y → Takes v (a ++ b) (length a + n) s y }
 {}
 
-/// A payload gives one frame or one fault at an end, and one state after it.
+/// A payload gives one frame or one fault at a party, and one state after it.
 pub fn sent_once()
     ensures { (v x y : EndState) (payload : List ℕ) (r s : Result (List ℕ) SendFault)
         → Sends v payload r x → Sends v payload s y → (r ≡ s) × (x ≡ y) }
@@ -74,7 +74,7 @@ pub fn sent_once()
     written_once();
 }
 
-/// Of two ends that have come equally far, in a valid pattern, one takes each frame that the other writes, as its
+/// Of two parties that have come equally far, in a valid pattern, one takes each frame that the other writes, as its
 /// payload, and they have come equally far again.
 pub fn written_is_taken()
     ensures { (v w x : EndState) (payload frame : List ℕ) → IsValid v.party.pattern → EndCounterparts v w
@@ -84,7 +84,7 @@ pub fn written_is_taken()
     written_is_accepted();
 }
 
-/// An end's stage, hash and remote static key are those of every state that it matches.
+/// A party's stage, hash and remote static key are those of every state that it matches.
 pub fn end_is_reported<K: Keys>()
     ensures { (e : EndValue K) (v : EndState) → EndMatches K.public_of K.agreement e v → IsReportedBy v e }
 {}

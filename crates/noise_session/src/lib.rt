@@ -1,4 +1,4 @@
-//! Noise sessions over a stream: messages in frames, handled by one end.
+//! Noise sessions over a stream: messages in frames, handled by one party.
 #![tactic(auto)]
 
 mod counted;

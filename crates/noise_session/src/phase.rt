@@ -1,4 +1,4 @@
-//! What an end goes through: its handshake, its transport, and the end of the session.
+//! What an `End` goes through: its handshake, its transport, and the end of the session.
 
 ghost use Rattle.std.specs.Prelude.{◌≡◌, ◌≤◌, ℕ, List, [], length, false, Some, None, IsTrue, MatchOption};
 ghost use Rattle.noise_session.specs.inner.Phases.{is_due};
@@ -9,7 +9,7 @@ use noise_handshake::{Cause, Handshake, Keys, ReadFault};
 use noise_names::Role;
 use std::mem;
 
-// What an end goes through. A handshake is one that hasn't ended, and of which messages are to come.
+// What a party goes through. A handshake is one that hasn't ended, and of which messages are to come.
 #[derive(Drop)]
 pub(crate) enum Phase<K: Keys> {
     Handshaking {
@@ -129,7 +129,7 @@ impl<K: Keys> Phase<K> {
         }
     }
 
-    // The step of an end that takes no bytes now; None where it listens.
+    // The step of a party that takes no bytes now; None where it listens.
     pub(crate) fn idle(&self) -> Option<Step<'static>>
         ensures { MatchOption result (idle_step (progress_in self.now) ≡ None)
             (λ step. idle_step (progress_in self.now) ≡ Some (step_value step)) }
@@ -144,7 +144,7 @@ impl<K: Keys> Phase<K> {
     }
 }
 
-// The party of an end, in its phase.
+// The party of an `End`, in its phase.
 #[derive(Drop)]
 pub(crate) struct DuePhase<K: Keys> {
     pub(crate) phase: Phase<K>,

@@ -1,4 +1,4 @@
-//! The renewal of a key after so many messages (Noise, 11.3).
+//! Rekeying after so many messages (Noise, 11.3).
 
 ghost use Rattle.std.specs.Prelude.{◌≡◌, ◌+◌, ℕ, List, Some, IsSome};
 ghost use Rattle.noise_state.specs.Cipher.{key_in, nonce_in};
@@ -8,7 +8,7 @@ ghost use Rattle.noise_session.specs.TransportValue.{renewed_key};
 
 use noise_state::CipherState;
 
-// Renews the key where the nonce has come to a multiple of the interval.
+// Rekeys where the nonce has come to a multiple of the interval.
 pub(crate) fn renew(cipher: &mut CipherState, interval: u64)
     requires { IsSome (key_in cipher.old) }
     ensures nonce { nonce_in cipher.new ≡ nonce_in cipher.old }

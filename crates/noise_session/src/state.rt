@@ -1,4 +1,4 @@
-//! The state of an end: its party, and what has come of the next frame.
+//! The state of an `End`: its party, and what has come of the next frame.
 
 ghost use Rattle.std.specs.Prelude.{◌≡◌, ◌≤◌, ℕ, List, [], length, drop, true, None, Err, IsTrue, IsSome, IfOk, IfErr, IfSome};
 ghost use Rattle.std.specs.Option.{ForSome};
@@ -25,7 +25,7 @@ use noise_handshake::{Keys, WriteFault};
 use std::alloc::{AllocError, Global};
 use std::io::Read;
 
-// The party of an end, and what has come of the next frame: less than a whole one, and nothing once the session has
+// The party of an `End`, and what has come of the next frame: less than a whole one, and nothing once the session has
 // ended.
 #[derive(Drop)]
 pub(crate) struct State<K: Keys> {
@@ -38,7 +38,7 @@ pub(crate) struct State<K: Keys> {
 impl<K: Keys> State<K> {
     ghost use Rattle.noise_session.specs.inner.States.{end_in, message_in, framed_in};
 
-    // That of a new end of this party.
+    // That of a new `End` of this party.
     pub(crate) fn new(alloc: Global, party: DuePhase<K>) -> Result<State<K>, AllocError>
         ensures { IfOk result (λ state. end_in state ≡ record { phase = party.phase; partial = [] }) }
     {

@@ -6,14 +6,14 @@ ghost use Rattle.noise_session.specs.inner.Places.{reported_in, MatchesIn};
 
 use noise_handshake::Cause;
 
-/// What an end makes of the bytes that it was handed.
+/// What a party makes of the bytes that it was handed.
 #[derive(Clone, Copy, Debug, PartialEq, Eq)]
 pub enum Step<'a> {
     /// The session has ended; no byte was taken.
     Ended,
-    /// This end writes the next handshake message; no byte was taken.
+    /// This party writes the next handshake message; no byte was taken.
     YourTurn,
-    /// This end is the initiator of a one-way session that is open: nothing comes to it. No byte was taken.
+    /// This party is the initiator of a one-way session that is open: nothing comes to it. No byte was taken.
     Silent,
     /// The frame isn't whole yet; all bytes were taken.
     More,

@@ -15,7 +15,7 @@ use std::marker::Model;
 
 /// The transport of one party: it seals this party's payloads and opens the messages of the other.
 ///
-/// In transport the key of a direction is renewed after each `interval` messages; 0 means never. Its nonces go on then.
+/// In transport the key of a direction is rekeyed after each `interval` messages; 0 means never. Its nonces go on then.
 /// No call takes memory, and a fault changes nothing.
 #[derive(Drop)]
 pub struct Transport {
@@ -116,7 +116,7 @@ impl Transport {
         self.remote_static
     }
 
-    /// After how many messages of a direction its key is renewed; 0 for never.
+    /// After how many messages of a direction its key is rekeyed; 0 for never.
     pub fn interval(&self) -> u64
         ensures { result ≡ self.now.interval }
     {
@@ -151,7 +151,7 @@ impl Transport {
         self.sender.refusal(payload_len)
     }
 
-    /// Sets the nonces of the next messages, where no key is ever renewed.
+    /// Sets the nonces of the next messages, where no key is ever rekeyed.
     ///
     /// A nonce at which a message was sealed must not be set again for sealing.
     pub fn set_nonces(&mut self, send: u64, receive: u64)

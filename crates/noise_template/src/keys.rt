@@ -38,7 +38,7 @@ fn push_psk(place: u8, text: &mut Vec<u8>) -> Result<(), AllocError>
     Ok(())
 }
 
-// Appends the line of a party's keys, and those of its answers.
+// Appends the line of a party's keys, and those of its DH results.
 pub(crate) fn push_party(
     pattern: &Pattern,
     role: Role,
@@ -77,7 +77,7 @@ fn push_own(pattern: &Pattern, role: Role, own: Own, text: &mut Vec<u8>) -> Resu
     Ok(())
 }
 
-// Appends a party's answer to a DH token, where a message has the token.
+// Appends a party's DH result at a DH token, where a message has the token.
 fn push_answer(
     pattern: &Pattern,
     role: Role,
@@ -93,7 +93,7 @@ fn push_answer(
     Ok(())
 }
 
-// Appends the line of an answer.
+// Appends the line of a DH result.
 fn push_entry(role: Role, dh: Token, text: &mut Vec<u8>) -> Result<(), AllocError>
     ensures { OnOk result (text.new.items ≡ text.old.items ++ (answer_words (entry role dh) ++ 10 ∷ [])) }
 {

@@ -52,10 +52,10 @@ pub enum Uncompared {
 }
 
 /// Compares the log of a key schedule with the key schedule of a vector file, as `trace` prints it, and writes the
-/// first difference, and the mistakes that give its values. What it writes are secrets. The exit status is 0 where all lines
-/// of the log agree; 1 where one differs, or the log ends before a step of its party's handshake; 2 where the log or
-/// the file is wrong, which is written to `err`; 3 where a file can't be read, the output can't be written, or memory
-/// runs out.
+/// first difference, and the mistakes that give its values. What it writes are secrets. The exit status is 0 where all
+/// lines of the log agree; 1 where one differs, or the log ends before a step of its party's handshake; 2 where the log
+/// or the file is wrong, which is written to `err`; 3 where a file can't be read, the output can't be written, or
+/// memory runs out.
 pub fn compare_log<F: FilesByName, O: Write, E: Write>(
     alloc: Global,
     names: &Compared,

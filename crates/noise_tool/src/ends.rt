@@ -1,4 +1,4 @@
-//! The two ends that a vector file describes.
+//! The two parties that a vector file describes.
 
 ghost use Rattle.std.specs.Prelude.{◌≡◌, ◌≤◌, IfOk, IfErr, false, length};
 ghost use Rattle.std.specs.Option.{option_map};
@@ -22,7 +22,7 @@ use noise_session::laws::end_is_reported;
 use noise_vectors::{FileKeys, VectorFile, Version};
 use std::alloc::{AllocError, Global};
 
-/// The handshakes of both ends that a file describes, and what the file says beside them.
+/// The handshakes of both parties that a file describes, and what the file says beside them.
 #[derive(Drop)]
 pub(crate) struct Beginning {
     pub initiator: Handshake<FileKeys>,
@@ -32,7 +32,7 @@ pub(crate) struct Beginning {
     pub version: Version,
 }
 
-/// The two ends that the file describes, before the first message, the file's events, and its version.
+/// The two parties that the file describes, before the first message, the file's events, and its version.
 ///
 /// At `Err` the fault is the first of these: a psk place beyond the messages of the pattern, a rule that the pattern
 /// breaks, the initiator's setup, the responder's setup.
@@ -56,7 +56,7 @@ pub fn make_ends(
     Ok((duel, events, version))
 }
 
-// The handshakes of both ends, before the first message. The fault is that of `make_ends`.
+// The handshakes of both parties, before the first message. The fault is that of `make_ends`.
 pub(crate) fn begin(file: VectorFile) -> Result<Beginning, Fault>
     ensures handshakes { IfOk result
         (λ beginning. AreHandshakes file beginning.initiator beginning.responder) }
@@ -107,7 +107,7 @@ pub(crate) fn begin(file: VectorFile) -> Result<Beginning, Fault>
     })
 }
 
-// The two ends of these handshakes.
+// The two parties of these handshakes.
 pub(crate) fn duel_of(
     alloc: Global,
     initiator: Handshake<FileKeys>,

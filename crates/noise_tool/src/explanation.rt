@@ -20,8 +20,8 @@ use std::alloc::Global;
 use std::io::Write;
 
 /// Explains the file of each name, one after the other. The exit status is the greatest of theirs: 0 of a right file, 1
-/// of a pattern that breaks a rule or of ends that can't be made, 2 of a wrong text. Where a file can't be read, which
-/// `err` says with its name, the output can't be written or memory runs out, the command ends with 3.
+/// of a pattern that breaks a rule or of parties that can't be made, 2 of a wrong text. Where a file can't be read,
+/// which `err` says with its name, the output can't be written or memory runs out, the command ends with 3.
 pub fn explain_files<F: FilesByName, O: Write, E: Write>(
     alloc: Global,
     names: &[String],

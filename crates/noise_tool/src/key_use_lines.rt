@@ -1,4 +1,4 @@
-//! The lines of the keys that a call of an end uses.
+//! The lines of the keys that a call of a party uses.
 
 ghost use Rattle.std.specs.Prelude.{◌≡◌, ◌++◌, OnOk, Some};
 ghost use Rattle.noise_trace.specs.KeyUses.{use_value};
@@ -116,7 +116,7 @@ fn push_opening(
     )
 }
 
-// Appends the lines of a transport message, and of the key after it if it is renewed then.
+// Appends the lines of a transport message, and of the key after it if it is rekeyed then.
 fn push_transport(
     alloc: Global,
     selection: Selection,

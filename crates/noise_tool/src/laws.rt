@@ -1,4 +1,4 @@
-//! Laws of the runs of vector files: each function does nothing, and its contract is the law.
+//! Properties of the runs of vector files: each function does nothing, and its contract is the property.
 
 ghost use Rattle.noise_tool.specs.Conversion.{ConversionsMeetThemselves};
 ghost use Rattle.noise_tool.specs.OneRun.{OneRun};
@@ -24,7 +24,8 @@ pub fn conversions_meet_themselves()
     vector_texts_are_unique();
 }
 
-/// The ends of a template's file can be made: it is of the template's pattern, and nothing is wrong with either setup.
+/// The parties of a template's file can be made: it is of the template's pattern, and nothing is wrong with either
+/// setup.
 pub fn templates_start()
     ensures { TemplatesStart }
 {

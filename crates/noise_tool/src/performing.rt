@@ -96,12 +96,12 @@ pub fn perform<R: Read, F: FilesByName, O: Write, E: Write>(
 }
 
 /// Does what was chosen, with the opened file, and gives the exit status: 0 without a fault; 1 where a pattern breaks a
-/// rule of validity or has fewer messages than a psk place needs, the ends of a vector file can't be made, or the lines
-/// of its run aren't those that it expects; 2 where the name is none, is of no fundamental pattern, or the file isn't a
-/// pattern text or a vector file, or what it is converted to is too long; 3 where the file can't be read, the output
-/// can't be written, or memory runs out. A refused write to `err` leaves the status. `list`, `show` and `template` of a
-/// protocol name read no byte of `file`. At each status what comes to the output is a prefix of a text that is right
-/// for status 0 or 1, and what comes to `err` is a prefix of the line of the fault.
+/// rule of validity or has fewer messages than a psk place needs, the parties of a vector file can't be made, or the
+/// lines of its run aren't those that it expects; 2 where the name is none, is of no fundamental pattern, or the file
+/// isn't a pattern text or a vector file, or what it is converted to is too long; 3 where the file can't be read, the
+/// output can't be written, or memory runs out. A refused write to `err` leaves the status. `list`, `show` and
+/// `template` of a protocol name read no byte of `file`. At each status what comes to the output is a prefix of a text
+/// that is right for status 0 or 1, and what comes to `err` is a prefix of the line of the fault.
 pub fn perform_command<R: Read, O: Write, E: Write>(
     alloc: Global,
     chosen: &Chosen,
@@ -206,7 +206,7 @@ pub(crate) fn read_vector_file<R: Read>(
     Ok(ReadVector { text, file })
 }
 
-// Runs two ends on a vector file, prints what they do, and compares it with what the file expects.
+// Runs two parties on a vector file, prints what they do, and compares it with what the file expects.
 fn run_file<R: Read, O: Write>(
     alloc: Global,
     allowed: AllowedEvents,

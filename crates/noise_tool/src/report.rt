@@ -122,14 +122,14 @@ pub fn fault_line(
     }
 }
 
-// The state of an end.
+// The state of a party.
 fn state_line(alloc: Global, role: Role, end: &End<FileKeys>) -> Result<Line, AllocError>
     ensures { (v : EndState) → EndMatches public_of agreement_of end.now v
         → IfOk result (λ line. text_in line ≡ print.state_line role v) }
 {
     end_is_reported::<FileKeys>();
     let line = begun_line(alloc, "state", role)?;
-    // An end that is open shows its hash, and no other stage shows one.
+    // A party that is open shows its hash, and no other stage shows one.
     add_stage(line, end.stage(), end.hash().unwrap_or([0; 32]))
 }
 

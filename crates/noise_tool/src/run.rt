@@ -34,7 +34,7 @@ pub struct Outcome {
     pub expected: Vec<Vec<u8>>,
 }
 
-/// Makes the two ends that the file describes, and runs its events, and its datagrams.
+/// Makes the two parties that the file describes, and runs its events, and its datagrams.
 ///
 /// Where there are no such ends, the fault is that of `make_ends`.
 pub fn replay(alloc: Global, file: VectorFile) -> Result<Outcome, Fault>
@@ -48,7 +48,7 @@ pub fn replay(alloc: Global, file: VectorFile) -> Result<Outcome, Fault>
     Ok(close(alloc, duel, lines, version)?)
 }
 
-// The duel after these events, and the lines of what came of them.
+// The parties after these events, and the lines of what came of them.
 fn run_events(
     alloc: Global,
     duel: Duel<FileKeys, FileKeys>,
@@ -63,7 +63,7 @@ fn run_events(
     Ok((duel, lines))
 }
 
-// What comes of a run whose events have left these lines and this duel.
+// What comes of a run whose events have left these lines and these parties.
 pub(crate) fn close(
     alloc: Global,
     duel: Duel<FileKeys, FileKeys>,
@@ -92,7 +92,7 @@ fn split_version(alloc: Global, version: Version) -> (Option<FileDatagrams>, Vec
     }
 }
 
-// Appends the lines after those of the events: of datagrams, where there are some, and the states of both ends.
+// Appends the lines after those of the events: of datagrams, where there are some, and the states of both parties.
 fn go_over(
     alloc: Global,
     duel: Duel<FileKeys, FileKeys>,
@@ -113,7 +113,7 @@ fn go_over(
     }
 }
 
-// Appends the line of two ends that go over to datagrams, the lines of those, and the states after them.
+// Appends the line of two parties that go over to datagrams, the lines of those, and the states after them.
 fn push_datagrams(
     alloc: Global,
     duel: DatagramDuel,
@@ -130,7 +130,7 @@ fn push_datagrams(
     push_datagram_states(alloc, &duel, lines)
 }
 
-// Appends the line of two ends that go over to datagrams with this window.
+// Appends the line of two parties that go over to datagrams with this window.
 fn push_window(alloc: Global, window: Window, lines: &mut Vec<Vec<u8>>) -> Result<(), AllocError>
     ensures lines { OnOk result (Appended lines.old lines.new (window_words window ∷ [])) }
     ensures printed { AreExpected lines.old.items → OnOk result (AreExpected lines.new.items) }
@@ -139,7 +139,7 @@ fn push_window(alloc: Global, window: Window, lines: &mut Vec<Vec<u8>>) -> Resul
     Ok(lines.push(line.into_bytes())?)
 }
 
-// Appends the line of two ends that don't go over, and their states.
+// Appends the line of two parties that don't go over, and their states.
 fn push_without_datagrams(
     alloc: Global,
     duel: &Duel<FileKeys, FileKeys>,

@@ -24,8 +24,8 @@ use noise_words::{Traced as ChosenTrace, TracedPart, TracedRole};
 use std::alloc::Global;
 use std::io::{Read, Write};
 
-/// Runs two ends on a vector file, prints what they do and the selected lines of their key schedules, and compares the
-/// lines of the run with what the file expects.
+/// Runs two parties on a vector file, prints what they do and the selected lines of their key schedules, and compares
+/// the lines of the run with what the file expects.
 pub fn trace_chosen<R: Read, O: Write>(
     alloc: Global,
     chosen: &ChosenTrace,

@@ -1,4 +1,4 @@
-//! The key schedule of one end of a run, and the lines of what comes of its messages.
+//! The key schedule of one party of a run, and the lines of what comes of its messages.
 
 ghost use Rattle.std.specs.Prelude.{◌≡◌, ◌≤◌, ◌-◌, ◌++◌, ℕ, List, [], IfOk, drop, if◌then◌else◌, length, take};
 ghost use Rattle.noise_duel.specs.Entries.{note_of};
@@ -29,7 +29,7 @@ use noise_trace::{EndTrace, KeyUse};
 use noise_vectors::FileKeys;
 use std::alloc::{AllocError, Global};
 
-/// The key schedule of one end of a run, and the bytes of its next frame.
+/// The key schedule of one party of a run, and the bytes of its next frame.
 #[derive(Drop)]
 pub struct TracedEnd {
     pub role: Role,
@@ -40,7 +40,7 @@ pub struct TracedEnd {
 }
 
 impl TracedEnd {
-    // A message of this end.
+    // A message of this party.
     fn about(&self, act: Act) -> About
         ensures { (v : EndState) → ShowsEnd self.now v → result ≡ about self.now.role v act }
     {
@@ -52,7 +52,8 @@ impl TracedEnd {
         }
     }
 
-    /// The lines of what came of a payload that the end was to write, by its entry and the frame that it wrote, if any.
+    /// The lines of what came of a payload that the party was to write, by its entry and the frame that it wrote, if
+    /// any.
     pub fn write(
         &mut self,
         alloc: Global,
@@ -83,7 +84,7 @@ impl TracedEnd {
         }
     }
 
-    /// Appends the lines that follow each of these entries, which report what came of bytes that came to the end.
+    /// Appends the lines that follow each of these entries, which report what came of bytes that came to the party.
     pub fn receive(
         &mut self,
         alloc: Global,
@@ -146,7 +147,7 @@ impl TracedEnd {
     }
 }
 
-// What an end makes of a message that came, by its entry.
+// What a party makes of a message that came, by its entry.
 fn act_of(entry: &Entry) -> Act
     ensures { (step : StepValue) → note_of entry.now ≡ Judged step → result ≡ act_of step }
 {

@@ -1,4 +1,4 @@
-//! The two ends that a vector file describes, with the key schedule of each beside it.
+//! The two parties that a vector file describes, with the key schedule of each beside it.
 
 ghost use Rattle.std.specs.Prelude.{◌≡◌, ◌≤◌, ◌++◌, ℕ, List, None, IfErr, IfOk, OnOk, length};
 ghost use Rattle.noise_handshake.specs.Setup.{setup_fault};
@@ -27,27 +27,27 @@ use noise_trace::{EndTrace, Following, start_steps};
 use noise_vectors::{FileKeys, VectorFile, Version};
 use std::alloc::{AllocError, Global};
 
-/// The key schedules of both ends.
+/// The key schedules of both parties.
 #[derive(Drop)]
 pub struct TracedEnds {
     pub initiator: TracedEnd,
     pub responder: TracedEnd,
 }
 
-/// The two ends that a file describes, and what is traced of them.
+/// The two parties that a file describes, and what is traced of them.
 #[derive(Drop)]
 pub struct TracedStart {
     pub duel: Duel<FileKeys, FileKeys>,
     pub ends: TracedEnds,
-    /// The lines of the start of both ends.
+    /// The lines of the start of both parties.
     pub lines: Vec<Vec<u8>>,
     /// The file's events, and its version.
     pub events: Vec<Event>,
     pub version: Version,
 }
 
-/// The two ends that the file describes, before the first message, each with its key schedule. `again` says what `file`
-/// says: its keys are those of the key schedules.
+/// The two parties that the file describes, before the first message, each with its key schedule. `again` says what
+/// `file` says: its keys are those of the key schedules.
 ///
 /// At `Err` the fault is that of `make_ends`.
 pub fn make_traced_ends(
@@ -105,7 +105,7 @@ fn follow(
     }
 }
 
-// The lines of the start of both ends of a file, by this pattern.
+// The lines of the start of both parties of a file, by this pattern.
 fn start_lines(
     alloc: Global,
     selection: Selection,
@@ -157,7 +157,7 @@ fn push_heading(
     Ok(())
 }
 
-// Appends the lines of the start of one end.
+// Appends the lines of the start of one party.
 fn push_start(
     alloc: Global,
     selection: Selection,

@@ -1,4 +1,4 @@
-//! The run of a vector file with the key schedules of both ends beside it.
+//! The run of a vector file with the key schedules of both parties beside it.
 
 ghost use Rattle.std.specs.Prelude.{◌≡◌, ◌⊎◌, ◌&&◌, ◌++◌, [], ℕ, List, IfErr, IfOk, OnOk, drop, is_some, length};
 ghost use Rattle.noise_duel.specs.Sides.{Sides};
@@ -46,7 +46,7 @@ pub struct Traced {
     pub traces: Vec<Vec<Vec<u8>>>,
 }
 
-/// Runs a file as `replay` does, and follows the key schedules of both ends. `again` says what `file` says.
+/// Runs a file as `replay` does, and follows the key schedules of both parties. `again` says what `file` says.
 ///
 /// Where there are no such ends, the fault is that of `make_ends`.
 pub fn trace(
@@ -100,7 +100,7 @@ pub(crate) fn trace_text(
     trace(alloc, selection, file, again)
 }
 
-// Appends the lines of the keys of datagrams, if both ends go over to them.
+// Appends the lines of the keys of datagrams, if both parties go over to them.
 fn push_datagram_trace(
     alloc: Global,
     selection: Selection,
@@ -119,7 +119,7 @@ fn push_datagram_trace(
     Ok(())
 }
 
-// Whether both ends go over to datagrams.
+// Whether both parties go over to datagrams.
 fn goes_over(duel: &Duel<FileKeys, FileKeys>, version: &Version) -> bool
     ensures { (d : Sides) → FileDuelMatches duel.now d
         → result ≡ (is_some (datagrams_of_version version.now) && are_ready d) }

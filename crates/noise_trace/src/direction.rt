@@ -18,7 +18,7 @@ pub(crate) struct Direction {
     pub(crate) key: [u8; 32],
 }
 
-// The key from this nonce on, if it is renewed before it.
+// The key from this nonce on, if it is rekeyed before it.
 fn renewed_at(nonce: u64, key: &[u8; 32], interval: u64) -> Option<[u8; 32]>
     ensures { (r : History) (writer : Role) (n : ℕ) → key.now ≡ transport_key r writer interval n → nonce ≡ n + 1
         → result ≡ renewed_after r writer interval n }

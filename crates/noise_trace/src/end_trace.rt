@@ -1,4 +1,4 @@
-//! The key schedule of one end of a session.
+//! The key schedule of one party of a session.
 
 ghost use Rattle.std.specs.Prelude.{◌≡◌, ◌≢◌, ◌+◌, ℕ, List, [], length, IsTrue, None};
 ghost use Rattle.noise_handshake.specs.declared.faults.Cause.{Cause};
@@ -13,10 +13,10 @@ use crate::{Following, KeyUse, Opening, Step};
 use arrayvec::ArrayVec;
 use noise_handshake::Keys;
 
-/// The key schedule of one end of a session, which follows the messages that the end writes and takes.
+/// The key schedule of one party of a session, which follows the messages that the party writes and takes.
 ///
-/// It is given each message with what came of it at the end. It encrypts nothing and checks nothing: of other messages
-/// than those of the end it shows something else.
+/// It is given each message with what came of it at the party. It encrypts nothing and checks nothing: of other
+/// messages than those of the party it shows something else.
 #[derive(Drop)]
 pub struct EndTrace<K: Keys> {
     following: Following<K>,
@@ -30,7 +30,7 @@ impl<K: Keys> EndTrace<K> {
     ghost use Rattle.noise_trace.specs.EndFollowing.{EndFollows, IsShown, accepted_view, directions_in, written_view};
     ghost use Rattle.noise_trace.specs.KeyUses.{use_value, opening_in, message_use, stopped_use, sent_use, opened_use, tried_use, keys_in};
 
-    /// The key schedule of a new end, whose handshake is at the place of this one; `interval` is that of the end.
+    /// The key schedule of a new party, whose handshake is at the place of this one; `interval` is that of the party.
     pub fn new(following: Following<K>, interval: u64) -> EndTrace<K>
         ensures { (party : Party) → Follows K.public_of K.agreement following party
             → EndFollows K.public_of K.agreement result (end_of party interval) }
@@ -46,8 +46,8 @@ impl<K: Keys> EndTrace<K> {
         }
     }
 
-    /// A message that the end wrote: of the handshake, or of the transport once the session is open. At nonce 2^64 - 1,
-    /// which no message has, nothing is shown and nothing changes.
+    /// A message that the party wrote: of the handshake, or of the transport once the session is open. At nonce 2^64 -
+    /// 1, which no message has, nothing is shown and nothing changes.
     pub fn wrote(&mut self, message: &[u8]) -> KeyUse
         ensures handshake { (v : EndState) (xs : List (List ℕ)) (payload : List ℕ)
             → EndFollows K.public_of K.agreement self.old v → Writes v.party payload xs message.now
@@ -66,7 +66,7 @@ impl<K: Keys> EndTrace<K> {
         self.passed(steps)
     }
 
-    /// A message that the end accepted or opened, as it came: a copy of one that is read in place. At nonce 2^64 - 1,
+    /// A message that the party accepted or opened, as it came: a copy of one that is read in place. At nonce 2^64 - 1,
     /// which no message has, nothing is shown and nothing changes.
     pub fn took(&mut self, message: &[u8]) -> KeyUse
         ensures handshake { (v : EndState) (xs : List (List ℕ)) (payload : List ℕ)
@@ -102,7 +102,7 @@ impl<K: Keys> EndTrace<K> {
         KeyUse::Message { steps, opening }
     }
 
-    /// A handshake message that the end didn't write for want of a DH result at this token, counted from 0: the steps
+    /// A handshake message that the party didn't write for want of a DH result at this token, counted from 0: the steps
     /// of the tokens before it.
     pub fn withheld(&self, token: u8) -> KeyUse
         ensures { (v : EndState) → EndFollows K.public_of K.agreement self.now v → (lacks : LacksDhResult v.party token)
@@ -114,7 +114,7 @@ impl<K: Keys> EndTrace<K> {
         }
     }
 
-    /// A handshake message that the end refused at this token, counted from 0: the steps of the tokens before it.
+    /// A handshake message that the party refused at this token, counted from 0: the steps of the tokens before it.
     pub fn refused(&self, message: &[u8], token: u8) -> KeyUse
         ensures { (v : EndState) (cause : Cause) → EndFollows K.public_of K.agreement self.now v
             → (refused : Refuses v.party message.now token cause)
@@ -126,7 +126,7 @@ impl<K: Keys> EndTrace<K> {
         }
     }
 
-    /// A transport message that the end dropped: the nonce and the key that it was tried with. Before the opening
+    /// A transport message that the party dropped: the nonce and the key that it was tried with. Before the opening
     /// nothing.
     pub fn tried(&self) -> KeyUse
         ensures opened { (v : EndState) → EndFollows K.public_of K.agreement self.now v

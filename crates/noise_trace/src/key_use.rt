@@ -1,9 +1,9 @@
-//! The keys that one call of an end uses.
+//! The keys that one call of a party uses.
 
 use crate::{Opening, Step};
 use arrayvec::ArrayVec;
 
-/// The keys that one call of an end uses.
+/// The keys that one call of a party uses.
 #[derive(Drop)]
 pub enum KeyUse {
     /// No key was used.
@@ -13,7 +13,7 @@ pub enum KeyUse {
         steps: ArrayVec<Step, 11>,
         opening: Option<Opening>,
     },
-    /// A transport message's nonce and key, and the key of the messages after it if it is renewed then (Noise, 11.3).
+    /// A transport message's nonce and key, and the key of the messages after it if it is rekeyed then (Noise, 11.3).
     Transport {
         nonce: u64,
         key: [u8; 32],

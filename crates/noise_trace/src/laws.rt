@@ -1,4 +1,4 @@
-//! Laws of steps, and of following an end.
+//! Properties of steps, and of following a party.
 
 ghost use Rattle.std.specs.Prelude.{Bool, List, ℕ, ◌≡◌};
 ghost use Rattle.noise_names.specs.declared.token.Token.{Token};
@@ -36,7 +36,7 @@ pub fn steps_make_messages()
         → values_after_payload v xs payload ≡ values_of (after_own v xs payload).history }
 {}
 
-/// The key schedule of an end is the same whatever has come of its next frame, and also once the session has ended.
+/// The key schedule of a party is the same whatever has come of its next frame, and also once the session has ended.
 pub fn end_is_followed<K: Keys>()
     ensures partial { (t : EndTrace K) (v : EndState) (bytes : List ℕ) → EndFollows K.public_of K.agreement t v
         → EndFollows K.public_of K.agreement t (record v { partial = bytes }) }

@@ -1,6 +1,6 @@
-//! The key schedule of a handshake, token by token (Noise, revision 34, 5.2 and 5.3), and that of one end of a session,
-//! call by call: the steps of its handshake messages, its two transport keys, and the key of each transport message
-//! (11.3).
+//! The key schedule of a handshake, token by token (Noise, revision 34, 5.2 and 5.3), and that of one party of a
+//! session, call by call: the steps of its handshake messages, its two transport keys, and the key of each transport
+//! message (11.3).
 #![tactic(auto)]
 
 mod before;

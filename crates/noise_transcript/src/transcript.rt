@@ -22,10 +22,10 @@ use std::io::{Read, Write};
 /// Does what `noise talk` does with the vector file of this name, by `perform_command`, and gives the exit status.
 ///
 /// Of a vector file whose lines fit, at status 0 or 1 the output grew by exactly this: for each line the frame of its
-/// message in the transcript, and its payload as the other end accepted it; and then a line for each end. The status is
-/// 0 where these are the lines that the file expects, or it expects none, and else 1. It is 2 only for a text of more
-/// than 4194304 bytes, and 3 where the file can't be read, the output can't be written, or memory runs out. At each
-/// status the output is as it was, or grew by a prefix of these lines.
+/// message in the transcript, and its payload as the other party accepted it; and then a line for each party. The
+/// status is 0 where these are the lines that the file expects, or it expects none, and else 1. It is 2 only for a text
+/// of more than 4194304 bytes, and 3 where the file can't be read, the output can't be written, or memory runs out. At
+/// each status the output is as it was, or grew by a prefix of these lines.
 ///
 /// Such a file has `xor` keys, a valid pattern, setups without a fault, and the event `say` alone.
 pub fn talk<R: Read, O: Write, E: Write>(

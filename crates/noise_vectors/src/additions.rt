@@ -85,7 +85,7 @@ fn read_datagrams(
     Ok(Some(FileDatagrams { window, events }))
 }
 
-// The window that both ends go over with.
+// The window that both parties go over with.
 fn read_window(text: &[u8]) -> Option<Window>
     ensures text { IfSome result (λ window. text.now ≡ window_words window) }
     ensures every { (window : Window) → text.now ≡ window_words window → result ≡ Some window }

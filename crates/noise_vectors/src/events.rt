@@ -111,7 +111,7 @@ fn split_event(text: &[u8]) -> Option<(EventKind, Role, &[u8])>
     Some((read_kind(kind)?, read_role(role)?, operands))
 }
 
-// A payload and the cuts of its frame.
+// A payload and the chunks of its frame.
 fn read_say(alloc: Global, words: &[u8]) -> Result<Option<(Vec<u8>, Cuts)>, AllocError>
     ensures text { IfOk result
         (λ found. IfSome found (λ say. words.now ≡ hex_of say.0.items ++ 32 ∷ lengths_word say.1)) }
@@ -132,7 +132,7 @@ fn read_say(alloc: Global, words: &[u8]) -> Result<Option<(Vec<u8>, Cuts)>, Allo
     Ok(Some((payload, cuts)))
 }
 
-// A frame's number and its cuts.
+// A frame's number and its chunks.
 fn read_delivery(words: &[u8]) -> Option<(usize, Cuts)>
     ensures text { IfSome result (λ delivery. words.now ≡ decimal delivery.0 ++ 32 ∷ lengths_word delivery.1) }
     ensures right { IfSome result (λ delivery. (delivery.0 < 2 ^ 32) × AreCuts delivery.1) }

@@ -2,7 +2,7 @@
 
 use noise_keys::{Keys, Own, TableKeys, XorKeys};
 
-/// The keys of a party: those whose DH is the xor of bytes, or those whose answers are in the file.
+/// The keys of a party: those whose DH is the xor of bytes, or those whose DH results are in the file.
 #[derive(Drop)]
 pub enum FileKeys {
     Xor(XorKeys),

@@ -1,4 +1,4 @@
-//! Laws of vector files: each function does nothing, and its contract is the law.
+//! Properties of vector files: each function does nothing, and its contract is the property.
 
 ghost use Rattle.noise_vectors.specs.SameFile.{VectorTextsAreUnique};
 

@@ -1,4 +1,4 @@
-//! Reads vector files: what a file says that two ends of a session start from, and what is done to them.
+//! Reads vector files: what a file says that two parties of a session start from, and what is done to them.
 #![tactic(auto)]
 
 mod additions;

@@ -18,7 +18,7 @@ use crate::words::{read_key, read_optional_key, read_own, read_role, split_once}
 use noise_keys::{Own, TableKeys, XorKeys};
 use noise_names::Role;
 
-/// The line of a party's keys, and after a table's line its answers.
+/// The line of a party's keys, and after a table's line its DH results.
 pub(crate) fn read_party(lines: &mut Lines<'_>, role: Role) -> Result<FileKeys, VectorFault>
     ensures text { IfOk result (λ keys. lines.old.rest.now ≡ party_text role keys lines.new.rest.now) }
     ensures right { IfOk result AreKeys }
@@ -68,7 +68,7 @@ fn keys_of(words: &[u8], front: &[u8]) -> Option<(Option<[u8; 32]>, Option<[u8; 
     Some((read_optional_key(e)?, read_optional_key(s)?))
 }
 
-// The table of these keys, with the answers of the lines that come next.
+// The table of these keys, with the DH results of the lines that come next.
 fn read_table(
     lines: &mut Lines<'_>,
     e: Option<[u8; 32]>,
@@ -100,7 +100,7 @@ fn read_table(
     Ok(table)
 }
 
-// The key pair, the remote public key and the answer.
+// The key pair, the remote public key and the DH result.
 fn read_answer(line: &[u8]) -> Option<(Own, [u8; 32], [u8; 32])>
     ensures text { IfSome result
         (λ answer. line.now ≡ answer_words (record { own = answer.0; remote = answer.1; answer = answer.2 })) }

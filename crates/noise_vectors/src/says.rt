@@ -9,7 +9,7 @@ use noise_events::{Cuts, Event};
 use noise_names::Role;
 use std::alloc::{AllocError, Global};
 
-/// What is said, in its order: the role, the payload and the cuts of each event.
+/// What is said, in its order: the role, the payload and the chunks of each event.
 pub fn said_lines(
     alloc: Global,
     events: Vec<Event>,

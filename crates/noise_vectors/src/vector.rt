@@ -15,7 +15,7 @@ pub struct VectorFile {
     /// pattern.
     pub block: Option<Pattern>,
     pub prologue: Vec<u8>,
-    /// After how many transport messages a key is renewed, 0 for never.
+    /// After how many transport messages a key is rekeyed, 0 for never.
     pub interval: u64,
     /// The pre-shared keys, in their order.
     pub psks: ArrayVec<[u8; 32], 9>,
@@ -37,13 +37,13 @@ pub enum Version {
 /// What version 2 adds.
 #[derive(Drop)]
 pub struct Additions {
-    /// Where both ends go over to datagrams after the events.
+    /// Where both parties go over to datagrams after the events.
     pub datagrams: Option<FileDatagrams>,
     /// The lines of output that are expected, each without its LF; none where nothing is expected.
     pub expected: Vec<Vec<u8>>,
 }
 
-/// How both ends go over to datagrams, and what happens then.
+/// How both parties go over to datagrams, and what happens then.
 #[derive(Drop)]
 pub struct FileDatagrams {
     pub window: Window,

@@ -1,4 +1,4 @@
-//! The options of `trace`, whose values are judged here, the flags of `trace` and `test`, and the files of `explain`
+//! The options of `trace`, whose values are checked here, the flags of `trace` and `test`, and the files of `explain`
 //! and `compare`.
 
 ghost use Rattle.std.specs.Prelude.{◌≡◌, IfOk, codes, option_map};

@@ -61,18 +61,19 @@ pub enum Chosen {
     List,
     /// Print the pattern of this protocol name, and what each of its messages adds to a payload.
     Show(String),
-    /// Judge the pattern text in the file of this name.
+    /// Check the pattern text in the file of this name.
     Check(String),
     /// Print a vector file, with placeholders for its keys, for the pattern of this protocol name, or in the file of
     /// this name.
     Template(String),
-    /// Run two ends on the vector file of this name, in which they only say things to one another.
+    /// Run two parties on the vector file of this name, in which they only say things to one another.
     Talk(String),
-    /// Run two ends on the vector file of this name, whatever its events are.
+    /// Run two parties on the vector file of this name, whatever its events are.
     Replay(String),
     /// Print the version 1 vector file of this name as one of version 2 that expects what its run prints.
     Convert(String),
-    /// Run two ends on a vector file as `Replay` does, and print the key schedule of each end too, or a part of it.
+    /// Run two parties on a vector file as `Replay` does, and print the key schedule of each party too, or a part of
+    /// it.
     Trace(Traced),
 }
 

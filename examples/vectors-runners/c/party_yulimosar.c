@@ -1,4 +1,4 @@
-// The library of this repository, with X25519 by OpenSSL. Copy this file, and have it call your Noise.
+// The library of this repository, with X25519 by OpenSSL. Copy this file, and have it call your implementation.
 #include "party.h"
 #include <noise.h>
 #include <openssl/evp.h>

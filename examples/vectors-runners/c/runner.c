@@ -1,4 +1,4 @@
-// Runs the suite of test vectors with a Noise in C: runner SUITE.json [JUNIT.xml]. party.h says what it asks of the Noise.
+// Runs the suite of test vectors with an implementation in C: runner SUITE.json [JUNIT.xml]. party.h says what it asks of the Noise.
 #include "json.h"
 #include "party.h"
 #include "report.h"

@@ -1,4 +1,4 @@
-// The package of bindings/js, for runner.mjs. Copy this file, and have it call your Noise.
+// The package of bindings/js, for runner.mjs. Copy this file, and have it call your implementation.
 import { Handshake, KeyPair, NoiseError, load } from '../../../bindings/js/noise.mjs';
 
 const bytes = (digits) => (digits === undefined ? undefined : Buffer.from(digits, 'hex'));
@@ -24,7 +24,7 @@ export class Party {
     return party;
   }
 
-  /** Whether an error is a refusal of your Noise; anything else is reported as a crash. */
+  /** Whether an error is a refusal of your implementation; anything else is reported as a crash. */
   static isRefusal(error) {
     return error instanceof NoiseError;
   }
@@ -59,7 +59,7 @@ export class Party {
     return this.ciphers.hash;
   }
 
-  /** The number of the token at which a message was refused, if your Noise says so. */
+  /** The number of the token at which a message was refused, if your implementation says so. */
   token(error) {
     return error.token;
   }

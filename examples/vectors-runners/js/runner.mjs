@@ -1,5 +1,5 @@
-// Runs the suite of test vectors with a Noise in JavaScript: node runner.mjs PARTY.mjs SUITE.json [JUNIT.xml]. PARTY.mjs is a module beside this file, as
-// party_yulimosar.mjs, whose `Party` calls a Noise: copy that. The report has a line for each flag; JUNIT.xml gets each test. The status is 0 if no test
+// Runs the suite of test vectors with an implementation in JavaScript: node runner.mjs PARTY.mjs SUITE.json [JUNIT.xml]. PARTY.mjs is a module beside this file,
+// as party_yulimosar.mjs, whose `Party` calls an implementation: copy that. The report has a line for each flag; JUNIT.xml gets each test. The status is 0 if no test
 // failed.
 import { createHash } from 'node:crypto';
 import { readFileSync, writeFileSync } from 'node:fs';

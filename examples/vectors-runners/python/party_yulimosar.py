@@ -1,4 +1,4 @@
-"""The package of bindings/python, for runner.py. Copy this file, and have it call your Noise."""
+"""The package of bindings/python, for runner.py. Copy this file, and have it call your implementation."""
 
 from __future__ import annotations
 
@@ -11,7 +11,7 @@ from yulimosar import CipherState, Config, Handshake, KeyPair, NoiseError
 class Party:
     """One party. `setup` is a group of the suite; its own keys are private ones, `rs` and `re` those of the other party's pre-message."""
 
-    REFUSALS = (NoiseError,)  # what your Noise raises where it refuses; anything else is reported as a crash
+    REFUSALS = (NoiseError,)  # what your implementation raises where it refuses; anything else is reported as a crash
 
     def __init__(self, setup: dict[str, Any], role: str) -> None:
         own, name = setup[role], setup["protocol"].split("_")[1]
@@ -63,7 +63,7 @@ class Party:
 
     @staticmethod
     def place(refusal: Exception) -> str | None:
-        """The token at which a message was refused, if your Noise says so."""
+        """The token at which a message was refused, if your implementation says so."""
         return getattr(refusal, "token", None)
 
 

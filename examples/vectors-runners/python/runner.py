@@ -1,9 +1,9 @@
 #!/usr/bin/env python3
-"""Runs the suite of test vectors with a Noise in Python.
+"""Runs the suite of test vectors with an implementation in Python.
 
     runner.py PARTY SUITE.json [JUNIT.xml]
 
-PARTY is a module beside this file, as `party_yulimosar`, with a class `Party`: copy that file, and have it call your Noise. The report has a line for
+PARTY is a module beside this file, as `party_yulimosar`, with a class `Party`: copy that file, and have it call your implementation. The report has a line for
 each flag; JUNIT.xml gets each test. The status is 0 if no test failed.
 """
 

@@ -7,7 +7,7 @@
     make.py --says NAME         prints a vector file of the same keys and payloads, in which both parties are right
 
 In each file one party is a `Party` with a mistake, whose frames come by `raw`, and the other is right. The `expect` lines are what the right `Party`
-writes and answers. This is a Noise of its own: it shares nothing with the code of `noise`. It needs python's `cryptography`.
+writes and answers. This is an implementation of its own: it shares nothing with the code of `noise`. It needs python's `cryptography`.
 """
 
 from __future__ import annotations

@@ -30,7 +30,7 @@ def pass_messages(first: Handshake, second: Handshake) -> None:
 
 
 def connect() -> tuple[Callable[[bytes], bytes], Callable[[bytes], bytes]]:
-    """Both ends of XX: what seals at one, and what opens at the other."""
+    """Both parties of XX: what seals at one, and what opens at the other."""
     client = Handshake(Config(pattern="XX", key=KEYS[0], accept_any_key=True), True)
     server = Handshake(Config(pattern="XX", key=KEYS[1], accept_any_key=True), False)
     pass_messages(client, server)

@@ -43,7 +43,7 @@ func proxied(t *testing.T, to string) string {
 	return l.Addr().String()
 }
 
-// TestStatusThroughAProxy has an end whose disk is full behind a proxy, which sends a FIN where that end resets the connection.
+// TestStatusThroughAProxy has a party whose disk is full behind a proxy, which sends a FIN where that party resets the connection.
 func TestStatusThroughAProxy(t *testing.T) {
 	cat, server, own, to := pair(t)
 	full, err := os.OpenFile("/dev/full", os.O_WRONLY, 0)

@@ -48,8 +48,8 @@ func join(o *options) error {
 
 var errIdle = errors.New("nothing has come or gone for the time that -idle names")
 
-// carry moves what there is to send and what comes until both ends have sent all. Where the other end is noisecat too, each says that it has written out all,
-// and only that is no fault. After a fault it resets the connection, so that the other end gets an error too.
+// carry moves what there is to send and what comes until both parties have sent all. Where the other party is noisecat too, each says that it has written
+// out all, and only that is no fault. After a fault it resets the connection, so that the other party gets an error too.
 func (o *options) carry(c *noise.Conn, below *counted) error {
 	if o.verbose {
 		s := c.ConnectionState()
@@ -104,7 +104,7 @@ func (o *options) move(c *noise.Conn, below *counted, target *local) error {
 	case !hasRecords:
 		return part(below)
 	}
-	if c.CloseWrite() == nil { // both ends know that all is written out: what comes of the rest changes nothing
+	if c.CloseWrite() == nil { // both parties know that all is written out: what comes of the rest changes nothing
 		c.SetReadDeadline(time.Now().Add(5 * time.Second))
 		c.Read(make([]byte, 1))
 	}
@@ -159,9 +159,9 @@ func plainReceive(c *noise.Conn, target *local) error {
 	return target.done()
 }
 
-var errNotParted = errors.New("the other end may not have got all")
+var errNotParted = errors.New("the other party may not have got all")
 
-// part ends the connection to a program that isn't noisecat, and waits until the other end does: after a fault that end resets it.
+// part ends the connection to a program that isn't noisecat, and waits until the other party does: after a fault that party resets it.
 func part(below *counted) error {
 	err := below.CloseWrite()
 	if err == nil {

@@ -138,9 +138,9 @@ func (o *options) setPSKs(c *noise.Config) error {
 	return nil
 }
 
-var errNotAllowed = errors.New("the other end's key isn't allowed")
+var errNotAllowed = errors.New("the other party's key isn't allowed")
 
-// setPeer sets who may be the other end.
+// setPeer sets who may be the other party.
 func (o *options) setPeer(c *noise.Config) error {
 	if o.peer != "" {
 		key, err := noise.ParsePublicKey(o.peer)

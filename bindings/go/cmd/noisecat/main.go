@@ -32,7 +32,8 @@ import (
 const usage = `usage: noisecat -listen ADDRESS  [-key FILE] [-allow KEY,..] [-psk FILE,..] [FLAGS]
        noisecat -connect ADDRESS [-key FILE] [-peer KEY] [-psk FILE,..] [FLAGS]
        noisecat keygen [-o FILE]    makes a key: 64 hex digits, in a new file that others can't read, or on standard
-                                    output; the public key goes to the other stream. A psk is made the same way
+                                    output; the public key on standard output, or on standard error
+                                    if that has the secret one. A psk is made the same way
        noisecat pubkey              prints the public key of the key on standard input
        noisecat -version
 
@@ -105,14 +106,14 @@ func (o *options) flags() *flag.FlagSet {
 	flags := newFlags()
 	flags.StringVar(&o.listen, "listen", "", "listen at this `address`, as :9000")
 	flags.StringVar(&o.connect, "connect", "", "connect to this `address`, as host:9000")
-	flags.StringVar(&o.key, "key", "", "the `file` of this end's key, which keygen makes")
-	flags.StringVar(&o.allow, "allow", "", "accept the other end if it has one of these public `keys` (hex, joined by commas)")
-	flags.StringVar(&o.peer, "peer", "", "the public `key` of the other end (hex)")
+	flags.StringVar(&o.key, "key", "", "the `file` of this party's key, which keygen makes")
+	flags.StringVar(&o.allow, "allow", "", "accept the other party if it has one of these public `keys` (hex, joined by commas)")
+	flags.StringVar(&o.peer, "peer", "", "the public `key` of the other party (hex)")
 	flags.BoolVar(&o.any, "insecure-any", false, "talk to anybody")
 	flags.StringVar(&o.pattern, "pattern", "XX", "the pattern, as IK or XXpsk3, the whole protocol `name`, or @FILE with a pattern text")
 	flags.StringVar(&o.psk, "psk", "", "the `files` of the psks, 64 hex digits each, one for each psk token, joined by commas")
-	flags.StringVar(&o.prologue, "prologue", "", "the `text` that both ends have agreed on")
-	flags.Uint64Var(&o.interval, "interval", 0, "renew keys after this `number` of messages, the same at both ends; 0: never")
+	flags.StringVar(&o.prologue, "prologue", "", "the `text` that both parties have agreed on")
+	flags.Uint64Var(&o.interval, "interval", 0, "rekey after this `number` of messages, the same at both parties; 0: never")
 	flags.DurationVar(&o.timeout, "timeout", 30*time.Second, "the `time` that connecting and a handshake may take")
 	flags.BoolVar(&o.keep, "keep", false, "with -listen: take one connection after another, and send each the file that standard input is")
 	flags.StringVar(&o.forward, "forward", "", "join each channel to a TCP connection to this `address`, in place of standard input and output")
@@ -158,7 +159,7 @@ func sentence(err error) string {
 	var output *outputError
 	switch {
 	case errors.Is(err, noise.ErrUnauthenticated):
-		return "nothing says who may be the other end: name it by -peer, -allow or -psk, or take anybody by -insecure-any"
+		return "nothing says who may be the other party: name it by -peer, -allow or -psk, or take anybody by -insecure-any"
 	case errors.As(err, &config):
 		return flagOf[config.Field] + ": " + withoutName(config.Err)
 	case errors.As(err, &handshake) || errors.As(err, &output):
@@ -168,7 +169,7 @@ func sentence(err error) string {
 	case err == errNotWritten:
 		return err.Error()
 	case errors.Is(err, noise.ErrCut):
-		return "the connection was cut before the other end had sent all"
+		return "the connection was cut before the other party had sent all"
 	case errors.Is(err, syscall.ECONNRESET) || errors.Is(err, syscall.EPIPE):
 		return "the connection was cut: " + err.Error()
 	}

@@ -237,7 +237,7 @@ func TestListenerGoesOn(t *testing.T) {
 	io.WriteString(noisy, "GET / HTTP/1.0\r\n\r\n")
 	l.says(t, noisy.LocalAddr().String()+": message 1: the message would be too long")
 	for _, it := range []struct{ key, peer, more, client, server string }{
-		{"other", server, "", "", "message 3, token s: the other end's key isn't allowed: " + other},
+		{"other", server, "", "", "message 3, token s: the other party's key isn't allowed: " + other},
 		{"c", own, "", "message 2, token s: the other party has another static key", "message 3: the connection was cut"},
 		{"c", server, "-prologue=other", "message 2, token s: a tag is wrong: the message was changed, or the parties differ in the pattern or the prologue", "message 3: "},
 		{"c", server, "-pattern=IK", "message 2, payload: a tag is wrong: the message was changed, or the parties differ in the pattern", "message 3: "},
@@ -403,7 +403,7 @@ func TestFilter(t *testing.T) {
 	}
 }
 
-// TestPSKs gives the two ends one file with a psk, and then two files with different ones.
+// TestPSKs gives the two parties one file with a psk, and then two files with different ones.
 func TestPSKs(t *testing.T) {
 	_, cat := built(t)
 	keyFile(t, "one", cat)
@@ -437,28 +437,28 @@ func TestOptions(t *testing.T) {
 		t.Fatal(err)
 	}
 	for words, args := range map[string]string{
-		"2 -peer: a key has 64 hexadecimal digits":                  "-connect 127.0.0.1:1 -key k -peer 12",
-		"2 -allow: a key has 64 hexadecimal digits":                 "-listen 127.0.0.1:0 -key k -allow k",
-		"1 a key has 64 hexadecimal digits: short":                  "-connect 127.0.0.1:1 -pattern NNpsk0 -psk short",
-		"1 a key has 64 hexadecimal digits:  short":                 "-connect 127.0.0.1:1 -key short -insecure-any",
-		"1 open none: no such file":                                 "-listen 127.0.0.1:0 -pattern NNpsk0 -psk none",
-		"2 -psk: the number of psks isn't":                          "-listen 127.0.0.1:0 -pattern NNpsk0 -psk k,k",
-		"2 -psk: the number of psks isn't the number of psk tokens": "-listen 127.0.0.1:0 -pattern NNpsk0 -insecure-any",
-		"2 -key: the pattern needs a static key of this party":      "-listen 127.0.0.1:0 -insecure-any",
-		"2 -peer: the pattern needs the other party's":              "-connect 127.0.0.1:1 -pattern NK -insecure-any",
-		"2 nothing says who may be the other end: name it by -peer": "-listen 127.0.0.1:0 -key k",
-		"2 -pattern: not the name":                                  "-listen 127.0.0.1:0 -key k -pattern XXpsk7 -insecure-any",
-		"2 flag provided but not defined: -what":                    "-listen 127.0.0.1:0 -what",
-		"2 invalid value":                                           "-listen 127.0.0.1:0 -interval x",
-		"2 one word too many: word":                                 "-listen 127.0.0.1:0 -key k -insecure-any word",
-		"2 name either -listen or -connect":                         "-key k",
-		"2 name either -listen or -connect: noisecat -h":            "-listen 127.0.0.1:0 -connect 127.0.0.1:1",
-		"2 -keep is for -listen":                                    "-connect 127.0.0.1:1 -keep -insecure-any",
-		"2 one word too many: now":                                  "keygen now",
-		"2 one word too many:  now":                                 "pubkey now",
-		"2 flag provided but not defined: -x":                       "keygen -x",
-		"1 standard input: a key has 64 hexadecimal digits":         "pubkey",
-		"1 open k: file exists":                                     "keygen -o k",
+		"2 -peer: a key has 64 hexadecimal digits":                    "-connect 127.0.0.1:1 -key k -peer 12",
+		"2 -allow: a key has 64 hexadecimal digits":                   "-listen 127.0.0.1:0 -key k -allow k",
+		"1 a key has 64 hexadecimal digits: short":                    "-connect 127.0.0.1:1 -pattern NNpsk0 -psk short",
+		"1 a key has 64 hexadecimal digits:  short":                   "-connect 127.0.0.1:1 -key short -insecure-any",
+		"1 open none: no such file":                                   "-listen 127.0.0.1:0 -pattern NNpsk0 -psk none",
+		"2 -psk: the number of psks isn't":                            "-listen 127.0.0.1:0 -pattern NNpsk0 -psk k,k",
+		"2 -psk: the number of psks isn't the number of psk tokens":   "-listen 127.0.0.1:0 -pattern NNpsk0 -insecure-any",
+		"2 -key: the pattern needs a static key of this party":        "-listen 127.0.0.1:0 -insecure-any",
+		"2 -peer: the pattern needs the other party's":                "-connect 127.0.0.1:1 -pattern NK -insecure-any",
+		"2 nothing says who may be the other party: name it by -peer": "-listen 127.0.0.1:0 -key k",
+		"2 -pattern: not the name":                                    "-listen 127.0.0.1:0 -key k -pattern XXpsk7 -insecure-any",
+		"2 flag provided but not defined: -what":                      "-listen 127.0.0.1:0 -what",
+		"2 invalid value":                                             "-listen 127.0.0.1:0 -interval x",
+		"2 one word too many: word":                                   "-listen 127.0.0.1:0 -key k -insecure-any word",
+		"2 name either -listen or -connect":                           "-key k",
+		"2 name either -listen or -connect: noisecat -h":              "-listen 127.0.0.1:0 -connect 127.0.0.1:1",
+		"2 -keep is for -listen":                                      "-connect 127.0.0.1:1 -keep -insecure-any",
+		"2 one word too many: now":                                    "keygen now",
+		"2 one word too many:  now":                                   "pubkey now",
+		"2 flag provided but not defined: -x":                         "keygen -x",
+		"1 standard input: a key has 64 hexadecimal digits":           "pubkey",
+		"1 open k: file exists":                                       "keygen -o k",
 	} {
 		words, want := strings.ReplaceAll(words[2:], ":  ", ": "), int(words[0]-'0')
 		var end side
@@ -545,8 +545,8 @@ func TestFaults(t *testing.T) {
 	for _, it := range []struct {
 		words  string
 		change func(io.Writer, io.Reader)
-	}{{"was changed", flip}, {"cut before the other end had sent all", cutWithin}, {"cut before the other end had sent all", cutBetween},
-		{"cut before the other end had sent all", cutAtEnd}} {
+	}{{"was changed", flip}, {"cut before the other party had sent all", cutWithin}, {"cut before the other party had sent all", cutBetween},
+		{"cut before the other party had sent all", cutAtEnd}} {
 		for _, isOpen := range []bool{false, true} {
 			middle, err := net.Listen("tcp", "127.0.0.1:0")
 			if err != nil {

@@ -8,7 +8,7 @@ package cloop
 // static noise_receiver receiving, not_receiving;
 // static unsigned char payload[NOISE_MAX_MESSAGE], message[NOISE_MAX_MESSAGE];
 //
-// // The answer of X25519 is a constant: what a message costs doesn't depend on it.
+// // The result of X25519 is a constant: what a message costs doesn't depend on it.
 // static uint32_t passed(noise_handshake *h, int writes, size_t *len) {
 //     static const uint8_t answer[32] = {1};
 //     noise_result result;
@@ -48,7 +48,7 @@ import "C"
 
 import _ "example.org/yulimosar/noise" // the library
 
-// Start passes a handshake at both ends.
+// Start passes a handshake at both parties.
 func Start() bool { return C.start() != 0 }
 
 // Run seals and opens so many messages of a size.

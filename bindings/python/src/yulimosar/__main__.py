@@ -66,13 +66,13 @@ def _parser() -> argparse.ArgumentParser:
         kind.add_argument("address", metavar="[HOST]:PORT", type=_address)
         kind.add_argument("--key", metavar="FILE", help="the static key that keygen wrote")
         kind.add_argument("--peer", metavar="KEY", action="append", default=[], type=_digits,
-                          help="accept the other end if it has this public key (hex); may be repeated")
+                          help="accept the other party if it has this public key (hex); may be repeated")
         kind.add_argument("--any", action="store_true", help="talk to anybody")
         kind.add_argument("--pattern", default="XX", help="a pattern, as IK or XXpsk3, or @FILE with a pattern text")
         kind.add_argument("--psk", metavar="FILE", action="append", default=[],
                           help="a secret, 64 hex digits; once for each psk token")
-        kind.add_argument("--prologue", default="", help="the text that both ends have agreed on")
-        kind.add_argument("--interval", type=int, default=0, help="renew keys after so many messages; 0 is never")
+        kind.add_argument("--prologue", default="", help="the text that both parties have agreed on")
+        kind.add_argument("--interval", type=int, default=0, help="rekey after so many messages; 0 is never")
         kind.add_argument("-v", dest="verbose", action="store_true", help="show what the handshake has agreed on")
     return parser
 
@@ -136,7 +136,7 @@ def _join(options: argparse.Namespace) -> None:
         key = channel.noise.peer_key
         print(f"{channel.noise.protocol}\nhandshake hash: {channel.noise.hash.hex()}\n"
               f"peer's key: {key.hex() if key else '-'}", file=sys.stderr)
-    channel._resets = True    # after a fault, so that the other end's status isn't 0
+    channel._resets = True    # after a fault, so that the other party's status isn't 0
     try:
         _carry(channel)
         _part(channel._sock)
@@ -188,7 +188,7 @@ class _Handshakes:
 
 
 def _carry(channel: NoiseSocket) -> None:
-    """Moves standard input and output, until both ends have ended their streams."""
+    """Moves standard input and output, until both parties have ended their streams."""
     faults: list[Exception] = []
     sender = threading.Thread(target=_send, args=(channel, faults), daemon=True)
     sender.start()
@@ -227,7 +227,7 @@ def _receive(channel: NoiseSocket) -> None:
 
 
 def _part(sock: socket.socket) -> None:
-    """Ends the connection, and waits until the other end does: after a fault that end resets it."""
+    """Ends the connection, and waits until the other party does: after a fault that party resets it."""
     sock.shutdown(socket.SHUT_WR)
     sock.settimeout(30)
     while sock.recv(4096):

@@ -5,7 +5,7 @@ from ._noise import ffi, lib
 
 
 class Code(IntEnum):
-    """What a call of the library answers. Its text is a sentence."""
+    """What a call of the library returns. Its text is a sentence."""
 
     OK = 0
     NAME = 1

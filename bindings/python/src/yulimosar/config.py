@@ -36,7 +36,7 @@ class Config:
     #: In place of `psks`: returns the secrets shared with the owner of a static key. It is called at the first psk
     #: token. The other party hasn't shown yet that it has the secret key: so choose the secrets, and do nothing else.
     psk_for: PskFor | None = None
-    #: After how many messages each direction renews its key, the same at both parties; 0 is never.
+    #: After how many messages each direction is rekeyed, the same at both parties; 0 is never.
     interval: int = 0
     #: The payloads of the handshake: payloads[i] goes with message i, from 0 on. Of messages of the other party it is
     #: b"".

@@ -343,7 +343,7 @@ class Handshake(Struct):
             self._forget_ephemeral()
 
     def split(self) -> tuple[Sender, Receiver]:
-        """The two directions, for messages in order. Keys are renewed after each `interval` messages of a direction."""
+        """The two directions, for messages in order. A direction is rekeyed after each `interval` of its messages."""
         sender, receiver = Sender(), Receiver()
         self._finish(lib.noise_finish, self.config.interval, sender, receiver)
         return sender, receiver

@@ -384,7 +384,7 @@ class NoiseSocket:
     def _shut(self) -> None:
         """Ends the connection, also under a call that waits."""
         try:
-            if self._resets:    # no FIN before it: the other end gets an error, also if it has read all
+            if self._resets:    # no FIN before it: the other party gets an error, also if it has read all
                 self._sock.setsockopt(socket.SOL_SOCKET, socket.SO_LINGER, struct.pack("ii", 1, 0))
                 self._sock.close()
             else:

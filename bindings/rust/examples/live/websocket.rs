@@ -54,7 +54,7 @@ impl WebSocket {
         self.put(BINARY, message)
     }
 
-    // Says that nothing more comes, and waits until the other end has said it, too, 5 seconds at most.
+    // Says that nothing more comes, and waits until the other party has said it, too, 5 seconds at most.
     pub fn close(mut self) -> io::Result<()> {
         self.put(CLOSE, &1000_u16.to_be_bytes())?;
         self.below.shutdown(Shutdown::Write)?;
@@ -131,7 +131,7 @@ impl WebSocket {
 }
 
 fn wrong() -> io::Error {
-    io::Error::new(ErrorKind::ConnectionAborted, "the other end speaks no WebSocket, or another one")
+    io::Error::new(ErrorKind::ConnectionAborted, "the other party speaks no WebSocket, or another one")
 }
 
 // The head of a request or an answer, with the empty line after it.

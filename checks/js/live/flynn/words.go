@@ -59,7 +59,7 @@ type stream interface {
 	Close() error
 }
 
-// report is what an end says of a connection.
+// report is what a party says of a connection.
 type report struct {
 	count                  int64
 	sum                    []byte

@@ -1,4 +1,4 @@
-// The other end of a channel with the package for Go, with the words of peer.py.
+// The other party of a channel with the package for Go, with the words of peer.py.
 package main
 
 import (

@@ -16,8 +16,9 @@ use crate::psks::message_with_psks;
 use crate::{Role, TextFault, TextFaultKind, Token};
 use arrayvec::ArrayVec;
 
-// The first fault of a text that spells no pattern: its lines are judged in order, and after them the whole. Where each
-// line is right, and the modifiers too, only the base is left to be wrong: it is that of another fundamental pattern.
+// The first fault of a text that spells no pattern: its lines are checked in order, and after them the whole. Where
+// each line is right, and the modifiers too, only the base is left to be wrong: it is that of another fundamental
+// pattern.
 pub(crate) fn first_fault(text: &[u8]) -> TextFault
     ensures { IsTextFault text.now result }
 {
@@ -121,7 +122,7 @@ fn has_dots(text: &[u8]) -> bool
     false
 }
 
-// What was judged so far: whether a line that ends the pre-messages is still to come, which pre-messages stood before,
+// What was checked so far: whether a line that ends the pre-messages is still to come, which pre-messages stood before,
 // and how many messages.
 #[derive(Clone, Copy)]
 struct Judged {
@@ -144,7 +145,7 @@ impl Judged {
         }
     }
 
-    // What was judged after one more line, or what is wrong in it.
+    // What was checked after one more line, or what is wrong in it.
     fn judge(self, places: &[u8], bytes: &[u8]) -> Result<Judged, TextFaultKind>
         ensures { (s : Passed) (dotted : Bool) → Matches self s → IsPassed places.now dotted s
             → IsNextJudged places.now dotted s bytes.now result }

@@ -10,7 +10,7 @@ use noise_names::Role;
 use noise_session::{HalfParts, OpenFault, Receiver, Sender, frame_message};
 
 // The frames of `hi`, `you` and the end, by the ChaCha20Poly1305 of Python's `cryptography`: with a key of 32 bytes
-// `07` at nonces 0 and 1, and with that key renewed (the first 32 bytes of 32 zeros sealed at nonce 2^64 - 1) at nonce
+// `07` at nonces 0 and 1, and with that key rekeyed (the first 32 bytes of 32 zeros sealed at nonce 2^64 - 1) at nonce
 // 2.
 const HI: [u8; 20] = [
     0x00, 0x12, 0x5f, 0xed, 0x6b, 0xec, 0x0b, 0x3e, 0xb0, 0x8e, 0x44, 0xc5, 0x71, 0x48, 0x2c, 0xcc,
@@ -27,7 +27,7 @@ const END: [u8; 18] = [
     0x5f, 0xad,
 ];
 
-// A half of the initiator's direction, whose key is renewed after two messages.
+// A half of the initiator's direction, whose key is rekeyed after two messages.
 fn half(role: Role) -> HalfParts
     ensures { result.nonce ≡ 0 }
 {

@@ -12,7 +12,7 @@ use noise_names::{Pattern, PskPlaces, Role, ValidPattern, fundamental};
 use std::alloc::{AllocError, Global};
 use std::process::Abort;
 
-/// Lines that a duel says.
+/// Messages that two parties say.
 type Lines = Vec<(Role, Vec<u8>, Cuts)>;
 
 // Lines for both parties in turn through the handshake.
@@ -47,7 +47,7 @@ pub fn both_keys(ephemeral: u8, fixed: u8) -> XorKeys
     }
 }
 
-// Two parties with both key pairs each, whose transport key is renewed after each message, say these lines. The lines
+// Two parties with both key pairs each, whose transport key is rekeyed after each message, say these lines. The lines
 // have to fit.
 fn conversed(
     rt: &impl Abort,
@@ -128,7 +128,7 @@ fn framed(message: [u8; 18]) -> [u8; 20] {
     frame
 }
 
-// The ends of a conversation that is the handshake alone renew their keys at their interval: here before each message
+// The parties of a conversation that is the handshake alone rekey at their interval: here before each message
 // but the first.
 #[test]
 fn renews_after_the_handshake(rt: HostRuntime) {

@@ -1,5 +1,5 @@
-//! Datagrams after a session that opened over frames. The caller has no `requires`, so two ends can be as the law on
-//! datagrams wants them.
+//! Datagrams after a session that opened over frames. The caller has no `requires`, so two parties can be as the
+//! property on datagrams wants them.
 
 ghost use Rattle.std.specs.Prelude.{◌≡◌, ◌⊎◌, IfSome, Some, true};
 ghost use Rattle.noise_events.specs.DatagramEvents.{datagram_events_of};
@@ -19,7 +19,7 @@ use noise_names::{Role, ValidPattern};
 use noise_session::Window;
 use std::alloc::Global;
 
-// Any events between two ends of equal setup, and then datagrams, where both report one hash and may go over.
+// Any events between two parties of equal setup, and then datagrams, where both report one hash and may go over.
 fn over_datagrams(
     alloc: Global,
     pattern: ValidPattern,
@@ -54,7 +54,7 @@ fn over_datagrams(
     }
 }
 
-// The hash that both ends report, where it is one and both may go over to datagrams.
+// The hash that both parties report, where it is one and both may go over to datagrams.
 fn common_hash(duel: &Duel<XorKeys, XorKeys>) -> Option<[u8; 32]>
     ensures first { IfSome result (λ hash. hash_in duel.now.initiator.phase ≡ Some hash) }
     ensures second { IfSome result (λ hash. hash_in duel.now.responder.phase ≡ Some hash) }

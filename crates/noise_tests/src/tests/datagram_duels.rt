@@ -1,4 +1,4 @@
-//! Runs of datagrams between two ends. The bytes were worked out by a program in another language.
+//! Runs of datagrams between two parties. The bytes were worked out by a program in another language.
 
 use super::duels::{Ends, between};
 use super::support::opened;
@@ -9,7 +9,7 @@ use noise_session::{End, Transport, Window};
 use std::alloc::{AllocError, Global};
 use std::process::Abort;
 
-// Both ends of an open session of NN.
+// Both parties of an open session of NN.
 fn open_ends(rt: &impl Abort, alloc: Global) -> Result<Ends, AllocError> {
     let (first, second) = opened(rt);
     let first = End::from_transport(alloc, Transport::new(first, 0))?;

@@ -1,4 +1,4 @@
-//! A run of two ends of unequal prologues, which no vector file describes.
+//! A run of two parties of unequal prologues, which no vector file describes.
 
 use super::support::end;
 use noise_conversation::{find_clash, find_mix_hash_clash, run_apart};
@@ -10,10 +10,10 @@ use sha2::{Digest, Sha256};
 use std::alloc::Global;
 use std::process::Abort;
 
-/// Two ends with the toy keys.
+/// Two parties with the toy keys.
 pub type Ends = Duel<XorKeys, XorKeys>;
 
-/// These two ends.
+/// These two parties.
 pub fn between(rt: &impl Abort, first: End<XorKeys>, second: End<XorKeys>) -> Ends {
     assert!(rt; first.role() == Role::Initiator);
     assert!(rt; second.role() == Role::Responder);

@@ -33,7 +33,7 @@ impl From<AllocError> for Failure {
     }
 }
 
-/// One end of a session by the pattern XX. Its transport keys are never renewed.
+/// One party of a session by the pattern XX. Its transport keys are never rekeyed.
 pub fn new_end<K: Keys>(alloc: Global, role: Role, keys: K) -> Result<End<K>, Failure> {
     let Some(plain) = fundamental(b"XX") else {
         return Err(Failure::NoPattern);
@@ -60,7 +60,7 @@ pub fn take_frame<K: Keys, R: Read>(
     }
 }
 
-/// Passes one frame from one end to the other, through memory, and appends its payload.
+/// Passes one frame from one party to the other, through memory, and appends its payload.
 pub fn pass<K: Keys>(
     alloc: Global,
     from: &mut End<K>,
@@ -75,7 +75,7 @@ pub fn pass<K: Keys>(
     take_frame(to, &mut input, payloads)
 }
 
-/// Both ends of XX with the toy keys, and what the responder received.
+/// Both parties of XX with the toy keys, and what the responder received.
 pub fn say_hello(alloc: Global) -> Result<Vec<u8>, Failure> {
     let first = XorKeys {
         e: Some([0x11; 32]),

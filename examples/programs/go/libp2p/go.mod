@@ -11,7 +11,7 @@ require golang.org/x/crypto v0.4.0 // indirect
 
 require golang.org/x/sys v0.3.0 // indirect
 
-// The test's other end, by Debian's packages.
+// The test's other party, by Debian's packages.
 replace (
 	example.org/yulimosar/noise => ../../../../bindings/go
 	github.com/flynn/noise => /usr/share/gocode/src/github.com/flynn/noise

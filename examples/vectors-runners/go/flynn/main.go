@@ -1,4 +1,4 @@
-// Command flynn runs the suite with github.com/flynn/noise. Copy this file, and have it call your Noise.
+// Command flynn runs the suite with github.com/flynn/noise. Copy this file, and have it call your implementation.
 package main
 
 import (

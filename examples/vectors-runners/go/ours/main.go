@@ -1,4 +1,4 @@
-// Command ours runs the suite with the package of bindings/go. Copy this file, and have it call your Noise.
+// Command ours runs the suite with the package of bindings/go. Copy this file, and have it call your implementation.
 package main
 
 import (

@@ -1,4 +1,5 @@
-// Package suite runs the suite of test vectors with a Noise in Go. A program calls Main with a function that starts a party: see the folders beside this.
+// Package suite runs the suite of test vectors with an implementation in Go. A program calls Main with a function that starts a party: see the
+// folders beside this.
 package suite
 
 import (

@@ -1,4 +1,4 @@
-//! The crate of bindings/rust. Copy this file, and have it call your Noise.
+//! The crate of bindings/rust. Copy this file, and have it call your implementation.
 
 use std::cell::Cell;
 use vectors::{run, Fault, Party, Setup};

@@ -1,4 +1,4 @@
-//! The other end of a channel with the crate, with the words of peer.py.
+//! The other party of a channel with the crate, with the words of peer.py.
 use openssl::sha::{sha256, Sha256};
 use std::io::{self, Read, Write};
 use std::net::{Shutdown, TcpListener, TcpStream};
@@ -17,7 +17,7 @@ struct Words {
     count: usize,
 }
 
-/// What an end reports of a connection.
+/// What a party reports of a connection.
 struct Report {
     count: usize,
     sum: [u8; 32],
