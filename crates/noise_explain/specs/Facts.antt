@@ -8,7 +8,6 @@ use Rattle.noise_names.specs.Overhead.{has_key}
 use Rattle.noise_names.specs.Pieces.{places_to, tokens_of}
 use Rattle.noise_names.specs.Plan.{Plan, first_places, is_one_way}
 use Rattle.noise_names.specs.Tokens.{other}
-use Rattle.noise_vectors.specs.VectorText.{role_word}
 use Rattle.noise_explain.specs.FactLines.{key_line, message_line, payload_line}
 use Rattle.noise_explain.specs.FactWords.{again_text, enough_text, mixed_words, writer_text}
 use Rattle.noise_explain.specs.FramePieces.{sender_of}
@@ -38,15 +37,15 @@ if_keyed true front text = front ++ text
 
 -- ---- who can have written a message
 
--- Who can have written what a party has tagged after the first k messages. The DHs of an ephemeral key that the party
--- chooses need no other key.
+-- Who can have written what a party has tagged after the first k messages (what 7.7 asks of its source). The DHs of an
+-- ephemeral key that the party chooses need no other key.
 unfoldable pub rest_of : Plan → Role → ℕ → Mixed → Mixed
 rest_of p writer k m = if chooses p writer E k then without_e writer m else m
 
 unfoldable pub source_text : Plan → Role → ℕ → List ℕ
 source_text p writer k = writer_text (mixed_before p k 0) (rest_of p writer k (mixed_before p k 0))
 
--- whether a recording of it is accepted by this party, which its own e prevents
+-- whether a recording of it is accepted by this party, which its own e prevents (7.7, on replay)
 unfoldable pub replay_text : Plan → Role → ℕ → List ℕ
 replay_text p reader k = again_text reader (is_fresh p reader k)
 

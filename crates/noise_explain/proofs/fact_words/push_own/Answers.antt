@@ -1,4 +1,3 @@
-use Rattle.std.proofs.Common.{◌≡◌}
 use Rattle.noise_explain.proofs.FactLemmas.{five-texts, own-is}
 use Rattle.noise_explain.proofs.fact_words.push_own.Goals as goal
 

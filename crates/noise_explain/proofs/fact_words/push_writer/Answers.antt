@@ -1,4 +1,3 @@
-use Rattle.std.proofs.Common.{◌≡◌}
 use Rattle.noise_explain.proofs.FactLemmas.{two-texts, writer-dh}
 use Rattle.noise_explain.proofs.fact_words.push_writer.Goals as goal
 

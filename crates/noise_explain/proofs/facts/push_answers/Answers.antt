@@ -1,4 +1,3 @@
-use Rattle.std.proofs.Common.{◌≡◌}
 use Rattle.noise_explain.proofs.FactLemmas.{answers-are, two-texts}
 use Rattle.noise_explain.proofs.facts.push_answers.Goals as goal
 

@@ -1,4 +1,4 @@
-use Rattle.std.proofs.Common.{◌≡◌, arith, refl}
+use Rattle.std.proofs.Common.{arith, refl}
 use Rattle.noise_explain.proofs.FactLemmas.{token-step}
 use Rattle.noise_explain.proofs.facts.push_tokens.Goals as goal
 
