@@ -6,8 +6,9 @@ import { linesOf } from './plan.mjs';
 /** For each rule a sentence, and how to mend it. Words in braces are filled in by `brokenRule`. */
 export const RULES = Object.freeze({
   1: ['{token} needs the {owner}’s {key}, which is neither sent before this place nor named above “...”.', 'Let the {owner} send {key} earlier, or name it above “...”.'],
+  later: ['{token} needs the {owner}’s {key}, which is neither sent before this place nor named above “...”.', 'Let the {owner} send {key} earlier, or mix {token} after it.'],
   2: ['The {sender} has sent {token} already.', 'Leave the second one out.'],
-  above: ['The {sender}’s {token} is named above “...” already.', 'Leave the second one out.'],
+  above: ['The {sender}’s {token} is named above “...” already.', 'Keep the one that is meant.'],
   3: ['{token} is mixed in already, and adds nothing the second time.', 'Leave the second one out.'],
   4: ['The {sender} encrypts here, {after} is mixed in, and {missing} isn’t: what it encrypts could depend on no fresh key of its own.', '{mend}'],
   5: ['The {sender} encrypts here after psk, and has sent no e: the same key and nonce could come again.', 'Let the {sender} send e before it.'],
@@ -23,11 +24,11 @@ export const FORMS = Object.freeze({
   30: ['The first line has to be a name of 1 to 8 upper-case letters and digits, then psk places such as psk0 or psk0+psk2, then a colon.', 'For example: MINE:'],
   31: ['The line has to begin with two spaces, an arrow (-> or <-) and one space.', 'For example: two spaces, then “-> e”.'],
   32: ['This isn’t a token.', 'The tokens are e, s, ee, es, se, ss and psk, with a comma and a space between two.'],
-  33: ['Above “...” a line has e, s or “e, s”, the initiator’s first, and “...” comes once, after them.', 'Move this line, or leave it out.'],
+  33: ['Above “...” a line has e, s or “e, s”, the initiator’s first, and “...” comes once, after them.', 'Write one line for each party, the initiator’s first, and messages below “...”.'],
   34: ['It is the other party’s turn.', 'Turn the arrow around: the initiator (->) begins, and then they alternate.'],
-  35: ['psk0 in the heading is a psk before message 1, pskN one at the end of message N; none is elsewhere.', 'Change the heading, or move the tokens.'],
+  35: ['psk0 in the heading is a psk before message 1, pskN one at the end of message N; none is elsewhere.', 'Name the place of each psk in the heading, and put a psk at each place named there.'],
   36: ['This name belongs to a fundamental pattern, and the text is another one.', 'Give it a name of its own.'],
-  37: ['A message has from 1 to 8 tokens besides psk, and this one has more.', 'Leave some out.'],
+  37: ['A message has from 1 to 8 tokens besides psk, and this one has more.', 'Leave out those that come twice.'],
   38: ['There is no message.', 'Add a line such as “  -> e”.'],
 });
 /** What stands in the place of an entry of FORMS where the line shows more. */
@@ -38,8 +39,8 @@ const CLOSER = Object.freeze({
   arrow: ['The arrow is written as two characters: -> or <-.', 'Write it so.'],
   comment: ['The library takes no comments.', 'Take them out.'],
   none: ['A token has to stand here, and none does.', 'Write one, for example e, or take the comma before it out.'],
-  beyond: ['The heading has a psk place beyond the last message.', 'Leave it out, or add messages.'],
-  ninth: ['A pattern has at most 8 messages, and this is one more.', 'Leave it out.'],
+  beyond: ['The heading has a psk place beyond the last message.', 'Write the place that is meant, or add messages.'],
+  ninth: ['A pattern has at most 8 messages, and this is one more.', 'Put its tokens into earlier messages.'],
   alone: ['A message has from 1 to 8 tokens besides psk, and this one has none.', 'Add one, for example e.'],
 });
 /** How many messages a pattern has at most. */
@@ -50,18 +51,11 @@ export const OTHER = Object.freeze({ initiator: 'responder', responder: 'initiat
 /** The number of the line with the first message. */
 export const firstOf = (lines) => lines.findIndex(({ line }) => line === '  ...') + 1 || 1;
 
-/** Whether the lines down to this one are keys known before, whose “...” was forgotten: the last such line, or undefined. */
+/** Whether line 2 has keys of the responder that are known before, whose “...” was forgotten: that line, or undefined. A line that could be a message stays one. */
 export function forgottenDots(lines, n) {
-  if (lines.some(({ line }) => line === '  ...')) return undefined;
-  const isKeys = ({ tokens }) => tokens !== undefined && ['s', 'e,s'].includes(tokens.map(({ name }) => name).join());
-  const [first, second] = lines.slice(1, 3);
-  if (n === 1) return first.role === 'responder' && isKeys(first) ? 1 : undefined;
-  if (n === 2 || n === 3) {
-    const isPair = n === 3 && first.role === 'initiator' && second.role === 'responder' && isKeys(first) && isKeys(second);
-    if (isPair) return 2;
-    return n === 2 && isKeys(first) && first.role === second.role ? 1 : undefined;
-  }
-  return undefined;
+  if (n !== 1 || lines.some(({ line }) => line === '  ...')) return undefined;
+  const { role, tokens } = lines[1];
+  return role === 'responder' && tokens !== undefined && ['s', 'e,s'].includes(tokens.map(({ name }) => name).join()) ? 1 : undefined;
 }
 
 /** The place of a line in the text. */
@@ -129,7 +123,8 @@ export function brokenRule(lines, { rule, message, token }) {
     earlier.push({ role: sender, names: line.tokens.slice(0, token).map((it) => it.name) });
     const has = (role, key) => earlier.some((it) => it.role === role && it.names.includes(key));
     const owner = has('initiator', name[0]) ? 'responder' : 'initiator';
-    return { token: name, sender, owner, key: owner === 'initiator' ? name[0] : name[1] };
+    const key = owner === 'initiator' ? name[0] : name[1];
+    return { token: name, sender, owner, key, isLater: keyPlace(lines, owner, key) !== undefined };
   }
   if (rule === 2) return { token: name, sender, isAbove: keyPlace(lines, sender, name).at < 0 };
   if (rule !== 4) return { token: name, sender };
@@ -175,7 +170,7 @@ export function explain(text, fault) {
   const lines = linesOf(text);
   if (fault.rule) {
     const values = brokenRule(lines, fault);
-    const [says, mend] = RULES[values.isAbove ? 'above' : fault.rule].map((it) => filled(it, values));
+    const [says, mend] = RULES[(values.isAbove && 'above') || (values.isLater && 'later') || fault.rule].map((it) => filled(it, values));
     const [number, where] = [sectionOf(fault.rule), ` is broken at ${placeOf(lines, fault)}`];
     return { title: `Rule ${fault.rule}${where}`, where, rule: fault.rule, section: { number, url: SECTIONS[number] }, says, mend, span: spanOfRule(lines, fault) };
   }

@@ -84,7 +84,7 @@ const FORM_MENDS = {
   33: (lines, n) => (n === 2 && lines[2].role === 'initiator' && lines[1].role === 'responder'
     ? [['Put the initiator’s line first', textOf([lines[0].line, lines[2].line, lines[1].line, ...plain(lines).slice(3)])]] : []),
   34: (lines, n) => {
-    const dots = lines[1].role === 'responder' ? forgottenDots(lines, n) : undefined;    // a line that could be a message stays one
+    const dots = forgottenDots(lines, n);
     const turned = { '->': '<-', '<-': '->' }[lines[n].line.slice(2, 4)];
     return [
       ...(dots === undefined ? [] : [[`This key is known before: put “...” below line ${dots + 1}`, withLine(lines, dots + 1, '  ...')]]),
@@ -130,9 +130,10 @@ function mixed(lines, dh, n) {
 function ruleMends(lines, verdict) {
   const { rule, message, token } = verdict;
   const n = firstOf(lines) + message - 1;
-  const { owner, key, sender, missing, mend } = brokenRule(lines, verdict);
+  const { owner, key, sender, missing, mend, isLater } = brokenRule(lines, verdict);
   if (rule === 1) {
-    return [[`Let the ${owner} send ${key} before`, sending(lines, n, token, owner, key)], [`Name the ${owner}’s ${key} above “...”`, named(lines, owner, key)]];
+    const above = isLater ? [] : [[`Name the ${owner}’s ${key} above “...”`, named(lines, owner, key)]];    // a key that comes in a message stays in one
+    return [[`Let the ${owner} send ${key} before`, sending(lines, n, token, owner, key)], ...above];
   }
   if (rule === 2 || rule === 3) {
     const names = namesOf(lines[n]);

@@ -1,21 +1,41 @@
 -- What an explanation of a text says.
-use Rattle.std.specs.Prelude.{◌≡◌, ◌⊎◌, ℕ, List, ◌++◌}
+use Rattle.std.specs.Prelude.{⊤, ◌≡◌, ◌⊎◌, ℕ, List, ◌++◌, IsTrue}
+use Rattle.std.specs.List.{list_all}
 use Rattle.noise_names.specs.Plan.{Plan}
 use Rattle.noise_names.specs.Text.{Spells}
 use Rattle.noise_names.specs.Validity.{IsValid}
 use Rattle.noise_lines.specs.Faults.{status_of}
 use Rattle.noise_lines.specs.Output.{IsCheckFault}
+use Rattle.noise_lines.specs.PrintedWords.{is_printed_byte}
 use Rattle.noise_lines.specs.declared.faults.Fault.{Fault}
 use Rattle.noise_lines.specs.declared.faults.Fault.TheVariants.{Rule, Text, TooLong}
+use Rattle.noise_explain.specs.Facts.{facts_text}
 use Rattle.noise_explain.specs.Places.{IsColumn, line_at}
 use Rattle.noise_explain.specs.RulePlaces.{IsRulePlace}
-use Rattle.noise_explain.specs.Shown.{right_head, unread_head, wrong_head}
+use Rattle.noise_explain.specs.Shown.{caret_text, right_head, sentence_line, unread_head, wrong_head}
 use Rattle.noise_explain.specs.declared.explanation.Explained.{Explained}
 use Rattle.noise_explain.specs.declared.place.Place.{Place}
 
 -- its text begins with these bytes
 abbrev pub TextBeginsWith : List ℕ → Explained → Type 0
 TextBeginsWith front e = (rest : List ℕ) × (e.text.items ≡ front ++ rest)
+
+-- ---- sentences
+
+-- what is wrong, and what mends it: a line each
+pub record AreTwo (text : List ℕ) : Type 0 where
+  pub says : List ℕ
+  pub mends : List ℕ
+  pub says_is : IsTrue (list_all is_printed_byte says)
+  pub mends_is : IsTrue (list_all is_printed_byte mends)
+  pub text_is : text ≡ sentence_line says ++ sentence_line mends
+
+-- what is said of a fault that reading finds begins with what is wrong and what mends it; other faults may follow
+abbrev pub IsTold : Fault → List ℕ → Type 0
+IsTold (Text fault) told = (two rest : List ℕ) × AreTwo two × (told ≡ two ++ rest)
+IsTold fault told = ⊤
+
+-- ---- the whole
 
 -- a fault of a pattern text stands at this place of it
 abbrev pub IsAt : List ℕ → Fault → Place → Type 0
@@ -24,22 +44,25 @@ IsAt text (Text fault) place =
 IsAt text (Rule fault) place = (p : Plan) × Spells text p × IsRulePlace p fault place
 IsAt text fault place = ⊥
 
--- the text is that of a valid pattern, and is reported as such
+-- the text is that of a valid pattern, and is reported as such, with all that follows from its tokens
 pub record SaysRight (name text : List ℕ) (e : Explained) : Type 0 where
   pub p : Plan
   pub spells : Spells text p
   pub valid : IsValid p
   pub status_is : e.status ≡ 0
-  pub begins : TextBeginsWith (right_head name p) e
+  pub text_is : e.text.items ≡ right_head name p ++ facts_text p
 
--- the text has the fault that `check` reports, and it is reported with its place
+-- the text has the fault that `check` reports: its place, the line there with a caret below the place, and sentences
 pub record SaysWrong (name text : List ℕ) (e : Explained) : Type 0 where
   pub fault : Fault
   pub wrong : IsCheckFault text fault
   pub place : Place
   pub at : IsAt text fault place
   pub status_is : e.status ≡ status_of fault
-  pub begins : TextBeginsWith (wrong_head name place fault) e
+  pub told : List ℕ
+  pub is_told : IsTold fault told
+  pub text_is : e.text.items
+      ≡ wrong_head name place fault ++ (caret_text (line_at text place.line) place.column ++ told)
 
 abbrev pub IsExplained : List ℕ → List ℕ → Explained → Type 0
 IsExplained name text e = SaysRight name text e ⊎ SaysWrong name text e
@@ -47,4 +70,6 @@ IsExplained name text e = SaysRight name text e ⊎ SaysWrong name text e
 -- a file of too many bytes is reported as such
 pub record SaysLong (name : List ℕ) (e : Explained) : Type 0 where
   pub status_is : e.status ≡ 2
-  pub begins : TextBeginsWith (unread_head name TooLong) e
+  pub told : List ℕ
+  pub is_told : AreTwo told
+  pub text_is : e.text.items ≡ unread_head name TooLong ++ told

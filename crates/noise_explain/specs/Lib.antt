@@ -1,7 +1,10 @@
 pub mod Explained
 pub mod FactLines
+pub mod Facts
+pub mod FactWords
 pub mod FramePieces
 pub mod MixedKeys
+pub mod Parties
 pub mod Places
 pub mod RulePlaces
 pub mod Shown

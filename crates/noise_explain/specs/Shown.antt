@@ -23,6 +23,10 @@ right_head name p = shown_text name ++ codes ": valid " ++ section_bytes p.base 
 abbrev pub unread_head : List ℕ → Fault → List ℕ
 unread_head name fault = shown_text name ++ codes ": " ++ fault_line fault ++ codes "\n"
 
+-- a line of a sentence
+abbrev pub sentence_line : List ℕ → List ℕ
+sentence_line sentence = codes "  " ++ sentence ++ codes "\n"
+
 -- ---- a line of a text
 
 -- what stands before a column, after two spaces: at most its last 64 bytes

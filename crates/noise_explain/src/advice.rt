@@ -1,5 +1,9 @@
 //! The sentences on wrong texts.
 
+ghost use Rattle.std.specs.Prelude.{IsTrue};
+ghost use Rattle.std.specs.List.{list_all};
+ghost use Rattle.noise_lines.specs.PrintedWords.{is_printed_byte};
+
 /// What is wrong, as closely as an explanation reports it.
 #[derive(Clone, Copy, Debug, PartialEq, Eq)]
 pub enum Advice {
@@ -79,7 +83,9 @@ pub enum Advice {
 
 impl Advice {
     /// What has to stand there, or what stands there.
-    pub fn says(self) -> &'static str {
+    pub fn says(self) -> &'static str
+        ensures { IsTrue (list_all is_printed_byte result.now) }
+    {
         match self {
             Advice::TooLong => "A file has at most 4194304 bytes, and this one has more.",
             Advice::ByteOrderMark => "A byte-order mark stands before the first line.",
@@ -150,7 +156,9 @@ impl Advice {
     }
 
     /// What mends it.
-    pub fn mends(self) -> &'static str {
+    pub fn mends(self) -> &'static str
+        ensures { IsTrue (list_all is_printed_byte result.now) }
+    {
         match self {
             Advice::TooLong => "Leave some out, or make several files of it.",
             Advice::ByteOrderMark => "Save the file without it.",
@@ -178,18 +186,20 @@ impl Advice {
             Advice::TokenCase => "Write it in lower case.",
             Advice::TokensJoined => "Write them so.",
             Advice::TokenMissing => "Write one, for example e, or take the comma before it out.",
-            Advice::PreMessage => "Move this line, or leave it out.",
+            Advice::PreMessage =>
+                "Write one line for each party, the initiator's first, and messages below \"...\".",
             Advice::DotsAlone => "Leave it out, or name such a key above it.",
             Advice::Turn => {
                 "Turn the arrow around: the initiator (->) begins, and then they alternate."
             }
             Advice::DotsMissing => "Put \"...\" below the lines of such keys.",
-            Advice::PskTokens => "Change the heading, or move the tokens.",
-            Advice::PskBeyond => "Leave it out, or add messages.",
+            Advice::PskTokens =>
+                "Name the place of each psk in the heading, and put a psk at each place named there.",
+            Advice::PskBeyond => "Write the place that is meant, or add messages.",
             Advice::NameTaken => "Give it a name of its own.",
-            Advice::NinthMessage => "Leave it out.",
+            Advice::NinthMessage => "Put its tokens into earlier messages.",
             Advice::PskAlone => "Add one, for example e.",
-            Advice::ManyTokens => "Leave some out.",
+            Advice::ManyTokens => "Leave out those that come twice.",
             Advice::LineFeedMissing => "End it with one.",
             Advice::MessageMissing => "Add a line such as \"  -> e\".",
         }

@@ -2,7 +2,7 @@
 
 ghost use Rattle.std.specs.Prelude.{◌≡◌, ◌++◌, IfOk, OnOk, codes, decimal, replicate};
 ghost use Rattle.noise_names.specs.Names.{section_bytes};
-ghost use Rattle.noise_explain.specs.Shown.{caret_text, right_head, shown_end, shown_start, unread_head, wrong_head};
+ghost use Rattle.noise_explain.specs.Shown.{caret_text, right_head, sentence_line, shown_end, shown_start, unread_head, wrong_head};
 
 use crate::place::Place;
 use noise_lines::{Fault, fault_line, push_shown};
@@ -132,7 +132,7 @@ fn push_start(bytes: &[u8], text: &mut Vec<u8>) -> Result<(), AllocError>
 
 /// Appends a line of two spaces and a sentence.
 pub fn push_sentence(sentence: &str, text: &mut Vec<u8>) -> Result<(), AllocError>
-    ensures { OnOk result (text.new.items ≡ text.old.items ++ (codes "  " ++ sentence.now ++ codes "\n")) }
+    ensures { OnOk result (text.new.items ≡ text.old.items ++ sentence_line sentence.now) }
 {
     text.extend_from_slice(b"  ".as_slice())?;
     text.extend_from_slice(sentence.as_bytes())?;

@@ -1,10 +1,11 @@
 //! What is said of a text.
 
-ghost use Rattle.std.specs.Prelude.{◌≡◌, ◌≤◌, IfOk};
+ghost use Rattle.std.specs.Prelude.{◌≡◌, ◌≤◌, ◌++◌, ℕ, List, IfOk};
 ghost use Rattle.noise_lines.specs.Output.{IsCheckFault};
 ghost use Rattle.noise_lines.specs.declared.faults.Fault.TheVariants.{Rule, Text};
 ghost use Rattle.noise_names.specs.Text.{Spells};
-ghost use Rattle.noise_explain.specs.Explained.{TextBeginsWith, IsExplained, SaysLong, SaysWrong};
+ghost use Rattle.noise_explain.specs.Explained.{AreTwo, IsExplained, SaysLong, SaysWrong};
+ghost use Rattle.noise_explain.specs.Facts.{facts_text};
 ghost use Rattle.noise_explain.specs.Shown.{right_head};
 
 use crate::advice::Advice;
@@ -12,7 +13,7 @@ use crate::all_rules::other_rules;
 use crate::column::column_of;
 use crate::excerpt::{caret_lines, push_sentence, right_head, unread_head, wrong_head};
 use crate::facts::fact_lines;
-use crate::other_lines::push_other_lines;
+use crate::other_lines::other_lines;
 use crate::place::{Place, line_at};
 use crate::rule_place::rule_place;
 use crate::rule_sentences::rule_sentences;
@@ -81,7 +82,7 @@ pub(crate) fn explain_valid(
     pattern: &ValidPattern,
 ) -> Result<Explained, AllocError>
     ensures status { IfOk result (λ e. e.status ≡ 0) }
-    ensures begins { IfOk result (TextBeginsWith (right_head name.now pattern.now)) }
+    ensures text { IfOk result (λ e. e.text.items ≡ right_head name.now pattern.now ++ facts_text pattern.now) }
 {
     let mut text = right_head(alloc, name, pattern.pattern())?;
     text.extend_from_slice(&fact_lines(alloc, pattern)?)?;
@@ -142,15 +143,19 @@ fn told_lines(
     text: &[u8],
     fault: TextFault,
     column: usize,
-) -> Result<Vec<u8>, AllocError> {
+) -> Result<Vec<u8>, AllocError>
+    ensures { IfOk result (λ told. (two rest : List ℕ) × AreTwo two × (told.items ≡ two ++ rest)) }
+{
     let advice = fault_advice(text, fault, column);
     let mut said = advice_lines(alloc, advice)?;
-    push_other_lines(alloc, text, fault.line, advice, &mut said)?;
+    said.extend_from_slice(&other_lines(alloc, text, fault.line, advice)?)?;
     Ok(said)
 }
 
 // What is wrong with a text, and what mends it.
-fn advice_lines(alloc: Global, advice: Advice) -> Result<Vec<u8>, AllocError> {
+fn advice_lines(alloc: Global, advice: Advice) -> Result<Vec<u8>, AllocError>
+    ensures { IfOk result (λ text. AreTwo text.items) }
+{
     let mut text = Vec::new(alloc);
     push_sentence(advice.says(), &mut text)?;
     push_sentence(advice.mends(), &mut text)?;

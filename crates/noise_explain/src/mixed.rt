@@ -1,7 +1,9 @@
 //! What is mixed into the keys at a place of a pattern, and which private keys are enough for that.
 
-ghost use Rattle.std.specs.Prelude.{◌≡◌, ◌||◌, fold};
+ghost use Rattle.std.specs.Prelude.{◌≡◌, fold};
+ghost use Rattle.noise_explain.specs.FactWords.{has_dh, has_psks, psks_word};
 ghost use Rattle.noise_explain.specs.MixedKeys.{add_token, are_enough, are_least, mixed_before, nothing, one_more};
+ghost use Rattle.noise_explain.specs.Parties.{keys_of, without_e};
 
 use crate::rule_place::tokens_at;
 use noise_names::{Pattern, Role, Token};
@@ -44,7 +46,9 @@ impl Psks {
     }
 
     /// The word for them, or nothing.
-    pub fn word(self) -> &'static str {
+    pub fn word(self) -> &'static str
+        ensures { result.now ≡ psks_word self }
+    {
         match self {
             Psks::None => "",
             Psks::One => "psk",
@@ -52,7 +56,9 @@ impl Psks {
         }
     }
 
-    pub fn is_some(self) -> bool {
+    pub fn is_some(self) -> bool
+        ensures { result ≡ has_psks self }
+    {
         match self {
             Psks::None => false,
             _ => true,
@@ -62,13 +68,22 @@ impl Psks {
 
 impl Keys {
     // The ephemeral key of a party, and its static one where that is asked for.
-    pub fn of(party: Role, has_s: bool) -> Keys {
-        let is_initiator = party == Role::Initiator;
-        Keys {
-            initiator_e: is_initiator,
-            initiator_s: is_initiator && has_s,
-            responder_e: !is_initiator,
-            responder_s: !is_initiator && has_s,
+    pub fn of(party: Role, has_s: bool) -> Keys
+        ensures { result ≡ keys_of party has_s }
+    {
+        match party {
+            Role::Initiator => Keys {
+                initiator_e: true,
+                initiator_s: has_s,
+                responder_e: false,
+                responder_s: false,
+            },
+            Role::Responder => Keys {
+                initiator_e: false,
+                initiator_s: false,
+                responder_e: true,
+                responder_s: has_s,
+            },
         }
     }
 }
@@ -114,14 +129,17 @@ impl Mixed {
         mixed
     }
 
+    #[tactic(auto, unfolding(crate::specs::FactWords::has_dh))]
     pub fn has_dh(self) -> bool
-        ensures { result ≡ (self.ee || self.es || self.se || self.ss) }
+        ensures { result ≡ has_dh self }
     {
         self.ee || self.es || self.se || self.ss
     }
 
     // The DHs that need another key than this party's ephemeral one.
-    pub fn without_e(self, party: Role) -> Mixed {
+    pub fn without_e(self, party: Role) -> Mixed
+        ensures { result ≡ without_e party self }
+    {
         match party {
             Role::Initiator => Mixed {
                 ee: false,

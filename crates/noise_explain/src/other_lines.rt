@@ -13,27 +13,34 @@ const MOST: usize = 40;
 
 // What is wrong with each later line that can't be read alone, and what mends it. What was said of the first one isn't
 // said again, and nothing is where all lines are indented, or are those of a vector file.
-pub(crate) fn push_other_lines(
+pub(crate) fn other_lines(
     alloc: Global,
     text: &[u8],
     first: usize,
     first_advice: Advice,
-    said: &mut Vec<u8>,
-) -> Result<(), AllocError> {
+) -> Result<Vec<u8>, AllocError> {
+    let mut said = Vec::new(alloc);
     if first_advice == Advice::HeadingIndented || first_advice == Advice::VectorHeading {
-        return Ok(());
+        return Ok(said);
     }
     let mut rest = text;
     for number in 1..first.saturating_add(MOST) {
         if rest.is_empty() {
-            return Ok(());
+            return Ok(said);
         }
         if number > first {
-            push_line(alloc, text, number, line_at(rest, 1), first_advice, said)?;
+            push_line(
+                alloc,
+                text,
+                number,
+                line_at(rest, 1),
+                first_advice,
+                &mut said,
+            )?;
         }
         rest = after_line(rest);
     }
-    Ok(())
+    Ok(said)
 }
 
 fn push_line(

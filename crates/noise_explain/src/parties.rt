@@ -1,29 +1,71 @@
 //! What a party has sent, and what somebody who takes its part has to have.
 
-use crate::known::sender_of;
+ghost use Rattle.std.specs.Prelude.{◌≡◌, ◌&&◌};
+ghost use Rattle.noise_names.specs.Tokens.{same_role};
+ghost use Rattle.noise_explain.specs.MixedKeys.{tokens_after};
+ghost use Rattle.noise_explain.specs.Parties.{chooses, has_sent, has_token, is_fresh, is_mixed, is_unmixed, own_part, sender_after};
+
 use crate::mixed::{Keys, Mixed};
 use crate::rule_place::tokens_at;
 use noise_names::{Pattern, Role, Token};
 
-// Whether a party sends this key in one of the first messages.
-pub(crate) fn has_sent(pattern: &Pattern, party: Role, key: Token, passed: usize) -> bool {
-    for index in 0..passed {
-        if sender_of(index.saturating_add(1)) == party
-            && tokens_at(pattern.messages(), index).contains(&key)
-        {
-            return true;
-        }
+// Who sends the message after so many.
+fn sender_after(passed: usize) -> Role
+    ensures { result ≡ sender_after passed }
+{
+    if passed % 2 == 0 {
+        Role::Initiator
+    } else {
+        Role::Responder
     }
-    false
+}
+
+fn is_same(first: Role, second: Role) -> bool
+    ensures { result ≡ same_role first second }
+{
+    match (first, second) {
+        (Role::Initiator, Role::Initiator) => true,
+        (Role::Responder, Role::Responder) => true,
+        _ => false,
+    }
+}
+
+// Whether the message after so many has this key.
+fn has_key_after(pattern: &Pattern, key: Token, passed: usize) -> bool
+    ensures { result ≡ has_token key (tokens_after pattern.now passed) }
+{
+    tokens_at(pattern.messages(), passed).contains(&key)
+}
+
+// Whether a party sends this key in the message after so many.
+fn sends_after(pattern: &Pattern, party: Role, key: Token, passed: usize) -> bool
+    ensures { result ≡ (same_role (sender_after passed) party && has_token key (tokens_after pattern.now passed)) }
+{
+    is_same(sender_after(passed), party) && has_key_after(pattern, key, passed)
+}
+
+// Whether a party sends this key in one of the first messages.
+pub(crate) fn has_sent(pattern: &Pattern, party: Role, key: Token, passed: usize) -> bool
+    ensures { result ≡ has_sent pattern.now party key passed }
+{
+    let mut has = false;
+    for index in 0..passed {
+        has = has || sends_after(pattern, party, key, index);
+    }
+    has
 }
 
 // Whether a party sends a key that the other one doesn't know before.
-pub(crate) fn chooses(pattern: &Pattern, party: Role, key: Token, passed: usize) -> bool {
+pub(crate) fn chooses(pattern: &Pattern, party: Role, key: Token, passed: usize) -> bool
+    ensures { result ≡ chooses pattern.now party key passed }
+{
     !pattern.pre(party).contains(&key) && has_sent(pattern, party, key, passed)
 }
 
 // Whether a party has put in an ephemeral key.
-pub(crate) fn is_fresh(pattern: &Pattern, party: Role, passed: usize) -> bool {
+pub(crate) fn is_fresh(pattern: &Pattern, party: Role, passed: usize) -> bool
+    ensures { result ≡ is_fresh pattern.now party passed }
+{
     pattern.pre(party).contains(&Token::E) || has_sent(pattern, party, Token::E, passed)
 }
 
@@ -36,7 +78,9 @@ pub(crate) enum Part {
 }
 
 // The fewest keys that the party chooses, and that are enough for these DHs.
-pub(crate) fn own_part(pattern: &Pattern, party: Role, passed: usize, mixed: Mixed) -> Part {
+pub(crate) fn own_part(pattern: &Pattern, party: Role, passed: usize, mixed: Mixed) -> Part
+    ensures { result ≡ own_part pattern.now party passed mixed }
+{
     if !chooses(pattern, party, Token::E, passed) {
         Part::Neither
     } else if mixed.is_by(Keys::of(party, false)) {
@@ -49,7 +93,9 @@ pub(crate) fn own_part(pattern: &Pattern, party: Role, passed: usize, mixed: Mix
 }
 
 // Whether a static key of this party is named, and no DH mixes it.
-pub(crate) fn is_unmixed(pattern: &Pattern, party: Role, mixed: Mixed) -> bool {
+pub(crate) fn is_unmixed(pattern: &Pattern, party: Role, mixed: Mixed) -> bool
+    ensures { result ≡ is_unmixed pattern.now party mixed }
+{
     let is_mixed = match party {
         Role::Initiator => mixed.se || mixed.ss,
         Role::Responder => mixed.es || mixed.ss,

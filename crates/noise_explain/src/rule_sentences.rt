@@ -94,7 +94,12 @@ fn key_missing(
     let says = format!(in alloc;
         "{token} needs the {owner}'s {key}, which is neither sent before this place nor named above \"...\"."
     )?;
-    let mends = format!(in alloc; "Let the {owner} send {key} earlier, or name it above \"...\".")?;
+    // A key that comes in a later message stays in one.
+    let mends = if key_spot(pattern, role, missing).is_some() {
+        format!(in alloc; "Let the {owner} send {key} earlier, or mix {token} after it.")?
+    } else {
+        format!(in alloc; "Let the {owner} send {key} earlier, or name it above \"...\".")?
+    };
     Ok((says, mends))
 }
 
@@ -107,11 +112,14 @@ fn key_again(
 ) -> Result<(String, String), AllocError> {
     let sender = role_word(broken.sender);
     let token = token_word(key);
-    let says = if pattern.pre(broken.sender).contains(&key) {
-        format!(in alloc; "The {sender}'s {token} is named above \"...\" already.")?
-    } else {
-        format!(in alloc; "The {sender} has sent {token} already.")?
-    };
+    if pattern.pre(broken.sender).contains(&key) {
+        let says = format!(in alloc; "The {sender}'s {token} is named above \"...\" already.")?;
+        return Ok((
+            says,
+            String::from_str(alloc, "Keep the one that is meant.")?,
+        ));
+    }
+    let says = format!(in alloc; "The {sender} has sent {token} already.")?;
     Ok((says, String::from_str(alloc, "Leave the second one out.")?))
 }
 

@@ -147,14 +147,11 @@ fn token_advice(rest: &[u8]) -> Advice {
     }
 }
 
-// Whether the line of keys that are known before was forgotten, or an arrow is wrong.
+// Whether the line below the keys that are known before was forgotten, or an arrow is wrong. Keys of the initiator in
+// line 2 are those of a message, and stay so.
 fn turn_advice(text: &[u8], number: usize) -> Advice {
     let first = line_at(text, 2);
-    let is_known = match number {
-        2 => is_keys(first),
-        3 => is_keys(first) && first.starts_with(b"  ->".as_slice()),
-        _ => false,
-    };
+    let is_known = number == 2 && is_keys(first);
     if is_known && (has_dots(line_at(text, 3)) || has_dots(line_at(text, 4))) {
         Advice::Dots
     } else if is_known {

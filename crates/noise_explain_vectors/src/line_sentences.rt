@@ -104,7 +104,8 @@ fn prologue_reported(line: &[u8]) -> Sentences {
         return Sentences::new(
             "The prologue's line has to stand here: the pattern of this name is a fundamental one, which no file \
              spells.",
-            "Leave the lines of the pattern and the line end out.",
+            "Leave the lines of the pattern and the line end out if they are those of this name, or write their own \
+             name.",
         );
     }
     Sentences::new(
@@ -144,6 +145,12 @@ fn event_reported(text: &[u8], number: usize, line: &[u8]) -> Sentences {
         } else {
             expect_reported(line)
         };
+    }
+    if first == b"psk".as_slice() {
+        return Sentences::new(
+            "An event has to stand here, and a line of this name stands above the events.",
+            "Move it up.",
+        );
     }
     if is_upper_line(first) {
         return Sentences::new(
@@ -201,7 +208,7 @@ fn whole_reported(kind: LineKind, text: &[u8], number: usize, line: &[u8]) -> Se
     match kind {
         LineKind::Psk => Sentences::new(
             "A file has at most 9 psk lines, and this is one more.",
-            "Leave it out.",
+            "Write one psk line for each psk token, in the order of the tokens.",
         ),
         LineKind::Keys => other_party_reported(needed_role(text, number)),
         LineKind::Answer => Sentences::new(

@@ -7,7 +7,7 @@ pub returns-in-Ok-clause-explained : goal.returns-in-Ok-clause-explained
 returns-in-Ok-clause-explained c =
     let is_valid : IsValid c.args.pattern = search rules in
     right-said c.args.name.now c.args.text.now c.args.pattern c.in-Ok.valid c.explain_valid.result c.requires c.in-Ok.ensures.value is_valid
-    c.explain_valid.ensures.status c.explain_valid.ensures.begins
+    c.explain_valid.ensures.status c.explain_valid.ensures.text
 
 pub returns-in-Ok-clause-bound : goal.returns-in-Ok-clause-bound
 returns-in-Ok-clause-bound c = few-said c.explain_valid.result c.explain_valid.ensures.status
