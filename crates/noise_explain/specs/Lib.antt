@@ -9,3 +9,4 @@ pub mod Places
 pub mod RulePlaces
 pub mod Shown
 pub mod Slips
+pub mod StateParts

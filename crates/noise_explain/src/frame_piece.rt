@@ -1,13 +1,13 @@
 //! The piece of a handshake message at which two frames first differ.
 
-ghost use Rattle.std.specs.Prelude.{◌≡◌, ◌≢◌, ◌<◌, ◌≤◌, ◌++◌, ℕ, List, IfNone, IfOk, IfSome, MatchOption, length, slice_get, string_bytes};
+ghost use Rattle.std.specs.Prelude.{◌≡◌, ◌≢◌, ◌<◌, ◌≤◌, ◌++◌, ℕ, List, IfNone, IfOk, IfSome, MatchOption, OnOk, length, slice_get, string_bytes};
 ghost use Rattle.std.specs.List.{All};
 ghost use Rattle.noise_vectors.specs.HexWord.{hex_of};
-ghost use Rattle.noise_explain.specs.FramePieces.{HasNoFrame, HaveNoFrame, IsFirstDifferent, SaysPiece, IsPieceAt, frame_front, makes_key, piece_len, piece_line, piece_word};
+ghost use Rattle.noise_explain.specs.FramePieces.{HasNoFrame, HaveNoFrame, IsFirstDifferent, SaysPiece, IsPieceAt, frame_front, key_piece, offset_words, payload_piece, piece_line, piece_word};
 
 use crate::excerpt::push_number;
 use crate::known::sender_of;
-use crate::rule_place::tokens_at;
+use crate::piece_lines::tokens_of;
 use noise_lines::{role_word, token_word};
 use noise_names::{Token, ValidPattern};
 use noise_vectors::read_hex;
@@ -18,15 +18,25 @@ use std::alloc::{AllocError, Global};
 pub enum Piece {
     /// The message's length.
     Length,
-    /// The public key of a token, with its tag where it is encrypted.
+    /// The public key of a token, in the clear.
     Key(Token),
-    /// The payload, with its tag where it is encrypted.
+    /// The static key, encrypted.
+    EncryptedKey,
+    /// The tag of the encrypted static key.
+    KeyTag,
+    /// The payload, in the clear.
     Payload,
+    /// The payload, encrypted.
+    EncryptedPayload,
+    /// The tag of the encrypted payload.
+    PayloadTag,
+    /// What follows the last byte.
+    End,
 }
 
-/// Of two lines of a run that differ, where both are of the frame of one handshake message: a line of the first byte
-/// at which the frames differ, counted from 0, and of the piece that stands there.
-pub fn difference_line(
+// Of two lines that differ, where both are of the frame of one handshake message: a line of the first byte at which the
+// frames differ, counted from 0, and of the piece that stands there.
+pub(crate) fn frame_difference(
     alloc: Global,
     pattern: &ValidPattern,
     expected: &[u8],
@@ -67,7 +77,12 @@ fn message_line(
         return Ok(None);
     };
     match first_difference(&yours, &right) {
-        Some(at) => Ok(Some(piece_line(alloc, at, piece_at(pattern, message, at), message)?)),
+        Some(at) => Ok(Some(piece_line(
+            alloc,
+            at,
+            piece_at(pattern, message, at, right.len()),
+            message,
+        )?)),
         None => Ok(None),
     }
 }
@@ -95,7 +110,7 @@ fn frame_after(alloc: Global, front: &[u8], line: &[u8]) -> Result<Option<Vec<u8
 }
 
 // What follows this front of a line.
-fn word_after<'a>(front: &[u8], line: &'a [u8]) -> Option<&'a [u8]>
+pub(crate) fn word_after<'a>(front: &[u8], line: &'a [u8]) -> Option<&'a [u8]>
     ensures some { IfSome result (λ word. line.now ≡ front.now ++ word.now) }
     ensures none { IfNone result ((word : List ℕ) → line.now ≢ front.now ++ word) }
 {
@@ -103,8 +118,8 @@ fn word_after<'a>(front: &[u8], line: &'a [u8]) -> Option<&'a [u8]>
     Some(word)
 }
 
-// The first place at which two frames differ.
-fn first_difference(yours: &[u8], right: &[u8]) -> Option<usize>
+// The first place at which these bytes differ.
+pub(crate) fn first_difference(yours: &[u8], right: &[u8]) -> Option<usize>
     ensures { MatchOption result (yours.now ≡ right.now) (IsFirstDifferent yours.now right.now) }
 {
     let same = same_bytes(yours, right);
@@ -115,7 +130,7 @@ fn first_difference(yours: &[u8], right: &[u8]) -> Option<usize>
     }
 }
 
-// How many bytes both frames begin with.
+// How many bytes both begin with.
 fn same_bytes(yours: &[u8], right: &[u8]) -> usize
     ensures within { (result ≤ length yours.now) × (result ≤ length right.now) }
     ensures value { (i : ℕ) → i < result → slice_get yours.now i ≡ slice_get right.now i }
@@ -129,50 +144,53 @@ fn same_bytes(yours: &[u8], right: &[u8]) -> usize
     same
 }
 
-// What stands at this byte of the frame of a message.
-fn piece_at(pattern: &ValidPattern, message: u8, at: usize) -> Piece
+// What stands at this byte of the frame of a message, which has so many bytes.
+fn piece_at(pattern: &ValidPattern, message: u8, at: usize, len: usize) -> Piece
     requires first { 1 ≤ message }
     requires last { message ≤ length pattern.now.messages }
-    ensures { IsPieceAt pattern.now message at result }
+    ensures { IsPieceAt pattern.now message len at result }
 {
     if at < 2 {
         return Piece::Length;
     }
-    let has_psk = !pattern.pattern().is_plain();
-    let mut has_key = pattern.has_key(message - 1);
-    let tokens = tokens_at(pattern.pattern().messages(), usize::from(message) - 1);
-    let mut end: usize = 2;
-    for token in tokens {
-        end += piece_len(*token, has_key);
-        if at < end {
-            return Piece::Key(*token);
+    let tokens = tokens_of(pattern, message);
+    let offset = at - 2;
+    for index in 0..tokens.len() {
+        let place = index as u8;
+        let next = usize::from(pattern.bytes_before(message, place + 1));
+        if offset < next {
+            let begin = usize::from(pattern.bytes_before(message, place));
+            let has_key = pattern.has_key_before(message, place);
+            return key_piece(tokens[index], has_key, offset - begin);
         }
-        has_key = has_key || makes_key(*token, has_psk);
     }
-    Piece::Payload
+    let has_key = pattern.has_key_before(message, tokens.len() as u8);
+    payload_piece(has_key, len.saturating_sub(at))
 }
 
-// How many bytes a token adds to its message, where there is a key or none.
-fn piece_len(token: Token, has_key: bool) -> usize
-    ensures value { result ≡ piece_len token has_key }
-    ensures bound { result ≤ 48 }
+// What stands at this byte of what a token sends, where there is a key or none.
+fn key_piece(token: Token, has_key: bool, at: usize) -> Piece
+    ensures { result ≡ key_piece token has_key at }
 {
     match token {
-        Token::E => 32,
-        Token::S if has_key => 48,
-        Token::S => 32,
-        _ => 0,
+        Token::S if has_key && at < 32 => Piece::EncryptedKey,
+        Token::S if has_key => Piece::KeyTag,
+        token => Piece::Key(token),
     }
 }
 
-// Whether there is a key after this token in any case.
-fn makes_key(token: Token, has_psk: bool) -> bool
-    ensures { result ≡ makes_key token has_psk }
+// What stands in a payload where so many bytes are left, where there is a key or none.
+fn payload_piece(has_key: bool, left: usize) -> Piece
+    ensures { result ≡ payload_piece has_key left }
 {
-    match token {
-        Token::E => has_psk,
-        Token::S => false,
-        _ => true,
+    if left == 0 {
+        Piece::End
+    } else if !has_key {
+        Piece::Payload
+    } else if left > 16 {
+        Piece::EncryptedPayload
+    } else {
+        Piece::PayloadTag
     }
 }
 
@@ -187,7 +205,19 @@ fn piece_line(alloc: Global, at: usize, piece: Piece, message: u8) -> Result<Vec
     line.extend_from_slice(piece_word(piece).as_bytes())?;
     line.extend_from_slice(b" of message ".as_slice())?;
     push_number(alloc, usize::from(message), &mut line)?;
+    push_offset(alloc, at, &mut line)?;
     Ok(line)
+}
+
+// Appends the same byte, counted in the message.
+fn push_offset(alloc: Global, at: usize, line: &mut Vec<u8>) -> Result<(), AllocError>
+    ensures { OnOk result (line.new.items ≡ line.old.items ++ offset_words at) }
+{
+    if at < 2 {
+        return Ok(());
+    }
+    line.extend_from_slice(b", offset ".as_slice())?;
+    push_number(alloc, at - 2, line)
 }
 
 fn piece_word(piece: Piece) -> &'static str
@@ -196,6 +226,11 @@ fn piece_word(piece: Piece) -> &'static str
     match piece {
         Piece::Length => "length",
         Piece::Key(token) => token_word(token),
+        Piece::EncryptedKey => "encrypted s",
+        Piece::KeyTag => "tag of s",
         Piece::Payload => "payload",
+        Piece::EncryptedPayload => "encrypted payload",
+        Piece::PayloadTag => "tag of the payload",
+        Piece::End => "end",
     }
 }

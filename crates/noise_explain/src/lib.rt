@@ -4,6 +4,7 @@
 mod advice;
 mod all_rules;
 mod column;
+mod difference;
 mod excerpt;
 mod explanation;
 mod fact_words;
@@ -17,14 +18,16 @@ mod piece_lines;
 mod place;
 mod rule_place;
 mod rule_sentences;
+mod state_part;
 mod text_advice;
 
 pub use advice::Advice;
 pub use column::column_of;
+pub use difference::difference_line;
 pub use excerpt::{caret_lines, push_sentence, unread_head, wrong_head};
 pub use explanation::{Explained, explain, explain_long, rule_lines};
 pub use facts::{fact_lines, push_fact};
-pub use frame_piece::{Piece, difference_line};
+pub use frame_piece::Piece;
 pub use known::{Spot, token_at};
 pub use place::{Place, after_line, line_at};
 pub use text_advice::{fault_advice, slip};

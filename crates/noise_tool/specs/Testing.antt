@@ -1,10 +1,11 @@
 -- What `test` prints of vector files, and its exit status.
 use Rattle.std.specs.Prelude.{⊤, ◌≡◌, ◌⊎◌, ◌≤◌, ◌==◌, ◌&&◌, ◌||◌, if◌then◌else◌, ℕ, Bool, true, false, not, List, [], ◌∷◌, ◌++◌, Option, None, Some, IfSome, IsTrue}
 use Rattle.std.specs.Prelude.{codes, count_by, decimal, flat_map, length, map, string_bytes}
-use Rattle.std.specs.List.{All}
+use Rattle.std.specs.Bool.{nat_eq}
+use Rattle.std.specs.List.{All, starts_with}
 use Rattle.std.specs.Str.{bytes_eq}
 use Rattle.std.specs.Io.KnownBytes.{Appends}
-use Rattle.noise_explain.specs.FramePieces.{HaveNoFrame, SaysPiece}
+use Rattle.noise_explain.specs.StateParts.{HaveNoDifference, SaysDifference}
 use Rattle.noise_names.specs.Plan.{Plan}
 use Rattle.noise_names.specs.Text.{line}
 use Rattle.noise_lines.specs.Faults.{status_of}
@@ -58,13 +59,22 @@ abbrev pub IsPatternOfText : List ℕ → Plan → Type 0
 IsPatternOfText text plan =
     (file : VectorFile) × IsVectorFile file × (text ≡ file_text file) × IsFilePattern file.block file.protocol plan
 
+-- A line of the run is printed where no more are expected. The states are the last lines, so all frames agree.
+abbrev pub unexpected_lines : List ℕ → List (List ℕ)
+unexpected_lines printed =
+    if starts_with nat_eq printed (codes "state ")
+    then codes "all frames agree: the file doesn't expect this state" ∷ []
+    else []
+
 -- of two lines that differ: where both are of the frame of one handshake message, a line of the first byte at which the
--- frames differ, and of the piece of the message that stands there
+-- frames differ, and of the piece of the message that stands there; where both are of one party's state, a line of the
+-- part in which the states differ
 abbrev pub SayPiece : Plan → Option (List ℕ) → Option (List ℕ) → List (List ℕ) → Type 0
 SayPiece plan (Some expected) (Some printed) lines =
-    ((n : ℕ) × (line : List ℕ) × (lines ≡ line ∷ []) × SaysPiece plan n expected printed line)
-    ⊎ ((lines ≡ []) × HaveNoFrame plan expected printed)
-SayPiece plan _ _ lines = lines ≡ []
+    ((line : List ℕ) × (lines ≡ line ∷ []) × SaysDifference plan expected printed line)
+    ⊎ ((lines ≡ []) × HaveNoDifference plan expected printed)
+SayPiece plan None (Some printed) lines = lines ≡ unexpected_lines printed
+SayPiece plan _ None lines = lines ≡ []
 
 -- the line, if there is one
 abbrev pub listed : Option (List ℕ) → List (List ℕ)

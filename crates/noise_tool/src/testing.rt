@@ -12,7 +12,7 @@ ghost use Rattle.noise_vectors.specs.declared.vector.AllowedEvents.TheVariants.{
 ghost use Rattle.noise_tool.specs.Ends.{IsFilePattern, IsStartFault};
 ghost use Rattle.noise_tool.specs.Performing.{IsRunFault};
 ghost use Rattle.noise_tool.specs.Running.{IsRunOf, expected_in};
-ghost use Rattle.noise_tool.specs.Testing.{ComesOf, EndsTest, HasBegunTest, HasTested, HaveTested, IsPatternOfText, IsPieceOf, IsTested, RunsTo, SayPiece, TestsPrefix, tested_names, below_of, is_input, listed, tally_line, tested_text};
+ghost use Rattle.noise_tool.specs.Testing.{ComesOf, EndsTest, HasBegunTest, HasTested, HaveTested, IsPatternOfText, IsPieceOf, IsTested, RunsTo, SayPiece, TestsPrefix, tested_names, below_of, is_input, listed, tally_line, tested_text, unexpected_lines};
 ghost use Rattle.noise_tool.specs.TracedText.{front_if};
 ghost use Rattle.noise_lines.specs.Lines.{lines_text};
 ghost use Rattle.noise_lines.specs.Verdicts.{bytes_in, verdict_text};
@@ -67,8 +67,9 @@ pub(crate) struct TestedRun {
 /// input, `-`, is read once: named again it fails.
 ///
 /// Where the frame of a handshake message differs from what a file expects, a line names the piece of the message that
-/// differs first. Where traces are wanted, the text of each file whose run differs goes on with the trace of this run,
-/// up to the first line that differs and what is shown of the key schedules there. These lines are secrets.
+/// differs first; where all frames agree and a party's state differs, the part of the state. Where traces are wanted,
+/// the text of each file whose run differs goes on with the trace of this run, up to the first line that differs and
+/// what is shown of the key schedules there. These lines are secrets.
 pub fn test<F: FilesByName, O: Write, E: Write>(
     alloc: Global,
     names: &[String],
@@ -213,7 +214,7 @@ fn write_run<O: Write>(
     Ok(verdict.is_met())
 }
 
-// The line of the piece of a message at which the frame of a run differs, if it does.
+// The line of the piece of a message at which the frame of a run differs, or of the part of a state, if one does.
 fn piece_lines(
     alloc: Global,
     pattern: &ValidPattern,
@@ -237,14 +238,26 @@ fn difference_lines(
     ensures { IfOk result (λ lines. SayPiece pattern.now (bytes_in difference.now.expected)
         (bytes_in difference.now.printed) (bytes_of lines.items)) }
 {
-    let Some(expected) = &difference.expected else {
-        return Ok(Vec::new(alloc));
-    };
     let Some(printed) = &difference.printed else {
         return Ok(Vec::new(alloc));
     };
+    let Some(expected) = &difference.expected else {
+        return unexpected_lines(alloc, printed);
+    };
     let line = difference_line(alloc, pattern, expected, printed)?;
     one_line(alloc, line)
+}
+
+// What is said of a line of the run where no more are expected.
+fn unexpected_lines(alloc: Global, printed: &[u8]) -> Result<Vec<Vec<u8>>, AllocError>
+    ensures { IfOk result (λ lines. bytes_of lines.items ≡ unexpected_lines printed.now) }
+{
+    let mut lines = Vec::new(alloc);
+    if printed.starts_with(b"state ".as_slice()) {
+        let text = b"all frames agree: the file doesn't expect this state".as_slice();
+        lines.push(Vec::from_slice(alloc, text)?)?;
+    }
+    Ok(lines)
 }
 
 // This line, if there is one.

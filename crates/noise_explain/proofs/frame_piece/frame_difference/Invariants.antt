@@ -1,6 +1,6 @@
 use Rattle.std.proofs.Common.{◌≤◌, ℕ}
 use Rattle.noise_explain.specs.FramePieces.{HasNoFrame}
-use Rattle.noise_explain.proofs.frame_piece.difference_line.Given as goal
+use Rattle.noise_explain.proofs.frame_piece.frame_difference.Given as goal
 
 -- of the messages so far none has both frames
 abbrev pub invariant-loop-index : goal.invariant-loop-index
