@@ -56,8 +56,8 @@ keys ie is re rs = record { initiator_e = ie; initiator_s = is; responder_e = re
 unfoldable pub way : Mixed → Keys → List ℕ → List ℕ → List ℕ
 way m k words list = add_word (codes ", or ") (are_least m k) words list
 
--- The least sets that are enough: those of one key, and then those of two. None has three, since the two keys of a party
--- are always enough.
+-- The least sets that are enough: those of one key, and then those of two. None has three, since the two keys of a
+-- party are always enough.
 unfoldable pub one_key : Mixed → List ℕ
 one_key m =
     way m (keys false false false true) (codes "the responder's s")

@@ -419,10 +419,12 @@ fn unmixed_line(party: Role) -> &'static str
 }
 
 const INITIATOR_UNMIXED: &str =
-    "  Warning: the initiator's s is named, and no DH mixes it: nothing shows that the initiator has its private key.\n";
+    "  Warning: the initiator's s is named, and no DH mixes it: nothing shows that the initiator has its \
+     private key.\n";
 
 const RESPONDER_UNMIXED: &str =
-    "  Warning: the responder's s is named, and no DH mixes it: nothing shows that the responder has its private key.\n";
+    "  Warning: the responder's s is named, and no DH mixes it: nothing shows that the responder has its \
+     private key.\n";
 
 /// Appends a line of four spaces and a fact of the message or the transport above.
 pub fn push_fact(fact: &str, text: &mut Vec<u8>) -> Result<(), AllocError>
