@@ -12,6 +12,7 @@ import re
 import statistics
 import subprocess
 import sys
+import time
 from pathlib import Path
 
 SHORT = [64, 1024, 16384]
@@ -80,6 +81,13 @@ class Job:
 
     def times_as_fast(self, peer: Job) -> float:
         return statistics.median(theirs / ours for ours, theirs in zip(self.samples, peer.samples))
+
+
+def warm_up(job: Job, seconds: float) -> None:
+    """Lets the processor reach its speed before the first row."""
+    end = time.monotonic() + seconds
+    while time.monotonic() < end:
+        job.program.nanoseconds(job.operation, job.size, 1000)
 
 
 def measured(jobs: list[Job], rounds: int, milliseconds: float) -> None:
@@ -165,6 +173,7 @@ def main() -> None:
         calls.update({name: [call, script.read_text(encoding="utf-8").strip()]} if script.exists() else {})
     programs = {name: Program(name, [*core, *call]) for name, call in calls.items()}
     subjects = {"C": ["C", *options.beside], "Go": ["go"], "Rust": ["rust"], "Python": ["python"], "JavaScript": ["js"]}
+    warm_up(Job(programs["C"], "seal", 64), 3)
     made = rows(programs, subjects, options)
     for name in subjects["C"]:
         made += counted(calls[name], name, options.folder)
