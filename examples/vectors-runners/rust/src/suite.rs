@@ -200,12 +200,12 @@ pub fn run<F: Fn(&Setup) -> Result<Box<dyn Party>, Fault>>(name: &str, start: F)
             return 2;
         }
     };
-    let mut report = Report::default();
+    let mut report = Report::new(&suite);
     for group in suite.list("testGroups") {
         for test in group.list("tests") {
             let mut it = Run { group, test, start: &start, parties: HashMap::new(), written: HashMap::new() };
             let outcome = catch_unwind(AssertUnwindSafe(|| it.run()));
-            report.add(test, outcome.unwrap_or_else(|_| Outcome::Failed("crashed".into())));
+            report.add(group, test, outcome.unwrap_or_else(|_| Outcome::Failed("crashed".into())));
         }
     }
     let failed = report.print();
