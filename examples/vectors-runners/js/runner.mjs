@@ -123,7 +123,7 @@ function textReport(rows, notes) {
       counts.get(flag)[what] += 1;
     }
   }
-  const line = (name, kind, ...cells) => `${name.padEnd(28)} ${kind.padEnd(7)}` + cells.map((it) => ` ${String(it).padStart(7)}`).join('');
+  const line = (name, kind, ...cells) => `${name.padEnd(28)} ${kind.padEnd(7)} ${cells.map((it) => String(it).padStart(7)).join(' ')}`;
   const lines = [line('flag', 'kind', 'passed', 'failed', 'not run')];
   for (const [flag, it] of counts) lines.push(line(flag, notes[flag].kind, it.passed, it.failed, it['not run']));
   for (const { test, pattern, what, why } of rows) {
