@@ -66,8 +66,15 @@ class Run {
 
   /** Takes a step; whether the test goes on after it. */
   async step(step) {
-    const party = await this.party(step.role ?? this.test.role);
+    let party;
     let got;
+    try {
+      party = await this.party(step.role ?? this.test.role);
+    } catch (error) {
+      if (!this.Party.isRefusal(error)) throw error;
+      if (this.test.result === 'acceptable') return false;
+      throw new Failed(`the start was refused: ${error}`);
+    }
     try {
       got = await this.call(party, step);
     } catch (error) {

@@ -85,7 +85,12 @@ class Run:
 
     def step(self, step: dict) -> bool:
         """Takes a step; whether the test goes on after it."""
-        party = self.party(step.get("role", self.test["role"]))
+        try:
+            party = self.party(step.get("role", self.test["role"]))
+        except self.kind.REFUSALS as refusal:
+            if self.test["result"] == "acceptable":
+                return False
+            raise Failed(f"the start was refused: {refusal!r}") from refusal
         try:
             got = self.call(party, step)
         except self.kind.REFUSALS as refusal:

@@ -224,8 +224,13 @@ func (r *run) step(s *Step) (on bool, fault error) {
 		role = r.test.Role
 	}
 	p, err := r.party(role)
-	if err != nil {
+	switch {
+	case errors.Is(err, ErrNotSupported):
 		return false, err
+	case err != nil && r.test.Result == "acceptable":
+		return false, nil
+	case err != nil:
+		return false, fmt.Errorf("the start was refused: %v", err)
 	}
 	got, wanted, err := r.call(p, s)
 	switch {

@@ -148,6 +148,7 @@ impl<'a, F: Fn(&Setup) -> Result<Box<dyn Party>, Fault>> Run<'a, F> {
             Some(party) => party,
             None => (self.start)(&setup_of(self.group, responder)).map_err(|fault| match fault {
                 Fault::NotSupported(why) => Outcome::NotRun(why),
+                Fault::Refused(..) if self.test.text("result") == "acceptable" => Outcome::Passed,
                 Fault::Refused(why, _) => Outcome::Failed(format!("the start was refused: {}", why)),
             })?,
         };
