@@ -72,9 +72,21 @@ def with_zeros(groups: list[dict]) -> list[str]:
     return [f"test {it['tcId']} fails where zeros are taken" for it in wrong] + ([] if tests else ["no test is acceptable"])
 
 
+def refused_at_start(groups: list[dict]) -> list[str]:
+    """The tests of keys that may be refused, and those in which all is right, with a party that refuses to start: that is right for the first alone."""
+
+    class Party(kind_of("")):  # type: ignore[misc]
+        def __init__(self, setup: dict, role: str) -> None:
+            raise mistaken.Refused
+
+    tests = [(group, test) for group in groups for test in group["tests"] if test["result"] in ("acceptable", "valid") and "steps" in test]
+    wrong = [test["tcId"] for group, test in tests if runner.outcome(group, test, Party)[0] != ("passed" if test["result"] == "acceptable" else "failed")]
+    return [f"test {wrong[0]} and {len(wrong) - 1} more take a refused start for the other outcome"] if wrong else []
+
+
 def main(words: list[str]) -> int:
     groups = json.loads(Path(words[0]).read_text("ascii"))["testGroups"]
-    faults, accepted = with_zeros(groups), 0
+    faults, accepted = with_zeros(groups) + refused_at_start(groups), 0
     for mistake in mistaken.MISTAKES:
         tests = [(group, test) for group in groups for test in group["tests"] if mistake in test["flags"]]
         caught = failing(tests, mistake, 1)

@@ -38,11 +38,37 @@ def joined(counts: dict[str, int], rows: dict[str, int]) -> dict[str, int]:
     return dict(made)
 
 
+def of_the_report(tests: dict[int, tuple[str, dict]], notes: dict[str, dict]) -> list[str]:
+    """What is wrong with the lines of dissononce's report that the page shows, and with what it says of them."""
+    rows = (HERE / "known" / "dissononce.txt").read_text("ascii").splitlines()
+    failed = set[int]().union(*(of_ranges(row.split(" ")[1]) for row in rows))
+    shown, faults = re.findall(r"^    (\w+) +(case|mistake) +(\d+) +(\d+) +(\d+)$", PAGE, re.M), []
+    for flag, kind, *numbers in shown:
+        of_flag = {number for number, (_, test) in tests.items() if flag in test["flags"]}
+        if (kind, *map(int, numbers)) != (notes[flag]["kind"], len(of_flag - failed), len(of_flag & failed), 0):
+            faults.append(f"the page's line of {flag} isn't: {notes[flag]['kind']} {len(of_flag - failed)} {len(of_flag & failed)} 0")
+    lines = re.findall(r"^    (failed (\d+) .*), \.\.\.$", PAGE, re.M)
+    for line, number in lines:
+        protocol, test = tests[int(number)]
+        if not f"failed {number} {protocol.split('_')[1]} {','.join(test['flags'])}: {test['comment']}:".startswith(line):
+            faults.append(f"the page's line of test {number} isn't that of the suite")
+    said = re.findall(r"fails (\d+) tests of `(\w+)`, and all of them have also `(\w+)`", PAGE.replace("\n", " "))
+    for count, flag, cause in said:
+        of_flag = [test["flags"] for number, (_, test) in tests.items() if flag in test["flags"] and number in failed]
+        if len(of_flag) != int(count) or not all(cause in it for it in of_flag):
+            faults.append(f"{flag}: {len(of_flag)} tests fail, {sum(cause in it for it in of_flag)} of them have {cause}")
+    return faults + ([] if shown and lines and said else ["the page shows no report"])
+
+
 def main() -> int:
-    groups = json.loads(SUITE.read_text("ascii"))["testGroups"]
+    suite = json.loads(SUITE.read_text("ascii"))
+    groups = suite["testGroups"]
     tests = {test["tcId"]: (group.get("protocol", ""), test) for group in groups for test in group["tests"]}
     results = Counter(test["result"] for _, test in tests.values())
-    faults = []
+    faults = of_the_report(tests, suite["notes"])
+    names = {protocol.split("_")[1] for protocol, _ in tests.values() if protocol}
+    if f"one of the {len(names)} patterns" not in PAGE:
+        faults.append(f"the page doesn't say: one of the {len(names)} patterns")
     words = f"{len(tests):,} tests: {results['valid']:,} in which all is right, {results['invalid']:,} of refusals, and {results['acceptable']} of"
     if words not in PAGE.replace("\n", " "):
         faults.append(f"the page doesn't say: {words}")

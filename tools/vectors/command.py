@@ -3,6 +3,7 @@
 from __future__ import annotations
 
 import subprocess
+import sys
 
 
 class Fault(Exception):
@@ -20,6 +21,7 @@ class Command:
         done = subprocess.run([self.program, word, "-"], input=text.encode(), capture_output=True, check=False)
         if done.returncode:
             raise Fault((done.stdout + done.stderr).decode())
+        sys.stderr.write(done.stderr.decode())  # what ./noise says of its build
         return done.stdout.decode().splitlines()
 
     def show(self, name: str) -> list[str]:

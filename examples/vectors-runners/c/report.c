@@ -4,7 +4,7 @@
 #include <string.h>
 
 typedef struct {
-    const json *test;
+    const json *group, *test;
     int outcome;
     char why[200];
 } row;
@@ -24,27 +24,42 @@ static tally *tally_of(tally *all, const char *name) {
     return all;
 }
 
-void report_add(const json *test, int outcome, const char *why) {
+// The pattern of a row, with its psk places: its length, and where it starts.
+static int pattern_of(const row *it, const char **at) {
+    const char *protocol = json_text(it->group, "protocol");
+    *at = protocol ? strchr(protocol, '_') + 1 : "frame";
+    return (int)strcspn(*at, "_");
+}
+
+void report_add(const json *group, const json *test, int outcome, const char *why) {
     if (!(row_count & (row_count - 1))) rows = realloc(rows, 2 * (row_count + 1) * sizeof *rows);
     if (!rows) abort();
     row *it = &rows[row_count++];
-    *it = (row){.test = test, .outcome = outcome};
+    *it = (row){.group = group, .test = test, .outcome = outcome};
     snprintf(it->why, sizeof it->why, "%s", why);
 }
 
-int report_print(void) {
+int report_print(const json *notes) {
     int total[3] = {0};
     for (size_t i = 0; i < row_count; i++) {
         total[rows[i].outcome]++;
         for (const json *flag = json_get(rows[i].test, "flags")->first; flag; flag = flag->next) tally_of(flags, flag->text)->counts[rows[i].outcome]++;
         if (rows[i].outcome == NOT_RUN) tally_of(reasons, rows[i].why)->counts[NOT_RUN]++;
     }
-    printf("%-28s %7s %7s %7s\n", "flag", "passed", "failed", "not run");
-    for (const tally *it = flags; it->name; it++) printf("%-28s %7d %7d %7d\n", it->name, it->counts[PASSED], it->counts[FAILED], it->counts[NOT_RUN]);
+    printf("%-28s %-7s %7s %7s %7s\n", "flag", "kind", "passed", "failed", "not run");
+    for (const tally *it = flags; it->name; it++) {
+        const char *kind = json_text(json_get(notes, it->name), "kind");
+        printf("%-28s %-7s %7d %7d %7d\n", it->name, kind ? kind : "", it->counts[PASSED], it->counts[FAILED], it->counts[NOT_RUN]);
+    }
     for (size_t i = 0; i < row_count; i++) {
         if (rows[i].outcome != FAILED) continue;
         const json *test = rows[i].test;
-        printf("failed %ld %s: %s: %s\n", json_get(test, "tcId")->number, json_get(test, "flags")->first->text, json_text(test, "comment"), rows[i].why);
+        const char *pattern;
+        int len = pattern_of(&rows[i], &pattern);
+        printf("failed %ld %.*s", json_get(test, "tcId")->number, len, pattern);
+        const json *flag = json_get(test, "flags")->first;
+        for (char mark = ' '; flag; flag = flag->next, mark = ',') printf("%c%s", mark, flag->text);
+        printf(": %s: %s\n", json_text(test, "comment"), rows[i].why);
     }
     for (const tally *it = reasons; it->name; it++) printf("not run %d: %s\n", it->counts[NOT_RUN], it->name);
     printf("%d passed, %d failed, %d not run\n", total[PASSED], total[FAILED], total[NOT_RUN]);
@@ -67,7 +82,9 @@ int report_junit(const char *path, const char *name) {
         total[FAILED], total[NOT_RUN]);
     for (size_t i = 0; i < row_count; i++) {
         const json *test = rows[i].test;
-        fprintf(to, "  <testcase classname=\"%s\" name=\"%ld ", json_get(test, "flags")->first->text, json_get(test, "tcId")->number);
+        const char *pattern;
+        int len = pattern_of(&rows[i], &pattern);
+        fprintf(to, "  <testcase classname=\"%s\" name=\"%ld %.*s: ", json_get(test, "flags")->first->text, json_get(test, "tcId")->number, len, pattern);
         quoted(to, json_text(test, "comment"));
         fputs("\">", to);
         if (rows[i].outcome != PASSED) {

@@ -1,6 +1,6 @@
 // Runs the suite of test vectors with an implementation in JavaScript: node runner.mjs PARTY.mjs SUITE.json [JUNIT.xml]. PARTY.mjs is a module beside this file,
-// as party_yulimosar.mjs, whose `Party` calls an implementation: copy that. The report has a line for each flag; JUNIT.xml gets each test. The status is 0 if no test
-// failed.
+// as party_yulimosar.mjs, whose `Party` calls an implementation: copy that. The report has a line for each flag, and says whether the flag is of a kind of cases
+// or of a mistake; JUNIT.xml gets each test. The status is 0 if no test failed.
 import { createHash } from 'node:crypto';
 import { readFileSync, writeFileSync } from 'node:fs';
 import { pathToFileURL } from 'node:url';
@@ -66,8 +66,15 @@ class Run {
 
   /** Takes a step; whether the test goes on after it. */
   async step(step) {
-    const party = await this.party(step.role ?? this.test.role);
+    let party;
     let got;
+    try {
+      party = await this.party(step.role ?? this.test.role);
+    } catch (error) {
+      if (!this.Party.isRefusal(error)) throw error;
+      if (this.test.result === 'acceptable') return false;
+      throw new Failed(`the start was refused: ${error}`);
+    }
     try {
       got = await this.call(party, step);
     } catch (error) {
@@ -109,7 +116,9 @@ async function outcome(group, test, Party) {
   return ['passed', ''];
 }
 
-function textReport(rows) {
+const patternName = (group) => group.protocol?.split('_')[1] ?? 'frame';
+
+function textReport(rows, notes) {
   const counts = new Map();
   const total = { passed: 0, failed: 0, 'not run': 0 };
   const reasons = new Map();
@@ -121,10 +130,12 @@ function textReport(rows) {
       counts.get(flag)[what] += 1;
     }
   }
-  const line = (name, ...cells) => name.padEnd(28) + cells.map((it) => ` ${String(it).padStart(7)}`).join('');
-  const lines = [line('flag', 'passed', 'failed', 'not run')];
-  for (const [flag, it] of counts) lines.push(line(flag, it.passed, it.failed, it['not run']));
-  for (const { test, what, why } of rows) if (what === 'failed') lines.push(`failed ${test.tcId} ${test.flags}: ${test.comment}: ${why}`);
+  const line = (name, kind, ...cells) => `${name.padEnd(28)} ${kind.padEnd(7)} ${cells.map((it) => String(it).padStart(7)).join(' ')}`;
+  const lines = [line('flag', 'kind', 'passed', 'failed', 'not run')];
+  for (const [flag, it] of counts) lines.push(line(flag, notes[flag].kind, it.passed, it.failed, it['not run']));
+  for (const { test, pattern, what, why } of rows) {
+    if (what === 'failed') lines.push(`failed ${test.tcId} ${pattern} ${test.flags}: ${test.comment}: ${why}`);
+  }
   for (const [why, count] of reasons) lines.push(`not run ${count}: ${why}`);
   return [...lines, `${total.passed} passed, ${total.failed} failed, ${total['not run']} not run`, ''].join('\n');
 }
@@ -135,26 +146,27 @@ function junitReport(name, rows) {
   const count = (it) => rows.filter(({ what }) => what === it).length;
   const lines = ['<?xml version="1.0" encoding="UTF-8"?>'];
   lines.push(`<testsuite name=${quoted(name)} tests="${rows.length}" failures="${count('failed')}" skipped="${count('not run')}">`);
-  for (const { test, what, why } of rows) {
+  for (const { test, pattern, what, why } of rows) {
     const inside = { passed: '', failed: `<failure message=${quoted(why)}/>`, 'not run': `<skipped message=${quoted(why)}/>` }[what];
-    lines.push(`  <testcase classname=${quoted(test.flags[0])} name=${quoted(`${test.tcId} ${test.comment}`)}>${inside}</testcase>`);
+    lines.push(`  <testcase classname=${quoted(test.flags[0])} name=${quoted(`${test.tcId} ${pattern}: ${test.comment}`)}>${inside}</testcase>`);
   }
   return [...lines, '</testsuite>', ''].join('\n');
 }
 
-const [, , module, suite, junit] = process.argv;
-if (!suite) {
+const [, , module, path, junit] = process.argv;
+if (!path) {
   console.error('usage: node runner.mjs PARTY.mjs SUITE.json [JUNIT.xml]');
   process.exit(2);
 }
 const { Party } = await import(pathToFileURL(module));
 const rows = [];
-for (const group of JSON.parse(readFileSync(suite, 'utf8')).testGroups) {
+const suite = JSON.parse(readFileSync(path, 'utf8'));
+for (const group of suite.testGroups) {
   for (const test of group.tests) {
     const [what, why] = await outcome(group, test, Party);
-    rows.push({ test, what, why });
+    rows.push({ test, pattern: patternName(group), what, why });
   }
 }
-process.stdout.write(textReport(rows));
+process.stdout.write(textReport(rows, suite.notes));
 if (junit) writeFileSync(junit, junitReport(module, rows));
 process.exitCode = rows.some(({ what }) => what === 'failed') ? 1 : 0;

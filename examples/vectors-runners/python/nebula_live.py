@@ -4,6 +4,11 @@
 A node draws its own ephemeral keys, so the suite's bytes are of no use to it. Here it gets messages of this moment, right and changed ones, as the suite
 changes them, and its answers are looked at: the node is the responder of IX at 127.0.0.1, with `cipher: chachapoly`. It needs the package of
 bindings/python. A line for each flag says what the node did; the status is 0.
+
+Nebula 1.6.1 does not answer to a cut first message (`MessageCut`), a changed `s` (`ClearKeyChanged`, by its certificate), nor to a transport message that
+is changed, cut, repeated or its own (`TransportChanged`, `TransportCut`, `TransportRepeated`, `TransportReflected`); each time the next right one is answered.
+Of a changed `e` it can't know: the other party refuses its answer. A later transport message may come first. The same first message brings the same answer
+again, and no new keys.
 """
 
 from __future__ import annotations

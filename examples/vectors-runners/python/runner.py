@@ -4,7 +4,7 @@
     runner.py PARTY SUITE.json [JUNIT.xml]
 
 PARTY is a module beside this file, as `party_yulimosar`, with a class `Party`: copy that file, and have it call your implementation. The report has a line for
-each flag; JUNIT.xml gets each test. The status is 0 if no test failed.
+each flag, and says whether the flag is of a kind of cases or of a mistake; JUNIT.xml gets each test. The status is 0 if no test failed.
 """
 
 from __future__ import annotations
@@ -85,7 +85,12 @@ class Run:
 
     def step(self, step: dict) -> bool:
         """Takes a step; whether the test goes on after it."""
-        party = self.party(step.get("role", self.test["role"]))
+        try:
+            party = self.party(step.get("role", self.test["role"]))
+        except self.kind.REFUSALS as refusal:
+            if self.test["result"] == "acceptable":
+                return False
+            raise Failed(f"the start was refused: {refusal!r}") from refusal
         try:
             got = self.call(party, step)
         except self.kind.REFUSALS as refusal:
@@ -139,16 +144,24 @@ def outcome(group: dict, test: dict, kind: Any) -> tuple[str, str]:
     return "passed", ""
 
 
-def text_report(rows: list[tuple[dict, str, str]]) -> str:
+def pattern_name(group: dict) -> str:
+    return group["protocol"].split("_")[1] if "protocol" in group else "frame"
+
+
+def text_report(rows: list[tuple[dict, str, str]], notes: dict[str, dict]) -> str:
     """A line for each flag, the tests that failed, and why some weren't run."""
     counts = Counter((flag, what) for test, what, _ in rows for flag in test["flags"])
     flags = dict.fromkeys(flag for test, _, _ in rows for flag in test["flags"])
-    lines = [f"{'flag':28} {'passed':>7} {'failed':>7} {'not run':>7}"]
-    lines += [f"{it:28} {counts[it, 'passed']:7} {counts[it, 'failed']:7} {counts[it, 'not run']:7}" for it in flags]
-    lines += [f"failed {test['tcId']} {','.join(test['flags'])}: {test['comment']}: {why}" for test, what, why in rows if what == "failed"]
+    lines = [f"{'flag':28} {'kind':7} {'passed':>7} {'failed':>7} {'not run':>7}"]
+    lines += [f"{it:28} {notes[it]['kind']:7} {counts[it, 'passed']:7} {counts[it, 'failed']:7} {counts[it, 'not run']:7}" for it in flags]
+    lines += [f"failed {test['tcId']} {test['pattern']} {','.join(test['flags'])}: {test['comment']}: {why}" for test, what, why in rows if what == "failed"]
     lines += [f"not run {count}: {why}" for why, count in Counter(why for _, what, why in rows if what == "not run").items()]
     total = Counter(what for _, what, _ in rows)
     return "\n".join([*lines, f"{total['passed']} passed, {total['failed']} failed, {total['not run']} not run"]) + "\n"
+
+
+def name_of(test: dict) -> str:
+    return f"{test['tcId']} {test['pattern']}: {test['comment']}"
 
 
 def junit_report(name: str, rows: list[tuple[dict, str, str]]) -> str:
@@ -156,7 +169,7 @@ def junit_report(name: str, rows: list[tuple[dict, str, str]]) -> str:
     lines = []
     for test, what, why in rows:
         inside = {"passed": "", "failed": f"<failure message={quoteattr(why)}/>", "not run": f"<skipped message={quoteattr(why)}/>"}[what]
-        names = f"classname={quoteattr(test['flags'][0])} name={quoteattr(str(test['tcId']) + ' ' + test['comment'])}"
+        names = f"classname={quoteattr(test['flags'][0])} name={quoteattr(name_of(test))}"
         lines.append(f"  <testcase {names}>{inside}</testcase>")
     total = Counter(what for _, what, _ in rows)
     head = f"<testsuite name={quoteattr(name)} tests=\"{len(rows)}\" failures=\"{total['failed']}\" skipped=\"{total['not run']}\">"
@@ -169,9 +182,9 @@ def main(words: list[str]) -> int:
         return 2
     kind = importlib.import_module(words[0]).Party
     with open(words[1], encoding="ascii") as file:
-        groups = json.load(file)["testGroups"]
-    rows = [(test, *outcome(group, test, kind)) for group in groups for test in group["tests"]]
-    sys.stdout.write(text_report(rows))
+        suite = json.load(file)
+    rows = [(test | {"pattern": pattern_name(group)}, *outcome(group, test, kind)) for group in suite["testGroups"] for test in group["tests"]]
+    sys.stdout.write(text_report(rows, suite["notes"]))
     if len(words) == 3:
         with open(words[2], "w", encoding="utf-8") as file:
             file.write(junit_report(words[0], rows))

@@ -8,7 +8,7 @@ import (
 )
 
 // printReport prints a line for each flag, the tests that failed, and why some weren't run.
-func printReport(tests []*Test) (failed bool) {
+func printReport(tests []*Test, notes map[string]note) (failed bool) {
 	counts, total, reasons := map[string]map[string]int{}, map[string]int{}, map[string]int{}
 	var flags, why []string
 	for _, t := range tests {
@@ -27,13 +27,13 @@ func printReport(tests []*Test) (failed bool) {
 			reasons[t.why]++
 		}
 	}
-	fmt.Printf("%-28s %7s %7s %7s\n", "flag", "passed", "failed", "not run")
+	fmt.Printf("%-28s %-7s %7s %7s %7s\n", "flag", "kind", "passed", "failed", "not run")
 	for _, flag := range flags {
-		fmt.Printf("%-28s %7d %7d %7d\n", flag, counts[flag]["passed"], counts[flag]["failed"], counts[flag]["not run"])
+		fmt.Printf("%-28s %-7s %7d %7d %7d\n", flag, notes[flag].Kind, counts[flag]["passed"], counts[flag]["failed"], counts[flag]["not run"])
 	}
 	for _, t := range tests {
 		if t.outcome == "failed" {
-			fmt.Printf("failed %d %s: %s: %s\n", t.ID, strings.Join(t.Flags, ","), t.Comment, t.why)
+			fmt.Printf("failed %d %s %s: %s: %s\n", t.ID, t.pattern, strings.Join(t.Flags, ","), t.Comment, t.why)
 		}
 	}
 	for _, it := range why {
@@ -67,7 +67,7 @@ type junitSuite struct {
 func writeJUnit(path, name string, tests []*Test) error {
 	made := junitSuite{Name: name, Tests: len(tests)}
 	for _, t := range tests {
-		it := junitCase{Class: t.Flags[0], Name: fmt.Sprint(t.ID, " ", t.Comment)}
+		it := junitCase{Class: t.Flags[0], Name: fmt.Sprintf("%d %s: %s", t.ID, t.pattern, t.Comment)}
 		switch t.outcome {
 		case "failed":
 			it.Failure = &junitMessage{t.why}

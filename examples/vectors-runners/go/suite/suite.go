@@ -91,6 +91,14 @@ func (g *Group) Before(role string) string {
 	return ""
 }
 
+// name returns that of the pattern, with its psk places.
+func (g *Group) name() string {
+	if parts := strings.Split(g.Protocol, "_"); len(parts) > 1 {
+		return parts[1]
+	}
+	return "frame"
+}
+
 // Tokens returns the tokens of each message of the handshake.
 func (g *Group) Tokens() (messages [][]string) {
 	for _, line := range g.Pattern {
@@ -111,8 +119,11 @@ type Test struct {
 	Steps                 []Step
 	Message, Frame        Bytes
 
-	outcome, why string
+	pattern, outcome, why string
 }
+
+// A note says of a flag whether it is of a kind of cases, `case`, or of a `mistake`.
+type note struct{ Kind string }
 
 // Step is a step of a test.
 type Step struct {
@@ -213,8 +224,13 @@ func (r *run) step(s *Step) (on bool, fault error) {
 		role = r.test.Role
 	}
 	p, err := r.party(role)
-	if err != nil {
+	switch {
+	case errors.Is(err, ErrNotSupported):
 		return false, err
+	case err != nil && r.test.Result == "acceptable":
+		return false, nil
+	case err != nil:
+		return false, fmt.Errorf("the start was refused: %v", err)
 	}
 	got, wanted, err := r.call(p, s)
 	switch {
@@ -271,6 +287,7 @@ func Main(name string, start Start) {
 	}
 	text, err := os.ReadFile(os.Args[1])
 	var suite struct {
+		Notes  map[string]note
 		Groups []*Group `json:"testGroups"`
 	}
 	if err == nil {
@@ -283,11 +300,12 @@ func Main(name string, start Start) {
 	var tests []*Test
 	for _, g := range suite.Groups {
 		for _, t := range g.Tests {
+			t.pattern = g.name()
 			t.pass(g, start)
 			tests = append(tests, t)
 		}
 	}
-	failed := printReport(tests)
+	failed := printReport(tests, suite.Notes)
 	if len(os.Args) > 2 {
 		if err := writeJUnit(os.Args[2], name, tests); err != nil {
 			fmt.Fprintln(os.Stderr, err)

@@ -148,6 +148,7 @@ impl<'a, F: Fn(&Setup) -> Result<Box<dyn Party>, Fault>> Run<'a, F> {
             Some(party) => party,
             None => (self.start)(&setup_of(self.group, responder)).map_err(|fault| match fault {
                 Fault::NotSupported(why) => Outcome::NotRun(why),
+                Fault::Refused(..) if self.test.text("result") == "acceptable" => Outcome::Passed,
                 Fault::Refused(why, _) => Outcome::Failed(format!("the start was refused: {}", why)),
             })?,
         };
@@ -200,12 +201,12 @@ pub fn run<F: Fn(&Setup) -> Result<Box<dyn Party>, Fault>>(name: &str, start: F)
             return 2;
         }
     };
-    let mut report = Report::default();
+    let mut report = Report::new(&suite);
     for group in suite.list("testGroups") {
         for test in group.list("tests") {
             let mut it = Run { group, test, start: &start, parties: HashMap::new(), written: HashMap::new() };
             let outcome = catch_unwind(AssertUnwindSafe(|| it.run()));
-            report.add(test, outcome.unwrap_or_else(|_| Outcome::Failed("crashed".into())));
+            report.add(group, test, outcome.unwrap_or_else(|_| Outcome::Failed("crashed".into())));
         }
     }
     let failed = report.print();

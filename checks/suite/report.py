@@ -1,0 +1,88 @@
+"""Compares what a runner has printed, and its JUnit file, with the suite that it has run: the reports of all languages have the same form.
+
+    report.py SUITE.json REPORT JUNIT.xml    compares
+    report.py --wrong SUITE.json EVERY       prints each so-many-th group, and the frames, with a wrong hash or frame: so that every runner has tests that fail
+"""
+
+from __future__ import annotations
+
+import json
+import re
+import sys
+import xml.etree.ElementTree as ElementTree
+from collections import Counter
+from pathlib import Path
+from typing import Any
+
+HEAD = f"{'flag':28} {'kind':7} {'passed':>7} {'failed':>7} {'not run':>7}"
+
+
+def wrong(suite: dict[str, Any], every: int) -> dict[str, Any]:
+    """A part of the suite in which something is wrong."""
+    last = suite["testGroups"][-1]
+    groups = [*suite["testGroups"][:-1:every], last]
+    for group in groups:
+        if "hash" in group:
+            group["hash"] = "00" * 32
+    valid = next(test for test in last["tests"] if test["result"] == "valid")
+    valid["frame"] = "ff" + valid["frame"][2:]
+    return suite | {"testGroups": groups}
+
+
+def pattern_of(group: dict[str, Any]) -> str:
+    return group["protocol"].split("_")[1] if "protocol" in group else "frame"
+
+
+def table(lines: list[str], tests: list[tuple[str, dict]], notes: dict[str, dict]) -> tuple[list[str], Counter[str]]:
+    """What is wrong with the lines of the flags, and how many tests failed by them."""
+    flags = Counter(flag for _, test in tests for flag in test["flags"])
+    faults, failed = ([] if lines[0] == HEAD else [f"the first line isn't: {HEAD}"]), Counter[str]()
+    for flag, line in zip(flags, lines[1 : len(flags) + 1]):
+        numbers = [int(it) for it in re.findall(r" +(\d+)(?= |$)", line[36:])]
+        if len(numbers) != 3 or line != f"{flag:28} {notes[flag]['kind']:7} {numbers[0]:7} {numbers[1]:7} {numbers[2]:7}":
+            faults.append(f"{flag}, a {notes[flag]['kind']}: the line is: {line}")
+        elif sum(numbers) != flags[flag]:
+            faults.append(f"{flag} has {flags[flag]} tests: {line}")
+        else:
+            failed[flag] = numbers[1]
+    return faults, +failed
+
+
+def listed(lines: list[str], tests: list[tuple[str, dict]]) -> tuple[list[str], Counter[str]]:
+    """What is wrong with the lines of the tests that failed, and how many those are by flag."""
+    faults, failed = [], Counter[str]()
+    starts = {f"failed {it['tcId']}": (f"failed {it['tcId']} {pattern} {','.join(it['flags'])}: {it['comment']}: ", it) for pattern, it in tests}
+    for line in (it for it in lines if it.startswith("failed ")):
+        start, test = starts[" ".join(line.split(" ")[:2])]
+        if not line.startswith(start) or line == start:
+            faults.append(f"a failed test doesn't start with {start!r}: {line}")
+        failed.update(test["flags"])
+        failed["all"] += 1
+    return faults, failed
+
+
+def main(words: list[str]) -> int:
+    suite = json.loads(Path(words[-2] if words[0] == "--wrong" else words[0]).read_text("ascii"))
+    if words[0] == "--wrong":
+        json.dump(wrong(suite, int(words[-1])), sys.stdout)
+        return 0
+    lines = Path(words[1]).read_text("utf-8").splitlines()
+    tests = [(pattern_of(group), test) for group in suite["testGroups"] for test in group["tests"]]
+    faults, counted = table(lines, tests, suite["notes"])
+    more, named = listed(lines, tests)
+    faults += more
+    whole, ended = named.pop("all", 0), re.fullmatch(r"(\d+) passed, (\d+) failed, (\d+) not run", lines[-1])
+    if counted != named and not faults:
+        faults.append(f"the flags of the tests that failed aren't those of the table: {named - counted}, {counted - named}")
+    if not ended or int(ended[2]) != whole or sum(map(int, ended.groups())) != len(tests):
+        faults.append(f"{whole} of {len(tests)} tests failed, and the last line is: {lines[-1]}")
+    cases = list(ElementTree.parse(words[2]).getroot().iter("testcase"))
+    wanted = [f"{it['tcId']} {pattern}: {it['comment']}" for pattern, it in tests]
+    faults += [f"JUnit's test is {it.get('name')}, in place of {name}" for it, name in zip(cases, wanted) if it.get("name") != name]
+    faults += [f"JUnit has {len(cases)} tests"] if len(cases) != len(tests) else []
+    print("\n".join([*(f"report: {it}" for it in faults[:10]), f"report: {whole} of {len(tests)} tests fail, {len(faults)} lines aren't as they have to be"]))
+    return int(bool(faults) or not whole)
+
+
+if __name__ == "__main__":
+    sys.exit(main(sys.argv[1:]))
