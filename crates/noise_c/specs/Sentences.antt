@@ -15,7 +15,7 @@ meaning code =
     else if code == NOT_YOUR_TURN then codes "It is the other party's turn."
     else if code == TOO_LONG then codes "The message would be or is too long."
     else if code == DONE then codes "All messages of the handshake have passed."
-    else if code == ENDED then codes "The handshake has ended, since a message was refused."
+    else if code == ENDED then codes "The handshake has ended: a message was refused, or it was finished."
     else if code == AGREEMENT then codes "A result of X25519 is missing in a struct that was changed."
     else if code == SHORT then codes "The message has too few bytes."
     else if code == TAG then codes "A tag is wrong: keys, psks or prologues differ, or bytes changed."

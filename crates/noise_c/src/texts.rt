@@ -50,8 +50,8 @@ fn sentence_of(code: u32) -> (&'static [u8; 80], usize)
             \0\0\0\0\0\0\0\0\0\0\0\0\0\0\0\0\0\0\0\0\0\0\0\0\0\0\0\0\0\0\0\0\0\0\0\0\0\0\0\0\0\0\0\0", 36),
         DONE => (b"All messages of the handshake have passed.\
             \0\0\0\0\0\0\0\0\0\0\0\0\0\0\0\0\0\0\0\0\0\0\0\0\0\0\0\0\0\0\0\0\0\0\0\0\0\0", 42),
-        ENDED => (b"The handshake has ended, since a message was refused.\
-            \0\0\0\0\0\0\0\0\0\0\0\0\0\0\0\0\0\0\0\0\0\0\0\0\0\0\0", 53),
+        ENDED => (b"The handshake has ended: a message was refused, or it was finished.\
+            \0\0\0\0\0\0\0\0\0\0\0\0\0", 67),
         AGREEMENT => (b"A result of X25519 is missing in a struct that was changed.\
             \0\0\0\0\0\0\0\0\0\0\0\0\0\0\0\0\0\0\0\0\0", 59),
         SHORT => (b"The message has too few bytes.\
