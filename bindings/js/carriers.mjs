@@ -2,13 +2,14 @@
 //   ready()          waits until it is open;
 //   write(frames)    sends frames together, and gives a promise that waits until the carrier has taken them, or nothing where it has;
 //   pull()           the next bytes that came, or undefined where the connection has ended;
-//   discard()        drops what comes from now on, so that the other party can read on;
-//   close(isOver)    once all is sent that was written, ends this party's half; unless it `isOver`, since the other party has ended its stream, waits after
-//                    `discard` until that has closed its half: what is closed before resets a connection of TCP, and what was sent may be lost;
+//   discard(most)    drops what comes from now on, so that the other party can read on, and reads no more after so many bytes;
+//   close(patience, isOver)  once all is sent that was written, ends this party's half; unless it `isOver`, since the other party has ended its stream, waits
+//                    after `discard` until that has closed its half, at most so many milliseconds: what is closed before may reset a connection of
+//                    TCP, and what was sent may be lost;
 //   destroy(reason)  ends it at once: what isn't sent yet is dropped, and no listener stays;
 // and a WebSocket calls `overflowed`, where one was set, with the error by which it has destroyed itself.
 import { NoiseError } from './codes.mjs';
-import { drain } from './waiting.mjs';
+import { drain, within } from './waiting.mjs';
 import { ofWebSocket, ofWebSocketStream } from './websocket.mjs';
 
 /**
@@ -74,10 +75,10 @@ function ofStreams({ readable, writable }) {
       }
     },
     pull: read,
-    discard: () => { drained = drain(read); },
-    close: async (isOver) => {
+    discard: (most) => { drained = drain(read, most); },
+    close: async (patience, isOver) => {
       await end();
-      if (!isOver) await drained;
+      if (!isOver) await within(patience, drained);
       await reader.cancel();
     },
     destroy: (reason) => {
@@ -112,11 +113,11 @@ function ofNode(stream) {
     ready: async () => {},
     write,
     pull: read,
-    discard: () => { drained = drain(read); },
-    close: async (isOver) => {
+    discard: (most) => { drained = drain(read, most); },
+    close: async (patience, isOver) => {
       // The end of one that was destroyed never calls back.
       if (!stream.connecting && !stream.destroyed) await new Promise((resolve) => { stream.end(resolve); });
-      if (!isOver) await drained;
+      if (!isOver) await within(patience, drained);
       stream.destroy();
     },
     destroy: () => { stream.destroy(); },

@@ -7,8 +7,10 @@ import { Sending } from './sending.mjs';
 import { MOST } from './stream.mjs';
 import { Turns, Waiting, mustGoOn, unlessAborted, within } from './waiting.mjs';
 
-/** How long a channel that is left waits for the other party to close the connection, in milliseconds. */
+/** How long a channel that is closed waits for the other party to close the connection, in milliseconds. */
 const LINGER = 5000;
+/** How long one that is left waits for that, once all is sent, and how many bytes it reads meanwhile. */
+const BRIEF = { patience: 200, most: 1 << 20 };
 
 /** @typedef {import('./waiting.mjs').Signal} Signal */
 
@@ -207,7 +209,8 @@ export class NoiseSocket {
   }
 
   /**
-   * The payloads, until the other party has ended its stream. Who leaves a loop over them before closes the connection, as Symbol.asyncDispose does.
+   * The payloads, until the other party has ended its stream. Who leaves a loop over them before closes the connection, as Symbol.asyncDispose does: once
+   * all is sent, within 200 milliseconds, and without an end.
    * @returns {AsyncIterableIterator<Uint8Array>}
    */
   async* [Symbol.asyncIterator]() {
@@ -257,29 +260,29 @@ export class NoiseSocket {
    * @returns {Promise<void>}
    */
   close({ timeout = LINGER } = {}) {
-    this.#closing ??= this.#close(timeout, true);
+    this.#closing ??= this.#close(timeout, { isWhole: true });
     return this.#closing;
   }
 
   /**
-   * Closes the connection in the same way, but without an end of what this party sends: the other party gets what was sent, and then NOISE_CUT, unless
-   * `end` was called before.
+   * Closes the connection once all is sent, but without an end of what this party sends: the other party gets what was sent, and then NOISE_CUT, unless
+   * `end` was called before. It may go on to send for ever: for 200 milliseconds it has the time to close, and at most 1 MiB is read.
    * @private
    */
   leave(mark) {
     mustBeOwn(mark);
-    this.#closing ??= this.#close(LINGER, false);
+    this.#closing ??= this.#close(LINGER, { isWhole: false, ...BRIEF });
     return this.#closing;
   }
 
-  async #close(timeout, isWhole) {
+  async #close(timeout, { isWhole, patience = Infinity, most = Infinity }) {
     if (this.#receiving.isOver) return;
     this.#receiving.end(new NoiseError('NOISE_DISPOSED'));
-    this.#carrier.discard();
+    this.#carrier.discard(most);
     await within(timeout, this.#sending.take(async () => {
       if (isWhole && !this.#hasEnded) await this.#putEnd().catch(() => {});    // the responder of a one-way pattern has none
       await this.#sending.put();
-      await this.#carrier.close(this.#isEnded);
+      await this.#carrier.close(patience, this.#isEnded);
     }));
     this.#fail(new NoiseError('NOISE_CUT'));
   }

@@ -1,7 +1,7 @@
 // A WebSocket as a carrier: each message is a frame without its two bytes of length.
 import { NoiseError } from './codes.mjs';
 import { frameOf, messageOf } from './stream.mjs';
-import { drain, pause } from './waiting.mjs';
+import { drain, pause, within } from './waiting.mjs';
 
 /**
  * What is used of a WebSocket of a browser, of Node or of the package ws, which alone has `pause`, `resume` and `terminate`.
@@ -169,11 +169,12 @@ export function ofWebSocket(socket) {
       return message && frameOf(message);
     },
     discard: () => discard(undefined),
-    close: async () => {
+    close: async (patience) => {
       if (socket.readyState === 3) return;
       const ended = firstOf(socket, ['close', 'error']);
       socket.close();
-      await ended;
+      while (socket.bufferedAmount > 0 && socket.readyState !== 3) await pause(10);
+      await within(patience, ended);
     },
     destroy,
     /** How many bytes wait to be pulled, and may wait. */
@@ -202,10 +203,10 @@ export function ofWebSocketStream(socket) {
       }
     },
     pull: read,
-    discard: () => { drain(() => reader.read().then(({ done }) => !done)); },
-    close: async () => {
+    discard: (most) => { drain(() => reader.read().then(({ value, done }) => (done ? undefined : bytesIn(value))), most); },
+    close: async (patience) => {
       await writer.close();
-      await closed;
+      await within(patience, closed);
     },
     destroy: (reason) => {
       for (const half of [writer?.abort(reason), reader?.cancel(reason)]) half?.catch(() => {});
