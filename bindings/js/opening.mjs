@@ -123,7 +123,7 @@ export async function opened(connection, options) {
   let handshake;
   let letGo;
   try {
-    const { interval = 0, judge, acceptAnyKey, signal, handshakeLimit = 4096, backlog = 1 << 26, ...setup } = optionsOf(options);
+    const { interval = 0, judge, acceptAnyKey, signal, handshakeLimit = 4096, backlog = 1 << 26, ...setup } = optionsOf(options, true);
     const limit = sizeOf(handshakeLimit, 'handshakeLimit');
     const bound = new Bound(carrier, sizeOf(backlog, 'backlog'));
     handshake = new Handshake(typeof setup.pskFor === 'function' ? { ...setup, pskFor: bound.asking(setup.pskFor) } : setup);

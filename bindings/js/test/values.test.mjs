@@ -65,6 +65,21 @@ test('values', async (t) => {
     assert.throws(() => new Handshake({}), { name: 'TypeError', message: /pattern has to be a name, as XX/u });
   });
 
+  await t.test('an option that would be ignored is refused, and named', async () => {
+    const staticKey = await KeyPair.generate();
+    const ofOpen = { judge: () => false, acceptAnyKey: false, interval: 3, signal: AbortSignal.timeout(1000), handshakeLimit: 4096, backlog: 1 };
+    for (const [name, value] of Object.entries(ofOpen)) {
+      const message = new RegExp(`^${name} is an option of NoiseSocket.open, and not of Handshake`, 'u');
+      assert.throws(() => new Handshake({ pattern: 'XX', staticKey, [name]: value }), { name: 'TypeError', message });
+    }
+    for (const name of ['prolog', 'staticKeys', 'respnder', 'juge']) {
+      const fault = { name: 'TypeError', message: new RegExp(`^there is no option ${name}: there are pattern, responder, `, 'u') };
+      assert.throws(() => new Handshake({ pattern: 'XX', staticKey, [name]: true }), fault);
+      await assert.rejects(NoiseSocket.open(pair()[0], { pattern: 'XX', staticKey, acceptAnyKey: true, [name]: true }), fault);
+    }
+    assert.ok(new Handshake({ pattern: 'XX', staticKey, judge: undefined }));
+  });
+
   await t.test('keys are compared, and are a Map’s keys, whatever array has them', async () => {
     const { publicKey } = await KeyPair.generate();
     const other = Buffer.from(publicKey);
