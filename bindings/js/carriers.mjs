@@ -124,11 +124,26 @@ function ofNode(stream) {
   };
 }
 
-/** The carrier that these make. */
-export function carrierOf(it) {
+function carrierBy(it) {
   if (typeof it?.opened?.then === 'function') return ofWebSocketStream(it);
   if (typeof it?.readable?.getReader === 'function') return ofStreams(it);
   if (typeof it?.pipe === 'function') return ofNode(it);
   if (typeof it?.addEventListener === 'function') return ofWebSocket(it);
   throw new TypeError('a channel goes over a WebSocket, { readable, writable } or a stream of Node');
+}
+
+/** What has a carrier that isn't destroyed. */
+const inUse = new WeakSet();
+
+/** The carrier that these make. Of two each would take a part of what comes. */
+export function carrierOf(it) {
+  if (inUse.has(it)) throw new TypeError('open was called on this connection before: a connection has one channel');
+  const carrier = carrierBy(it);
+  const { destroy } = carrier;
+  inUse.add(it);
+  carrier.destroy = (reason) => {
+    inUse.delete(it);
+    destroy(reason);
+  };
+  return carrier;
 }

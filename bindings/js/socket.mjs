@@ -9,8 +9,7 @@ import { Turns, Waiting, mustGoOn, unlessAborted, within } from './waiting.mjs';
 
 /** How long a channel that is closed waits for the other party to close the connection, in milliseconds. */
 const LINGER = 5000;
-/** How long one that is left waits for that, once all is sent, and how many bytes it reads meanwhile. */
-const BRIEF = { patience: 200, most: 1 << 20 };
+const BRIEF = { patience: 200, most: 1 << 20 };    // how long one that is left does, once all is sent, and how many bytes it reads
 
 /** @typedef {import('./waiting.mjs').Signal} Signal */
 
@@ -36,12 +35,12 @@ export class NoiseSocket {
   /** @private */
   constructor(mark, parts) {
     mustBeOwn(mark);
-    const { carrier, incoming, stream, kept, isSilent } = parts;
+    const { carrier, incoming, stream, kept } = parts;
     this.#carrier = carrier;
     this.#incoming = incoming;
     this.#stream = stream;
     this.#sending = new Sending(carrier, kept);
-    this.#isEnded = isSilent;
+    this.#isEnded = !incoming;
     /**
      * The handshake hash.
      * @readonly
@@ -54,8 +53,7 @@ export class NoiseSocket {
      * @type {Uint8Array | undefined}
      */
     this.remoteStatic = stream.remoteStatic;
-    // Who does nothing at once doesn't keep the other party waiting.
-    if (kept.length > 0) setTimeout(() => this.#flushLater());
+    if (kept.length > 0) setTimeout(() => this.#flushLater());    // who does nothing at once doesn't keep the other party waiting
   }
 
   /**
@@ -70,9 +68,10 @@ export class NoiseSocket {
     return new NoiseSocket(OWN, await opened(connection, options));
   }
 
-  /** Throws NOISE_DISPOSED once the channel was closed, or refused something. */
+  /** Throws what ended the channel: NOISE_DISPOSED where this party has closed it, or a signal did. */
   #mustBeOpen() {
-    if (this.#receiving.isOver) throw new NoiseError('NOISE_DISPOSED', { cause: this.#receiving.reason });
+    const { isOver, reason: cause } = this.#receiving;
+    if (isOver) throw cause instanceof NoiseError ? cause : new NoiseError('NOISE_DISPOSED', { cause });
   }
 
   /** Ends all at once: whatever waits rejects, and the connection is destroyed. */
@@ -167,13 +166,15 @@ export class NoiseSocket {
 
   /**
    * The next payload, or undefined once the other party has ended its stream, and all of it came. Where the connection has ended before that, it
-   * throws NOISE_CUT. Calls at once are served in order. A signal that aborts takes nothing from the channel: the next call gets the payload.
+   * throws NOISE_CUT, and to the initiator of a one-way pattern nothing comes: NOISE_ONE_WAY. Calls at once are served in order. A signal that aborts
+   * takes nothing from the channel: the next call gets the payload.
    * @param {{ signal?: Signal }} [options]
    * @returns {Promise<Uint8Array | undefined>}
    */
   async receive({ signal } = {}) {
     this.#mustBeOpen();
     mustGoOn(signal);
+    if (!this.#incoming) throw new NoiseError('NOISE_ONE_WAY');
     this.#flushLater();
     const found = this.#receives.isIdle ? this.#found() : undefined;
     return found ? found.value : this.#receives.take(() => this.#next(signal), signal);
@@ -209,8 +210,7 @@ export class NoiseSocket {
   }
 
   /**
-   * The payloads, until the other party has ended its stream. Who leaves a loop over them before closes the connection, as Symbol.asyncDispose does: once
-   * all is sent, within 200 milliseconds, and without an end.
+   * The payloads, until the other party has ended its stream. Who leaves a loop over them before closes the connection, as Symbol.asyncDispose does.
    * @returns {AsyncIterableIterator<Uint8Array>}
    */
   async* [Symbol.asyncIterator]() {

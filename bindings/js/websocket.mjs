@@ -111,8 +111,15 @@ function flowOf(socket, backlog) {
   };
 }
 
-/** A text frame is no message of Noise: an empty one takes its place, and is refused. */
-const bytesIn = (data) => (typeof data === 'string' ? new Uint8Array(0) : new Uint8Array(data));
+/** In the place of a text message, which is none of Noise. */
+const TEXT = new Uint8Array(0);
+const bytesIn = (data) => (typeof data === 'string' ? TEXT : new Uint8Array(data));
+
+/** The frame of a message. */
+function framed(message) {
+  if (message === TEXT) throw new NoiseError('NOISE_SHORT', { message: 'a text message came over the WebSocket, and a message of Noise is a binary one' });
+  return frameOf(message);
+}
 
 /** The carrier over a WebSocket. */
 export function ofWebSocket(socket) {
@@ -166,7 +173,7 @@ export function ofWebSocket(socket) {
     pull: async () => {
       const message = await backlog.pull();
       flow.went();
-      return message && frameOf(message);
+      return message && framed(message);
     },
     discard: () => discard(undefined),
     close: async (patience) => {
@@ -192,7 +199,7 @@ export function ofWebSocketStream(socket) {
   const opened = socket.opened.then(({ readable, writable }) => { [reader, writer] = [readable.getReader(), writable.getWriter()]; });
   const closed = socket.closed.then(() => {}, () => {});
   opened.catch(() => {});    // `ready` may not be called
-  const read = () => reader.read().then(({ value, done }) => (done ? undefined : frameOf(bytesIn(value))), broken);
+  const read = () => reader.read().then(({ value, done }) => (done ? undefined : framed(bytesIn(value))), broken);
   return {
     ready: () => opened.catch(broken),
     write: async (frames) => {

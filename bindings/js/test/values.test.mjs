@@ -7,7 +7,7 @@ import * as noise from '../noise.mjs';
 import { library } from '../module.mjs';
 import { channels, openSockets, pair, refused, text } from './connections.mjs';
 
-const { Handshake, KeyPair, NoiseError, NoiseSocket, checkPattern, equal, hex, load } = noise;
+const { Handshake, KeyPair, NoiseError, NoiseSocket, checkPattern, equal, fromHex, hex, load } = noise;
 
 test('values', async (t) => {
   await load();
@@ -92,6 +92,17 @@ test('values', async (t) => {
     const secrets = new Map([[other.toString('hex'), 'secret']]);
     assert.deepEqual([secrets.get(hex(publicKey)), secrets.get(hex(other))], ['secret', 'secret']);
     assert.throws(() => hex('00'), TypeError);
+    assert.deepEqual(fromHex(hex(publicKey)), publicKey);
+    assert.deepEqual([...fromHex('000AfF'), ...fromHex('')], [0, 10, 255]);
+    for (const wrong of ['0', '0g', ' 00', '00\n', publicKey, undefined]) assert.throws(() => fromHex(wrong), TypeError);
+  });
+
+  await t.test('a key in hex digits is refused with what decodes it', async () => {
+    const { publicKey } = await KeyPair.generate();
+    const message = /^(remoteStatic|a secret key|a psk) has to be a Uint8Array of 32 bytes: fromHex decodes hex digits$/u;
+    assert.throws(() => new Handshake({ pattern: 'NK', remoteStatic: hex(publicKey) }), { name: 'TypeError', message });
+    assert.throws(() => new Handshake({ pattern: 'NNpsk0', psks: [hex(publicKey)] }), { name: 'TypeError', message });
+    await assert.rejects(KeyPair.fromSecret(hex(publicKey)), { name: 'TypeError', message });
   });
 
   await t.test('a message that is tried, and refused, leaves the handshake as it was', async () => {
