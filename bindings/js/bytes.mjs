@@ -8,7 +8,10 @@ function isBytes(value) {
 
 /** The value itself, where it is a Uint8Array, of this length if one is named. */
 export function bytesOf(value, what, length) {
-  if (!isBytes(value)) throw new TypeError(`${what} has to be a Uint8Array${typeof value === 'string' ? ': encode a text by new TextEncoder().encode(text)' : ''}`);
+  if (!isBytes(value)) {
+    const ofText = length === undefined ? ': encode a text by new TextEncoder().encode(text)' : ` of ${length} bytes: fromHex decodes hex digits`;
+    throw new TypeError(`${what} has to be a Uint8Array${typeof value === 'string' ? ofText : ''}`);
+  }
   if (length !== undefined && value.length !== length) throw new TypeError(`${what} has to have ${length} bytes`);
   return value;
 }
@@ -38,4 +41,14 @@ export function equal(one, other) {
  */
 export function hex(bytes) {
   return Array.from(bytesOf(bytes, 'what is written as hex'), (byte) => byte.toString(16).padStart(2, '0')).join('');
+}
+
+/**
+ * The bytes of hex digits, two for each, in small or capital letters. Anything else between them is a TypeError.
+ * @param {string} digits
+ * @returns {Uint8Array}
+ */
+export function fromHex(digits) {
+  if (typeof digits !== 'string' || !/^(?:[0-9a-f]{2})*$/iu.test(digits)) throw new TypeError('hex digits have to be a text of two digits for each byte, and of nothing else');
+  return Uint8Array.from({ length: digits.length / 2 }, (_, n) => parseInt(digits.slice(2 * n, 2 * n + 2), 16));
 }

@@ -2,13 +2,14 @@
 //   ready()          waits until it is open;
 //   write(frames)    sends frames together, and gives a promise that waits until the carrier has taken them, or nothing where it has;
 //   pull()           the next bytes that came, or undefined where the connection has ended;
-//   discard()        drops what comes from now on, so that the other party can read on;
-//   close(isOver)    once all is sent that was written, ends this party's half; unless it `isOver`, since the other party has ended its stream, waits after
-//                    `discard` until that has closed its half: what is closed before resets a connection of TCP, and what was sent may be lost;
+//   discard(most)    drops what comes from now on, so that the other party can read on, and reads no more after so many bytes;
+//   close(patience, isOver)  once all is sent that was written, ends this party's half; unless it `isOver`, since the other party has ended its stream, waits
+//                    after `discard` until that has closed its half, at most so many milliseconds: what is closed before may reset a connection of
+//                    TCP, and what was sent may be lost;
 //   destroy(reason)  ends it at once: what isn't sent yet is dropped, and no listener stays;
 // and a WebSocket calls `overflowed`, where one was set, with the error by which it has destroyed itself.
 import { NoiseError } from './codes.mjs';
-import { drain } from './waiting.mjs';
+import { drain, within } from './waiting.mjs';
 import { ofWebSocket, ofWebSocketStream } from './websocket.mjs';
 
 /**
@@ -74,10 +75,10 @@ function ofStreams({ readable, writable }) {
       }
     },
     pull: read,
-    discard: () => { drained = drain(read); },
-    close: async (isOver) => {
+    discard: (most) => { drained = drain(read, most); },
+    close: async (patience, isOver) => {
       await end();
-      if (!isOver) await drained;
+      if (!isOver) await within(patience, drained);
       await reader.cancel();
     },
     destroy: (reason) => {
@@ -112,22 +113,37 @@ function ofNode(stream) {
     ready: async () => {},
     write,
     pull: read,
-    discard: () => { drained = drain(read); },
-    close: async (isOver) => {
+    discard: (most) => { drained = drain(read, most); },
+    close: async (patience, isOver) => {
       // The end of one that was destroyed never calls back.
       if (!stream.connecting && !stream.destroyed) await new Promise((resolve) => { stream.end(resolve); });
-      if (!isOver) await drained;
+      if (!isOver) await within(patience, drained);
       stream.destroy();
     },
     destroy: () => { stream.destroy(); },
   };
 }
 
-/** The carrier that these make. */
-export function carrierOf(it) {
+function carrierBy(it) {
   if (typeof it?.opened?.then === 'function') return ofWebSocketStream(it);
   if (typeof it?.readable?.getReader === 'function') return ofStreams(it);
   if (typeof it?.pipe === 'function') return ofNode(it);
   if (typeof it?.addEventListener === 'function') return ofWebSocket(it);
   throw new TypeError('a channel goes over a WebSocket, { readable, writable } or a stream of Node');
+}
+
+/** What has a carrier that isn't destroyed. */
+const inUse = new WeakSet();
+
+/** The carrier that these make. Of two each would take a part of what comes. */
+export function carrierOf(it) {
+  if (inUse.has(it)) throw new TypeError('open was called on this connection before: a connection has one channel');
+  const carrier = carrierBy(it);
+  const { destroy } = carrier;
+  inUse.add(it);
+  carrier.destroy = (reason) => {
+    inUse.delete(it);
+    destroy(reason);
+  };
+  return carrier;
 }

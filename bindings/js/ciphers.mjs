@@ -104,9 +104,15 @@ export class Ciphers {
     mustBeOwn(mark);
     const [send, receive] = places;
     const { hash, remoteStatic } = session;
-    /** Encrypts what this party sends. */
+    /**
+     * Encrypts what this party sends.
+     * @type {CipherState}
+     */
     this.send = new CipherState(OWN, send);
-    /** Decrypts what it receives. */
+    /**
+     * Decrypts what it receives.
+     * @type {CipherState}
+     */
     this.receive = new CipherState(OWN, receive);
     /**
      * The handshake hash.

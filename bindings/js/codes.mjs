@@ -72,10 +72,10 @@ export const codeOf = (number) => NAMES.get(number) ?? 'NOISE_UNKNOWN';
 export class NoiseError extends Error {
   /**
    * @param {Code} name
-   * @param {{ token?: number, cause?: unknown }} [more]
+   * @param {{ token?: number, cause?: unknown, message?: string }} [more]
    */
-  constructor(name, { token, cause } = {}) {
-    super(TEXTS[name.slice(6)] ?? name, cause === undefined ? undefined : { cause });
+  constructor(name, { token, cause, message } = {}) {
+    super(message ?? TEXTS[name.slice(6)] ?? name, cause === undefined ? undefined : { cause });
     /**
      * For example NOISE_TAG.
      * @type {Code}

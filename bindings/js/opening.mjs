@@ -114,8 +114,8 @@ function endBy(signal, waiting) {
 /** @typedef {import('./setup.mjs').HandshakeOptions & SocketOptions} NoiseSocketOptions The set-up of a handshake, and of a channel. */
 
 /**
- * Passes a handshake over a connection: the carrier, what came over it, the stream, the frames that are kept back, and whether the other party sends nothing
- * (Noise, 7.4).
+ * Passes a handshake over a connection: the carrier, what came over it, unless the other party sends nothing (Noise, 7.4), the stream, and the frames that
+ * are kept back.
  */
 export async function opened(connection, options) {
   const carrier = carrierOf(connection);
@@ -123,7 +123,7 @@ export async function opened(connection, options) {
   let handshake;
   let letGo;
   try {
-    const { interval = 0, judge, acceptAnyKey, signal, handshakeLimit = 4096, backlog = 1 << 26, ...setup } = optionsOf(options);
+    const { interval = 0, judge, acceptAnyKey, signal, handshakeLimit = 4096, backlog = 1 << 26, ...setup } = optionsOf(options, true);
     const limit = sizeOf(handshakeLimit, 'handshakeLimit');
     const bound = new Bound(carrier, sizeOf(backlog, 'backlog'));
     handshake = new Handshake(typeof setup.pskFor === 'function' ? { ...setup, pskFor: bound.asking(setup.pskFor) } : setup);
@@ -136,7 +136,7 @@ export async function opened(connection, options) {
     carrier.overflowed = undefined;    // the next call of receive throws it
     bound.hasLast();
     const isSilent = handshake.stage.messages === 1 && !setup.responder;
-    return { carrier, incoming, stream: handshake.finishStream({ interval }), kept, isSilent };
+    return { carrier, incoming: isSilent ? undefined : incoming, stream: handshake.finishStream({ interval }), kept };
   } catch (error) {
     waiting.end(error);
     carrier.destroy(error);

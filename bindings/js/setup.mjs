@@ -17,6 +17,12 @@ import { library } from './module.mjs';
  * party's static key, it gives the secret of 32 bytes. The other party hasn't shown yet that it has the private key. What it throws rejects `write`
  * or `read`, and nothing is sent.
  */
+const OF_HANDSHAKE = ['pattern', 'responder', 'prologue', 'staticKey', 'ephemeralKey', 'remoteStatic', 'remoteEphemeral', 'psks', 'pskFor'];
+const OF_CHANNEL = ['interval', 'judge', 'acceptAnyKey', 'signal', 'handshakeLimit', 'backlog'];
+/** What to do instead, where a handshake is passed an option of a channel. */
+const INSTEAD = {
+  judge: 'compare remoteStatic once it is known', acceptAnyKey: 'compare remoteStatic once it is known', interval: 'pass it to finish',
+};
 const encoder = new TextEncoder();
 let lastPattern = { text: '', bytes: new Uint8Array(0) };
 
@@ -52,10 +58,14 @@ function keyPairOf(pair, what) {
   return pair;
 }
 
-/** The options themselves, where there are any. */
-export function optionsOf(options) {
+/** The options themselves, where there are any: of a handshake, or else of a channel. One that is passed and would be ignored is refused. */
+export function optionsOf(options, ofChannel = false) {
   if (typeof options !== 'object' || options === null) throw new TypeError("there are no options: pass at least { pattern }, as { pattern: 'XX', staticKey }");
-  return options;
+  const known = ofChannel ? [...OF_HANDSHAKE, ...OF_CHANNEL] : OF_HANDSHAKE;
+  const name = Object.keys(options).find((it) => options[it] !== undefined && !known.includes(it));
+  if (name === undefined) return options;
+  if (!OF_CHANNEL.includes(name)) throw new TypeError(`there is no option ${name}: there are ${known.join(', ')}`);
+  throw new TypeError(`${name} is an option of NoiseSocket.open, and not of Handshake${INSTEAD[name] ? `: ${INSTEAD[name]}` : ''}`);
 }
 
 /** Copies of the options, as far as they can be checked here: the library checks the rest. */

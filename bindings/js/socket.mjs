@@ -7,8 +7,9 @@ import { Sending } from './sending.mjs';
 import { MOST } from './stream.mjs';
 import { Turns, Waiting, mustGoOn, unlessAborted, within } from './waiting.mjs';
 
-/** How long a channel that is left waits for the other party to close the connection, in milliseconds. */
+/** How long a channel that is closed waits for the other party to close the connection, in milliseconds. */
 const LINGER = 5000;
+const BRIEF = { patience: 200, most: 1 << 20 };    // how long one that is left does, once all is sent, and how many bytes it reads
 
 /** @typedef {import('./waiting.mjs').Signal} Signal */
 
@@ -34,12 +35,12 @@ export class NoiseSocket {
   /** @private */
   constructor(mark, parts) {
     mustBeOwn(mark);
-    const { carrier, incoming, stream, kept, isSilent } = parts;
+    const { carrier, incoming, stream, kept } = parts;
     this.#carrier = carrier;
     this.#incoming = incoming;
     this.#stream = stream;
     this.#sending = new Sending(carrier, kept);
-    this.#isEnded = isSilent;
+    this.#isEnded = !incoming;
     /**
      * The handshake hash.
      * @readonly
@@ -52,8 +53,7 @@ export class NoiseSocket {
      * @type {Uint8Array | undefined}
      */
     this.remoteStatic = stream.remoteStatic;
-    // Who does nothing at once doesn't keep the other party waiting.
-    if (kept.length > 0) setTimeout(() => this.#flushLater());
+    if (kept.length > 0) setTimeout(() => this.#flushLater());    // who does nothing at once doesn't keep the other party waiting
   }
 
   /**
@@ -68,9 +68,10 @@ export class NoiseSocket {
     return new NoiseSocket(OWN, await opened(connection, options));
   }
 
-  /** Throws NOISE_DISPOSED once the channel was closed, or refused something. */
+  /** Throws what ended the channel: NOISE_DISPOSED where this party has closed it, or a signal did. */
   #mustBeOpen() {
-    if (this.#receiving.isOver) throw new NoiseError('NOISE_DISPOSED', { cause: this.#receiving.reason });
+    const { isOver, reason: cause } = this.#receiving;
+    if (isOver) throw cause instanceof NoiseError ? cause : new NoiseError('NOISE_DISPOSED', { cause });
   }
 
   /** Ends all at once: whatever waits rejects, and the connection is destroyed. */
@@ -165,13 +166,15 @@ export class NoiseSocket {
 
   /**
    * The next payload, or undefined once the other party has ended its stream, and all of it came. Where the connection has ended before that, it
-   * throws NOISE_CUT. Calls at once are served in order. A signal that aborts takes nothing from the channel: the next call gets the payload.
+   * throws NOISE_CUT, and to the initiator of a one-way pattern nothing comes: NOISE_ONE_WAY. Calls at once are served in order. A signal that aborts
+   * takes nothing from the channel: the next call gets the payload.
    * @param {{ signal?: Signal }} [options]
    * @returns {Promise<Uint8Array | undefined>}
    */
   async receive({ signal } = {}) {
     this.#mustBeOpen();
     mustGoOn(signal);
+    if (!this.#incoming) throw new NoiseError('NOISE_ONE_WAY');
     this.#flushLater();
     const found = this.#receives.isIdle ? this.#found() : undefined;
     return found ? found.value : this.#receives.take(() => this.#next(signal), signal);
@@ -257,29 +260,29 @@ export class NoiseSocket {
    * @returns {Promise<void>}
    */
   close({ timeout = LINGER } = {}) {
-    this.#closing ??= this.#close(timeout, true);
+    this.#closing ??= this.#close(timeout, { isWhole: true });
     return this.#closing;
   }
 
   /**
-   * Closes the connection in the same way, but without an end of what this party sends: the other party gets what was sent, and then NOISE_CUT, unless
-   * `end` was called before.
+   * Closes the connection once all is sent, but without an end of what this party sends: the other party gets what was sent, and then NOISE_CUT, unless
+   * `end` was called before. It may go on to send for ever: for 200 milliseconds it has the time to close, and at most 1 MiB is read.
    * @private
    */
   leave(mark) {
     mustBeOwn(mark);
-    this.#closing ??= this.#close(LINGER, false);
+    this.#closing ??= this.#close(LINGER, { isWhole: false, ...BRIEF });
     return this.#closing;
   }
 
-  async #close(timeout, isWhole) {
+  async #close(timeout, { isWhole, patience = Infinity, most = Infinity }) {
     if (this.#receiving.isOver) return;
     this.#receiving.end(new NoiseError('NOISE_DISPOSED'));
-    this.#carrier.discard();
+    this.#carrier.discard(most);
     await within(timeout, this.#sending.take(async () => {
       if (isWhole && !this.#hasEnded) await this.#putEnd().catch(() => {});    // the responder of a one-way pattern has none
       await this.#sending.put();
-      await this.#carrier.close(this.#isEnded);
+      await this.#carrier.close(patience, this.#isEnded);
     }));
     this.#fail(new NoiseError('NOISE_CUT'));
   }

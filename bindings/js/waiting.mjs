@@ -105,7 +105,7 @@ const LONGEST = 2 ** 31 - 1;
 /** Waits until a promise settles, at most so many milliseconds. */
 export function within(milliseconds, promise) {
   return new Promise((resolve) => {
-    const timer = setTimeout(resolve, Math.min(milliseconds, LONGEST));
+    const timer = milliseconds === Infinity ? undefined : setTimeout(resolve, Math.min(milliseconds, LONGEST));
     const done = () => { clearTimeout(timer); resolve(); };
     promise.then(done, done);
   });
@@ -116,11 +116,16 @@ export const pause = (milliseconds) => new Promise((resolve) => { setTimeout(res
 /** Lets timers and connections have their turn, in Node. A browser has no such call, and needs none: it takes nothing at once. */
 export const turn = () => new Promise((resolve) => { (globalThis.setImmediate ?? queueMicrotask)(resolve); });
 
-/** Drops what is read until the end. */
-export async function drain(read) {
+/** Drops what is read until the end. After `most` bytes it reads no more, and stays pending. */
+export async function drain(read, most = Infinity) {
   try {
-    while (await read());
+    for (let left = most; left > 0;) {
+      const chunk = await read();
+      if (!chunk) return;
+      left -= chunk.length;
+    }
   } catch {
-    // It broke, and nothing is left to drop.
+    return;    // it broke, and nothing is left to drop
   }
+  await new Promise(() => {});
 }

@@ -1,7 +1,7 @@
 // A WebSocket as a carrier: each message is a frame without its two bytes of length.
 import { NoiseError } from './codes.mjs';
 import { frameOf, messageOf } from './stream.mjs';
-import { drain, pause } from './waiting.mjs';
+import { drain, pause, within } from './waiting.mjs';
 
 /**
  * What is used of a WebSocket of a browser, of Node or of the package ws, which alone has `pause`, `resume` and `terminate`.
@@ -111,8 +111,15 @@ function flowOf(socket, backlog) {
   };
 }
 
-/** A text frame is no message of Noise: an empty one takes its place, and is refused. */
-const bytesIn = (data) => (typeof data === 'string' ? new Uint8Array(0) : new Uint8Array(data));
+/** In the place of a text message, which is none of Noise. */
+const TEXT = new Uint8Array(0);
+const bytesIn = (data) => (typeof data === 'string' ? TEXT : new Uint8Array(data));
+
+/** The frame of a message. */
+function framed(message) {
+  if (message === TEXT) throw new NoiseError('NOISE_SHORT', { message: 'a text message came over the WebSocket, and a message of Noise is a binary one' });
+  return frameOf(message);
+}
 
 /** The carrier over a WebSocket. */
 export function ofWebSocket(socket) {
@@ -166,14 +173,15 @@ export function ofWebSocket(socket) {
     pull: async () => {
       const message = await backlog.pull();
       flow.went();
-      return message && frameOf(message);
+      return message && framed(message);
     },
     discard: () => discard(undefined),
-    close: async () => {
+    close: async (patience) => {
       if (socket.readyState === 3) return;
       const ended = firstOf(socket, ['close', 'error']);
       socket.close();
-      await ended;
+      while (socket.bufferedAmount > 0 && socket.readyState !== 3) await pause(10);
+      await within(patience, ended);
     },
     destroy,
     /** How many bytes wait to be pulled, and may wait. */
@@ -191,7 +199,7 @@ export function ofWebSocketStream(socket) {
   const opened = socket.opened.then(({ readable, writable }) => { [reader, writer] = [readable.getReader(), writable.getWriter()]; });
   const closed = socket.closed.then(() => {}, () => {});
   opened.catch(() => {});    // `ready` may not be called
-  const read = () => reader.read().then(({ value, done }) => (done ? undefined : frameOf(bytesIn(value))), broken);
+  const read = () => reader.read().then(({ value, done }) => (done ? undefined : framed(bytesIn(value))), broken);
   return {
     ready: () => opened.catch(broken),
     write: async (frames) => {
@@ -202,10 +210,10 @@ export function ofWebSocketStream(socket) {
       }
     },
     pull: read,
-    discard: () => { drain(() => reader.read().then(({ done }) => !done)); },
-    close: async () => {
+    discard: (most) => { drain(() => reader.read().then(({ value, done }) => (done ? undefined : bytesIn(value))), most); },
+    close: async (patience) => {
       await writer.close();
-      await closed;
+      await within(patience, closed);
     },
     destroy: (reason) => {
       for (const half of [writer?.abort(reason), reader?.cancel(reason)]) half?.catch(() => {});

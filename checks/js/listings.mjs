@@ -6,10 +6,13 @@ import { join } from 'node:path';
 // The types of Debian's TypeScript lack it.
 const TIMEOUT = '/** @type {{ timeout(milliseconds: number): AbortSignal }} */ (/** @type {unknown} */ (AbortSignal)).timeout';
 const IMPORTS = [
-  "import { createReadStream } from 'node:fs';",
+  "import { createHash } from 'node:crypto';",
+  "import { createReadStream, createWriteStream } from 'node:fs';",
+  "import { readFile } from 'node:fs/promises';",
   "import { connect } from 'node:net';",
   "import { pipeline } from 'node:stream/promises';",
-  "import { Handshake, NoiseSocket, hex } from 'yulimosar';",
+  "import { WebSocketServer } from 'ws';",
+  "import { Handshake, NoiseSocket, equal, hex } from 'yulimosar';",
 ].map((line) => `${line}\n`).join('');
 
 const [folder, ...pages] = process.argv.slice(2);

@@ -10,6 +10,8 @@ declare const process: { readonly argv: string[] };
 
 declare module 'node:crypto' {
   export function randomBytes(size: number): Buffer;
+  export interface Hash { update(bytes: Uint8Array): this; digest(): Buffer; }
+  export function createHash(name: string): Hash;
 }
 declare module 'node:fs/promises' {
   export function readFile(path: string): Promise<Buffer>;
@@ -18,9 +20,18 @@ declare module 'node:fs/promises' {
 }
 declare module 'node:fs' {
   export function createReadStream(path: string): AsyncIterable<Buffer>;
+  export interface WriteStream { close(): void; }
+  export function createWriteStream(path: string): WriteStream;
 }
 declare module 'node:stream/promises' {
   export function pipeline(from: AsyncIterable<Uint8Array>, to: WritableStream): Promise<void>;
+  export function pipeline(from: ReadableStream, to: import('node:fs').WriteStream): Promise<void>;
+}
+declare module 'ws' {
+  export class WebSocketServer {
+    constructor(options: { port: number, maxPayload: number });
+    on(event: 'connection', listener: (socket: WebSocket) => void): this;
+  }
 }
 declare module 'node:net' {
   export interface Socket extends AsyncIterable<any> {

@@ -7,4 +7,5 @@ declare const [staticKey, key]: import('yulimosar').KeyPair[];
 declare const server: Uint8Array;
 declare const judge: (remoteStatic: Uint8Array) => boolean;
 declare const socket: WebSocket;
+declare const serve: (socket: WebSocket) => Promise<void>;
 declare const channel: import('yulimosar').NoiseSocket;

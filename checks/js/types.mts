@@ -81,6 +81,8 @@ console.log(new NoiseSocket());
 console.log(new CipherState());
 // @ts-expect-error: a text isn't bytes
 await channel.send('text');
+// @ts-expect-error: numbers aren't bytes
+send.encryptWithAd(1, 2);
 // @ts-expect-error: no such option
 await NoiseSocket.open({ readable, writable }, { pattern: 'NN', acceptAnyKeys: true });
 // @ts-expect-error: no window of 65

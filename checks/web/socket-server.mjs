@@ -20,11 +20,11 @@ export const EXPECTED = {
   'handshake-text': 'NOISE_SHORT',
   'handshake-long': 'NOISE_LENGTH',
   'handshake-longer': 'NOISE_LENGTH',
-  close: 'NOISE_CUT, and then NOISE_DISPOSED',
-  cut: 'NOISE_CUT, and then NOISE_DISPOSED',
-  text: 'NOISE_SHORT, and then NOISE_DISPOSED',
-  long: 'NOISE_LENGTH, and then NOISE_DISPOSED',
-  longer: 'NOISE_LENGTH, and then NOISE_DISPOSED',
+  close: 'NOISE_CUT, and then NOISE_CUT',
+  cut: 'NOISE_CUT, and then NOISE_CUT',
+  text: 'NOISE_SHORT, and then NOISE_SHORT',
+  long: 'NOISE_LENGTH, and then NOISE_LENGTH',
+  longer: 'NOISE_LENGTH, and then NOISE_LENGTH',
 };
 
 /** Takes the WebSockets of an HTTP server. `closed` counts those whose client has closed them. */

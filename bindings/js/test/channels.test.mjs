@@ -3,7 +3,7 @@ import assert from 'node:assert/strict';
 import { once } from 'node:events';
 import { connect } from 'node:net';
 import { KeyPair, NoiseSocket, load, protocolName } from '../noise.mjs';
-import { nobody, overTcp, pair, refused, sockets, text } from './connections.mjs';
+import { NN, nobody, openSockets, overTcp, pair, refused, sockets, text } from './connections.mjs';
 
 test('channels', async (t) => {
   await load();
@@ -16,9 +16,27 @@ test('channels', async (t) => {
     await a.send(text('hello'));
     assert.deepEqual(await b.receive(), text('hello'));
     two.send('a text');
-    await assert.rejects(a.receive(), refused('NOISE_SHORT'));
+    await assert.rejects(a.receive(), (error) => error.code === 'NOISE_SHORT' && error.message.startsWith('a text message came over the WebSocket'));
     await assert.rejects(b.receive(), refused('NOISE_CUT'));
-    await assert.rejects(a.send(text('x')), refused('NOISE_DISPOSED'));
+    await assert.rejects(a.send(text('x')), refused('NOISE_SHORT'));
+    const [near, far] = openSockets();
+    const opening = NoiseSocket.open(near, { pattern, responder: true, acceptAnyKey: true });
+    far.send('a text');
+    await assert.rejects(opening, { code: 'NOISE_SHORT', message: /^a text message came/u });
+  });
+
+  await t.test('a second call of open on a connection is refused, and the first goes on', async () => {
+    for (const ends of [overTcp(), openSockets(), pair({ highWaterMark: 1e6 }, { highWaterMark: 1e6 })]) {
+      const [near, far] = await ends;
+      const opening = NoiseSocket.open(near, NN);
+      const second = { name: 'TypeError', message: /^open was called on this connection before/u };
+      await assert.rejects(NoiseSocket.open(near, NN), second);
+      const [a, b] = await Promise.all([opening, NoiseSocket.open(far, { ...NN, responder: true })]);
+      await assert.rejects(NoiseSocket.open(near, NN), second);
+      a.send(text('one')).catch(() => {});
+      assert.deepEqual(await b.receive(), text('one'));
+      await Promise.all([a.close(), b.close()]);
+    }
   });
 
   await t.test('the other party’s key is checked, and a closed connection is reported', async () => {

@@ -119,9 +119,7 @@ test('ends', { timeout: 300000 }, async (t) => {
       const name = wrong === FORGED ? 'NOISE_TAG' : 'NOISE_SHORT';
       assert.deepEqual(await Promise.all(calls), [name, name, name]);
       const before = came;
-      await assert.rejects(a.send(text('x')), (error) => error.code === 'NOISE_DISPOSED' && error.cause.code === name);
-      await assert.rejects(a.end(), refused('NOISE_DISPOSED'));
-      await assert.rejects(a.receive(), refused('NOISE_DISPOSED'));
+      for (const call of [a.send(text('x')), a.end(), a.flush(), a.receive()]) await assert.rejects(call, refused(name));
       await a.close();
       if (!far.closed) await once(far, 'close');
       assert.equal(came, before);
@@ -139,6 +137,30 @@ test('ends', { timeout: 300000 }, async (t) => {
     assert.equal(await b.receive(), undefined);
     await assert.rejects(b.send(text('x')), refused('NOISE_ONE_WAY'));
     await b.close();
+    const [c, d] = await channels(await overTcp(), { pattern: 'N', remoteStatic: staticKey.publicKey }, server);
+    assert.equal(await outcome(c.receive(), 1000), 'NOISE_ONE_WAY');
+    await c.send(text('two'));
+    assert.deepEqual(await d.receive(), text('two'));
+    await Promise.all([c.close(), d.close()]);
+  });
+
+  await t.test('after a cut each call throws it, with its cause; after a close of one’s own NOISE_DISPOSED has none', async () => {
+    for (const first of ['send', 'receive']) {
+      const [near, far] = await overTcp();
+      const [a] = await channels([near, far]);
+      far.resetAndDestroy();
+      await assert.rejects(a.receive(), refused('NOISE_CUT'));
+      for (const call of first === 'send' ? [a.send(text('x')), a.receive()] : [a.receive(), a.send(text('x'))]) {
+        await assert.rejects(call, (error) => error.code === 'NOISE_CUT' && error.cause.code === 'ECONNRESET');
+      }
+    }
+    for (const close of ['close', 'destroy']) {
+      const [a, b] = await channels(await overTcp());
+      const closed = a[close]();
+      for (const call of [a.send(text('x')), a.receive()]) await assert.rejects(call, (error) => error.code === 'NOISE_DISPOSED' && error.cause === undefined);
+      b.destroy();
+      await closed;
+    }
   });
 
   await t.test('with 13 MB unsent, and a peer that doesn’t read, each call settles', async () => {

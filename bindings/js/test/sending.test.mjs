@@ -205,7 +205,7 @@ test('sending', { timeout: 300000 }, async (t) => {
     await Promise.all([long, last, ended, a.close(), b.close()]);
     const [c, d] = await channels(await overTcp());
     await assert.rejects(c.send(new Uint8Array(64 << 20), { signal: AbortSignal.timeout(100) }), { name: 'TimeoutError' });
-    await assert.rejects(c.send(text('x')), refused('NOISE_DISPOSED'));
+    await assert.rejects(c.send(text('x')), (error) => error.code === 'NOISE_DISPOSED' && error.cause.name === 'TimeoutError');
     await assert.rejects(received(d), refused('NOISE_CUT'));
   });
 });

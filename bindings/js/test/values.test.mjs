@@ -7,7 +7,7 @@ import * as noise from '../noise.mjs';
 import { library } from '../module.mjs';
 import { channels, openSockets, pair, refused, text } from './connections.mjs';
 
-const { Handshake, KeyPair, NoiseError, NoiseSocket, checkPattern, equal, hex, load } = noise;
+const { Handshake, KeyPair, NoiseError, NoiseSocket, checkPattern, equal, fromHex, hex, load } = noise;
 
 test('values', async (t) => {
   await load();
@@ -65,6 +65,21 @@ test('values', async (t) => {
     assert.throws(() => new Handshake({}), { name: 'TypeError', message: /pattern has to be a name, as XX/u });
   });
 
+  await t.test('an option that would be ignored is refused, and named', async () => {
+    const staticKey = await KeyPair.generate();
+    const ofOpen = { judge: () => false, acceptAnyKey: false, interval: 3, signal: AbortSignal.timeout(1000), handshakeLimit: 4096, backlog: 1 };
+    for (const [name, value] of Object.entries(ofOpen)) {
+      const message = new RegExp(`^${name} is an option of NoiseSocket.open, and not of Handshake`, 'u');
+      assert.throws(() => new Handshake({ pattern: 'XX', staticKey, [name]: value }), { name: 'TypeError', message });
+    }
+    for (const name of ['prolog', 'staticKeys', 'respnder', 'juge']) {
+      const fault = { name: 'TypeError', message: new RegExp(`^there is no option ${name}: there are pattern, responder, `, 'u') };
+      assert.throws(() => new Handshake({ pattern: 'XX', staticKey, [name]: true }), fault);
+      await assert.rejects(NoiseSocket.open(pair()[0], { pattern: 'XX', staticKey, acceptAnyKey: true, [name]: true }), fault);
+    }
+    assert.ok(new Handshake({ pattern: 'XX', staticKey, judge: undefined }));
+  });
+
   await t.test('keys are compared, and are a Map’s keys, whatever array has them', async () => {
     const { publicKey } = await KeyPair.generate();
     const other = Buffer.from(publicKey);
@@ -77,6 +92,17 @@ test('values', async (t) => {
     const secrets = new Map([[other.toString('hex'), 'secret']]);
     assert.deepEqual([secrets.get(hex(publicKey)), secrets.get(hex(other))], ['secret', 'secret']);
     assert.throws(() => hex('00'), TypeError);
+    assert.deepEqual(fromHex(hex(publicKey)), publicKey);
+    assert.deepEqual([...fromHex('000AfF'), ...fromHex('')], [0, 10, 255]);
+    for (const wrong of ['0', '0g', ' 00', '00\n', publicKey, undefined]) assert.throws(() => fromHex(wrong), TypeError);
+  });
+
+  await t.test('a key in hex digits is refused with what decodes it', async () => {
+    const { publicKey } = await KeyPair.generate();
+    const message = /^(remoteStatic|a secret key|a psk) has to be a Uint8Array of 32 bytes: fromHex decodes hex digits$/u;
+    assert.throws(() => new Handshake({ pattern: 'NK', remoteStatic: hex(publicKey) }), { name: 'TypeError', message });
+    assert.throws(() => new Handshake({ pattern: 'NNpsk0', psks: [hex(publicKey)] }), { name: 'TypeError', message });
+    await assert.rejects(KeyPair.fromSecret(hex(publicKey)), { name: 'TypeError', message });
   });
 
   await t.test('a message that is tried, and refused, leaves the handshake as it was', async () => {

@@ -15,3 +15,9 @@ export function equal(one: Uint8Array, other: Uint8Array): boolean;
  * @returns {string}
  */
 export function hex(bytes: Uint8Array): string;
+/**
+ * The bytes of hex digits, two for each, in small or capital letters. Anything else between them is a TypeError.
+ * @param {string} digits
+ * @returns {Uint8Array}
+ */
+export function fromHex(digits: string): Uint8Array;

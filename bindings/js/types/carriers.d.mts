@@ -1,24 +1,24 @@
-/** The carrier that these make. */
+/** The carrier that these make. Of two each would take a part of what comes. */
 export function carrierOf(it: any): {
     ready: () => any;
     write: (frames: any) => Promise<void>;
     pull: () => any;
-    discard: () => void;
-    close: () => Promise<void>;
+    discard: (most: any) => void;
+    close: (patience: any) => Promise<void>;
     destroy: (reason: any) => void;
 } | {
     ready: () => Promise<void>;
     write: (frames: any) => Promise<void>;
     pull: () => any;
-    discard: () => void;
-    close: (isOver: any) => Promise<void>;
+    discard: (most: any) => void;
+    close: (patience: any, isOver: any) => Promise<void>;
     destroy: (reason: any) => void;
 } | {
     ready: () => Promise<void>;
     write: (frames: any) => Promise<any> | undefined;
     pull: () => any;
-    discard: () => void;
-    close: (isOver: any) => Promise<void>;
+    discard: (most: any) => void;
+    close: (patience: any, isOver: any) => Promise<void>;
     destroy: () => void;
 };
 /**

@@ -40,10 +40,16 @@ export class Ciphers {
     private static kinds;
     /** @private */
     private constructor();
-    /** Encrypts what this party sends. */
-    send: any;
-    /** Decrypts what it receives. */
-    receive: any;
+    /**
+     * Encrypts what this party sends.
+     * @type {CipherState}
+     */
+    send: CipherState;
+    /**
+     * Decrypts what it receives.
+     * @type {CipherState}
+     */
+    receive: CipherState;
     /**
      * The handshake hash.
      * @type {Uint8Array}

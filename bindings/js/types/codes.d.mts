@@ -50,11 +50,12 @@ export function codeOf(number: any): string;
 export class NoiseError extends Error {
     /**
      * @param {Code} name
-     * @param {{ token?: number, cause?: unknown }} [more]
+     * @param {{ token?: number, cause?: unknown, message?: string }} [more]
      */
-    constructor(name: Code, { token, cause }?: {
+    constructor(name: Code, { token, cause, message }?: {
         token?: number | undefined;
         cause?: unknown;
+        message?: string | undefined;
     } | undefined);
     /**
      * For example NOISE_TAG.

@@ -20,7 +20,7 @@ export type Layout = import('./layout.mjs').Layout;
 export type Message = import('./layout.mjs').Message;
 export type Piece = import('./layout.mjs').Piece;
 export type Role = import('./layout.mjs').Role;
-export { equal, hex } from "./bytes.mjs";
+export { equal, fromHex, hex } from "./bytes.mjs";
 export { hasMemory64, load } from "./module.mjs";
 export { Datagrams, Transport } from "./transport.mjs";
 export { CipherState, Ciphers } from "./ciphers.mjs";

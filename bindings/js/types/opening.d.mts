@@ -14,36 +14,35 @@
  */
 /** @typedef {import('./setup.mjs').HandshakeOptions & SocketOptions} NoiseSocketOptions The set-up of a handshake, and of a channel. */
 /**
- * Passes a handshake over a connection: the carrier, what came over it, the stream, the frames that are kept back, and whether the other party sends nothing
- * (Noise, 7.4).
+ * Passes a handshake over a connection: the carrier, what came over it, unless the other party sends nothing (Noise, 7.4), the stream, and the frames that
+ * are kept back.
  */
 export function opened(connection: any, options: any): Promise<{
     carrier: {
         ready: () => any;
         write: (frames: any) => Promise<void>;
         pull: () => any;
-        discard: () => void;
-        close: () => Promise<void>;
+        discard: (most: any) => void;
+        close: (patience: any) => Promise<void>;
         destroy: (reason: any) => void;
     } | {
         ready: () => Promise<void>;
         write: (frames: any) => Promise<void>;
         pull: () => any;
-        discard: () => void;
-        close: (isOver: any) => Promise<void>;
+        discard: (most: any) => void;
+        close: (patience: any, isOver: any) => Promise<void>;
         destroy: (reason: any) => void;
     } | {
         ready: () => Promise<void>;
         write: (frames: any) => Promise<any> | undefined;
         pull: () => any;
-        discard: () => void;
-        close: (isOver: any) => Promise<void>;
+        discard: (most: any) => void;
+        close: (patience: any, isOver: any) => Promise<void>;
         destroy: () => void;
     };
-    incoming: Incoming;
+    incoming: Incoming | undefined;
     stream: any;
     kept: any[];
-    isSilent: boolean;
 }>;
 export type SocketOptions = {
     /**

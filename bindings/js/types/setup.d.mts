@@ -8,8 +8,8 @@ export function protocolName(section: string): string;
 export function patternBytes(text: any): Uint8Array;
 /** So many messages, as the library takes them. */
 export function intervalOf(interval: any): any;
-/** The options themselves, where there are any. */
-export function optionsOf(options: any): any;
+/** The options themselves, where there are any: of a handshake, or else of a channel. One that is passed and would be ignored is refused. */
+export function optionsOf(options: any, ofChannel?: boolean): any;
 /** Copies of the options, as far as they can be checked here: the library checks the rest. */
 export function setupOf(options: any): {
     pattern: any;

@@ -54,7 +54,8 @@ export class NoiseSocket implements AsyncIterable<Uint8Array> {
     flush(): Promise<void>;
     /**
      * The next payload, or undefined once the other party has ended its stream, and all of it came. Where the connection has ended before that, it
-     * throws NOISE_CUT. Calls at once are served in order. A signal that aborts takes nothing from the channel: the next call gets the payload.
+     * throws NOISE_CUT, and to the initiator of a one-way pattern nothing comes: NOISE_ONE_WAY. Calls at once are served in order. A signal that aborts
+     * takes nothing from the channel: the next call gets the payload.
      * @param {{ signal?: Signal }} [options]
      * @returns {Promise<Uint8Array | undefined>}
      */
@@ -82,8 +83,8 @@ export class NoiseSocket implements AsyncIterable<Uint8Array> {
         timeout?: number | undefined;
     } | undefined): Promise<void>;
     /**
-     * Closes the connection in the same way, but without an end of what this party sends: the other party gets what was sent, and then NOISE_CUT, unless
-     * `end` was called before.
+     * Closes the connection once all is sent, but without an end of what this party sends: the other party gets what was sent, and then NOISE_CUT, unless
+     * `end` was called before. It may go on to send for ever: for 200 milliseconds it has the time to close, and at most 1 MiB is read.
      * @private
      */
     private leave;

@@ -12,8 +12,8 @@ export function mustGoOn(signal: any): void;
 export function unlessAborted(promise: any, signal: any): any;
 /** Waits until a promise settles, at most so many milliseconds. */
 export function within(milliseconds: any, promise: any): Promise<any>;
-/** Drops what is read until the end. */
-export function drain(read: any): Promise<void>;
+/** Drops what is read until the end. After `most` bytes it reads no more, and stays pending. */
+export function drain(read: any, most?: number): Promise<void>;
 /** Work in turns: each begins once the one before has settled, and at once where there is none, unless its signal has aborted before. */
 export class Turns {
     /** Whether nothing is under way, and nothing waits. */

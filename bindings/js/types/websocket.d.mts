@@ -4,7 +4,7 @@ export function ofWebSocket(socket: any): {
     write: (frames: any) => Promise<void>;
     pull: () => Promise<any>;
     discard: () => void;
-    close: () => Promise<void>;
+    close: (patience: any) => Promise<void>;
     destroy: (reason: any) => void;
     /** How many bytes wait to be pulled, and may wait. */
     readonly held: number;
@@ -15,8 +15,8 @@ export function ofWebSocketStream(socket: any): {
     ready: () => any;
     write: (frames: any) => Promise<void>;
     pull: () => any;
-    discard: () => void;
-    close: () => Promise<void>;
+    discard: (most: any) => void;
+    close: (patience: any) => Promise<void>;
     destroy: (reason: any) => void;
 };
 /** What may wait until the last message of a handshake has come, in bytes. */
