@@ -113,17 +113,16 @@ fn a_psk_for_each_peer() {
 
 /// Sends each datagram of one client back.
 fn serve(socket: &UdpSocket, key: &KeyPair, known: &[[u8; 32]]) -> io::Result<()> {
-    let (mut channel, mut first, mut answer, mut is_shown) = (None, Vec::new(), [0; 48], false);
-    let mut buffer = [0; 1500];
+    let (mut first, mut answer, mut is_shown) = (Vec::new(), [0; 48], false);
+    let (mut channel, mut buffer) = (None::<Datagrams>, [0; 1500]);
     loop {
         let (len, from) = socket.recv_from(&mut buffer)?;
         let datagram = &mut buffer[..len];
         if let Some(channel) = &mut channel {
             if datagram == first {
-                socket.send_to(&answer, from)?; // it was lost
+                socket.send_to(&answer, from)?; // it may have been lost
                 continue;
             }
-            let channel: &mut Datagrams = channel;
             if let Ok(payload) = channel.open(datagram) {
                 is_shown = true; // that the client has the secret key
                 let mut out = vec![0; payload.len() + DATAGRAM_OVERHEAD];
@@ -144,6 +143,7 @@ fn serve(socket: &UdpSocket, key: &KeyPair, known: &[[u8; 32]]) -> io::Result<()
     }
 }
 
+/// Needs a socket that is connected, and has a read timeout.
 fn connect(socket: &UdpSocket, key: &KeyPair, server: &[u8; 32]) -> io::Result<Datagrams> {
     let is_late = |it: &io::Error| matches!(it.kind(), ErrorKind::WouldBlock | ErrorKind::TimedOut);
     let builder = Builder::new("IK").prologue(b"udp 1").static_key(key);
