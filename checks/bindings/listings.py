@@ -1,6 +1,6 @@
 #!/usr/bin/env python3
-"""Writes the listing of README.md and the first ones of docs/GO.md and docs/RUST.md as modules that compile: listings.py FOLDER. It also compares the other listings of docs/GO.md,
-and those of "A psk for each peer" in docs/RUST.md, with the programs and tests that run them.
+"""Writes the listing of README.md and the first ones of docs/GO.md and docs/RUST.md as modules that compile: listings.py FOLDER. It also compares the other listings of docs/GO.md
+and docs/RUST.md with the tests that run them.
 
 FOLDER/go and FOLDER/rust get the program; their go.mod, Cargo.toml and .cargo/config.toml are those of the page, with the path of this repository.
 """
@@ -55,15 +55,6 @@ def stands(page: str, listing: str, test: str) -> None:
         sys.exit(f"listings: {page}: {test} doesn't have\n{listing}")
 
 
-def compare(page: str, language: str, *tests: str) -> None:
-    """Whether the listings of a page's section stand in tests, in their order."""
-    section = (TOP / "docs" / page).read_text(encoding="utf-8").split("\n## A psk for each peer\n")[1].split("\n## ")[0]
-    found = re.findall(rf"^```{language}\n(.*?)^```$", section, re.S | re.M)
-    assert len(found) == len(tests), f"{page}: {len(found)} listings"
-    for listing, test in zip(found, tests):
-        stands(page, listing, test)
-
-
 def main() -> None:
     folder = Path(sys.argv[1])
     first, *others = listings("GO.md", "go")
@@ -77,9 +68,8 @@ def main() -> None:
     write(folder / "rust/Cargo.toml", indented("RUST.md", "[package]"))
     write(folder / "rust/.cargo/config.toml", indented("RUST.md", "[source.crates-io]"))
     write(folder / "rust/src/main.rs", listings("RUST.md", "rust")[0])
-    compare("RUST.md", "rust", "bindings/rust/src/stream.rs", "bindings/rust/src/handshake.rs")
-    tokio = next(it for it in listings("RUST.md", "rust") if it.startswith("async fn"))
-    stands("RUST.md", tokio, "examples/programs/rust/async/src/main.rs")
+    for listing in listings("RUST.md", "rust")[1:]:
+        stands("RUST.md", listing, "bindings/rust/tests/guide.rs")
 
 
 main()

@@ -59,7 +59,9 @@ impl<'a, S: Dh> Builder<'a, S> {
         self
     }
 
-    /// This party's static key pair.
+    /// This party's static key pair. A pattern in which this party has none, as NN, doesn't use it, and that is no error: the channel then says nothing
+    /// of this key. A reference, as `&key`, stays in the type of a [`HandshakeError`](crate::HandshakeError), which `?` then doesn't turn into a
+    /// `Box<dyn Error>`: pass a clone of the key pair.
     pub fn static_key<T: Dh>(self, key: T) -> Builder<'a, T> {
         let Builder { pattern, prologue, static_key: _, remote_static, psks, psk_count, late_psks, options } = self;
         Builder { pattern, prologue, static_key: Some(key), remote_static, psks, psk_count, late_psks, options }
@@ -87,7 +89,9 @@ impl<'a, S: Dh> Builder<'a, S> {
         self
     }
 
-    /// The number of messages after which each direction is rekeyed; 0, the default, is never. The same at both parties.
+    /// The number of messages after which each direction of a stream or a transport is rekeyed (Noise, 11.3); 0, the default, is never. The same at both
+    /// parties: with another number the handshake passes, and the first message after one party's rekey is refused with `Tag`. Datagrams and cipher
+    /// states aren't rekeyed by it.
     pub fn interval(mut self, messages: u64) -> Self {
         self.options.interval = messages;
         self

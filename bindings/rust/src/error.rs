@@ -72,7 +72,8 @@ pub enum Error {
     Zeros,
     /// The program refused the other party's static key, or the handshake has none.
     Refused,
-    /// The connection ended before the stream did: what was read isn't all that the other party has written.
+    /// The connection ended before the stream did: what was read isn't all that the other party has written. In a handshake: before its last message, as
+    /// where the other party has refused something.
     Cut,
     /// This party has ended its stream.
     Closed,
@@ -146,7 +147,7 @@ impl fmt::Display for Error {
             Error::KeyPair(_) => "a key pair couldn't be drawn or read, or X25519 by it failed",
             Error::Zeros => "X25519 of the other party's public key gives zeros",
             Error::Refused => "the other party's static key isn't accepted",
-            Error::Cut => "the connection ended before the stream did",
+            Error::Cut => "the connection ended during the handshake, or before the other party had ended its stream",
             Error::Closed => "the stream was ended before",
             Error::Aborted => "the channel is over: a message was refused, or the connection was lost",
             Error::Deadline => "the deadline has passed",
@@ -155,7 +156,7 @@ impl fmt::Display for Error {
         };
         match self {
             Error::Short { token: Some(token) } | Error::Tag { token: Some(token) } => {
-                write!(f, "{text} (token {})", u32::from(*token) + 1)
+                write!(f, "{text} (token {token}, from 0 on)")
             }
             _ => f.write_str(text),
         }

@@ -301,7 +301,7 @@ impl<S: Dh, E: Ephemeral> Handshake<S, E> {
     }
 
     /// Makes the state for datagrams, after all messages have passed. A datagram may arrive after others whose numbers are less than `window`
-    /// greater: 64, 256 or 1024.
+    /// greater: 64, 256 or 1024. No direction is rekeyed: `Builder::interval` does nothing here.
     pub fn finish_datagrams(mut self, window: u32) -> Result<Datagrams, Error> {
         let (mut sender, mut receiver) = (raw::DatagramSender::new(), raw::DatagramReceiver::new());
         let code = self.memory.finish_datagrams(window, &mut sender, &mut receiver);

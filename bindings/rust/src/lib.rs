@@ -28,9 +28,9 @@
 //!     let below = listener.accept()?.0;
 //!     below.set_nodelay(true)?;
 //!     let mut stream = Stream::new(below, handshake, |key| key == &client_key)?;
-//!     let mut said = [0; 5];
-//!     stream.read_exact(&mut said)?;
-//!     stream.write_all(&said)?;
+//!     let mut said = String::new();
+//!     stream.read_to_string(&mut said)?;
+//!     stream.write_all(said.as_bytes())?;
 //!     stream.close_write()
 //! });
 //! let handshake = Builder::new("XX").prologue(b"chat 1").static_key(client).initiator()?;
@@ -38,6 +38,7 @@
 //! below.set_nodelay(true)?;
 //! let mut stream = Stream::new(below, handshake, |key| key == &server_key)?;
 //! stream.write_all(b"hello")?;
+//! stream.close_write()?; // the end: without it the other party reads a cut
 //! let mut answer = String::new();
 //! stream.read_to_string(&mut answer)?;
 //! assert_eq!(answer, "hello");

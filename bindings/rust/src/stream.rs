@@ -76,6 +76,9 @@ impl<T: Read + Write> Stream<T> {
     /// Runs the handshake over `below`, with empty payloads. `accept` is called with the other party's static key as
     /// soon as that is known, before anything else is read or written. A pattern without such a key, as NN, is refused
     /// before anything is sent: see `anonymous`.
+    ///
+    /// Where this party writes the last message, as the initiator does in XX, `Ok` comes before that message is sent: `flush` sends it. The other party may
+    /// still refuse it; then `read` returns an error.
     pub fn new<S: Dh, E: Ephemeral>(
         below: T,
         handshake: Handshake<S, E>,
@@ -160,7 +163,8 @@ impl<T> Stream<T> {
 
 impl<T: Write> Stream<T> {
     /// Two halves, for two threads. `clone` makes the second handle of the stream below: `stream.split(TcpStream::try_clone)`. It sends the last message of
-    /// the handshake if that wasn't sent; where it would block the half that writes sends it at `flush`.
+    /// the handshake if that wasn't sent; where it would block the half that writes sends it at `flush`. It hides `split` of `BufRead`, which is
+    /// `BufRead::split(stream, byte)`.
     ///
     #[cfg_attr(any(feature = "x25519", feature = "openssl"), doc = "```")]
     #[cfg_attr(not(any(feature = "x25519", feature = "openssl")), doc = "```ignore")]
