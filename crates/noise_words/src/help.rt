@@ -23,7 +23,7 @@ Replace the digits of each placeholder wherever they stand:
   e1e1..  the initiator's ephemeral public key    5151..  its static public key
   e2e2..  the responder's ephemeral public key    5252..  its static public key
   eeee..  the result of DH at ee, e5e5.. at es, 5e5e.. at se, 5555.. at ss
-  a0a0..  the pre-shared key of psk0, a1a1.. of psk1, up to a8a8.. of psk8
+  a0a0..  the pre-shared secret of psk0, a1a1.. of psk1, up to a8a8.. of psk8
 
 Example: noise template Noise_XXpsk3_25519_ChaChaPoly_SHA256";
 
@@ -65,7 +65,7 @@ pub const WITH_VALUE: [Subcommand<'static>; 7] = [
         name: "talk",
         value: "FILE",
         several: false,
-        about: "Run two parties on a vector file and print what each writes and reads",
+        about: "Run two ends on a vector file and print what each writes and takes",
         meaning: "A vector file whose events are all say; lines that it expects are compared",
         example: "Example: noise talk examples/vectors/first-message.vector",
     },
@@ -73,7 +73,7 @@ pub const WITH_VALUE: [Subcommand<'static>; 7] = [
         name: "replay",
         value: "FILE",
         several: false,
-        about: "Run two parties on a vector file whose frames may be lost, repeated or foreign",
+        about: "Run two ends on a vector file whose frames may be lost, repeated or foreign",
         meaning: "A vector file with events of all kinds, and datagrams; lines that it expects are compared",
         example: "Example: noise replay examples/vectors/each-outcome.vector",
     },
@@ -102,7 +102,7 @@ pub const TRACE: Subcommand<'static> = Subcommand {
     name: "trace",
     value: "FILE",
     several: false,
-    about: "Run two parties as replay does and print the key schedule of each: what it prints are secrets",
+    about: "Run two ends as replay does and print each end's key schedule: what it prints are secrets",
     meaning: "A vector file as replay takes it, with keys that are for tests alone",
     example: "Example: noise trace --role responder examples/vectors/nnpsk2.vector",
 };
@@ -112,8 +112,8 @@ pub const COMPARE: Subcommand<'static> = Subcommand {
     name: "compare",
     value: "LOG",
     several: false,
-    about: "Print the first line of a logged key schedule that differs from that of a vector file, \
-            and the mistakes that give its values: what it prints are secrets",
+    about: "Print the first place where a logged key schedule parts from that of a vector file: \
+            what it prints are secrets",
     meaning: "Lines of a key schedule in the form of trace, logged by another implementation",
     example: "Example: noise compare yours.log examples/vectors/xx.vector",
 };
