@@ -24,7 +24,7 @@ from yulimosar._noise import ffi, lib
 from yulimosar.codes import STREAM_OVERHEAD
 
 SOURCES = Path(__file__).resolve().parent.parent.parent / "bindings/python/src"
-# Both parties of NN, with results of X25519 that are the xor of the public keys; then the least time of a message, in ns.
+# Both parties of NN, whose results of X25519 are the xor of the public keys; then the least time of a message, in ns.
 LOOP = r"""
 #include "noise.h"
 #include <stdio.h>

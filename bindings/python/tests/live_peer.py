@@ -45,7 +45,7 @@ class Run:
         self.got, self.end = b"", "end"
 
     def parts(self):
-        """What this party sends. A part counts as written also where its call fails: a piece of it may have been sent."""
+        """What this party sends. A part counts as written also where its call fails: some of it may have been sent."""
         everything = sent_by(self.initiator, self.size)
         while self.wrote < self.size:
             part = everything[self.wrote:self.wrote + PART]

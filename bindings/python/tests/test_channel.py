@@ -1,4 +1,4 @@
-"""Channel, without input and output: the theorem on streams behind a relay, random bytes, functions that are awaited."""
+"""Channel, without input and output: the theorem on streams behind a relay, random bytes, awaited functions."""
 import itertools
 import os
 import random
