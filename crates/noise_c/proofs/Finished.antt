@@ -81,3 +81,10 @@ uses-none old code f low = record {
   once = λ e. absurd (omega (arith, e, low));
   unchanged = λ _. refl;
 }
+
+-- a handshake is finished with one number
+pub finishes-once : (k : NoiseHandshake) (code : ℕ) → Finishes k 0 → Finishes k code → (code ≡ 0 → ⊥) → ⊥
+finishes-once k code f g other =
+    no-struct (f.unusable.1 (λ u. other (g.same u ∙ sym (f.same u)))) where
+      no-struct : ◌≡◌ {A = ℕ} 0 23 → ⊥
+      no-struct e = omega (arith, e)

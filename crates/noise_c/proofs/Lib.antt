@@ -22,4 +22,5 @@ pub mod Received
 pub mod Talking
 pub mod Transcribing
 pub mod Programs
+pub mod FinishedPrograms
 pub mod Toying

@@ -1,8 +1,8 @@
 -- The calls of a program on its struct, beside what its party writes and accepts.
 use Rattle.std.proofs.Common.{◌≡◌, ◌⊎◌, inl, inr, ℕ, zero, suc, ◌+◌, ◌<◌, ◌≤◌, List, [], ◌∷◌, ◌++◌, length, take, drop, refl, ap, sym, subst, ◌∙◌, arith, drop-drop, append_assoc}
-use Rattle.std.specs.Prelude.{true, false, slice_range}
+use Rattle.std.specs.Prelude.{true, false, slice_range, nat_lt}
 use Rattle.std.specs.Option.{option_or}
-use Rattle.noise_c.proofs.Common.{Bool, Option, Some, None, count_by, Plan, Own, Role, Token, Table, TableEntry, dh_result_in, Party, Accepts, Refuses, DoesNotRead, after_message, after_own, tokens_at, tokens_now, psks_of, party_at_start, Remote, drop-append_seam, DhResults, AreAmong, FirstActAsAll, with_dh_results, NoiseHandshake, NoiseResult, IsUsable, KeepsParty, WasRead, WasWritten, agreement_in, begun_in, cause_code, handshake_from_c, psks_in, public_in, read_code, remote_of, table_in, table_of, Agreement, Short, Tag, ReadFault, Cause}
+use Rattle.noise_c.proofs.Common.{Bool, Option, Some, None, count_by, Plan, Own, Role, Token, Table, TableEntry, dh_result_in, Party, Accepts, Refuses, DoesNotRead, after_message, after_own, tokens_at, tokens_now, psks_of, party_at_start, Remote, drop-append_seam, nat_tests, HandshakeValue, IsAdded, DhResults, AreAmong, FirstActAsAll, with_dh_results, NoiseHandshake, NoiseResult, IsUsable, KeepsParty, WasRead, WasWritten, agreement_in, begun_in, cause_code, handshake_from_c, psks_in, public_in, read_code, remote_of, table_in, table_of, Agreement, Short, Tag, ReadFault, Cause}
 use Rattle.noise_names.specs.Tokens.{is_psk, other}
 use Rattle.noise_names.specs.Plan.{is_one_way}
 use Rattle.noise_names.specs.declared.token.Role.TheVariants.{Initiator, Responder}
@@ -16,17 +16,17 @@ use Rattle.noise_session.specs.Transport.{transport_key}
 use Rattle.noise_duel.specs.Messages.{Start, begun_as}
 use Rattle.noise_c.specs.declared.structs.NoiseSetup.{NoiseSetup}
 use Rattle.noise_c.specs.HandedIn.{dh_results_in}
-use Rattle.noise_c.specs.HandshakeStructs.{ForParty}
+use Rattle.noise_c.specs.HandshakeStructs.{ForParty, Supplies}
 use Rattle.noise_c.specs.HalfStructs.{half_from_c}
 use Rattle.noise_c.specs.Outcomes.{WriteOutcome, ReadOutcome}
 use Rattle.noise_c.specs.Outcomes.WriteOutcome.{written, wants_dh_result as write_wants, wants_psk as write_wants_psk, withheld, no_room, unusable as write_unusable}
 use Rattle.noise_c.specs.Outcomes.ReadOutcome.{accepted, wants_dh_result as read_wants, wants_psk as read_wants_psk, declined, refused, too_long, unusable as read_unusable}
-use Rattle.noise_c.specs.TwoPrograms.{Secrets, Passed, Calls, Program, HasRun, TwoProgramsAgree, start_by}
+use Rattle.noise_c.specs.TwoPrograms.{Secrets, Passed, Calls, Program, HasRun, HaveTalked, TwoProgramsAgree, start_by}
 use Rattle.noise_c.specs.TwoPrograms.Calls.{none, wrote, took, answered, set_psk, kept}
-use Rattle.noise_c.proofs.Runs.{either, only-one, keeps-next}
+use Rattle.noise_c.proofs.Runs.{either, only-one, keeps-next, keeps-with}
 use Rattle.noise_duel.specs.SetUpAlike.{material_of}
 use Rattle.noise_c.proofs.Transcribing.{Showing, told, shares-left, shares-right}
-use Rattle.noise_c.proofs.Talking.{Talk, silent, speaks, hears, Laws, together}
+use Rattle.noise_c.proofs.Talking.{Talk, silent, speaks, hears, Laws, Together, together}
 
 -- ---- what outcomes say
 
@@ -115,41 +115,51 @@ among-more es e all a is o k y f = which (dh_result_in es o k) refl (sym (either
   which None t g = here (only-one e.own e.remote e.answer o k y (sym (ap (λ (z : Option (List ℕ)). option_or z (dh_result_in (e ∷ []) o k)) t) ∙ g))
   which (Some z) t g = a o k y (t ∙ (sym (ap (λ (w : Option (List ℕ)). option_or w (dh_result_in (e ∷ []) o k)) t) ∙ g))
 
-record Walked (p : Plan) (s : Secrets) (v : Party) (last : NoiseHandshake) (ws rs : List Passed) : Type 0 where
-  party : Party
-  talk : Talk v ws rs party
-  stands : Stands p s party last
+pub among-next : (p : Plan) (k next : NoiseHandshake) (e : TableEntry) (all : DhResults) → IsAdded k next e → all e.own e.remote ≡ Some e.answer
+    → AreAmong (dh_results_in k) all → AreAmong (dh_results_in next) all
+among-next p k next e all added is a =
+    subst (λ (t : Table). AreAmong (agreement_in t) all) (sym (ap (λ (h : HandshakeValue Table). h.keys) (added.handshake p)))
+    (among-more (table_in k).entries e all a is)
+
+-- the struct after a DH result was handed in, the ninth too
+keeps-answered : (p : Plan) (v : Party) (k next : NoiseHandshake) (e : TableEntry) → Supplies k next e 0 → k.answer_count ≤ 8
+    → KeepsParty k p (with_dh_results v (dh_results_in k)) → KeepsParty next p (with_dh_results v (dh_results_in next))
+keeps-answered p v k next e supplies few keeps = which (nat_lt k.answer_count 8) refl where
+  which : (b : Bool) → nat_lt k.answer_count 8 ≡ b → KeepsParty next p (with_dh_results v (dh_results_in next))
+  which true less = keeps-next p v k next e.own e.remote e.answer (supplies.added refl (grind (arith, nat_tests, less))) keeps
+  which false more =
+      let full : k.answer_count ≡ 8 = grind (arith, nat_tests, more, few) in
+      let added = supplies.replaced refl full in
+      keeps-with p v k next (drop 1 (table_in k).entries ++ e ∷ []) added.text (added.handshake p) keeps
+
+pub record Walked (p : Plan) (s : Secrets) (v : Party) (last : NoiseHandshake) (ws rs : List Passed) : Type 0 where
+  pub party : Party
+  pub talk : Talk v ws rs party
+  pub stands : Stands p s party last
 
 module _ (whole : FirstActAsAll) where
-  walk : (p : Plan) (s : Secrets) (v : Party) (k last : NoiseHandshake) (ws rs : List Passed) → Stands p s v k → Calls p s k ws rs last → Walked p s v last ws rs
+  pub walk : (p : Plan) (s : Secrets) (v : Party) (k last : NoiseHandshake) (ws rs : List Passed) → Stands p s v k → Calls p s k ws rs last → Walked p s v last ws rs
   walk p s v k _ _ _ st (none _) = record { party = v; talk = silent v; stands = st }
-  walk p s v k last _ _ st (wrote _ next _ payload out after results new ws rs o more) =
-      let f = written-of k next payload out after results new 0 o refl in
-      let w = f.1 p (with_dh_results v (dh_results_in k)) st.keeps in
-      let m : Passed = record { message = take new.len after; payload = payload } in
-      let act = (whole v (dh_results_in k) v.agree st.among).writes payload (take new.len after) w.carried w.writes in
-      let u : Party = after_own v w.carried payload in
-      let here : Stands p s u next = goes-on p s v u k next st f.0 w.keeps refl (psks-after p s v k st act.speaks.more) in
+  walk p s v k last _ _ st (wrote _ next _ m ws rs usable o more) =
+      let w = o p (with_dh_results v (dh_results_in k)) st.keeps in
+      let act = (whole v (dh_results_in k) v.agree st.among).writes m.payload m.message w.carried w.writes in
+      let u : Party = after_own v w.carried m.payload in
+      let here : Stands p s u next = goes-on p s v u k next st usable w.keeps refl (psks-after p s v k st act.speaks.more) in
       let rest = walk p s u next last ws rs here more in
       record { party = rest.party; talk = speaks v rest.party w.carried m ws rs act rest.talk; stands = rest.stands }
-  walk p s v k last _ _ st (took ends _ next _ message after results new ws rs o more) =
-      let f = read-of ends k next message after results new 0 o refl in
-      let payload : List ℕ = slice_range after new.from (new.from + new.len) in
-      let w = f.1 p (with_dh_results v (dh_results_in k)) st.keeps in
-      let m : Passed = record { message = message; payload = payload } in
-      let act = (whole v (dh_results_in k) v.agree st.among).accepts message payload w.carried w.accepts in
-      let u : Party = after_message v w.carried payload in
-      let here : Stands p s u next = goes-on p s v u k next st f.0 w.keeps refl (psks-after p s v k st act.listens.more) in
+  walk p s v k last _ _ st (took _ next _ m ws rs usable o more) =
+      let w = o p (with_dh_results v (dh_results_in k)) st.keeps in
+      let act = (whole v (dh_results_in k) v.agree st.among).accepts m.message m.payload w.carried w.accepts in
+      let u : Party = after_message v w.carried m.payload in
+      let here : Stands p s u next = goes-on p s v u k next st usable w.keeps refl (psks-after p s v k st act.listens.more) in
       let rest = walk p s u next last ws rs here more in
       record { party = rest.party; talk = hears v rest.party w.carried m ws rs act rest.talk; stands = rest.stands }
-  walk p s v k last ws rs st (answered _ next _ entry _ _ supplies few is more) =
-      let added = supplies.added refl few in
-      let table : table_in next ≡ record (table_in k) { entries = (table_in k).entries ++ entry ∷ [] } = ap (λ h. h.keys) (added.handshake p) in
+  walk p s v k last ws rs st (answered _ next _ entry _ _ supplies stays more) =
       let here : Stands p s v next = record {
         usable = supplies.stays st.usable;
-        keeps = keeps-next p v k next entry.own entry.remote entry.answer added st.keeps;
-        among = subst (λ (t : Table). AreAmong (agreement_in t) v.agree) (sym table)
-            (among-more (table_in k).entries entry v.agree st.among (ap (λ (a : DhResults). a entry.own entry.remote) st.agree ∙ is));
+        keeps = keeps-answered p v k next entry supplies st.usable.answers st.keeps;
+        among = subst (λ (a : DhResults). AreAmong (dh_results_in next) a) (sym st.agree)
+            (stays (subst (λ (a : DhResults). AreAmong (dh_results_in k) a) st.agree st.among));
         agree = st.agree;
         psks = st.psks;
       } in
@@ -168,6 +178,9 @@ module _ (whole : FirstActAsAll) where
   walk p s v k last ws rs st (kept _ next _ _ _ same stays more) =
       walk p s v next last ws rs
       (goes-on p s v v k next st (stays st.usable) (same p (with_dh_results v (dh_results_in k)) st.keeps) refl st.psks) more
+
+abbrev pub IsAtEnd : NoiseHandshake → Type 0
+IsAtEnd k = ForParty k (λ _ v. v.passed ≡ length v.pattern.messages)
 
 -- ---- the start
 
@@ -273,7 +286,7 @@ same-half a b e f g h i =
     same-parts a.role b.role a.one_way b.one_way a.interval b.interval a.key b.key a.nonce b.nonce e f g h i
 
 module _ (v w : Party) (h : Counterparts v w) (interval : ℕ) where
-  faced : (sender receiver : HalfValue) → SenderMatches sender (transport_of v interval) → ReceiverMatches receiver (transport_of w interval)
+  pub faced : (sender receiver : HalfValue) → SenderMatches sender (transport_of v interval) → ReceiverMatches receiver (transport_of w interval)
       → receiver ≡ record sender { role = other sender.role }
   faced sender receiver s r =
       let role : w.role ≡ other v.role = ap (λ (z : Party). z.role) h.there in
@@ -290,12 +303,32 @@ module _ (v w : Party) (h : Counterparts v w) (interval : ℕ) where
 
 -- ---- two programs
 
+-- the parties of two programs that have talked
+pub record Met (p : Plan) (g h : Program) : Type 0 where
+  pub left : Walked p g.secrets (begun_as p Initiator (start_by g)) g.last g.written g.read
+  pub right : Walked p h.secrets (begun_as p Responder (start_by h)) h.last h.written h.read
+  pub facing : Counterparts (begun_as p Initiator (start_by g)) (begun_as p Responder (start_by h))
+  pub both : Together left.party right.party g.written g.read h.written h.read
+
+-- both parties have come to the end, and so equally far
+pub done-alike : (p : Plan) (g h : Program) (m : Met p g h) → IsAtEnd g.last → IsAtEnd h.last → Counterparts m.left.party m.right.party
+done-alike p g h m done done_too =
+    let left = m.left in
+    let right = m.right in
+    let all : left.party.passed ≡ length p.messages =
+    done p (with_dh_results left.party (dh_results_in g.last)) left.stands.keeps
+    ∙ ap (λ (q : Plan). length q.messages) (sym (pattern-is p g.secrets left.party g.last left.stands)) in
+    let all_too : right.party.passed ≡ length p.messages =
+    done_too p (with_dh_results right.party (dh_results_in h.last)) right.stands.keeps
+    ∙ ap (λ (q : Plan). length q.messages) (sym (pattern-is p h.secrets right.party h.last right.stands)) in
+    m.both.equal (all ∙ sym all_too)
+
 module _ (laws : Laws) (reading : Reading) (showing : Showing)
     (starts : (p : Plan) (prologue : List ℕ) (psks : List (List ℕ)) (own theirs : Own → Option (List ℕ))
     (agree their_agree : Own → List ℕ → Option (List ℕ)) (known their_known : Remote)
     → StartAsCounterparts p prologue psks own theirs agree their_agree known their_known) where
-  pub agree-both : TwoProgramsAgree
-  agree-both p g h t =
+  pub met : (p : Plan) (g h : Program) → HaveTalked p g h → Met p g h
+  met p g h t =
       let a : Start = start_by g in
       let b : Start = start_by h in
       let v0 : Party = begun_as p Initiator a in
@@ -308,8 +341,24 @@ module _ (laws : Laws) (reading : Reading) (showing : Showing)
       subst (λ (z : List (List ℕ)). Counterparts v0 (party_at_start p Responder b.prologue b.own b.agree b.remote z)) (sym t.psks) faced1 in
       let left = walk reading.whole p g.secrets v0 g.begun g.last g.written g.read (begins p Initiator g t.initiator) t.initiator.calls in
       let right = walk reading.whole p h.secrets w0 h.begun h.last h.written h.read (begins p Responder h t.responder) t.responder.calls in
-      let both = together laws v0 w0 left.party right.party g.written g.read h.written h.read t.valid faced2 left.talk right.talk t.there t.back in
-      let tale = told laws showing (material_of a b) v0 w0 left.party right.party g.written g.read h.written h.read t.valid faced2
+      record {
+        left = left;
+        right = right;
+        facing = faced2;
+        both = together laws v0 w0 left.party right.party g.written g.read h.written h.read t.valid faced2 left.talk right.talk t.there t.back;
+      }
+
+  pub agree-both : TwoProgramsAgree
+  agree-both p g h t =
+      let a : Start = start_by g in
+      let b : Start = start_by h in
+      let v0 : Party = begun_as p Initiator a in
+      let w0 : Party = begun_as p Responder b in
+      let m = met p g h t in
+      let left = m.left in
+      let right = m.right in
+      let both = m.both in
+      let tale = told laws showing (material_of a b) v0 w0 left.party right.party g.written g.read h.written h.read t.valid m.facing
       (record { left = shares-left p a b; right = shares-right p a b t.dh_results }) left.talk right.talk t.there t.back in
       let level : g.last.passed ≡ h.last.passed → Counterparts left.party right.party =
       λ e. both.equal (sym left.stands.keeps.matches.passed ∙ e ∙ right.stands.keeps.matches.passed) in
@@ -329,15 +378,9 @@ module _ (laws : Laws) (reading : Reading) (showing : Showing)
             ∙ ap (λ (z : Party). hash z.history) (sym (level e).there)
             ∙ sym right.stands.keeps.matches.history.hash_is;
         halves = λ interval s r x y made made_too.
-            let v1 : Party = with_dh_results left.party (dh_results_in g.last) in
-            let w1 : Party = with_dh_results right.party (dh_results_in h.last) in
-            let all : left.party.passed ≡ length p.messages =
-            made.done p v1 left.stands.keeps ∙ ap (λ (q : Plan). length q.messages) (sym (pattern-is p g.secrets left.party g.last left.stands)) in
-            let all_too : right.party.passed ≡ length p.messages =
-            made_too.done p w1 right.stands.keeps ∙ ap (λ (q : Plan). length q.messages) (sym (pattern-is p h.secrets right.party h.last right.stands)) in
-            let c = both.equal (all ∙ sym all_too) in
-            let mine = made.stand p v1 left.stands.keeps in
-            let theirs = made_too.stand p w1 right.stands.keeps in
+            let c = done-alike p g h m made.done made_too.done in
+            let mine = made.stand p (with_dh_results left.party (dh_results_in g.last)) left.stands.keeps in
+            let theirs = made_too.stand p (with_dh_results right.party (dh_results_in h.last)) right.stands.keeps in
             record {
               there = faced left.party right.party c interval (half_from_c s) (half_from_c y) mine.0 theirs.1;
               back = faced right.party left.party (laws.turned left.party right.party c) interval (half_from_c x) (half_from_c r) theirs.0 mine.1;

@@ -8,14 +8,17 @@ use Rattle.std.proofs.lemmas.List.{drop-drop, drop_at, take_rest}
 use borrow.Rule.Slice.PartMut.{mid_of, put_mid, same_len_mid}
 use Rattle.noise_session.specs.declared.faults.OpenFault.{OpenFault}
 use Rattle.noise_session.specs.declared.faults.OpenFault.TheVariants.{Short, Tag, Exhausted, OneWay}
-use Rattle.noise_session.specs.TransportValue.{TransportState}
-use Rattle.noise_channel.specs.Halves.{ReaderMatches}
+use Rattle.noise_session.specs.TransportValue.{TransportState, transport_of}
+use Rattle.noise_channel.specs.Halves.{ReaderMatches, ReaderValue}
 use Rattle.noise_channel.specs.Streams.{Direction, incoming}
 use Rattle.noise_channel.specs.Reading.{ReaderState, NextValue, ChannelReads}
+use Rattle.noise_channel.specs.Reading.ReaderState.{Listens}
 use Rattle.noise_channel.specs.Reading.NextValue.{Wants, Payload, End, Refused, Closed}
 use Rattle.noise_channel.specs.Reading.ChannelReads.{wants, gives, ends, refuses, closed_at_end, closed_broken}
 use Rattle.noise_channel.specs.Runs.{Rests, uses, payloads}
-use Rattle.noise_channel_agreement.specs.Receiving.{HandsOut, ReadsOnce}
+use Rattle.noise_channel_agreement.specs.Receiving.{HandsOut, ReadsOnce, ReadsToEnd}
+use Rattle.noise_c.proofs.Common.{KeepsParty, NoiseHandshake, Party, Plan}
+use Rattle.noise_c.specs.FinishedPrograms.{ReadsAfter}
 use Rattle.noise_c.specs.TransportCodes.{open_code}
 use Rattle.noise_c.specs.StreamStructs.{ReportsGiven, stream_receiver_from_c}
 use Rattle.noise_c.specs.declared.structs.NoiseStreamReceiver.{NoiseStreamReceiver}
@@ -152,3 +155,11 @@ pub handed-or : {F : Type 0} (writer : TransportState) (came before after : List
 handed-or writer came before after (Ok whole) (inl h) = inl h
 handed-or writer came before after (Ok whole) (inr f) = inr f
 handed-or writer came before after (Err e) h = tt
+
+-- each state that the handshake matches is that of a reader
+pub all-read : (k : NoiseHandshake) (interval : ℕ) (came before after : List ℕ) (receiver : ReaderValue) (r : Result Bool AllocError)
+    → ((p : Plan) (v : Party) → KeepsParty k p v
+    → IfOk r (λ whole. ReadsToEnd (transport_of v interval) (Listens 0) came before after receiver whole))
+    → IfOk r (λ whole. ReadsAfter k interval came before after whole)
+all-read k interval came before after receiver (Ok whole) h = λ p v keeps. (receiver, h p v keeps)
+all-read k interval came before after receiver (Err e) h = tt

@@ -5,7 +5,7 @@ use Rattle.std.specs.Option.{option_map, option_or}
 use Rattle.std.specs.Cmp.Lexicographic.{pointwise, same_text}
 use Rattle.std.proofs.lemmas.Cmp.{nat_list_eq_equiv}
 use Rattle.std.proofs.lemmas.List.Folds.{find-append}
-use Rattle.noise_c.proofs.Common.{Bool, cond, Option, Some, None, find, nat_eq, Plan, IsValid, Own, Table, TableEntry, dh_result_in, is_for, same_own, HandshakeValue, with_later, Matches, Party, DhResults, FirstActAsAll, AskedIsLacking, AskedToRead, AskedToWrite, FourSuffice, FourSufficeToWrite, HasKeys, IsHandedIn, with_dh_results, NoiseHandshake, IsAdded, IsPatternOf, KeepsParty, agreement_in, public_in, table_in, and_parts, and_from}
+use Rattle.noise_c.proofs.Common.{Bool, cond, Option, Some, None, find, nat_eq, Plan, IsValid, Own, Table, TableEntry, dh_result_in, is_for, same_own, HandshakeValue, with_later, Matches, Party, DhResults, FirstActAsAll, AskedIsLacking, AskedToRead, AskedToWrite, FourSuffice, FourSufficeToWrite, HasKeys, IsHandedIn, with_dh_results, NoiseHandshake, IsAdded, IsPatternOf, KeepsParty, agreement_in, handshake_from_c, public_in, table_in, text_from_c, and_parts, and_from}
 use Rattle.noise_keys.specs.declared.keys.Own.TheVariants.{Ephemeral, Static}
 use Rattle.noise_c.specs.DhResults.AskedToRead.{ready as none_to_read, asked as one_to_read}
 use Rattle.noise_c.specs.DhResults.AskedToWrite.{ready as none_to_write, asked as one_to_write}
@@ -78,6 +78,25 @@ module _ (p : Plan) (v : Party) where
   abbrev Keeps : NoiseHandshake → Type 0
   Keeps k = KeepsParty k p (with_dh_results v (dh_results_in k))
 
+  -- with other DH results handed in the struct matches the party with those
+  pub keeps-with : (k next : NoiseHandshake) (entries : List TableEntry) → text_from_c next ≡ text_from_c k
+      → handshake_from_c p next ≡ record (handshake_from_c p k) { keys = record (table_in k) { entries = entries } } → Keeps k → Keeps next
+  keeps-with k next entries text handshake c = record {
+    pattern = subst (λ (bytes : List ℕ). IsPatternOf bytes p) (sym text) c.pattern;
+    later = c.later;
+    matches = subst (λ (h : HandshakeValue Table). Matches public_in agreement_in (with_later h c.later) (with_dh_results v (dh_results_in next))) (sym handshake) (record {
+      pattern = c.matches.pattern;
+      role = c.matches.role;
+      psks = c.matches.psks;
+      own = c.matches.own;
+      agree = ap (λ (h : HandshakeValue Table). agreement_in h.keys) (sym handshake);
+      remote = c.matches.remote;
+      passed = c.matches.passed;
+      history = c.matches.history;
+      ended = c.matches.ended;
+    });
+  }
+
   module _ (k next : NoiseHandshake) (own : Own) (key x : List ℕ) (added : IsAdded k next (record { own = own; remote = key; answer = x })) where
     table : table_in next ≡ record (table_in k) { entries = (table_in k).entries ++ record { own = own; remote = key; answer = x } ∷ [] }
     table = ap (λ (h : HandshakeValue Table). h.keys) (added.handshake p)
@@ -87,21 +106,7 @@ module _ (p : Plan) (v : Party) where
         subst (λ (t : Table). IsHandedIn (dh_results_in k) (agreement_in t) own key x) (sym table) (handed own key x (table_in k).entries none)
 
     pub keeps-next : Keeps k → Keeps next
-    keeps-next c = record {
-      pattern = subst (λ (bytes : List ℕ). IsPatternOf bytes p) (sym added.text) c.pattern;
-      later = c.later;
-      matches = subst (λ (h : HandshakeValue Table). Matches public_in agreement_in (with_later h c.later) (with_dh_results v (dh_results_in next))) (sym (added.handshake p)) (record {
-        pattern = c.matches.pattern;
-        role = c.matches.role;
-        psks = c.matches.psks;
-        own = c.matches.own;
-        agree = ap agreement_in (sym table);
-        remote = c.matches.remote;
-        passed = c.matches.passed;
-        history = c.matches.history;
-        ended = c.matches.ended;
-      });
-    }
+    keeps-next = keeps-with k next ((table_in k).entries ++ record { own = own; remote = key; answer = x } ∷ []) added.text (added.handshake p)
 
   -- each call that asks is one of the state's
   pub asked-to-read : AskedIsLacking → (all : DhResults) (message : List ℕ) (k last : NoiseHandshake) (n : ℕ) → Keeps k → ReadsByDhResults p all message k n last

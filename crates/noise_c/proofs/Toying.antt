@@ -5,7 +5,7 @@ use Rattle.std.specs.Prelude.{slice_range, true, false}
 use Rattle.noise_c.proofs.Common.{Bool, Option, Some, None, is_some, max, nat_eq, nat_tests, Plan, IsValid, Own, Role, TableEntry, NoiseHandshake, NoiseResult, psks_of, setup_fault, fault_in, code_of, public_in, table_of, remote_of, IsPatternOf, E, S, Remote}
 use Rattle.noise_names.specs.declared.token.Role.TheVariants.{Initiator, Responder}
 use Rattle.noise_names.specs.Tokens.{other}
-use Rattle.noise_keys.specs.Keys.{key_of}
+use Rattle.noise_keys.specs.Keys.{key_of, xor_dh_result-same}
 use Rattle.noise_keys.specs.declared.xor_keys.XorKeys.{XorKeys}
 use Rattle.noise_keys.specs.declared.faults.SetupFault.{SetupFault}
 use Rattle.noise_keys.specs.declared.faults.SetupFault.TheVariants as setup
@@ -17,7 +17,9 @@ use Rattle.noise_c.specs.Outcomes.WriteOutcome.{written, wants_dh_result as writ
 use Rattle.noise_c.specs.Outcomes.ReadOutcome.{accepted, wants_dh_result as read_wants, wants_psk as read_wants_psk, declined, refused, too_long, unusable as read_unusable}
 use Rattle.noise_c.specs.TwoPrograms.{Agree, Calls, HaveTalked, Passed, Program, TwoProgramsAgree, start_by}
 use Rattle.noise_c.specs.TwoPrograms.Calls.{none, wrote, took, answered}
+use Rattle.noise_c.specs.FinishedPrograms.{HaveBothFinished, IsDone, ProgramsFinish}
 use Rattle.noise_c.specs.Toys.{Leads, Passes, toy_secrets, toy_setup}
+use Rattle.noise_c.proofs.Programs.{among-next, read-of, written-of}
 
 -- ---- calls, joined
 
@@ -30,19 +32,22 @@ joined keys k mid next ws rs f g p us xs last calls = f p (ws ++ us) (rs ++ xs) 
 pub answers : (keys : XorKeys) (k next : NoiseHandshake) (entry : TableEntry) (code : ℕ) → Supplies k next entry code → code ≡ 0 → k.answer_count < 8
     → xor_agreement keys entry.own entry.remote ≡ Some entry.answer → Leads keys k [] [] next
 answers keys k next entry code s e few is p ws rs last calls =
-    answered k next last entry ws rs (subst (λ (n : ℕ). Supplies k next entry n) e s) few is calls
+    let now : Supplies k next entry 0 = subst (λ (n : ℕ). Supplies k next entry n) e s in
+    answered k next last entry ws rs now (among-next p k next entry (xor_agreement keys) (now.added refl few) is) calls
 
 pub writes-one : (keys : XorKeys) (k next : NoiseHandshake) (payload out after : List ℕ) (results new : NoiseResult) (code : ℕ)
     → WriteOutcome k payload out results next after new code → code ≡ 0
     → Leads keys k (record { message = take new.len after; payload = payload } ∷ []) [] next
 writes-one keys k next payload out after results new code o e p ws rs last calls =
-    wrote k next last payload out after results new ws rs (subst (λ (n : ℕ). WriteOutcome k payload out results next after new n) e o) calls
+    let f = written-of k next payload out after results new code o e in
+    wrote k next last (record { message = take new.len after; payload = payload }) ws rs f.0 f.1 calls
 
 pub reads-one : (keys : XorKeys) (k next : NoiseHandshake) (message after : List ℕ) (results new : NoiseResult) (code : ℕ)
     → ReadOutcome true k message results next after new code → code ≡ 0
     → Leads keys k [] (record { message = message; payload = slice_range after new.from (new.from + new.len) } ∷ []) next
 reads-one keys k next message after results new code o e p ws rs last calls =
-    took true k next last message after results new ws rs (subst (λ (n : ℕ). ReadOutcome true k message results next after new n) e o) calls
+    let f = read-of true k next message after results new code o e in
+    took k next last (record { message = message; payload = slice_range after new.from (new.from + new.len) }) ws rs f.0 f.1 calls
 
 pub written-fits : (k next : NoiseHandshake) (payload out after : List ℕ) (results new : NoiseResult) (code : ℕ)
     → WriteOutcome k payload out results next after new code → code ≡ 0 → new.len ≤ length after
@@ -194,6 +199,17 @@ module _ (law : TwoProgramsAgree) (shown : RemoteIsShown) (xor : XorKeysAgree) (
   pub handed : three ≡ payload
   handed = ap (λ (m : Passed). m.payload) (third (of m1.message payload) (of m3.message payload) (of m1.message one) (of m1.message one) (of m3.message three)
       (of m1.message one) agreed.there.0 agreed.there.1)
+
+  -- of a pattern without psks, once both have finished
+  pub finished : ProgramsFinish → psks_of p.messages ≡ 0 → IsDone k3 → IsDone l3 → HaveBothFinished k3 l3
+  finished finish none_due done done_too =
+      finish p left right talked
+      (subst (λ (n : ℕ). setup_fault p Initiator (start_by left).own (start_by left).remote (max 0 n) ≡ None) none_due (fault p named valid))
+      (subst (λ (n : ℕ). setup_fault p Responder (start_by right).own (start_by right).remote (max 0 n) ≡ None) none_due (fault_too p named valid))
+      (λ x y k l r s own theirs gives gives_too.
+      xor_dh_result-same (key_of x a.e a.s) (key_of y b.e b.s) k l r s (sym (ap (λ (f : Own → Option (List ℕ)). f x) (public-is 0 a)) ∙ own)
+      (sym (ap (λ (f : Own → Option (List ℕ)). f y) (public-is 1 b)) ∙ theirs) gives gives_too)
+      done done_too
 
 pub code-is : (n k : ℕ) → nat_eq n k ≡ true → n ≡ k
 code-is n k e = grind (arith, nat_tests)

@@ -67,18 +67,21 @@ DatagramHalvesMatch sender receiver w = DatagramSenderMatches (datagram_sender_f
 -- the same of datagrams (11.4), with a window of so many nonces
 pub record AreDatagramHalvesOf (k : NoiseHandshake) (window : ℕ) (sender : NoiseDatagramSender)
     (receiver : NoiseDatagramReceiver) : Type 0 where
+  pub done : ForParty k (λ _ v. v.passed ≡ length v.pattern.messages)
   pub stand : ForParty k (λ _ v. DatagramHalvesMatch sender receiver (datagrams_of v (window_in window)))
   pub known : (is_datagram_sender sender ≡ true) × (is_datagram_receiver receiver ≡ true)
 
 -- the same of streams, of which nothing is written or read yet
 pub record AreStreamHalvesOf (k : NoiseHandshake) (interval : ℕ) (sender : NoiseStreamSender)
     (receiver : NoiseStreamReceiver) : Type 0 where
+  pub done : ForParty k (λ _ v. v.passed ≡ length v.pattern.messages)
   pub writer : ForParty k (λ _ v. BeginsToWrite sender (transport_of v interval))
   pub reader : ForParty k (λ _ v. BeginsToRead receiver (transport_of v interval))
   pub known : (is_stream_sender sender ≡ true) × (is_stream_receiver receiver ≡ true)
 
 -- these are the two cipher states of Split (5.2)
 pub record AreCiphersOf (k : NoiseHandshake) (send receive : NoiseCipher) : Type 0 where
+  pub done : ForParty k (λ _ v. v.passed ≡ length v.pattern.messages)
   pub sends : ForParty k (λ _ v. send ≡ sending_cipher v)
   pub receives : ForParty k (λ _ v. receive ≡ receiving_cipher v)
   pub known : (send.mark ≡ SENDING_CIPHER) × (receive.mark ≡ RECEIVING_CIPHER)

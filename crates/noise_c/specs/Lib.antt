@@ -13,6 +13,7 @@ pub mod CipherStructs
 pub mod StreamStructs
 pub mod Outcomes
 pub mod TwoPrograms
+pub mod FinishedPrograms
 pub mod Toys
 pub mod PatternInfo
 pub mod MessageLayouts

@@ -1,5 +1,5 @@
 -- The calls of two programs on their handshakes, each of which reads what the other wrote.
-use Rattle.std.specs.Prelude.{◌≡◌, ◌<◌, ◌⊎◌, ℕ, ◌+◌, Bool, List, [], ◌∷◌, ◌++◌, length, map, take, slice_range, Some, if◌then◌else◌}
+use Rattle.std.specs.Prelude.{◌≡◌, ◌⊎◌, ℕ, ◌+◌, Bool, List, [], ◌∷◌, ◌++◌, length, map, take, slice_range, if◌then◌else◌}
 use Rattle.noise_names.specs.declared.token.Role.{Role}
 use Rattle.noise_names.specs.declared.token.Role.TheVariants.{Initiator, Responder}
 use Rattle.noise_names.specs.Tokens.{other, same_role, turn_from}
@@ -17,11 +17,12 @@ use Rattle.noise_c.specs.declared.structs.NoiseHandshake.{NoiseHandshake}
 use Rattle.noise_c.specs.declared.structs.NoiseResult.{NoiseResult}
 use Rattle.noise_c.specs.declared.structs.NoiseSetup.{NoiseSetup}
 use Rattle.noise_c.specs.declared.codes.numbers.TheConstants.{OK, WANTED, WANTED_PSK}
-use Rattle.noise_c.specs.DhResults.{DhResults}
+use Rattle.noise_c.specs.DhResults.{AreAmong, DhResults}
 use Rattle.noise_c.specs.Finishing.{AreHalvesOf}
 use Rattle.noise_c.specs.HalfStructs.{half_from_c}
-use Rattle.noise_c.specs.HandshakeStructs.{handshake_from_c, psks_in, public_in, remote_of, role_in, table_of, GoesOn, IsPatternOf, IsStarted, IsUsable, KeepsParty, Supplies}
-use Rattle.noise_c.specs.Outcomes.{ReadOutcome, WriteOutcome}
+use Rattle.noise_c.specs.HandedIn.{dh_results_in}
+use Rattle.noise_c.specs.HandshakeStructs.{handshake_from_c, psks_in, public_in, remote_of, role_in, table_of, ForParty, GoesOn, IsPatternOf, IsStarted, IsUsable, KeepsParty, Supplies, WasRead, WasWritten}
+use Rattle.noise_c.specs.Outcomes.{ReadOutcome}
 
 -- what a program has beside its struct: the DH results of its private keys, and a psk for each psk token
 pub record Secrets : Type 0 where
@@ -44,20 +45,18 @@ pub record IsNextPsk (p : Plan) (psks : List (List ℕ)) (k : NoiseHandshake) (p
 -- order, and the struct at last.
 pub data Calls (p : Plan) (s : Secrets) : NoiseHandshake → List Passed → List Passed → NoiseHandshake → Type 0 where
   none : (k : NoiseHandshake) → Calls p s k [] [] k
-  -- `noise_write`
-  wrote : (k next last : NoiseHandshake) (payload out after : List ℕ) (results new : NoiseResult)
-      (written read : List Passed) → WriteOutcome k payload out results next after new OK
-      → Calls p s next written read last
-      → Calls p s k (record { message = take new.len after; payload = payload } ∷ written) read last
-  -- `noise_read`, or `noise_try_read` where a refusal ends nothing
-  took : (ends : Bool) (k next last : NoiseHandshake) (message after : List ℕ) (results new : NoiseResult)
-      (written read : List Passed) → ReadOutcome ends k message results next after new OK
-      → Calls p s next written read last
-      → Calls p s k written
-      (record { message = message; payload = slice_range after new.from (new.from + new.len) } ∷ read) last
-  -- `noise_answer`, with a DH result of the program's keys
+  -- `noise_write` that returns OK (`written` of `WriteOutcome`)
+  wrote : (k next last : NoiseHandshake) (m : Passed) (written read : List Passed)
+      → IsUsable next → ForParty k (λ q v. WasWritten q v m.payload m.message next)
+      → Calls p s next written read last → Calls p s k (m ∷ written) read last
+  -- `noise_read` or `noise_try_read` that returns OK (`accepted` of `ReadOutcome`)
+  took : (k next last : NoiseHandshake) (m : Passed) (written read : List Passed)
+      → IsUsable next → ForParty k (λ q v. WasRead q v m.message m.payload next)
+      → Calls p s next written read last → Calls p s k written (m ∷ read) last
+  -- `noise_answer`: where the struct had DH results of the program's keys and no others, so it has now
   answered : (k next last : NoiseHandshake) (entry : TableEntry) (written read : List Passed)
-      → Supplies k next entry OK → k.answer_count < 8 → s.dh_results entry.own entry.remote ≡ Some entry.answer
+      → Supplies k next entry OK
+      → (AreAmong (dh_results_in k) s.dh_results → AreAmong (dh_results_in next) s.dh_results)
       → Calls p s next written read last → Calls p s k written read last
   -- `noise_set_psk`
   set_psk : (k next last : NoiseHandshake) (psk : List ℕ) (written read : List Passed)

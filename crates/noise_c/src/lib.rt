@@ -23,6 +23,7 @@ mod streams;
 mod structs;
 mod supplied_keys;
 mod texts;
+pub mod toy_streams;
 pub mod toys;
 pub mod two_programs;
 mod version;

@@ -1,7 +1,7 @@
 //! A caller of the exports of streams, as each program has one: it reads what came, hands out the payloads, and says
 //! whether the stream is whole. No export calls it, and the static library has none of it.
 
-ghost use Rattle.std.specs.Prelude.{◌≡◌, ◌↔◌, ◌≤◌, ◌+◌, ◌-◌, ◌⊎◌, ℕ, List, length, drop, vec_len, vec_capacity, true, IfOk, OnErr};
+ghost use Rattle.std.specs.Prelude.{◌≡◌, ◌↔◌, ◌≤◌, ◌+◌, ◌-◌, ◌⊎◌, ℕ, List, length, drop, vec_len, vec_capacity, true, false, Ok, IfOk, OnErr};
 ghost use Rattle.noise_names.specs.Plan.{Plan};
 ghost use Rattle.noise_handshake.specs.Party.{Party};
 ghost use Rattle.noise_session.specs.TransportValue.{TransportState, transport_of};
@@ -14,6 +14,10 @@ ghost use Rattle.noise_duel.specs.Messages.{HandshakeMessage, Start};
 ghost use Rattle.noise_channel_agreement.specs.Finished.{ForgedOrTwice, HaveFinished};
 ghost use Rattle.noise_channel_agreement.specs.Receiving.{HandsOut, HandsOutAll, ReadsOnce, ReadsTo, ReadsToEnd};
 ghost use Rattle.noise_channel_agreement.specs.Agreement.{IsWholeOrForged};
+ghost use Rattle.noise_c.specs.declared.codes.numbers.TheConstants.{OK};
+ghost use Rattle.noise_c.specs.DhResults.{DhResults, with_dh_results};
+ghost use Rattle.noise_c.specs.Finishing.{Finishes};
+ghost use Rattle.noise_c.specs.FinishedPrograms.{ReadsAfter};
 ghost use Rattle.noise_c.specs.HandshakeStructs.{KeepsParty};
 ghost use Rattle.noise_c.specs.StreamStructs.{is_stream_receiver, stream_receiver_from_c};
 
@@ -142,24 +146,22 @@ pub fn read_after_finish(
     out: &mut Vec<u8>,
 ) -> Result<bool, AllocError>
     ensures unchanged { OnErr result ((came.new ≡ came.old) × (out.new.items ≡ out.old.items)) }
-    ensures responder { (p : Plan) (a b : Start) (ps qs : List HandshakeMessage) (v w : Party)
-        → HaveFinished p a b ps qs v w → KeepsParty handshake.old p w → IfOk result
+    ensures unfinished { (Finishes handshake.old OK → ⊥) → (result ≡ Ok false) × (came.new ≡ came.old)
+        × (out.new.items ≡ out.old.items) }
+    ensures reads { Finishes handshake.old OK → IfOk result
+        (λ whole. ReadsAfter handshake.old interval came.old out.old.items out.new.items whole) }
+    ensures responder { (p : Plan) (a b : Start) (ps qs : List HandshakeMessage) (v w : Party) (handed_in : DhResults)
+        → HaveFinished p a b ps qs v w → KeepsParty handshake.old p (with_dh_results w handed_in) → IfOk result
         (λ whole. HandsOut (transport_of v interval) came.old out.old.items out.new.items whole
         ⊎ ForgedOrTwice p ps qs v.history w.history) }
-    ensures initiator { (p : Plan) (a b : Start) (ps qs : List HandshakeMessage) (v w : Party)
-        → HaveFinished p a b ps qs v w → KeepsParty handshake.old p v → IfOk result
+    ensures initiator { (p : Plan) (a b : Start) (ps qs : List HandshakeMessage) (v w : Party) (handed_in : DhResults)
+        → HaveFinished p a b ps qs v w → KeepsParty handshake.old p (with_dh_results v handed_in) → IfOk result
         (λ whole. HandsOut (transport_of w interval) came.old out.old.items out.new.items whole
         ⊎ ForgedOrTwice p ps qs v.history w.history) }
 {
     finished_agree();
-    let mut sender = NoiseStreamSender {
-        half: NO_HALF,
-        ended: 0,
-    };
-    let mut receiver = NoiseStreamReceiver {
-        half: NO_HALF,
-        state: 0,
-    };
+    let mut sender = NO_SENDER;
+    let mut receiver = NO_RECEIVER;
     if noise_finish_stream(handshake, interval, &mut sender, &mut receiver) != OK {
         return Ok(false);
     }
@@ -174,4 +176,15 @@ pub(crate) const NO_HALF: NoiseHalf = NoiseHalf {
     key: [0; 32],
     interval: 0,
     nonce: 0,
+};
+
+// Memory for the halves of a stream.
+pub(crate) const NO_SENDER: NoiseStreamSender = NoiseStreamSender {
+    half: NO_HALF,
+    ended: 0,
+};
+
+pub(crate) const NO_RECEIVER: NoiseStreamReceiver = NoiseStreamReceiver {
+    half: NO_HALF,
+    state: 0,
 };

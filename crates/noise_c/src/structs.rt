@@ -135,6 +135,7 @@ pub struct NoiseResult {
 
 /// Where a handshake stands: how many messages its pattern has and how many have passed, and two flags, 0 or 1.
 #[repr(C)]
+#[derive(Drop)]
 pub struct NoiseStageResult {
     pub messages: u8,
     pub passed: u8,
@@ -154,6 +155,7 @@ pub struct NoisePatternResult {
 
 /// What a call of a stream reports: a place or a length; how many first bytes are used; how many more are wanted.
 #[repr(C)]
+#[derive(Drop)]
 pub struct NoiseStreamResult {
     pub from: usize,
     pub len: usize,

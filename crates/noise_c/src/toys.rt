@@ -49,7 +49,7 @@ const NO_HANDSHAKE: NoiseHandshake = NoiseHandshake {
 };
 
 // Starts the handshake of a program with these keys, without a prologue, psks or keys of the other party.
-fn begin(name: &[u8], responder: u8, keys: &XorKeys) -> Option<NoiseHandshake>
+pub(crate) fn begin(name: &[u8], responder: u8, keys: &XorKeys) -> Option<NoiseHandshake>
     ensures started { IfSome result (λ k. IsStarted name.now [] (toy_setup responder keys.now) k) }
     ensures fault { IfSome result (λ _. (p : Plan) → IsPatternOf name.now p → IsValid p
         → fault_in p (toy_setup responder keys.now) ≡ None) }
@@ -135,7 +135,7 @@ const NO_RESULT: NoiseResult = NoiseResult {
 };
 
 // Passes one message with this payload from one program to the other, and returns where its payload then is.
-fn pass(
+pub(crate) fn pass(
     from: &mut NoiseHandshake,
     keys: &XorKeys,
     to: &mut NoiseHandshake,

@@ -5,6 +5,7 @@ use Rattle.noise_c.proofs.split.noise_finish_datagrams.Goals as goal
 
 pub returns-clause-made : goal.returns-clause-made
 returns-clause-made c e = record {
+  done = λ p v k. (c.in-Ok.ensures.opens p v k).whole;
   stand = λ p v k.
       let w = datagrams_of v (window_in c.args.window) in
       let whole = subst (λ (z : Window). DatagramsMatch c.with_window.result (datagrams_of v z)) c.in-Some.ensures.same

@@ -7,6 +7,7 @@ use Rattle.noise_c.proofs.split.noise_finish_stream.Goals as goal
 
 pub returns-clause-made : goal.returns-clause-made
 returns-clause-made c e = record {
+  done = λ p v k. (c.in-Ok.ensures.opens p v k).whole;
   writer = λ p v k.
       let w = transport_of v c.args.interval in
       let s = c.split-sending.ensures.matches w (c.new.ensures.matches v (c.in-Ok.ensures.opens p v k)) in
