@@ -1,6 +1,6 @@
 //! The programs of two parties that have finished a handshake: the halves of their stream, and what one reads of it.
 
-ghost use Rattle.std.specs.Prelude.{◌≡◌, ◌↔◌, ◌⊎◌, List, length, false, IfOk, IsSome, IfSome, OnErr};
+ghost use Rattle.std.specs.Prelude.{◌≡◌, ◌↔◌, ◌⊎◌, List, length, false, Ok, IfOk, IsSome, IfSome, OnErr};
 ghost use Rattle.noise_names.specs.Plan.{Plan};
 ghost use Rattle.noise_handshake.specs.Matching.{Matches};
 ghost use Rattle.noise_handshake.specs.Party.{Party};
@@ -54,6 +54,8 @@ pub fn read_after<K: Keys>(
     out: &mut Vec<u8>,
 ) -> Result<bool, AllocError>
     ensures unchanged { OnErr result ((came.new ≡ came.old) × (out.new.items ≡ out.old.items)) }
+    ensures unfinished { ((handshake.ended ≡ false) × (handshake.passed ≡ length handshake.pattern.messages) → ⊥)
+        → (result ≡ Ok false) × (came.new ≡ came.old) × (out.new.items ≡ out.old.items) }
     ensures responder { (p : Plan) (a b : Start) (ps qs : List HandshakeMessage) (v w : Party)
         → HaveFinished p a b ps qs v w → Matches K.public_of K.agreement handshake w → IfOk result
         (λ whole. HandsOut (transport_of v interval) came.old out.old.items out.new.items whole
