@@ -92,14 +92,14 @@ func TestCipherStatesInPlace(t *testing.T) {
 func TestCipherStatesRekey(t *testing.T) {
 	s, r, _ := ciphers(t, "NN")
 	must(t, s.Rekey())
-	message, err := s.Encrypt(nil, nil, []byte("renewed"))
+	message, err := s.Encrypt(nil, nil, []byte("rekeyed"))
 	must(t, err)
 	_, err = r.Decrypt(nil, nil, message)
 	wants(t, err, ErrTag)
 	must(t, r.Rekey())
 	got, err := r.Decrypt(nil, nil, message)
 	must(t, err)
-	if string(got) != "renewed" || s.Nonce() != 1 {
+	if string(got) != "rekeyed" || s.Nonce() != 1 {
 		t.Errorf("%q, nonce %d", got, s.Nonce())
 	}
 }

@@ -197,7 +197,7 @@ func exchange(t testing.TB, from, to net.Conn) {
 	}
 }
 
-func TestFullDuplexWithRenewedKeys(t *testing.T) {
+func TestFullDuplexWithRekey(t *testing.T) {
 	client, server := configs(t, "IK")
 	client.Interval, server.Interval = 3, 3
 	c, s := connected(t, client, server)
