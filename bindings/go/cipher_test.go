@@ -10,7 +10,7 @@ import (
 // ciphers are the CipherStates of both parties for what a sends to b.
 func ciphers(t testing.TB, pattern string) (send, receive, back *CipherState) {
 	t.Helper()
-	a, b := opened(t, pattern)
+	a, b := finished(t, pattern)
 	send, back, err := a.CipherStates()
 	must(t, err)
 	_, receive, err = b.CipherStates()
