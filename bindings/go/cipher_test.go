@@ -10,7 +10,7 @@ import (
 // ciphers are the CipherStates of both parties for what a sends to b.
 func ciphers(t testing.TB, pattern string) (send, receive, back *CipherState) {
 	t.Helper()
-	a, b := opened(t, pattern)
+	a, b := finished(t, pattern)
 	send, back, err := a.CipherStates()
 	must(t, err)
 	_, receive, err = b.CipherStates()
@@ -92,14 +92,14 @@ func TestCipherStatesInPlace(t *testing.T) {
 func TestCipherStatesRekey(t *testing.T) {
 	s, r, _ := ciphers(t, "NN")
 	must(t, s.Rekey())
-	message, err := s.Encrypt(nil, nil, []byte("renewed"))
+	message, err := s.Encrypt(nil, nil, []byte("rekeyed"))
 	must(t, err)
 	_, err = r.Decrypt(nil, nil, message)
 	wants(t, err, ErrTag)
 	must(t, r.Rekey())
 	got, err := r.Decrypt(nil, nil, message)
 	must(t, err)
-	if string(got) != "renewed" || s.Nonce() != 1 {
+	if string(got) != "rekeyed" || s.Nonce() != 1 {
 		t.Errorf("%q, nonce %d", got, s.Nonce())
 	}
 }

@@ -46,7 +46,7 @@ type Conn struct {
 	in       sync.Mutex
 	receiver streamReceiverMemory
 	came     received
-	rest     []byte // opened, and not read yet
+	rest     []byte // decrypted, and not read yet
 	inErr    error
 	isStuck  atomic.Bool // the last Read has failed, and nothing has shown since that the caller goes on
 	hasEnd   atomic.Bool // the end of the other party's stream has come
@@ -73,7 +73,7 @@ type ConnectionState struct {
 	Payloads          [][]byte     // those of the messages that this party has read, Payloads[0] that of message 1; nil at its own
 }
 
-// Client returns the initiator's end of a channel over conn, and writes nothing yet. A *ConfigError says what is wrong with the Config.
+// Client returns the initiator's side of a channel over conn, and writes nothing yet. A *ConfigError says what is wrong with the Config.
 func Client(conn net.Conn, config *Config) (*Conn, error) {
 	if err := config.Check(true); err != nil {
 		return nil, err
@@ -81,7 +81,7 @@ func Client(conn net.Conn, config *Config) (*Conn, error) {
 	return newConn(conn, config, true, 0), nil
 }
 
-// Server returns the responder's end of a channel over conn, and writes nothing yet. A *ConfigError says what is wrong with the Config.
+// Server returns the responder's side of a channel over conn, and writes nothing yet. A *ConfigError says what is wrong with the Config.
 func Server(conn net.Conn, config *Config) (*Conn, error) {
 	if err := config.Check(false); err != nil {
 		return nil, err
@@ -89,7 +89,7 @@ func Server(conn net.Conn, config *Config) (*Conn, error) {
 	return newConn(conn, config, false, 0), nil
 }
 
-// newConn returns an end with a Config that was checked; limit is for a handshake if the Config has none.
+// newConn returns a Conn with a Config that was checked; limit is for a handshake if the Config has none.
 func newConn(conn net.Conn, config *Config, initiator bool, limit time.Duration) *Conn {
 	if config.HandshakeTimeout != 0 {
 		limit = config.HandshakeTimeout
@@ -160,7 +160,7 @@ func (c *Conn) read(b []byte) (int, error) {
 	return n, nil
 }
 
-// open takes the next payload or the end from what has come, or receives more. It returns only what a later Read may not meet again: a deadline.
+// open decrypts the next payload, or finds the end, in what has come, or receives more. It returns only what a later Read may not meet again: a deadline.
 func (c *Conn) open() error {
 	if c.isMute {
 		c.inErr = ErrOneWay

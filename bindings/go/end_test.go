@@ -286,7 +286,7 @@ func TestErrorsOfAHandshakeThatIsOver(t *testing.T) {
 	if err.Error() != "noise: the handshake was closed" {
 		t.Error(err)
 	}
-	h, _ = opened(t, "XX")
+	h, _ = finished(t, "XX")
 	_, _, err = h.Split()
 	must(t, err)
 	_, _, err = h.Split()

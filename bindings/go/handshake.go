@@ -206,13 +206,13 @@ func (h *HandshakeState) over(why error) {
 	}
 }
 
-// judgeFirst decides whether a static key of the other party that is known from the start is accepted.
-func (h *HandshakeState) judgeFirst(ctx context.Context) error {
+// verifyFirst decides whether a static key of the other party that is known from the start is accepted.
+func (h *HandshakeState) verifyFirst(ctx context.Context) error {
 	if h.isJudged || !h.pattern.knows(h.initiator) {
 		return nil
 	}
 	h.isJudged = true
-	return h.judge(ctx, "", Peer{})
+	return h.verify(ctx, "", Peer{})
 }
 
 // supply passes the X25519 result for a DH token to the library: of one of this party's key pairs and a public key of the other party.
@@ -340,7 +340,7 @@ func (h *HandshakeState) WriteMessageContext(ctx context.Context, dst, payload [
 	case code == codeStruct:
 		return dst, h.end("", Code(codeStruct))
 	case code == 0:
-		if err := h.judgeFirst(ctx); err != nil {
+		if err := h.verifyFirst(ctx); err != nil {
 			return dst, err
 		}
 	}
@@ -410,7 +410,7 @@ func (h *HandshakeState) readMessage(ctx context.Context, dst, message []byte, c
 	case len(message) > MaxMessage:
 		return dst, h.end("", ErrLength)
 	}
-	if err := h.judgeFirst(ctx); err != nil {
+	if err := h.verifyFirst(ctx); err != nil {
 		return dst, err
 	}
 	payload, err := h.read(ctx, message, call)
@@ -423,7 +423,7 @@ func (h *HandshakeState) readMessage(ctx context.Context, dst, message []byte, c
 			return dst, h.end("", Code(codeStruct))
 		}
 		h.remote.s = key
-		if err := h.judge(ctx, "s", Peer{Message: passed + 1, Payload: payload}); err != nil {
+		if err := h.verify(ctx, "s", Peer{Message: passed + 1, Payload: payload}); err != nil {
 			return dst, err
 		}
 	}
@@ -449,8 +449,8 @@ func (h *HandshakeState) read(ctx context.Context, received []byte, read readCal
 	return work[m.result.From : m.result.From+m.result.Len], nil
 }
 
-// judge decides whether the other party's static key is accepted, which is known from a token of a message, or from the start.
-func (h *HandshakeState) judge(ctx context.Context, token string, peer Peer) error {
+// verify decides whether the other party's static key is accepted, which is known from a token of a message, or from the start.
+func (h *HandshakeState) verify(ctx context.Context, token string, peer Peer) error {
 	isAccepted := false
 	defer func() {
 		if !isAccepted { // also if VerifyPeer panics, and its caller goes on

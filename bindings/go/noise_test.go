@@ -197,7 +197,7 @@ func exchange(t testing.TB, from, to net.Conn) {
 	}
 }
 
-func TestFullDuplexWithRenewedKeys(t *testing.T) {
+func TestFullDuplexWithRekey(t *testing.T) {
 	client, server := configs(t, "IK")
 	client.Interval, server.Interval = 3, 3
 	c, s := connected(t, client, server)
@@ -536,17 +536,17 @@ func TestZerosAreRefused(t *testing.T) {
 
 // TestNoAllocation counts what a message takes of the heap, once the buffers have grown.
 func TestNoAllocation(t *testing.T) {
-	a, b := opened(t, "XX")
+	a, b := finished(t, "XX")
 	s, _, err := a.Split()
 	must(t, err)
 	_, r, err := b.Split()
 	must(t, err)
-	a, b = opened(t, "XX")
+	a, b = finished(t, "XX")
 	x, _, err := a.Datagrams(64)
 	must(t, err)
 	_, y, err := b.Datagrams(64)
 	must(t, err)
-	a, b = opened(t, "XX")
+	a, b = finished(t, "XX")
 	e, _, err := a.CipherStates()
 	must(t, err)
 	_, f, err := b.CipherStates()
@@ -624,7 +624,7 @@ func FuzzOpen(f *testing.F) {
 		if len(payload) > MaxMessage-TagLen {
 			return
 		}
-		a, b := opened(t, "NN")
+		a, b := finished(t, "NN")
 		s, _, _ := a.Split()
 		_, r, _ := b.Split()
 		message, err := s.Seal(nil, payload)

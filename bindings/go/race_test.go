@@ -12,7 +12,7 @@ import (
 // TestRaceIsSeen runs itself with two goroutines of which one changes a payload while the other seals it: the race detector has to say so.
 func TestRaceIsSeen(t *testing.T) {
 	if os.Getenv("NOISE_RACES") != "" {
-		a, _ := opened(t, "NN")
+		a, _ := finished(t, "NN")
 		s, _, err := a.Split()
 		must(t, err)
 		payload, done := make([]byte, 1000), make(chan bool)

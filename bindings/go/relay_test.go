@@ -32,7 +32,7 @@ func (it *relayed) isAfterTheEnd() bool {
 	return it.fault == "repeat" && bytes.Count(it.tail, it.tail[:1]) == len(it.tail)
 }
 
-// report is what one end has read and written.
+// report is what one party has read and written.
 type report struct {
 	got                     []byte
 	isShaken                bool  // its handshake was done

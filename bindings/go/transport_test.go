@@ -6,8 +6,8 @@ import (
 	"testing"
 )
 
-// opened are the handshakes of both parties, whose messages have passed.
-func opened(t testing.TB, pattern string) (*HandshakeState, *HandshakeState) {
+// finished returns the handshakes of both parties, whose messages have passed.
+func finished(t testing.TB, pattern string) (*HandshakeState, *HandshakeState) {
 	t.Helper()
 	client, server := configs(t, pattern)
 	a, err := NewHandshakeState(client, true)
@@ -31,7 +31,7 @@ func opened(t testing.TB, pattern string) (*HandshakeState, *HandshakeState) {
 }
 
 func TestHandshakeIsUsedUp(t *testing.T) {
-	a, b := opened(t, "XX")
+	a, b := finished(t, "XX")
 	_, err := a.WriteMessage(nil, nil)
 	wants(t, err, ErrDone)
 	_, err = b.ReadMessage(nil, nil)
@@ -52,7 +52,7 @@ func TestHandshakeIsUsedUp(t *testing.T) {
 }
 
 func TestSealAndOpenInPlace(t *testing.T) {
-	a, b := opened(t, "XX")
+	a, b := finished(t, "XX")
 	s, _, err := a.Split()
 	must(t, err)
 	_, r, err := b.Split()
@@ -84,7 +84,7 @@ func TestSealAndOpenInPlace(t *testing.T) {
 }
 
 func TestDatagrams(t *testing.T) {
-	a, b := opened(t, "IK")
+	a, b := finished(t, "IK")
 	_, _, err := a.Datagrams(65)
 	wants(t, err, ErrWindow)
 	s, back, err := a.Datagrams(64)
@@ -129,7 +129,7 @@ func TestDatagrams(t *testing.T) {
 func BenchmarkSeal(b *testing.B) {
 	for _, size := range []int{64, 1024, 16384} {
 		b.Run(fmt.Sprint(size), func(b *testing.B) {
-			x, _ := opened(b, "NN")
+			x, _ := finished(b, "NN")
 			s, _, _ := x.Split()
 			payload, room := make([]byte, size), make([]byte, 0, size+TagLen)
 			b.SetBytes(int64(size))

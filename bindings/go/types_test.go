@@ -105,7 +105,7 @@ func TestNonceOfEachPacket(t *testing.T) {
 	wants(t, err, ErrClosed)
 }
 
-// TestPeerHasPayloadAndAddress judges by a certificate, which the payload beside the key is, and answers with a payload of the peer's own.
+// TestPeerHasPayloadAndAddress verifies a certificate, which the payload beside the key is, and answers with a payload of the peer's own.
 func TestPeerHasPayloadAndAddress(t *testing.T) {
 	refused := errors.New("no certificate of this key")
 	for pattern, message := range map[string]int{"XX": 3, "IX": 1, "IK": 1} {

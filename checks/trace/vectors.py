@@ -53,7 +53,7 @@ def bytes_of(word):
 
 
 def pattern_of(name):
-    """The pre-messages and the messages of a fundamental pattern with its psk places (9.4), or None."""
+    """The pre-messages and the messages of a fundamental pattern with its psk indices (9.4), or None."""
     base, places = re.fullmatch(r"Noise_([A-Z][A-Z0-9]*)((?:psk\d(?:\+psk\d)*)?)_.*", name).groups()
     if base not in PATTERNS:
         return None

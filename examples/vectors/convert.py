@@ -5,7 +5,7 @@
 
 FILE has vectors in one of the two forms that Noise projects share: a JSON object whose `vectors` list has objects with `protocol_name`,
 `init_ephemeral`, `messages` and so on; or blocks of lines such as `handshake=..`, `gen_init_ephemeral=..`, `msg_0_payload=..`. For each vector
-of the names 25519, ChaChaPoly and SHA256 a file of version 2 is written into FOLDER: its keys are the public keys, its DH answers are computed
+of the names 25519, ChaChaPoly and SHA256 a file of version 2 is written into FOLDER: its keys are the public keys, its DH results are computed
 by X25519, and its `expect` lines are the vector's messages. `noise test` on it ends with status 0 exactly if the messages are the same.
 
 What is left out is named on standard output, a line each, with the reason. The status is 0 if at least one file was written.
@@ -145,7 +145,7 @@ class Vector:
             raise LeftOut(f"the {role}'s private key {letter} isn't given")
         return self.public[role, letter]
 
-    def answer(self, first, second):
+    def dh_result(self, first, second):
         """The DH result of the initiator's key of the first letter and the responder's of the second."""
         return agreement(self.private["initiator", first], self.public_key("responder", second))
 
@@ -171,7 +171,7 @@ class Vector:
                     schedule.mix_key_and_hash(next(psks))
                 else:
                     self.public_key(role, token[ROLES.index(role)])
-                    schedule.mix_key(self.answer(*token))
+                    schedule.mix_key(self.dh_result(*token))
             schedule.mix_hash(rest)
         return schedule
 

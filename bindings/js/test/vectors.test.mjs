@@ -7,7 +7,7 @@ import { parse, replay } from './replay.mjs';
 
 /** Files about what the command does around the library, and this module doesn't. */
 const ELSEWHERE = {
-  'no-answer.vector': 'where a key has no answer the command ends the session; here the program does',
+  'no-dh-result.vector': 'where a key has no DH result the command ends the session; here the program does',
   'no-datagrams.vector': 'here a handshake becomes a transport or datagrams, never one after the other',
 };
 

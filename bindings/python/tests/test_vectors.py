@@ -16,7 +16,7 @@ from yulimosar import CallError, Code, Config, Handshake, MessageRefused, layout
 TOP = Path(os.environ.get("NOISE_TOP") or Path(__file__).resolve().parents[3])
 COMMAND = os.environ.get("NOISE_COMMAND")
 # Handshakes that this package refuses before they begin, a key pair without a DH result, and a file with a wrong line.
-LEFT_OUT = {"no-answer", "no-ephemeral-key", "psk-place", "rule", "leading-zero"}
+LEFT_OUT = {"no-dh-result", "no-ephemeral-key", "psk-index", "rule", "leading-zero"}
 FILES = [path for path in sorted((TOP / "examples/vectors").glob("*.vector")) if path.stem not in LEFT_OUT]
 FOREIGN = sorted(Path(os.environ["NOISE_VECTORS"]).glob("*.vector")) if os.environ.get("NOISE_VECTORS") else []
 WORDS = {Code.NOT_YOUR_TURN: "not-your-turn", Code.TOO_LONG: "too-long", Code.ONE_WAY: "one-way", None: "ended",

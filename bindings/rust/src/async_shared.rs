@@ -208,7 +208,7 @@ impl<T: AsyncRead + AsyncWrite + Unpin> AsyncStream<T> {
     pub(super) fn fill(&mut self, context: &mut Context<'_>) -> Poll<io::Result<&[u8]>> {
         let AsyncStream { below, reading, writing, .. } = self;
         let mut below = Polled::new(below, context);
-        if !reading.has_opened() {
+        if !reading.has_decrypted() {
             let sent = writing.before_a_wait(&mut below, reading.is_idle());
             match below.polled(sent) {
                 Poll::Ready(Ok(())) => {}

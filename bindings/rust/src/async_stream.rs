@@ -1,8 +1,8 @@
 //! [`AsyncStream`] over anything that is `AsyncRead` and `AsyncWrite` of tokio. It is [`Stream`](crate::Stream), without blocking: the same frames, ends
 //! and errors.
 //!
-//! `shutdown` sends the end of this party's stream, and shuts the stream below down for writing; what is dropped without it is cut. `read` returns 0 where
-//! the other party has ended its stream. A `write` that takes bytes seals them, and what the stream below doesn't take at once waits: `flush` after the
+//! `shutdown` sends the end of this party's stream, and shuts the stream below down for writing; what is dropped without it is truncated. `read` returns 0 where
+//! the other party has ended its stream. A `write` that accepts bytes seals them, and what the stream below doesn't accept at once waits: `flush` after the
 //! last `write`, or `shutdown`, which flushes. A read or write whose future is dropped loses nothing.
 //!
 //! There is no limit of time in it: put `tokio::time::timeout` around the handshake, whose future may be dropped.

@@ -97,7 +97,7 @@ impl<'a, S: Dh> Builder<'a, S> {
         self
     }
 
-    /// The most bytes of a handshake message that `Connecting` takes, and so `Stream` and `AsyncStream`; 8192 at first. A longer one is refused with
+    /// The most bytes of a handshake message that `Connecting` accepts, and so `Stream` and `AsyncStream`; 8192 at first. A longer one is refused with
     /// `TooLong` as soon as its length has come.
     pub fn max_handshake_message(mut self, len: usize) -> Self {
         self.options.max_message = len;

@@ -106,7 +106,7 @@ impl Connection {
         self.receiver.event()
     }
 
-    /// Takes bytes that came, and returns how many: see [`StreamReceiver::receive`].
+    /// Receives bytes that came, and returns how many: see [`StreamReceiver::receive`].
     pub fn receive(&mut self, bytes: &[u8]) -> usize {
         self.receiver.receive(bytes)
     }

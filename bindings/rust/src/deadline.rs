@@ -101,10 +101,10 @@ impl<T: Timeouts> Deadline<T> {
     }
 
     // After the deadline a wait of the stream below is final.
-    fn judge<R>(&self, answer: io::Result<R>) -> io::Result<R> {
-        match answer {
+    fn or_deadline<R>(&self, result: io::Result<R>) -> io::Result<R> {
+        match result {
             Err(error) if is_wait(&error) && Instant::now() >= self.until => Err(Error::Deadline.into()),
-            answer => answer,
+            result => result,
         }
     }
 }
@@ -126,22 +126,22 @@ impl<T: Timeouts + std::os::windows::io::AsSocket> std::os::windows::io::AsSocke
 impl<T: Read + Timeouts> Read for Deadline<T> {
     fn read(&mut self, into: &mut [u8]) -> io::Result<usize> {
         self.below.set_read_timeout(self.time(self.reads)?)?;
-        let answer = self.below.read(into);
-        self.judge(answer)
+        let result = self.below.read(into);
+        self.or_deadline(result)
     }
 }
 
 impl<T: Write + Timeouts> Write for Deadline<T> {
     fn write(&mut self, bytes: &[u8]) -> io::Result<usize> {
         self.below.set_write_timeout(self.time(self.writes)?)?;
-        let answer = self.below.write(bytes);
-        self.judge(answer)
+        let result = self.below.write(bytes);
+        self.or_deadline(result)
     }
 
     fn flush(&mut self) -> io::Result<()> {
         self.below.set_write_timeout(self.time(self.writes)?)?;
-        let answer = self.below.flush();
-        self.judge(answer)
+        let result = self.below.flush();
+        self.or_deadline(result)
     }
 }
 

@@ -77,7 +77,7 @@ pub enum Error {
     Cut,
     /// This party has ended its stream.
     Closed,
-    /// The channel is over: a message was refused, or the connection was lost or cut. Nothing more is sent.
+    /// The channel is over: a message was refused, or the connection was lost. Nothing more is sent.
     Aborted,
     /// The time of a `Deadline` has passed: the handshake has failed.
     Deadline,

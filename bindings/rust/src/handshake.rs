@@ -266,7 +266,7 @@ impl<S: Dh, E: Ephemeral> Handshake<S, E> {
         self.options.is_silent
     }
 
-    // The most bytes that a `Connecting` takes as a message of the handshake.
+    // The most bytes that a `Connecting` accepts as a message of the handshake.
     #[cfg(feature = "alloc")]
     pub(crate) fn max_message(&self) -> usize {
         self.options.max_message

@@ -3,7 +3,7 @@
 //!
 //! [`Builder`] starts a [`Handshake`], which becomes a [`Transport`], for messages in order, [`Datagrams`], for a network that loses and reorders, or two
 //! cipher states, for packets of your own. [`Stream`] does all of this over anything that reads and writes, [`AsyncStream`] over what tokio reads and writes,
-//! and [`Connection`] over whatever you have: it only takes bytes and gives bytes. [`Pattern`] says what a pattern needs. X25519 comes through the trait
+//! and [`Connection`] over whatever you have: bytes go in, and bytes come out. [`Pattern`] says what a pattern needs. X25519 comes through the trait
 //! [`Dh`]: from this crate, which has `KeyPair`, from OpenSSL with the feature `openssl`, or from any other crate in a few lines.
 //!
 //! Without the feature `std` the crate is `no_std`, and with neither `std` nor `alloc` it uses no heap. The feature `system` links an installed library in
@@ -38,7 +38,7 @@
 //! below.set_nodelay(true)?;
 //! let mut stream = Stream::new(below, handshake, |key| key == &server_key)?;
 //! stream.write_all(b"hello")?;
-//! stream.close_write()?; // the end: without it the other party reads a cut
+//! stream.close_write()?; // the end: without it the other party's stream is truncated
 //! let mut answer = String::new();
 //! stream.read_to_string(&mut answer)?;
 //! assert_eq!(answer, "hello");

@@ -236,7 +236,7 @@ calls! {
         prologue_len: usize,
         setup: *const Setup,
     ) -> u32;
-    fn noise_answer(h: *mut Handshake, of_static: u8, remote: *const u8, answer: *const u8) -> u32;
+    fn noise_answer(h: *mut Handshake, of_static: u8, remote: *const u8, dh_result: *const u8) -> u32;
     fn noise_unset_psk(h: *mut Handshake) -> u32;
     fn noise_set_psk(h: *mut Handshake, psk: *const u8) -> u32;
     fn noise_write(
@@ -456,9 +456,9 @@ impl Handshake {
         unsafe { noise_start(self, pattern.as_ptr(), pattern.len(), prologue.as_ptr(), prologue.len(), setup) }
     }
 
-    pub(crate) fn answer(&mut self, of_static: u8, remote: &[u8; KEY_LEN], answer: &[u8; KEY_LEN]) -> u32 {
+    pub(crate) fn answer(&mut self, of_static: u8, remote: &[u8; KEY_LEN], dh_result: &[u8; KEY_LEN]) -> u32 {
         // SAFETY: see above.
-        unsafe { noise_answer(self, of_static, remote.as_ptr(), answer.as_ptr()) }
+        unsafe { noise_answer(self, of_static, remote.as_ptr(), dh_result.as_ptr()) }
     }
 
     pub(crate) fn set_psk(&mut self, psk: &[u8; KEY_LEN]) -> u32 {

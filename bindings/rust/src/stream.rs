@@ -20,16 +20,16 @@ pub(crate) use writing::Writing;
 /// then all that it has written before was read; a connection that ends without it is `UnexpectedEof`. A refused message
 /// and a lost connection end the channel: each later `read` returns the same error, and nothing more is sent, also not
 /// the end of this party's stream; a `write` of the other half that runs at that time may still send its frame. Drop the
-/// channel then; what is dropped without `close_write` is cut.
+/// channel then; what is dropped without `close_write` is truncated.
 ///
 /// The last message of the handshake, if this party writes it, leaves with what is written first, or before the first `read` that may have to wait. A program
 /// that does neither, as one that waits in another way for bytes, calls `flush`; so does one that uses the stream below. On a `TcpStream` set
-/// `set_nodelay(true)`: else the system keeps the end of a stream back for up to 40 ms.
+/// `set_nodelay(true)`: otherwise the system keeps the end of a stream back for up to 40 ms.
 ///
 /// A stream below that doesn't block, or that has timeouts, may return `WouldBlock` or `TimedOut`. `read`, `flush` and
-/// `close_write` return the same then, and a later call continues. A `write` that takes bytes seals them, and what of
-/// their frame the stream below doesn't take waits: the next `write`, `flush` or `close_write` sends it first, and a
-/// `write` that can't do so takes nothing. So `flush` after the last `write`. Windows doesn't say how much of a write
+/// `close_write` return the same then, and a later call continues. A `write` that accepts bytes seals them, and what
+/// of their frame the stream below doesn't accept waits: the next `write`, `flush` or `close_write` sends it first, and
+/// a `write` that can't do so accepts nothing. So `flush` after the last `write`. Windows doesn't say how much of a write
 /// past its timeout was sent: drop the channel there.
 ///
 /// Buffers of more than 4096 bytes are given back where `read` has to wait, and that for writing also by `flush`.
@@ -212,7 +212,7 @@ impl<T: Write> WriteHalf<T> {
 
 impl<T: Read + Write> Stream<T> {
     fn before_a_read(&mut self) -> io::Result<()> {
-        if self.reading.has_opened() {
+        if self.reading.has_decrypted() {
             return Ok(());
         }
         let sent = self.writing.before_a_wait(&mut self.below, self.reading.is_idle());

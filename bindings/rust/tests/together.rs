@@ -59,7 +59,7 @@ fn resumed<S: yulimosar::Dh, E: yulimosar::Ephemeral>(
 
 // The initiator's channel, the responder's handshake, which has still to read its last message, and what the initiator writes to.
 #[allow(clippy::type_complexity)]
-fn opened(
+fn finished(
     pattern: &str,
 ) -> (Stream<End>, Result<Stream<End>, HandshakeError<End, toy::Toy, toy::Toy>>, Rc<RefCell<Wire>>) {
     let (there, back) = (Rc::new(RefCell::new(Wire::default())), Rc::new(RefCell::new(Wire::default())));
@@ -76,7 +76,7 @@ fn opened(
 #[test]
 fn the_last_message_leaves_with_the_first_bytes() {
     for (pattern, messages) in [("XX", 2), ("N", 1)] {
-        let (mut client, server, there) = opened(pattern);
+        let (mut client, server, there) = finished(pattern);
         assert_eq!(there.borrow().writes.len(), messages - 1);
         client.write_all(b"hello").unwrap();
         assert_eq!(there.borrow().writes.len(), messages);
@@ -89,7 +89,7 @@ fn the_last_message_leaves_with_the_first_bytes() {
 
 #[test]
 fn the_last_message_and_the_end_leave_together() {
-    let (mut client, server, there) = opened("XX");
+    let (mut client, server, there) = finished("XX");
     client.close_write().unwrap();
     assert_eq!(there.borrow().writes.len(), 2);
     assert_eq!(resumed(server).unwrap().read(&mut [0; 5]).unwrap(), 0);
@@ -107,7 +107,7 @@ fn a_flush_a_read_and_a_split_send_the_last_message() {
         },
     ];
     for act in acts {
-        let (client, server, there) = opened("XX");
+        let (client, server, there) = finished("XX");
         assert_eq!(there.borrow().writes.len(), 1);
         act(client);
         assert_eq!(there.borrow().writes.len(), 2);
@@ -173,7 +173,7 @@ fn a_last_message_that_cannot_be_sent_is_an_error() {
 
 #[test]
 fn many_frames_are_received_at_once() {
-    let (mut client, server, there) = opened("XX");
+    let (mut client, server, there) = finished("XX");
     for _ in 0..100 {
         client.write_all(b"small").unwrap();
     }
@@ -188,7 +188,7 @@ fn many_frames_are_received_at_once() {
 // What comes after the end is no part of the stream, and doesn't make it a cut one.
 #[test]
 fn what_came_after_the_end_is_handed_out() {
-    let (mut client, server, there) = opened("XX");
+    let (mut client, server, there) = finished("XX");
     client.write_all(b"hello").unwrap();
     client.close_write().unwrap();
     there.borrow_mut().waiting.extend(b"another protocol");
@@ -197,8 +197,8 @@ fn what_came_after_the_end_is_handed_out() {
     assert_eq!(text, "hello");
     assert_eq!(server.read(&mut [0]).unwrap(), 0);
     assert_eq!(server.into_inner().1, b"another protocol");
-    // Before the end: the frames that weren't opened.
-    let (mut client, server, _) = opened("XX");
+    // Before the end: the frames that weren't decrypted.
+    let (mut client, server, _) = finished("XX");
     client.write_all(b"first").unwrap();
     client.write_all(b"second").unwrap();
     let mut server = resumed(server).unwrap();

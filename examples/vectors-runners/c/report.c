@@ -24,7 +24,7 @@ static tally *tally_of(tally *all, const char *name) {
     return all;
 }
 
-// The pattern of a row, with its psk places: its length, and where it starts.
+// The pattern of a row, with its psk indices: its length, and where it starts.
 static int pattern_of(const row *it, const char **at) {
     const char *protocol = json_text(it->group, "protocol");
     *at = protocol ? strchr(protocol, '_') + 1 : "frame";

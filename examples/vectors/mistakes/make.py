@@ -194,8 +194,8 @@ class Party:
         own, theirs = token[0], token[1]
         if self.role == "responder" and self.mistake != "es-se":
             own, theirs = theirs, own
-        answer = private_key(self.role, own).exchange(X25519PublicKey.from_public_bytes(self.remote[theirs]))
-        self.mix_key(answer[::-1] if self.mistake == "dh-reversed" else answer)
+        result = private_key(self.role, own).exchange(X25519PublicKey.from_public_bytes(self.remote[theirs]))
+        self.mix_key(result[::-1] if self.mistake == "dh-reversed" else result)
 
     def mix_ephemeral(self, public: bytes) -> None:
         """The token e, and its key where the pattern has a psk (9.2)."""
@@ -403,14 +403,14 @@ def says(name: str) -> list[str]:
 
 
 def party_lines(role: str) -> list[str]:
-    """The public keys of a party, and its DH answers."""
+    """The public keys of a party, and its DH results."""
     other = ROLES[1 - ROLES.index(role)]
     lines = [f"{role} table {public_key(role, 'e').hex()} {public_key(role, 's').hex()}"]
     for own in "es":
         for theirs in "es":
             public = public_key(other, theirs)
-            answer = private_key(role, own).exchange(X25519PublicKey.from_public_bytes(public))
-            lines.append(f"answer {own} {public.hex()} {answer.hex()}")
+            result = private_key(role, own).exchange(X25519PublicKey.from_public_bytes(public))
+            lines.append(f"answer {own} {public.hex()} {result.hex()}")
     return lines
 
 

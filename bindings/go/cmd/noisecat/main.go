@@ -5,15 +5,15 @@
 //	noisecat -listen :9000 -key server.key -allow KEY,..
 //	noisecat -connect host:9000 -key client.key -peer KEY
 //
-// A listener takes the first connection whose handshake succeeds, and tells the failures on standard error; with -keep it takes one
+// A listener accepts the first connection whose handshake succeeds, and tells the failures on standard error; with -keep it accepts one
 // after another, and sends each the file that standard input is. Of a terminal, or /dev/null, it sends nothing then, and a pipe, of which
 // only one could get what comes, is refused. With port 0 it listens at a free port, and prints the address on standard error.
 //
 // -forward HOST:PORT joins each channel to a TCP connection of its own, and -exec COMMAND to a process of its own; with -keep all of them at once.
 //
 // The status is 0 if both parties have sent all and, where both are noisecat, each has said over the channel that it has written out all; 1 after a fault, and
-// 2 if the words of the command are wrong, each with a sentence on standard error. Of another program at the other end the status 0 says that its stream has
-// ended. After a fault of one party, as a full disk at its output, the connection is reset, and the other party's status is 1 too.
+// 2 if the words of the command are wrong, each with a sentence on standard error. Where the other party is another program, the status 0 says that its
+// stream has ended. After a fault of one party, as a full disk at its output, the connection is reset, and the other party's status is 1 too.
 package main
 
 import (
@@ -115,7 +115,7 @@ func (o *options) flags() *flag.FlagSet {
 	flags.StringVar(&o.prologue, "prologue", "", "the `text` that both parties have agreed on")
 	flags.Uint64Var(&o.interval, "interval", 0, "rekey after this `number` of messages, the same at both parties; 0: never")
 	flags.DurationVar(&o.timeout, "timeout", 30*time.Second, "the `time` that connecting and a handshake may take")
-	flags.BoolVar(&o.keep, "keep", false, "with -listen: take one connection after another, and send each the file that standard input is")
+	flags.BoolVar(&o.keep, "keep", false, "with -listen: accept one connection after another, and send each the file that standard input is")
 	flags.StringVar(&o.forward, "forward", "", "join each channel to a TCP connection to this `address`, in place of standard input and output")
 	flags.StringVar(&o.exec, "exec", "", "join each channel to the standard input and output of this `command` of the shell")
 	flags.DurationVar(&o.idle, "idle", 0, "end a channel over which nothing has come or gone for this `time`; 0: never, and with -keep on standard output 1m0s")

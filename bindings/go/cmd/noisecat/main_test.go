@@ -580,7 +580,7 @@ func TestFaults(t *testing.T) {
 	}
 }
 
-// TestOwnFaults has one end whose disk is full, one behind which nobody reads, and one whose input can't be read.
+// TestOwnFaults has one party whose disk is full, one behind which nobody reads, and one whose input can't be read.
 func TestOwnFaults(t *testing.T) {
 	cat, server, client, to := pair(t)
 	full, err := os.OpenFile("/dev/full", os.O_WRONLY, 0)

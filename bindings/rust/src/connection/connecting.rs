@@ -28,7 +28,7 @@ pub struct Connecting<S: Dh, E: Ephemeral> {
 pub enum Step<'c> {
     /// Send these bytes, and say by `sent` how many of them are sent.
     Send(&'c [u8]),
-    /// More bytes are needed, of which `receive` takes at most so many; or `closed` says that none comes.
+    /// More bytes are needed, of which `receive` accepts at most so many; or `closed` says that none comes.
     Receive(usize),
     /// The other party's static key is known. If it is one that you accept call `accept`; else drop the handshake, and close the connection.
     Judge([u8; 32]),
@@ -48,7 +48,7 @@ pub(crate) enum Peer {
 }
 
 impl<S: Dh, E: Ephemeral> Connecting<S, E> {
-    /// A handshake in which you judge the other party's static key: [`Step::Judge`] comes as soon as it is known. A pattern without such a key, as NN, is
+    /// A handshake in which you verify the other party's static key: [`Step::Judge`] comes as soon as it is known. A pattern without such a key, as NN, is
     /// refused: see `anonymous`.
     pub fn new(handshake: Handshake<S, E>) -> Result<Self, Error> {
         Connecting::with(handshake, Peer::Judged)
@@ -157,7 +157,7 @@ impl<S: Dh, E: Ephemeral> Connecting<S, E> {
         Ok(())
     }
 
-    /// Takes bytes that came, in their order, and returns how many: at most as many as the last [`Step::Receive`] says, so none before it. Ask `step` again
+    /// Receives bytes that came, in their order, and returns how many: at most as many as the last [`Step::Receive`] says, so none before it. Ask `step` again
     /// before you pass the others.
     pub fn receive(&mut self, bytes: &[u8]) -> usize {
         let count = self.incoming.take(bytes, self.wanted);
@@ -165,7 +165,7 @@ impl<S: Dh, E: Ephemeral> Connecting<S, E> {
         count
     }
 
-    /// The connection has closed, and all that came over it was taken.
+    /// The connection has closed, and all that came over it was received.
     pub fn closed(&mut self) {
         self.is_closed = true;
     }

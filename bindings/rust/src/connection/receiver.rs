@@ -13,7 +13,7 @@ use core::ops::Range;
 pub enum Event<'c> {
     /// Bytes that the other party has written, one at least. Each comes once.
     Data(&'c [u8]),
-    /// More bytes are needed, of which `receive` takes at most so many; or `closed` says that none comes.
+    /// More bytes are needed, of which `receive` accepts at most so many; or `closed` says that none comes.
     Receive(usize),
     /// The other party has ended its stream, and all that it wrote has come.
     End,
@@ -24,8 +24,8 @@ pub struct StreamReceiver {
     memory: Held<raw::StreamReceiver>,
     incoming: Incoming,
     wanted: usize,
-    opened: Range<usize>, // what of the first frame is opened, and not read yet
-    used: usize,          // how many bytes that frame has
+    decrypted: Range<usize>, // what of the first frame is decrypted, and not read yet
+    used: usize,             // how many bytes that frame has
     is_closed: bool,
     is_silent: bool,
     has_ended: bool,
@@ -52,7 +52,7 @@ impl StreamReceiver {
             memory,
             incoming,
             wanted: 0,
-            opened: 0..0,
+            decrypted: 0..0,
             used: 0,
             is_closed: false,
             is_silent,
@@ -67,7 +67,7 @@ impl StreamReceiver {
     pub fn event(&mut self) -> Result<Event<'_>, Error> {
         match self.due()? {
             Due::Data => {
-                let range = take(&mut self.opened);
+                let range = take(&mut self.decrypted);
                 Ok(Event::Data(&self.incoming.bytes()[range]))
             }
             Due::Receive => Ok(Event::Receive(self.wanted)),
@@ -75,7 +75,7 @@ impl StreamReceiver {
         }
     }
 
-    /// Takes bytes that came, in their order, and returns how many: at most as many as the last [`Event::Receive`] says, so none before it. Ask `event`
+    /// Receives bytes that came, in their order, and returns how many: at most as many as the last [`Event::Receive`] says, so none before it. Ask `event`
     /// again before you pass the others.
     pub fn receive(&mut self, bytes: &[u8]) -> usize {
         let count = self.incoming.take(bytes, self.wanted);
@@ -83,14 +83,14 @@ impl StreamReceiver {
         count
     }
 
-    /// The connection has closed, and all that came over it was taken: `event` says whether the stream had ended.
+    /// The connection has closed, and all that came over it was received: `event` says whether the stream had ended.
     pub fn closed(&mut self) {
         self.is_closed = true;
     }
 
-    // Opens the next payload, if none is opened.
+    // Decrypts the next payload, if none is decrypted.
     pub(crate) fn due(&mut self) -> Result<Due, Error> {
-        if !self.opened.is_empty() {
+        if !self.decrypted.is_empty() {
             return Ok(Due::Data);
         }
         if self.has_ended {
@@ -106,7 +106,7 @@ impl StreamReceiver {
         let mut result = StreamResult::default();
         match self.memory.read(self.incoming.bytes_mut(), &mut result) {
             OK => {
-                self.opened = result.from..result.from + result.len;
+                self.decrypted = result.from..result.from + result.len;
                 self.used = result.used;
                 Ok(Due::Data)
             }
@@ -125,7 +125,7 @@ impl StreamReceiver {
         }
     }
 
-    // What it means that nothing more comes, with so many bytes left: the end of the stream, or a cut.
+    // What it means that nothing more comes, with so many bytes left: the end of the stream, or a truncation.
     fn ended(&mut self, left: usize) -> Result<Due, Error> {
         self.wanted = 0;
         match self.memory.is_cut(left) {
@@ -148,16 +148,16 @@ impl StreamReceiver {
         self.over.set();
     }
 
-    // The bytes that are opened, and how many of them were read.
+    // The bytes that are decrypted, and how many of them were read.
     #[cfg(feature = "std")]
-    pub(crate) fn opened(&self) -> &[u8] {
-        &self.incoming.bytes()[self.opened.clone()]
+    pub(crate) fn decrypted(&self) -> &[u8] {
+        &self.incoming.bytes()[self.decrypted.clone()]
     }
 
     #[cfg(feature = "std")]
     pub(crate) fn read(&mut self, count: usize) {
-        self.opened = match count {
-            _ if count < self.opened.len() => self.opened.start + count..self.opened.end,
+        self.decrypted = match count {
+            _ if count < self.decrypted.len() => self.decrypted.start + count..self.decrypted.end,
             _ => 0..0,
         };
     }
@@ -186,7 +186,7 @@ impl StreamReceiver {
         self.incoming.release();
     }
 
-    // What came after the frames that were opened.
+    // What came after the frames that were decrypted.
     #[cfg(feature = "std")]
     pub(crate) fn rest(&self) -> &[u8] {
         &self.incoming.bytes()[self.used..]

@@ -26,7 +26,7 @@ impl Reading {
         Ok(count)
     }
 
-    // The bytes that are opened; at the end of the stream none.
+    // The bytes that are decrypted; at the end of the stream none.
     pub(crate) fn fill(&mut self, below: &mut impl Read) -> io::Result<&[u8]> {
         if let Some(error) = &self.lost {
             return Err(again(error));
@@ -34,7 +34,7 @@ impl Reading {
         while let Due::Receive = self.receiver.due()? {
             self.receive(below)?;
         }
-        Ok(self.receiver.opened())
+        Ok(self.receiver.decrypted())
     }
 
     // So many of them were read.
@@ -47,12 +47,12 @@ impl Reading {
         self.receiver.is_idle()
     }
 
-    // Whether bytes are opened.
-    pub(crate) fn has_opened(&self) -> bool {
-        !self.receiver.opened().is_empty()
+    // Whether bytes are decrypted.
+    pub(crate) fn has_decrypted(&self) -> bool {
+        !self.receiver.decrypted().is_empty()
     }
 
-    // What came after the frames that were opened.
+    // What came after the frames that were decrypted.
     pub(crate) fn rest(&self) -> Vec<u8> {
         self.receiver.rest().to_vec()
     }

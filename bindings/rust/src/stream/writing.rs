@@ -65,11 +65,11 @@ impl Writing {
     }
 
     // After an error but one of time the connection is lost.
-    fn lose<R>(&mut self, answer: io::Result<R>) -> io::Result<R> {
-        if matches!(&answer, Err(error) if !is_wait(error) && error.kind() != ErrorKind::Interrupted) {
+    fn lose<R>(&mut self, result: io::Result<R>) -> io::Result<R> {
+        if matches!(&result, Err(error) if !is_wait(error) && error.kind() != ErrorKind::Interrupted) {
             self.0.lose();
         }
-        answer
+        result
     }
 }
 

@@ -93,8 +93,8 @@ type Channel struct {
 	writing sync.Mutex
 }
 
-// Secure runs the handshake over conn. It calls judge, which decides on the other party, with that party's identity.
-func Secure(ctx context.Context, conn net.Conn, identity ed25519.PrivateKey, initiator bool, judge func(ed25519.PublicKey) error) (*Channel, error) {
+// Secure runs the handshake over conn. It calls verify, which decides on the other party, with that party's identity.
+func Secure(ctx context.Context, conn net.Conn, identity ed25519.PrivateKey, initiator bool, verify func(ed25519.PublicKey) error) (*Channel, error) {
 	static, err := noise.GenerateKeyPair()
 	if err != nil {
 		return nil, err
@@ -104,7 +104,7 @@ func Secure(ctx context.Context, conn net.Conn, identity ed25519.PrivateKey, ini
 		if c.Remote, err = identityOf(peer.Payload, peer.Static); err != nil {
 			return err
 		}
-		return judge(c.Remote)
+		return verify(c.Remote)
 	}}, initiator)
 	if err != nil {
 		return nil, err

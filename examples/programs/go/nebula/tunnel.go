@@ -118,7 +118,7 @@ func (t *tunnel) finish(h *noise.HandshakeState) (err error) {
 	return t.send.SetNonce(3)
 }
 
-// accept judges the other party by its certificate, which is in the payload beside its key, and takes its index.
+// accept verifies the other party by its certificate, which is in the payload beside its key, and keeps its index.
 func (t *tunnel) accept(authority *certificate, peer noise.Peer) error {
 	outer, err := fields(peer.Payload)
 	if err != nil || len(outer) == 0 || outer[0].tag != payloadDetails {

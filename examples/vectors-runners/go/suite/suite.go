@@ -91,7 +91,7 @@ func (g *Group) Before(role string) string {
 	return ""
 }
 
-// name returns that of the pattern, with its psk places.
+// name returns that of the pattern, with its psk indices.
 func (g *Group) name() string {
 	if parts := strings.Split(g.Protocol, "_"); len(parts) > 1 {
 		return parts[1]
