@@ -1,9 +1,8 @@
 -- What is said of the likely mistakes.
 use Rattle.std.specs.Prelude.{◌≡◌, ℕ, List, [], ◌∷◌, ◌++◌, Option, Some, None, codes, flat_map}
-use Rattle.noise_mistakes.specs.Finding.{found_mistakes, mistakes_of, refusing_mistakes}
+use Rattle.noise_mistakes.specs.Finding.{found_mistakes, refusing_mistakes, tried_mistakes}
 use Rattle.noise_mistakes.specs.Sentences.{sentence}
 use Rattle.noise_mistakes.specs.declared.mistake.Mistake.{Mistake}
-use Rattle.noise_mistakes.specs.declared.state.Kind.{Kind}
 use Rattle.noise_mistakes.specs.declared.state.Situation.{Situation}
 use Rattle.noise_mistakes.specs.declared.state.Logged.{Logged}
 use Rattle.noise_compare.specs.Report.{ended}
@@ -12,11 +11,11 @@ use Rattle.noise_compare.specs.Report.{ended}
 unfoldable pub sentences : List Mistake → List ℕ
 sentences mistakes = flat_map (λ mistake. ended (sentence mistake)) mistakes
 
--- The mistakes that give the logged values; where there is none, those that were tried at a step of this kind.
-abbrev pub mistakes_text : Kind → List Mistake → List ℕ
-mistakes_text kind [] = ended (codes "none of the mistakes that are tried gives your values:") ++ sentences (mistakes_of kind)
-mistakes_text kind (mistake ∷ []) = ended (codes "the mistake that gives your values:") ++ sentences (mistake ∷ [])
-mistakes_text kind (mistake ∷ (other ∷ more)) =
+-- The mistakes that give the logged values; where there is none, those that were tried at this step.
+abbrev pub mistakes_text : Situation → List Mistake → List ℕ
+mistakes_text at [] = ended (codes "none of the mistakes that are tried gives your values:") ++ sentences (tried_mistakes at)
+mistakes_text at (mistake ∷ []) = ended (codes "the mistake that gives your values:") ++ sentences (mistake ∷ [])
+mistakes_text at (mistake ∷ (other ∷ more)) =
     ended (codes "each of these mistakes gives your values:") ++ sentences (mistake ∷ other ∷ more)
 
 -- the mistakes with which a party refuses what is right
@@ -28,4 +27,4 @@ pub record IsAdvice (text : List ℕ) : Type 0 where
   pub front : List ℕ
   pub at : Situation
   pub logged : Logged
-  pub text_is : text ≡ front ++ mistakes_text at.kind (found_mistakes at logged)
+  pub text_is : text ≡ front ++ mistakes_text at (found_mistakes at logged)

@@ -102,7 +102,7 @@ fn agreeing(
         }),
         None => Ok(LogReport {
             finding: Finding::Agrees,
-            text: agreement_text(alloc, log.len())?,
+            text: agreement_text(alloc, log)?,
         }),
     }
 }

@@ -152,7 +152,7 @@ fn data_of(
     if expected.word(4) == b"prologue".as_slice() {
         return Vec::from_slice(alloc, &facts.prologue);
     }
-    if kind_in(expected) != Kind::Data {
+    if expected.word(2) != b"start".as_slice() {
         return Vec::from_slice(alloc, bytes);
     }
     for key in &facts.publics {

@@ -96,10 +96,10 @@ pub(crate) fn kind_in(line: &Line<'_>) -> Kind {
 }
 
 fn of_start(name: &[u8]) -> Kind {
-    if name == b"name".as_slice() {
-        Kind::Name
-    } else {
-        Kind::Data
+    match name {
+        b"name" => Kind::Name,
+        b"initiator-e" | b"responder-e" => Kind::Ephemeral,
+        _ => Kind::Data,
     }
 }
 
