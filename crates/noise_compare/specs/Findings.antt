@@ -20,4 +20,4 @@ IsReport right log Ends text = AllAgree right log × (next : Line) × (step_afte
     × (advice : List ℕ) × (text ≡ ending_text next advice)
 IsReport right log Differs text = (index : ℕ) × (expected : Option Line) × IsFirstDifference right log index expected
     × (line : Line) × (line ≡ slice_index_or log index line) × (advice : List ℕ)
-    × IfSome expected (λ _. IsAdvice advice) × (text ≡ difference_text line expected advice)
+    × IfSome expected (λ found. IsAdvice right line found advice) × (text ≡ difference_text line expected advice)
