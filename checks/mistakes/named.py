@@ -193,7 +193,7 @@ def main(words: list[str]) -> int:
             shown = [line for line in log if role == "both" or f"trace {role} " in line]
             log_path.write_bytes(harmless(difference, shown))
             file_path.write_text(vector(program, session, events))
-            command = "test" if mistake.startswith("length") else "compare"
+            command = "test" if case.words.startswith("differs at byte") else "compare"
             files = [str(file_path)] if command == "test" else [str(log_path), str(file_path)]
             ran = subprocess.run([program, command, *files], stdout=subprocess.PIPE, stderr=subprocess.STDOUT, text=True, check=False)
             said = verdict(ran.stdout, case.words)
