@@ -21,7 +21,7 @@ const MIXES = Object.freeze({
 });
 /** The same for each kind of malformed line, by its code in include/noise.h: a sentence, and how to mend it. All these are also those of `noise explain`. */
 export const FORMS = Object.freeze({
-  30: ['The first line has to be a name of 1 to 8 upper-case letters and digits, then psk places such as psk0 or psk0+psk2, then a colon.', 'For example: MINE:'],
+  30: ['The first line has to be a name of 1 to 8 upper-case letters and digits, then psk modifiers such as psk0 or psk0+psk2, then a colon.', 'For example: MINE:'],
   31: ['The line has to begin with two spaces, an arrow (-> or <-) and one space.', 'For example: two spaces, then “-> e”.'],
   32: ['This isn’t a token.', 'The tokens are e, s, ee, es, se, ss and psk, with a comma and a space between two.'],
   33: ['Above “...” a line has e, s or “e, s”, the initiator’s first, and “...” comes once, after them.',
@@ -41,7 +41,7 @@ const CLOSER = Object.freeze({
   arrow: ['The arrow is written as two characters: -> or <-.', 'Write it so.'],
   comment: ['The library takes no comments.', 'Take them out.'],
   none: ['A token has to stand here, and none does.', 'Write one, for example e, or take the comma before it out.'],
-  beyond: ['The heading has a psk place beyond the last message.', 'Write the place that is meant, or add messages.'],
+  beyond: ['The heading has an index of a psk that is greater than the number of messages.', 'Write the index that is meant, or add messages.'],
   ninth: ['A pattern has at most 8 messages, and this is one more.', 'Put its tokens into earlier messages.'],
   alone: ['A message has from 1 to 8 tokens besides psk, and this one has none.', 'Add one, for example e.'],
 });

@@ -1,4 +1,4 @@
-"""An implementation of its own (revision 34: 25519, ChaChaPoly, SHA256), both parties of which can make one of 42 mistakes, and the log that
+"""An implementation of its own (revision 34: 25519, ChaChaPoly, SHA256), both parties of which can make one of 54 mistakes, and the log that
 DEBUGGING.md asks for.
 
 It shares nothing with the code of `noise`. A mistake is a name; "" is none. It needs python's `cryptography`.
@@ -20,14 +20,26 @@ from cryptography.hazmat.primitives.serialization import Encoding, PublicFormat
 TAG = 16
 LAST_NONCE = 2**64 - 1
 
-# The pre-messages of a pattern, as the roles whose static keys they have, and its messages.
-PATTERNS: dict[str, tuple[tuple[str, ...], tuple[str, ...]]] = {
+# The keys of a pattern's pre-messages, each as a role and a token, and its messages. Those of EPH are an own pattern's.
+PATTERNS: dict[str, tuple[tuple[tuple[str, str], ...], tuple[str, ...]]] = {
     "NN": ((), ("e", "e ee")),
     "XX": ((), ("e", "e ee s es", "s se")),
     "IX": ((), ("e s", "e ee se s es")),
-    "X": (("responder",), ("e es s ss",)),
-    "IK": (("responder",), ("e es s ss", "e ee se")),
-    "KK": (("initiator", "responder"), ("e es ss", "e ee se")),
+    "X": ((("responder", "s"),), ("e es s ss",)),
+    "IK": ((("responder", "s"),), ("e es s ss", "e ee se")),
+    "KK": ((("initiator", "s"), ("responder", "s")), ("e es ss", "e ee se")),
+    "EPH": ((("responder", "e"),), ("e ee", "s es")),
+}
+
+
+# The lengths that mistakes hash, in front of the data or by a MixHash of their own.
+LENGTHS = {
+    "length-hashed": ">H",
+    "length-hashed-little": "<H",
+    "length-hashed-4": ">I",
+    "length-hashed-4-little": "<I",
+    "length-mixed": ">H",
+    "length-mixed-4-little": "<I",
 }
 
 
@@ -64,6 +76,8 @@ def code(key: bytes, data: bytes) -> bytes:
 def hkdf(chaining_key: bytes, data: bytes, mistake: str) -> tuple[bytes, bytes, bytes]:
     if mistake == "hkdf-inputs-exchanged":
         chaining_key, data = data, chaining_key
+    if mistake == "input-digested" and data:
+        data = digest(data)
     temporary = code(chaining_key, data)
     first = 0 if mistake == "hkdf-from-zero" else 1
     outputs = [code(temporary, bytes([first]))]
@@ -94,11 +108,13 @@ class Cipher:
             return text
         sealed = ChaCha20Poly1305(self.key).encrypt(self.nonce(self.n), text, ad)
         self.n += 1
-        return sealed
+        return sealed[-TAG:] + sealed[:-TAG] if self.mistake == "tag-in-front" else sealed
 
     def decrypt(self, ad: bytes, sealed: bytes) -> bytes:
         if self.key is None or self.is_clear(sealed):
             return sealed
+        if self.mistake == "tag-in-front":
+            sealed = sealed[TAG:] + sealed[:TAG]
         try:
             text = ChaCha20Poly1305(self.key).decrypt(self.nonce(self.n), sealed, ad)
         except (InvalidTag, ValueError) as error:
@@ -183,7 +199,11 @@ class Party:
         self.log.append(f"trace {self.role} {part} ? {name} ? ? {data.hex() or '-'} {self.h.hex()} {self.ck.hex()} {key} {self.cipher.n}")
 
     def mix_hash(self, data: bytes) -> None:
-        self.h = digest(self.h + data)
+        form = LENGTHS.get(self.mistake)
+        front = struct.pack(form, len(data)) if form else b""
+        if self.mistake.startswith("length-mixed"):
+            self.h, front = digest(self.h + front), b""
+        self.h = digest(self.h + front + data)
 
     def mix_prologue(self) -> None:
         prologue = self.session.prologue
@@ -192,13 +212,15 @@ class Party:
         self.say("start", "prologue")
 
     def mix_pre_messages(self) -> None:
-        for role in PATTERNS[self.session.base][0]:
-            public = self.session.keys[role].s.public
+        for role, token in PATTERNS[self.session.base][0]:
+            key: Key = getattr(self.session.keys[role], token)
             if role != self.role:
-                self.remote["s"] = public
+                self.remote[token] = key.public
             if self.mistake != "pre-message-left-out":
-                self.mix_hash(public)
-            self.say("start", f"{role}-s")
+                self.mix_hash(key.public)
+            if token == "e" and bool(self.session.places) != (self.mistake == "pre-message-mixed-wrongly"):
+                self.mix_key(key.public)
+            self.say("start", f"{role}-{token}")
 
     def mix_key(self, data: bytes) -> None:
         first, second, _ = hkdf(self.ck, data, self.mistake)
@@ -231,9 +253,14 @@ class Party:
         return sealed
 
     def ad(self) -> bytes:
+        if self.mistake == "chaining-key-as-data":
+            return self.ck
         return b"" if self.mistake == "no-associated-data" else self.h
 
     def encrypt_and_hash(self, text: bytes, is_payload: bool) -> bytes:
+        if self.mistake == "hashed-before-encryption":
+            self.mix_hash(text)
+            return self.cipher.encrypt(self.h, text)
         sealed = self.cipher.encrypt(self.ad(), text)
         if not (self.mistake == "payload-not-hashed" and is_payload):
             self.mix_hash(self.hashed_bytes(text, sealed))
@@ -329,7 +356,7 @@ class Party:
             self.remote["s"] = self.decrypt_and_hash(data, False)
 
     def split(self) -> None:
-        data = self.h if self.mistake == "split-of-hash" else b""
+        data = {"split-of-hash": self.h, "split-of-zeros": bytes(32)}.get(self.mistake, b"")
         first, second, _ = hkdf(self.ck, data, self.mistake)
         mine, theirs = Cipher(self.mistake, first), Cipher(self.mistake, second)
         if self.mistake == "transport-from-one":

@@ -15,9 +15,9 @@ step_after right log = option_and_then (next_step right) (slice_get log (length 
 -- handshake. The advice on values that differ has the mistakes that give them; any other may be any lines.
 abbrev pub IsReport : List Line → List Line → Finding → List ℕ → Type 0
 IsReport right log Agrees text = AllAgree right log × (step_after right log ≡ None)
-    × (text ≡ agreement_text (length log))
+    × (text ≡ agreement_text log)
 IsReport right log Ends text = AllAgree right log × (next : Line) × (step_after right log ≡ Some next)
     × (advice : List ℕ) × (text ≡ ending_text next advice)
 IsReport right log Differs text = (index : ℕ) × (expected : Option Line) × IsFirstDifference right log index expected
     × (line : Line) × (line ≡ slice_index_or log index line) × (advice : List ℕ)
-    × IfSome expected (λ _. IsAdvice advice) × (text ≡ difference_text line expected advice)
+    × IfSome expected (λ found. IsAdvice right line found advice) × (text ≡ difference_text line expected advice)

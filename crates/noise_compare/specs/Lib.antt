@@ -5,4 +5,6 @@ pub mod Lines
 pub mod Plain
 pub mod Reading
 pub mod Report
+pub mod Steps
+pub mod Values
 pub mod Walk

@@ -1,5 +1,6 @@
 -- What is printed of a log.
-use Rattle.std.specs.Prelude.{ℕ, Bool, List, [], ◌∷◌, ◌++◌, Option, Some, None, codes, decimal, if◌then◌else◌, nat_lt, slice_get, unwrap_or}
+use Rattle.std.specs.Prelude.{ℕ, Bool, List, [], ◌∷◌, ◌++◌, Option, Some, None, codes, count_by, decimal, if◌then◌else◌, length, nat_lt, slice_get, unwrap_or}
+use Rattle.std.specs.Str.{bytes_eq}
 use Rattle.noise_compare.specs.Lines.{is_same_word, word_at, words_in}
 use Rattle.noise_compare.specs.declared.line.Line.{Line}
 
@@ -41,8 +42,14 @@ difference_text logged expected advice =
     ended (codes "differs at line " ++ (decimal logged.number ++ (codes ": " ++ place_text logged)))
     ++ (right_text logged expected ++ advice)
 
-unfoldable pub agreement_text : ℕ → List ℕ
-agreement_text count = codes "agrees in " ++ (decimal count ++ ended (codes " lines"))
+-- a key of Split
+unfoldable pub is_of_split : Line → Bool
+is_of_split line = bytes_eq (word_at (words_in line) 2) (codes "open")
+
+-- how many lines there are, and how many of them are of Split
+unfoldable pub agreement_text : List Line → List ℕ
+agreement_text log = codes "agrees in " ++ (decimal (length log) ++ (ended (codes " lines")
+    ++ (codes "lines of Split compared: " ++ ended (decimal (count_by is_of_split log)))))
 
 -- the step before which the log ends
 unfoldable pub ending_text : Line → List ℕ → List ℕ

@@ -6,7 +6,7 @@ ghost use Rattle.noise_compare.specs.Advice.{IsAdvice, mistakes_text, refusing_t
 ghost use Rattle.noise_compare.specs.Report.{ended};
 
 use crate::report::push_line;
-use noise_mistakes::{Kind, Logged, Mistake, Situation, mistakes, mistakes_of, sentence};
+use noise_mistakes::{Logged, Mistake, Situation, mistakes, sentence, tried_mistakes};
 use std::alloc::{AllocError, Global};
 
 /// Appends what is said of the mistakes that give the logged values at this step.
@@ -17,19 +17,24 @@ pub(crate) fn push_found(
     text: &mut Vec<u8>,
 ) -> Result<(), AllocError>
     ensures { OnOk result (text.new.items
-        ≡ text.old.items ++ mistakes_text at.now.kind (found_mistakes at.now logged.now)) }
+        ≡ text.old.items ++ mistakes_text at.now (found_mistakes at.now logged.now)) }
 {
     let found = mistakes(alloc, at, logged)?;
-    push_mistakes(at.kind, &found, text)
+    push_mistakes(alloc, at, &found, text)
 }
 
-fn push_mistakes(kind: Kind, found: &[Mistake], text: &mut Vec<u8>) -> Result<(), AllocError>
-    ensures { OnOk result (text.new.items ≡ text.old.items ++ mistakes_text kind found.now) }
+fn push_mistakes(
+    alloc: Global,
+    at: &Situation<'_>,
+    found: &[Mistake],
+    text: &mut Vec<u8>,
+) -> Result<(), AllocError>
+    ensures { OnOk result (text.new.items ≡ text.old.items ++ mistakes_text at.now found.now) }
 {
     match found {
         [] => push_headed(
             "none of the mistakes that are tried gives your values:",
-            mistakes_of(kind),
+            &tried_mistakes(alloc, at)?,
             text,
         ),
         [_] => push_headed("the mistake that gives your values:", found, text),

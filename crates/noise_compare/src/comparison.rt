@@ -60,7 +60,7 @@ fn differing(
         → IfOk result (λ report. IsReport right.now log.now report.finding report.text.items) }
 {
     let line = &log[found.index];
-    let advice = advice(alloc, facts, log, right, found.index, found.right)?;
+    let advice = advice(alloc, facts, log, right, found.index, line, found.right)?;
     Ok(LogReport {
         finding: Finding::Differs,
         text: difference_text(alloc, line, found.right, &advice)?,
@@ -74,13 +74,15 @@ fn advice(
     log: &[Line<'_>],
     right: &[Line<'_>],
     index: usize,
+    logged: &Line<'_>,
     expected: Option<&Line<'_>>,
 ) -> Result<Vec<u8>, AllocError>
     requires { index < length log.now }
-    ensures { IfOk result (λ text. IfSome (option_copied expected.entry) (λ _. IsAdvice text.items)) }
+    ensures { IfOk result (λ text. IfSome (option_copied expected.entry)
+        (λ found. IsAdvice right.now logged.now found text.items)) }
 {
     match expected {
-        Some(expected) => of_values(alloc, facts, log, right, index, expected),
+        Some(expected) => of_values(alloc, facts, log, right, index, logged, expected),
         None => of_place(alloc, facts, log, right, index),
     }
 }
@@ -102,7 +104,7 @@ fn agreeing(
         }),
         None => Ok(LogReport {
             finding: Finding::Agrees,
-            text: agreement_text(alloc, log.len())?,
+            text: agreement_text(alloc, log)?,
         }),
     }
 }

@@ -12,6 +12,7 @@ mod parts;
 mod plain;
 mod report;
 mod sentences;
+mod steps;
 mod values;
 
 pub use comparison::{Finding, LogReport, compare_lines};

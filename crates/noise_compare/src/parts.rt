@@ -1,9 +1,13 @@
 //! The step of a right line, with what comes before it.
 
-ghost use Rattle.std.specs.Prelude.{◌≤◌, length, vec_len};
+ghost use Rattle.std.specs.Prelude.{◌≡◌, ◌≤◌, IfOk, length, vec_len};
+ghost use Rattle.noise_compare.specs.Lines.{word_at, words_in};
+ghost use Rattle.noise_compare.specs.Steps.{hashes_in, last_state, states_before, transport_keys};
+ghost use Rattle.noise_compare.specs.Values.{kind_in, state_in, word_bytes};
 
 use crate::facts::Facts;
 use crate::line::Line;
+use crate::steps::{hashes_in, last_state, states_before, transport_keys};
 use crate::values::{bytes_in, kind_in, state_in};
 use noise_aead::{nonce, open_in_place};
 use noise_kdf::expand2;
@@ -35,21 +39,26 @@ impl Parts {
         right: &[Line<'_>],
         expected: &Line<'_>,
         agreed: Option<&Line<'_>>,
-    ) -> Result<Parts, AllocError> {
+    ) -> Result<Parts, AllocError>
+        ensures kind { IfOk result (λ parts. parts.kind ≡ kind_in expected.now) }
+        ensures before { IfOk result (λ parts. parts.before
+            ≡ last_state (states_before right.now expected.now) (state_in expected.now)) }
+        ensures right { IfOk result (λ parts. parts.right ≡ state_in expected.now) }
+        ensures bytes { IfOk result (λ parts. parts.bytes.items ≡ word_bytes (word_at (words_in expected.now) 7)) }
+        ensures hashes { IfOk result (λ parts. parts.hashes.items ≡ hashes_in (states_before right.now expected.now)) }
+        ensures keys { IfOk result (λ parts. parts.keys.items ≡ transport_keys right.now) }
+    {
         let kind = kind_in(expected);
         let after = state_in(expected);
-        let earlier = earlier_states(alloc, right, expected)?;
-        let before = match earlier.last() {
-            Some(state) => *state,
-            None => after,
-        };
+        let earlier = states_before(alloc, right, expected)?;
+        let before = last_state(&earlier, after);
         let bytes = bytes_in(alloc, expected.word(7))?;
         let mut data = data_of(alloc, facts, expected, &before, &after, &bytes)?;
         data.truncate(65535);
         let mut text = text_of(alloc, &before, &bytes)?;
         text.truncate(65535);
         let secret = secret_of(facts, kind, &before, &after);
-        let hashes = hashes_of(alloc, &earlier)?;
+        let hashes = hashes_in(alloc, &earlier)?;
         let keys = transport_keys(alloc, right)?;
         Ok(Parts {
             kind,
@@ -69,7 +78,14 @@ impl Parts {
     }
 
     /// The step with what a file gives.
-    pub fn situation<'a>(&'a self, facts: &'a Facts) -> Situation<'a> {
+    pub fn situation<'a>(&'a self, facts: &'a Facts) -> Situation<'a>
+        ensures kind { result.kind ≡ self.now.kind }
+        ensures before { result.before ≡ self.now.before }
+        ensures right { result.right ≡ self.now.right }
+        ensures bytes { result.bytes.now ≡ self.now.bytes.items }
+        ensures hashes { result.hashes.now ≡ self.now.hashes.items }
+        ensures keys { result.keys.now ≡ self.now.keys.items }
+    {
         Situation {
             kind: self.kind,
             before: self.before,
@@ -91,55 +107,6 @@ impl Parts {
     }
 }
 
-/// Whether a line is this one of the right lines.
-pub(crate) fn is_line(line: &Line<'_>, other: &Line<'_>) -> bool {
-    line.is_of_place(other) && other.is_of_place(line) && is_alike(line, other)
-}
-
-fn is_alike(line: &Line<'_>, other: &Line<'_>) -> bool {
-    line.number == other.number && line.has_values(other) && line.word(3) == other.word(3)
-}
-
-// The states after the lines of the party before this one, in their order.
-fn earlier_states(
-    alloc: Global,
-    right: &[Line<'_>],
-    expected: &Line<'_>,
-) -> Result<Vec<State>, AllocError> {
-    let mut states = Vec::new(alloc);
-    for line in right {
-        if is_line(line, expected) {
-            return Ok(states);
-        }
-        if line.word(1) == expected.word(1) {
-            states.push(state_in(line))?;
-        }
-    }
-    Ok(states)
-}
-
-fn hashes_of(alloc: Global, states: &[State]) -> Result<Vec<[u8; 32]>, AllocError> {
-    let mut hashes = Vec::new(alloc);
-    for state in states.iter().rev().skip(1) {
-        hashes.push(state.hash)?;
-    }
-    Ok(hashes)
-}
-
-// The keys of the transport: those of Split and those after a Rekey.
-fn transport_keys(alloc: Global, right: &[Line<'_>]) -> Result<Vec<[u8; 32]>, AllocError> {
-    let mut keys = Vec::new(alloc);
-    for line in right {
-        let kind = kind_in(line);
-        if kind == Kind::Opening || kind == Kind::Renewal {
-            if let Some(key) = state_in(line).key {
-                keys.push(key)?;
-            }
-        }
-    }
-    Ok(keys)
-}
-
 // What MixHash takes at a step.
 fn data_of(
     alloc: Global,
@@ -152,7 +119,7 @@ fn data_of(
     if expected.word(4) == b"prologue".as_slice() {
         return Vec::from_slice(alloc, &facts.prologue);
     }
-    if kind_in(expected) != Kind::Data {
+    if expected.word(2) != b"start".as_slice() {
         return Vec::from_slice(alloc, bytes);
     }
     for key in &facts.publics {

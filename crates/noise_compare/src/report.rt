@@ -1,18 +1,33 @@
 //! What is printed of a log.
 
-ghost use Rattle.std.specs.Prelude.{◌≡◌, ◌++◌, ◌∷◌, [], IfOk, OnOk, codes, decimal, option_copied};
-ghost use Rattle.noise_compare.specs.Report.{agreement_text, right_text, difference_text, ended, ending_text, is_number, part_name, place_text, value_text, values_text};
+ghost use Rattle.std.specs.Prelude.{◌≡◌, ◌++◌, ◌∷◌, [], IfOk, OnOk, codes, count_by, decimal, option_copied};
+ghost use Rattle.noise_compare.specs.Report.{agreement_text, right_text, difference_text, ended, ending_text, is_number, is_of_split, part_name, place_text, value_text, values_text};
 
 use crate::line::Line;
 use std::alloc::{AllocError, Global};
 
-/// That all lines of a log agree, so many.
+/// That all lines of a log agree, so many, and how many of them are of Split.
 #[tactic(auto, unfolding(crate::specs::Report::agreement_text))]
-pub fn agreement_text(alloc: Global, count: usize) -> Result<Vec<u8>, AllocError>
-    ensures { IfOk result (λ text. text.items ≡ agreement_text count) }
+pub fn agreement_text(alloc: Global, log: &[Line<'_>]) -> Result<Vec<u8>, AllocError>
+    ensures { IfOk result (λ text. text.items ≡ agreement_text log.now) }
 {
-    let line = format!(in alloc; "agrees in {count} lines\n")?;
+    let count = log.len();
+    let split = split_lines(log);
+    let line = format!(in alloc; "agrees in {count} lines\nlines of Split compared: {split}\n")?;
     Vec::from_slice(alloc, line.as_bytes())
+}
+
+fn split_lines(log: &[Line<'_>]) -> usize
+    ensures { result ≡ count_by is_of_split log.now }
+{
+    log.iter().filter(|line| is_of_split(line)).count()
+}
+
+#[tactic(auto, unfolding(crate::specs::Report::is_of_split))]
+fn is_of_split(line: &Line<'_>) -> bool
+    ensures { result ≡ is_of_split line.now }
+{
+    line.word(2) == b"open".as_slice()
 }
 
 /// That a log ends before this step, and lines of advice.

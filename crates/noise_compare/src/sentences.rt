@@ -6,25 +6,25 @@ ghost use Rattle.noise_compare.specs.Advice.{IsAdvice};
 use crate::advice::{push_found, push_refusing};
 use crate::facts::Facts;
 use crate::line::Line;
-use crate::parts::{Parts, is_line};
+use crate::parts::Parts;
 use crate::report::{push_line, push_place};
+use crate::steps::is_line;
 use crate::values::values_in;
 use noise_mistakes::{Kind, Logged, refusing_mistakes};
 use std::alloc::{AllocError, Global};
 
-/// What is said of the line of the log at this index, whose place the line `expected` has, with other values.
+/// What is said of the line `logged` of the log, at this index, whose place the line `expected` has, with other values.
 pub(crate) fn of_values(
     alloc: Global,
     facts: &Facts,
     log: &[Line<'_>],
     right: &[Line<'_>],
     index: usize,
+    logged: &Line<'_>,
     expected: &Line<'_>,
 ) -> Result<Vec<u8>, AllocError>
-    requires { index < length log.now }
-    ensures { IfOk result (λ text. IsAdvice text.items) }
+    ensures { IfOk result (λ text. IsAdvice right.now logged.now expected.now text.items) }
 {
-    let logged = &log[index];
     let agreed = last_that_agrees(log, right, index, expected);
     let mut text = lacking(alloc, right, agreed, expected)?;
     let parts = Parts::of(alloc, facts, right, expected, agreed)?;

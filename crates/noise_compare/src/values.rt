@@ -1,28 +1,42 @@
 //! The values that the words of a line stand for.
 
+ghost use Rattle.std.specs.Prelude.{◌≡◌, IfOk};
+ghost use Rattle.noise_compare.specs.Lines.{word_at, words_in};
+ghost use Rattle.noise_compare.specs.Values.{AreLogged, add_digit, agreement_or_text, items_of, kind_by, kind_in, logged_if_any, logged_word, start_kind, state_in, token_kind, transport_kind, word_array, word_bytes, word_key, word_number};
+
 use crate::line::Line;
+use hex::FromHexError;
 use noise_mistakes::{Kind, Logged, State};
 use std::alloc::{AllocError, Global};
 
 /// The bytes of a word of hex digits, and none of `-`; of any other word the word's own.
-pub(crate) fn bytes_in(alloc: Global, word: &[u8]) -> Result<Vec<u8>, AllocError> {
+pub(crate) fn bytes_in(alloc: Global, word: &[u8]) -> Result<Vec<u8>, AllocError>
+    ensures { IfOk result (λ bytes. bytes.items ≡ word_bytes word.now) }
+{
     if word == b"-".as_slice() {
         return Ok(Vec::new(alloc));
     }
     match hex::decode(alloc, word) {
         Ok(bytes) => Ok(bytes),
+        Err(FromHexError::OutOfMemory) => Err(AllocError),
         Err(_) => Vec::from_slice(alloc, word),
     }
 }
 
-// The 32 bytes of a word of hex digits; of any other word any bytes.
-fn array_in(word: &[u8]) -> [u8; 32] {
+// The 32 bytes of a word of hex digits; of any other word zeros.
+fn array_in(word: &[u8]) -> [u8; 32]
+    ensures { result ≡ word_array word.now }
+{
     let mut bytes = [0; 32];
-    let _ = hex::decode_to_slice(word, &mut bytes);
-    bytes
+    match hex::decode_to_slice(word, &mut bytes) {
+        Ok(()) => bytes,
+        Err(_) => [0; 32],
+    }
 }
 
-fn logged_in(alloc: Global, word: &[u8]) -> Result<Option<Vec<u8>>, AllocError> {
+fn logged_in(alloc: Global, word: &[u8]) -> Result<Option<Vec<u8>>, AllocError>
+    ensures { IfOk result (λ value. items_of value ≡ logged_word word.now) }
+{
     if word == b"?".as_slice() {
         return Ok(None);
     }
@@ -31,7 +45,9 @@ fn logged_in(alloc: Global, word: &[u8]) -> Result<Option<Vec<u8>>, AllocError> 
 }
 
 // Likewise of a hash or a chaining key: a line of the transport has none.
-fn logged_if_any(alloc: Global, word: &[u8]) -> Result<Option<Vec<u8>>, AllocError> {
+fn logged_if_any(alloc: Global, word: &[u8]) -> Result<Option<Vec<u8>>, AllocError>
+    ensures { IfOk result (λ value. items_of value ≡ logged_if_any word.now) }
+{
     if word == b"-".as_slice() {
         Ok(None)
     } else {
@@ -39,39 +55,66 @@ fn logged_if_any(alloc: Global, word: &[u8]) -> Result<Option<Vec<u8>>, AllocErr
     }
 }
 
-fn number_in(word: &[u8]) -> Option<u64> {
-    if word.is_empty() {
+fn number_in(word: &[u8]) -> Option<u64>
+    ensures { result ≡ word_number word.now }
+{
+    if word.len() == 0 {
         return None;
     }
-    let mut number: u64 = 0;
+    let mut number = Some(0);
     for digit in word {
-        if *digit < b'0' || b'9' < *digit {
-            return None;
-        }
-        number = number
-            .checked_mul(10)?
-            .checked_add(u64::from(*digit - b'0'))?;
+        number = add_digit(number, *digit);
     }
-    Some(number)
+    number
+}
+
+// A number with a further digit, if 8 bytes hold it.
+#[tactic(auto, unfolding(crate::specs::Values::add_digit))]
+fn add_digit(number: Option<u64>, digit: u8) -> Option<u64>
+    ensures { result ≡ add_digit number digit }
+{
+    match number {
+        None => None,
+        Some(number) => {
+            if digit < 48 || 57 < digit {
+                return None;
+            }
+            let next = u128::from(number) * 10 + u128::from(digit - 48);
+            if next <= 0xffff_ffff_ffff_ffff {
+                Some(next as u64)
+            } else {
+                None
+            }
+        }
+    }
 }
 
 /// The state of a right line.
-pub(crate) fn state_in(line: &Line<'_>) -> State {
-    let key = line.word(10);
+pub(crate) fn state_in(line: &Line<'_>) -> State
+    ensures { result ≡ state_in line.now }
+{
     State {
         hash: array_in(line.word(8)),
         chaining_key: array_in(line.word(9)),
-        key: if key == b"-".as_slice() {
-            None
-        } else {
-            Some(array_in(key))
-        },
+        key: key_in(line.word(10)),
         nonce: number_in(line.word(11)).unwrap_or(0),
     }
 }
 
+pub(crate) fn key_in(word: &[u8]) -> Option<[u8; 32]>
+    ensures { result ≡ word_key word.now }
+{
+    if word == b"-".as_slice() {
+        None
+    } else {
+        Some(array_in(word))
+    }
+}
+
 /// The values of a logged line.
-pub(crate) fn values_in(alloc: Global, line: &Line<'_>) -> Result<Logged, AllocError> {
+pub(crate) fn values_in(alloc: Global, line: &Line<'_>) -> Result<Logged, AllocError>
+    ensures { IfOk result (λ logged. AreLogged line.now logged) }
+{
     let bytes = logged_in(alloc, line.word(7))?;
     let hash = logged_if_any(alloc, line.word(8))?;
     let chaining_key = logged_if_any(alloc, line.word(9))?;
@@ -86,24 +129,41 @@ pub(crate) fn values_in(alloc: Global, line: &Line<'_>) -> Result<Logged, AllocE
 }
 
 /// What the step of a right line is.
-pub(crate) fn kind_in(line: &Line<'_>) -> Kind {
-    match line.word(2) {
-        b"start" => of_start(line.word(4)),
-        b"open" => Kind::Opening,
-        b"transport" | b"datagrams" => of_transport(line.word(4)),
-        _ => of_token(line.word(4)),
+pub(crate) fn kind_in(line: &Line<'_>) -> Kind
+    ensures { result ≡ kind_in line.now }
+{
+    kind_by(line.word(2), line.word(4))
+}
+
+fn kind_by(part: &[u8], name: &[u8]) -> Kind
+    ensures { result ≡ kind_by part.now name.now }
+{
+    if part == b"start".as_slice() {
+        of_start(name)
+    } else if part == b"open".as_slice() {
+        Kind::Opening
+    } else if part == b"transport".as_slice() || part == b"datagrams".as_slice() {
+        of_transport(name)
+    } else {
+        of_token(name)
     }
 }
 
-fn of_start(name: &[u8]) -> Kind {
+fn of_start(name: &[u8]) -> Kind
+    ensures { result ≡ start_kind name.now }
+{
     if name == b"name".as_slice() {
         Kind::Name
+    } else if name == b"initiator-e".as_slice() || name == b"responder-e".as_slice() {
+        Kind::Ephemeral
     } else {
         Kind::Data
     }
 }
 
-fn of_transport(name: &[u8]) -> Kind {
+fn of_transport(name: &[u8]) -> Kind
+    ensures { result ≡ transport_kind name.now }
+{
     if name == b"renewed".as_slice() {
         Kind::Renewal
     } else {
@@ -111,11 +171,26 @@ fn of_transport(name: &[u8]) -> Kind {
     }
 }
 
-fn of_token(name: &[u8]) -> Kind {
-    match name {
-        b"e" => Kind::Ephemeral,
-        b"ee" | b"es" | b"se" | b"ss" => Kind::Agreement,
-        b"psk" => Kind::Secret,
-        _ => Kind::Text,
+fn of_token(name: &[u8]) -> Kind
+    ensures { result ≡ token_kind name.now }
+{
+    if name == b"e".as_slice() {
+        Kind::Ephemeral
+    } else if name == b"psk".as_slice() {
+        Kind::Secret
+    } else {
+        of_agreement(name)
+    }
+}
+
+fn of_agreement(name: &[u8]) -> Kind
+    ensures { result ≡ agreement_or_text name.now }
+{
+    if name == b"ee".as_slice() || name == b"es".as_slice() {
+        Kind::Agreement
+    } else if name == b"se".as_slice() || name == b"ss".as_slice() {
+        Kind::Agreement
+    } else {
+        Kind::Text
     }
 }

@@ -39,7 +39,7 @@ pub enum Advice {
     NameFirst,
     /// A heading ends without a colon.
     ColonMissing,
-    /// The psk places of a heading are wrong.
+    /// The psk modifiers of a heading are wrong.
     Modifiers,
     /// A line doesn't begin as one of tokens does.
     Arrow,
@@ -65,7 +65,7 @@ pub enum Advice {
     DotsMissing,
     /// The psk tokens of a message aren't where the heading says.
     PskTokens,
-    /// The heading has a psk place beyond the messages.
+    /// The heading has an index of a psk beyond the messages.
     PskBeyond,
     /// The base is that of a fundamental pattern.
     NameTaken,
@@ -95,7 +95,7 @@ impl Advice {
             Advice::Empty => "The line is empty.",
             Advice::Comment => "The library takes no comments.",
             Advice::Heading =>
-                "The first line has to be a name of 1 to 8 upper-case letters and digits, then psk places such as \
+                "The first line has to be a name of 1 to 8 upper-case letters and digits, then psk modifiers such as \
                  psk0 or psk0+psk2, then a colon.",
             Advice::HeadingMissing => {
                 "The first line has to be the heading, and this is a line of tokens."
@@ -137,7 +137,8 @@ impl Advice {
                  that line is missing.",
             Advice::PskTokens =>
                 "psk0 in the heading is a psk before message 1, pskN one at the end of message N; none is elsewhere.",
-            Advice::PskBeyond => "The heading has a psk place beyond the last message.",
+            Advice::PskBeyond =>
+                "The heading has an index of a psk that is greater than the number of messages.",
             Advice::NameTaken => {
                 "This name belongs to a fundamental pattern, and the text is another one."
             }
@@ -195,7 +196,7 @@ impl Advice {
             Advice::DotsMissing => "Put \"...\" below the lines of such keys.",
             Advice::PskTokens =>
                 "Name the place of each psk in the heading, and put a psk at each place named there.",
-            Advice::PskBeyond => "Write the place that is meant, or add messages.",
+            Advice::PskBeyond => "Write the index that is meant, or add messages.",
             Advice::NameTaken => "Give it a name of its own.",
             Advice::NinthMessage => "Put its tokens into earlier messages.",
             Advice::PskAlone => "Add one, for example e.",

@@ -15,7 +15,7 @@ pub(crate) fn block_reported(text: &[u8], number: usize, column: usize) -> Sente
             Sentences::of(fault_advice(block, fault, column))
         }
         _ => Sentences::new(
-            "The pattern's first line has the base and the psk places of the protocol's name, and a colon, and this \
+            "The pattern's first line has the base and the psk modifiers of the protocol's name, and a colon, and this \
              one doesn't.",
             "Write it so, or change the name in the line above.",
         ),
@@ -64,7 +64,7 @@ fn next_reported(last: &[u8], text: &[u8]) -> Sentences {
     } else if last == b"prologue".as_slice() {
         Sentences::new(
             "The file ends before the interval's line.",
-            "Add it. Where no key is renewed it is: interval 0",
+            "Add it. Where no key is rekeyed it is: interval 0",
         )
     } else if has_initiator(text) {
         Sentences::new(

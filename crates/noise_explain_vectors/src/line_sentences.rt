@@ -83,7 +83,7 @@ fn first_reported(kind: LineKind, text: &[u8], number: usize, line: &[u8]) -> Se
         LineKind::Prologue => prologue_reported(line),
         LineKind::Interval => Sentences::new(
             "The interval's line has to stand here, and another one does.",
-            "Put it above this one. Where no key is renewed it is: interval 0",
+            "Put it above this one. Where no key is rekeyed it is: interval 0",
         ),
         LineKind::Keys => keys_reported(needed_role(text, number), first_word(line)),
         LineKind::Event => event_reported(text, number, line),
@@ -117,8 +117,8 @@ fn prologue_reported(line: &[u8]) -> Sentences {
 fn keys_reported(role: NeededRole, first: &[u8]) -> Sentences {
     if first == b"answer".as_slice() {
         return Sentences::new(
-            "Answers stand below a line of keys of the kind table alone, and above this one no such line stands.",
-            "Write table in place of xor, or leave the answers out.",
+            "DH results stand below a line of keys of the kind table alone, and above this one no such line stands.",
+            "Write table in place of xor, or leave the DH results out.",
         );
     }
     match role {
@@ -212,7 +212,7 @@ fn whole_reported(kind: LineKind, text: &[u8], number: usize, line: &[u8]) -> Se
         ),
         LineKind::Keys => other_party_reported(needed_role(text, number)),
         LineKind::Answer => Sentences::new(
-            "A table has at most 8 answers, and this is one more.",
+            "A table has at most 8 DH results, and this is one more.",
             "Leave it out.",
         ),
         LineKind::Event => whole_event_reported(text, number, line),

@@ -125,7 +125,7 @@ fn start_lines(
 fn place_lines(alloc: Global) -> Result<Vec<u8>, AllocError> {
     let mut lines = Vec::new(alloc);
     push_sentence(
-        "The protocol's name has this psk place, and the pattern has fewer messages.",
+        "The protocol's name has this index of a psk, and the pattern has fewer messages.",
         &mut lines,
     )?;
     push_sentence(

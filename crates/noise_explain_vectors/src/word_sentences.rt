@@ -198,7 +198,7 @@ fn name_fault_reported(fault: NameFault) -> Sentences {
             "For example: protocol Noise_NNpsk0+psk2_25519_ChaChaPoly_SHA256",
         ),
         NameFault::ModifierOrder => Sentences::new(
-            "The psk places of NAME rise, each once, and these don't.",
+            "The indices of the psks in NAME rise, each once, and these don't.",
             "For example: protocol Noise_NNpsk0+psk2_25519_ChaChaPoly_SHA256",
         ),
         NameFault::Algorithm => Sentences::new(

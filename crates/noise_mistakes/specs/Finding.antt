@@ -1,10 +1,10 @@
 -- The mistakes that give what was logged.
-use Rattle.std.specs.Prelude.{Bool, not, List, [], ◌∷◌}
+use Rattle.std.specs.Prelude.{Bool, true, false, not, ◌&&◌, ◌||◌, List, [], ◌∷◌}
+use Rattle.std.specs.Str.{bytes_eq}
 use Rattle.std.specs.List.{filter}
 use Rattle.noise_mistakes.specs.Keys.{key_explains}
-use Rattle.noise_mistakes.specs.Mixing.{hash_state, name_explains}
+use Rattle.noise_mistakes.specs.Mixing.{hash_explains, name_explains}
 use Rattle.noise_mistakes.specs.Secrets.{secret_explains}
-use Rattle.noise_mistakes.specs.States.{fits}
 use Rattle.noise_mistakes.specs.Texts.{text_explains}
 use Rattle.noise_mistakes.specs.declared.state.Kind.{Kind}
 use Rattle.noise_mistakes.specs.declared.state.Kind.TheVariants as kind
@@ -21,7 +21,7 @@ use Rattle.noise_mistakes.specs.declared.mistake.Mistake.TheVariants.{Name, Hash
 -- the values that a party with the mistake has after the step are those that were logged
 unfoldable pub explains : Mistake → Situation → Logged → Bool
 explains (Name mistake) at logged = name_explains mistake at logged
-explains (Hash mistake) at logged = fits logged at.bytes.now (hash_state mistake at)
+explains (Hash mistake) at logged = hash_explains mistake at logged
 explains (Secret mistake) at logged = secret_explains mistake at logged
 explains (Text mistake) at logged = text_explains mistake at logged
 explains (Key mistake) at logged = key_explains mistake at logged
@@ -32,32 +32,33 @@ abbrev pub name_mistakes : List Mistake
 name_mistakes = Name name.Hashed ∷ Name name.Padded ∷ Name name.LowerCase ∷ Name name.ChainingKeyOfZeros ∷ []
 
 abbrev pub data_mistakes : List Mistake
-data_mistakes = Hash hash.LeftOut ∷ Hash hash.LengthInFront ∷ Hash hash.DataFirst ∷ Hash hash.StepsLeftOut ∷ []
+data_mistakes = Hash hash.LeftOut ∷ Hash hash.LengthInFront ∷ Hash hash.LengthMixed ∷ Hash hash.DataFirst
+    ∷ Hash hash.StepsLeftOut ∷ []
 
 abbrev pub ephemeral_mistakes : List Mistake
-ephemeral_mistakes = Hash hash.LeftOut ∷ Hash hash.LengthInFront ∷ Hash hash.DataFirst ∷ Hash hash.KeyLeftOut
-    ∷ Hash hash.KeyMixed ∷ Hash hash.StepsLeftOut ∷ []
+ephemeral_mistakes = Hash hash.LeftOut ∷ Hash hash.LengthInFront ∷ Hash hash.LengthMixed ∷ Hash hash.DataFirst
+    ∷ Hash hash.KeyLeftOut ∷ Hash hash.KeyMixed ∷ Hash hash.StepsLeftOut ∷ []
 
 abbrev pub agreement_mistakes : List Mistake
 agreement_mistakes = Secret secret.InputsExchanged ∷ Secret secret.OutputsExchanged ∷ Secret secret.Reversed
-    ∷ Secret secret.CountedFromZero ∷ Secret secret.Unchained ∷ Secret secret.ShortBlocks
+    ∷ Secret secret.Digested ∷ Secret secret.CountedFromZero ∷ Secret secret.Unchained ∷ Secret secret.ShortBlocks
     ∷ Secret secret.ChainingKeyKept ∷ Secret secret.NonceKept ∷ Secret secret.LeftOut ∷ Secret secret.HashedToo
     ∷ Secret secret.Other ∷ Secret secret.StepsLeftOut ∷ []
 
 abbrev pub psk_mistakes : List Mistake
 psk_mistakes = Secret secret.InputsExchanged ∷ Secret secret.OutputsExchanged ∷ Secret secret.Reversed
-    ∷ Secret secret.CountedFromZero ∷ Secret secret.Unchained ∷ Secret secret.ShortBlocks
+    ∷ Secret secret.Digested ∷ Secret secret.CountedFromZero ∷ Secret secret.Unchained ∷ Secret secret.ShortBlocks
     ∷ Secret secret.ChainingKeyKept ∷ Secret secret.NonceKept ∷ Secret secret.LeftOut ∷ Secret secret.KeyAlone
     ∷ Secret secret.HashLeftOut ∷ Secret secret.Other ∷ Secret secret.StepsLeftOut ∷ []
 
 abbrev pub text_mistakes : List Mistake
-text_mistakes = Text text.Clear ∷ Text text.TagLeftOff ∷ Text text.TagAdded ∷ Text text.BigEndian ∷ Text text.FirstBytes
-    ∷ Text text.BigEndianFirstBytes ∷ Text text.NonceFromOne ∷ Text text.NoAssociatedData ∷ Text text.EarlierHash
-    ∷ Text text.HashLeftOut ∷ Text text.TextHashed ∷ Text text.TagNotHashed ∷ Text text.LengthHashed
-    ∷ Text text.NonceKept ∷ Text text.NonceRaised ∷ Text text.StepsLeftOut ∷ []
+text_mistakes = Text text.Clear ∷ Text text.TagLeftOff ∷ Text text.TagAdded ∷ Text text.TagInFront ∷ Text text.BigEndian
+    ∷ Text text.FirstBytes ∷ Text text.BigEndianFirstBytes ∷ Text text.NonceFromOne ∷ Text text.NoAssociatedData
+    ∷ Text text.ChainingKeyAsData ∷ Text text.EarlierHash ∷ Text text.TextHashedBefore ∷ Text text.HashLeftOut
+    ∷ Text text.TextHashed ∷ Text text.TagNotHashed ∷ Text text.LengthHashed ∷ Text text.LengthMixed ∷ Text text.NonceKept ∷ Text text.NonceRaised ∷ Text text.StepsLeftOut ∷ []
 
 abbrev pub opening_mistakes : List Mistake
-opening_mistakes = Key key.Exchanged ∷ Key key.SplitOfHash ∷ Key key.NonceFromOne ∷ []
+opening_mistakes = Key key.Exchanged ∷ Key key.SplitOfHash ∷ Key key.SplitOfZeros ∷ Key key.NonceFromOne ∷ []
 
 abbrev pub renewal_mistakes : List Mistake
 renewal_mistakes = Key key.NonceSetBack ∷ Key key.RekeyLeftOut ∷ Key key.RekeyByNonce ∷ Key key.RekeyByZero
@@ -77,15 +78,30 @@ mistakes_of kind.Opening = opening_mistakes
 mistakes_of kind.Renewal = renewal_mistakes
 mistakes_of kind.Transport = transport_mistakes
 
+-- the log has no line for a step before this one: each step of a handshake changes the hash or the chaining key
+abbrev pub lacks_steps : Situation → Bool
+lacks_steps at = not (bytes_eq at.agreed.hash at.before.hash && bytes_eq at.agreed.chaining_key at.before.chaining_key)
+
+-- steps are left out, or come later
+unfoldable pub is_of_steps : Mistake → Bool
+is_of_steps (Hash hash.StepsLeftOut) = true
+is_of_steps (Secret secret.StepsLeftOut) = true
+is_of_steps (Text text.StepsLeftOut) = true
+is_of_steps mistake = false
+
+-- those that are tried: that steps are left out only where the log lacks some
+abbrev pub tried_mistakes : Situation → List Mistake
+tried_mistakes at = filter (λ mistake. lacks_steps at || not (is_of_steps mistake)) (mistakes_of at.kind)
+
 -- those of them that give what was logged, in the same order
 abbrev pub found_mistakes : Situation → Logged → List Mistake
-found_mistakes at logged = filter (λ mistake. explains mistake at logged) (mistakes_of at.kind)
+found_mistakes at logged = filter (λ mistake. explains mistake at logged) (tried_mistakes at)
 
 -- ---- what a party that refuses right bytes may have wrong
 
 abbrev pub refusal_mistakes : List Mistake
-refusal_mistakes = Text text.NoAssociatedData ∷ Text text.EarlierHash ∷ Text text.LaterHash ∷ Text text.BigEndian
-    ∷ Text text.FirstBytes ∷ Text text.BigEndianFirstBytes ∷ []
+refusal_mistakes = Text text.NoAssociatedData ∷ Text text.ChainingKeyAsData ∷ Text text.EarlierHash ∷ Text text.LaterHash
+    ∷ Text text.TagInFront ∷ Text text.BigEndian ∷ Text text.FirstBytes ∷ Text text.BigEndianFirstBytes ∷ []
 
 -- those that don't give these values, so that a party with them refuses a right tag
 abbrev pub refusing_mistakes : Situation → Logged → List Mistake

@@ -9,16 +9,17 @@ use Rattle.noise_mistakes.specs.declared.state.State.{State}
 use Rattle.noise_mistakes.specs.declared.state.Situation.{Situation}
 use Rattle.noise_mistakes.specs.declared.state.Logged.{Logged}
 use Rattle.noise_mistakes.specs.declared.mistake.KeyMistake.{KeyMistake}
-use Rattle.noise_mistakes.specs.declared.mistake.KeyMistake.TheVariants.{SplitOfHash, Exchanged, NonceFromOne, NonceSetBack, RekeyLeftOut, RekeyByNonce, RekeyByZero, RekeyByOnes, RekeyLastBytes}
+use Rattle.noise_mistakes.specs.declared.mistake.KeyMistake.TheVariants.{SplitOfHash, SplitOfZeros, Exchanged, NonceFromOne, NonceSetBack, RekeyLeftOut, RekeyByNonce, RekeyByZero, RekeyByOnes, RekeyLastBytes}
 
 -- the right state with another key
 abbrev pub fits_with_key : Situation → Logged → List ℕ → Bool
 fits_with_key at logged key = has logged.hash at.right.hash && has logged.chaining_key at.right.chaining_key
     && has logged.key key && nonce_fits logged.nonce at.right.nonce
 
-abbrev pub split_of_hash : Situation → Logged → Bool
-split_of_hash at logged = fits_with_key at logged (first_output at.right.chaining_key at.right.hash)
-    || fits_with_key at logged (second_output at.right.chaining_key at.right.hash)
+-- Split's keys, where HKDF takes this input in place of no bytes
+abbrev pub split_explains : Situation → Logged → List ℕ → Bool
+split_explains at logged input = fits_with_key at logged (first_output at.right.chaining_key input)
+    || fits_with_key at logged (second_output at.right.chaining_key input)
 
 abbrev pub other_key_explains : Situation → Logged → Bool
 other_key_explains at logged = nat_lt 0 (count_by (λ key. fits_with_key at logged key) at.keys.now)
@@ -31,7 +32,8 @@ abbrev pub rekey_explains : Situation → Logged → List ℕ → Bool
 rekey_explains at logged nonce = fits_with_key at logged (take 32 (rekeyed_by at nonce))
 
 unfoldable pub key_explains : KeyMistake → Situation → Logged → Bool
-key_explains SplitOfHash at logged = split_of_hash at logged
+key_explains SplitOfHash at logged = split_explains at logged at.right.hash
+key_explains SplitOfZeros at logged = split_explains at logged (replicate 32 0)
 key_explains Exchanged at logged = other_key_explains at logged
 key_explains NonceFromOne at logged = fits logged at.bytes.now (with_nonce at.right (one_more at.right.nonce))
 key_explains NonceSetBack at logged = fits logged at.bytes.now (with_nonce at.right 0)

@@ -1,17 +1,17 @@
 -- The values that mistakes of the start and of MixHash give.
-use Rattle.std.specs.Prelude.{ℕ, ◌-◌, ◌&&◌, Bool, List, [], ◌∷◌, ◌++◌, Option, Some, None, length, map, nat_le, replicate, take, bit_xor, if◌then◌else◌}
+use Rattle.std.specs.Prelude.{ℕ, ◌-◌, ◌&&◌, ◌||◌, Bool, List, [], ◌∷◌, ◌++◌, Option, Some, None, length, map, nat_le, replicate, take, bit_xor, if◌then◌else◌}
 use Rattle.std.specs.Str.{bytes_eq}
-use Rattle.std.specs.Int.{w16, to_be_bytes}
+use Rattle.std.specs.Int.{w16, w32, to_be_bytes, to_le_bytes}
 use Rattle.sha2.specs.Sha256.{sha256}
 use Rattle.noise_kdf.specs.Hkdf.{first_output, second_output}
-use Rattle.noise_mistakes.specs.States.{has, key_fits, nonce_fits}
+use Rattle.noise_mistakes.specs.States.{fits, has, key_fits, nonce_fits}
 use Rattle.noise_mistakes.specs.declared.state.State.{State}
 use Rattle.noise_mistakes.specs.declared.state.Situation.{Situation}
 use Rattle.noise_mistakes.specs.declared.state.Logged.{Logged}
 use Rattle.noise_mistakes.specs.declared.mistake.NameMistake.{NameMistake}
 use Rattle.noise_mistakes.specs.declared.mistake.NameMistake.TheVariants.{Hashed, Padded, LowerCase, ChainingKeyOfZeros}
 use Rattle.noise_mistakes.specs.declared.mistake.HashMistake.{HashMistake}
-use Rattle.noise_mistakes.specs.declared.mistake.HashMistake.TheVariants.{LeftOut, LengthInFront, DataFirst, KeyLeftOut, KeyMixed, StepsLeftOut}
+use Rattle.noise_mistakes.specs.declared.mistake.HashMistake.TheVariants.{LeftOut, LengthInFront, LengthMixed, DataFirst, KeyLeftOut, KeyMixed, StepsLeftOut}
 
 -- 32 bytes of a text: cut, or with zeros after it
 abbrev pub padded : List ℕ → List ℕ
@@ -39,10 +39,6 @@ name_explains ChainingKeyOfZeros at logged = start_fits logged at.right at.right
 
 -- ---- MixHash
 
--- the length of a text, as two bytes
-abbrev pub length_of : List ℕ → List ℕ
-length_of text = to_be_bytes w16 (length text)
-
 -- a state with another hash
 abbrev pub with_hash : State → List ℕ → State
 with_hash state hash = record { hash = hash; chaining_key = state.chaining_key; key = state.key; nonce = state.nonce }
@@ -62,10 +58,35 @@ redone at = if bytes_eq at.right.chaining_key at.before.chaining_key
     then with_hash at.agreed (sha256 (at.agreed.hash ++ at.data.now))
     else with_key (with_hash at.agreed (sha256 (at.agreed.hash ++ at.data.now))) at.agreed.chaining_key at.data.now
 
+-- this length and the bytes go into one MixHash, or each into one of its own
+abbrev pub length_in_front : Situation → List ℕ → State
+length_in_front at front = with_hash at.right (sha256 (at.before.hash ++ front ++ at.data.now))
+
+abbrev pub length_mixed : Situation → List ℕ → State
+length_mixed at front = with_hash at.right (sha256 (sha256 (at.before.hash ++ front) ++ at.data.now))
+
+-- one of the lengths of a text gives it: 2 or 4 bytes, big-endian or little-endian
+abbrev pub by_a_length : List ℕ → (List ℕ → Bool) → Bool
+by_a_length text gives = gives (to_be_bytes w16 (length text)) || gives (to_le_bytes w16 (length text))
+    || gives (to_be_bytes w32 (length text)) || gives (to_le_bytes w32 (length text))
+
+abbrev pub length_in_front_explains : Situation → Logged → Bool
+length_in_front_explains at logged = by_a_length at.data.now (λ front. fits logged at.bytes.now (length_in_front at front))
+
+abbrev pub length_mixed_explains : Situation → Logged → Bool
+length_mixed_explains at logged = by_a_length at.data.now (λ front. fits logged at.bytes.now (length_mixed at front))
+
+-- what a mistake gives; those of lengths are above
 unfoldable pub hash_state : HashMistake → Situation → State
 hash_state LeftOut at = with_hash at.right at.before.hash
-hash_state LengthInFront at = with_hash at.right (sha256 (at.before.hash ++ length_of at.data.now ++ at.data.now))
+hash_state LengthInFront at = at.right
+hash_state LengthMixed at = at.right
 hash_state DataFirst at = with_hash at.right (sha256 (at.data.now ++ at.before.hash))
 hash_state KeyLeftOut at = with_hash at.before at.right.hash
 hash_state KeyMixed at = with_key at.right at.before.chaining_key at.data.now
 hash_state StepsLeftOut at = redone at
+
+unfoldable pub hash_explains : HashMistake → Situation → Logged → Bool
+hash_explains LengthInFront at logged = length_in_front_explains at logged
+hash_explains LengthMixed at logged = length_mixed_explains at logged
+hash_explains mistake at logged = fits logged at.bytes.now (hash_state mistake at)

@@ -12,7 +12,7 @@ use Rattle.noise_mistakes.specs.declared.state.Situation.{Situation}
 use Rattle.noise_mistakes.specs.declared.state.Logged.{Logged}
 use Rattle.noise_mistakes.specs.declared.secrets.Outputs.{Outputs}
 use Rattle.noise_mistakes.specs.declared.mistake.SecretMistake.{SecretMistake}
-use Rattle.noise_mistakes.specs.declared.mistake.SecretMistake.TheVariants.{InputsExchanged, OutputsExchanged, Reversed, CountedFromZero, Unchained, ShortBlocks, ChainingKeyKept, NonceKept, LeftOut, HashedToo, KeyAlone, HashLeftOut, Other, StepsLeftOut}
+use Rattle.noise_mistakes.specs.declared.mistake.SecretMistake.TheVariants.{InputsExchanged, OutputsExchanged, Reversed, Digested, CountedFromZero, Unchained, ShortBlocks, ChainingKeyKept, NonceKept, LeftOut, HashedToo, KeyAlone, HashLeftOut, Other, StepsLeftOut}
 
 abbrev pub outputs : List ℕ → List ℕ → List ℕ → Outputs
 outputs first second third = record { first = first; second = second; third = third }
@@ -90,6 +90,7 @@ unfoldable pub secret_state : SecretMistake → Situation → State
 secret_state InputsExchanged at = applied at.kind at.before (expanded at.secret at.before.chaining_key)
 secret_state OutputsExchanged at = applied at.kind at.before (exchanged at.kind (expanded at.before.chaining_key at.secret))
 secret_state Reversed at = after_secret at (reverse at.secret)
+secret_state Digested at = after_secret at (sha256 at.secret)
 secret_state CountedFromZero at = applied at.kind at.before (counted_from_zero (hmac_of at.before.chaining_key at.secret))
 secret_state Unchained at = applied at.kind at.before (unchained (hmac_of at.before.chaining_key at.secret))
 secret_state ShortBlocks at = applied at.kind at.before (short_outputs (short_hmac at.before.chaining_key at.secret))

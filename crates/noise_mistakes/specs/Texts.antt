@@ -1,16 +1,16 @@
 -- The values that mistakes of `s` and of a payload give.
-use Rattle.std.specs.Prelude.{ℕ, ◌+◌, ◌-◌, Bool, List, [], ◌∷◌, ◌++◌, Option, Some, None, count_by, is_some, length, nat_lt, replicate, take, if◌then◌else◌}
+use Rattle.std.specs.Prelude.{ℕ, ◌+◌, ◌-◌, Bool, List, [], ◌∷◌, ◌++◌, Option, Some, None, count_by, drop, length, nat_lt, replicate, take, if◌then◌else◌}
 use Rattle.std.specs.Int.{w64, to_be_bytes, to_le_bytes}
 use Rattle.sha2.specs.Sha256.{sha256}
 use Rattle.noise_aead.specs.Sealing.{nonce_of, sealed}
-use Rattle.noise_mistakes.specs.Mixing.{length_of, redone, with_hash}
+use Rattle.noise_mistakes.specs.Mixing.{length_in_front_explains, length_mixed_explains, redone, with_hash}
 use Rattle.noise_mistakes.specs.Secrets.{with_nonce}
 use Rattle.noise_mistakes.specs.States.{fits}
 use Rattle.noise_mistakes.specs.declared.state.State.{State}
 use Rattle.noise_mistakes.specs.declared.state.Situation.{Situation}
 use Rattle.noise_mistakes.specs.declared.state.Logged.{Logged}
 use Rattle.noise_mistakes.specs.declared.mistake.TextMistake.{TextMistake}
-use Rattle.noise_mistakes.specs.declared.mistake.TextMistake.TheVariants.{Clear, TagLeftOff, TagAdded, BigEndian, FirstBytes, BigEndianFirstBytes, NonceFromOne, NoAssociatedData, EarlierHash, LaterHash, HashLeftOut, TextHashed, TagNotHashed, LengthHashed, NonceKept, NonceRaised, StepsLeftOut}
+use Rattle.noise_mistakes.specs.declared.mistake.TextMistake.TheVariants.{Clear, TagLeftOff, TagAdded, TagInFront, BigEndian, FirstBytes, BigEndianFirstBytes, NonceFromOne, NoAssociatedData, ChainingKeyAsData, EarlierHash, LaterHash, TextHashedBefore, HashLeftOut, TextHashed, TagNotHashed, LengthHashed, LengthMixed, NonceKept, NonceRaised, StepsLeftOut}
 
 -- the right state, with the hash of these bytes
 abbrev pub hashed : Situation → List ℕ → State
@@ -28,8 +28,12 @@ bytes_fit at logged bytes = fits logged bytes (hashed at bytes)
 abbrev pub nonce_fits_text : Situation → Logged → List ℕ → Bool
 nonce_fits_text at logged nonce = bytes_fit at logged (sealed_under at.before.key nonce at.before.hash at.text.now)
 
+-- the text with this associated data
+abbrev pub sealed_with : Situation → List ℕ → List ℕ
+sealed_with at ad = sealed_under at.before.key (nonce_of at.before.nonce) ad at.text.now
+
 abbrev pub ad_fits_text : Situation → Logged → List ℕ → Bool
-ad_fits_text at logged ad = bytes_fit at logged (sealed_under at.before.key (nonce_of at.before.nonce) ad at.text.now)
+ad_fits_text at logged ad = bytes_fit at logged (sealed_with at ad)
 
 -- ---- nonces that are none
 
@@ -55,22 +59,35 @@ earlier_hash_explains at logged = nat_lt 0 (count_by (λ hash. ad_fits_text at l
 abbrev pub without_tag : List ℕ → List ℕ
 without_tag bytes = take (length bytes - 16) bytes
 
+-- the last 16 bytes, then those before them
+abbrev pub tag_first : List ℕ → List ℕ
+tag_first bytes = drop (length bytes - 16) bytes ++ take (length bytes - 16) bytes
+
+-- MixHash takes the plain text, and the hash after it is the associated data
+abbrev pub hashed_before : Situation → Logged → Bool
+hashed_before at logged =
+    fits logged (sealed_with at (sha256 (at.before.hash ++ at.text.now))) (hashed at at.text.now)
+
 unfoldable pub text_explains : TextMistake → Situation → Logged → Bool
 text_explains Clear at logged = fits logged at.text.now (with_hash at.before (sha256 (at.before.hash ++ at.text.now)))
 text_explains TagLeftOff at logged = fits logged (without_tag at.bytes.now)
     (with_hash at.before (sha256 (at.before.hash ++ without_tag at.bytes.now)))
 text_explains TagAdded at logged = bytes_fit at logged (at.text.now ++ replicate 16 0)
+text_explains TagInFront at logged = bytes_fit at logged (tag_first at.bytes.now)
 text_explains BigEndian at logged = nonce_fits_text at logged (big_endian at.before.nonce)
 text_explains FirstBytes at logged = nonce_fits_text at logged (first_bytes at.before.nonce)
 text_explains BigEndianFirstBytes at logged = nonce_fits_text at logged (big_endian_first_bytes at.before.nonce)
 text_explains NonceFromOne at logged = nonce_fits_text at logged (nonce_of (one_more at.before.nonce))
 text_explains NoAssociatedData at logged = ad_fits_text at logged []
+text_explains ChainingKeyAsData at logged = ad_fits_text at logged at.before.chaining_key
 text_explains EarlierHash at logged = earlier_hash_explains at logged
 text_explains LaterHash at logged = ad_fits_text at logged at.right.hash
+text_explains TextHashedBefore at logged = hashed_before at logged
 text_explains HashLeftOut at logged = fits logged at.bytes.now (with_hash at.right at.before.hash)
 text_explains TextHashed at logged = fits logged at.bytes.now (hashed at at.text.now)
 text_explains TagNotHashed at logged = fits logged at.bytes.now (hashed at (without_tag at.bytes.now))
-text_explains LengthHashed at logged = fits logged at.bytes.now (hashed at (length_of at.data.now ++ at.data.now))
+text_explains LengthHashed at logged = length_in_front_explains at logged
+text_explains LengthMixed at logged = length_mixed_explains at logged
 text_explains NonceKept at logged = fits logged at.bytes.now (with_nonce at.right at.before.nonce)
 text_explains NonceRaised at logged = fits logged at.bytes.now (with_nonce at.right (one_more at.right.nonce))
 text_explains StepsLeftOut at logged = fits logged at.bytes.now (redone at)

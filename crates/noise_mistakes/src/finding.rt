@@ -1,11 +1,11 @@
 //! The mistakes that give what was logged.
 
 ghost use Rattle.std.specs.Prelude.{◌≡◌, IfOk};
-ghost use Rattle.noise_mistakes.specs.Finding.{explains, found_mistakes, mistakes_of, refusing_mistakes};
+ghost use Rattle.noise_mistakes.specs.Finding.{explains, found_mistakes, is_of_steps, lacks_steps, mistakes_of, refusal_mistakes, refusing_mistakes, tried_mistakes};
 
 use crate::keys::key_explains;
 use crate::mistake::{HashMistake, KeyMistake, Mistake, NameMistake, SecretMistake, TextMistake};
-use crate::mixing::{hash_state, name_explains};
+use crate::mixing::{hash_explains, name_explains};
 use crate::secrets::secret_explains;
 use crate::state::{Kind, Logged, Situation};
 use crate::texts::text_explains;
@@ -19,13 +19,49 @@ pub fn mistakes(
 ) -> Result<Vec<Mistake>, AllocError>
     ensures { IfOk result (λ found. found.items ≡ found_mistakes at.now logged.now) }
 {
+    let tried = tried_mistakes(alloc, at)?;
     let mut found = Vec::new(alloc);
-    for mistake in mistakes_of(at.kind) {
+    for mistake in &tried {
         if explains(alloc, *mistake, at, logged)? {
             found.push(*mistake)?;
         }
     }
     Ok(found)
+}
+
+/// The mistakes that are tried at a step, in their order.
+pub fn tried_mistakes(alloc: Global, at: &Situation<'_>) -> Result<Vec<Mistake>, AllocError>
+    ensures { IfOk result (λ tried. tried.items ≡ tried_mistakes at.now) }
+{
+    let lacks = lacks_steps(at);
+    let mut tried = Vec::new(alloc);
+    for mistake in mistakes_of(at.kind) {
+        if lacks || !is_of_steps(*mistake) {
+            tried.push(*mistake)?;
+        }
+    }
+    Ok(tried)
+}
+
+// Whether the log has no line for a step before this one.
+fn lacks_steps(at: &Situation<'_>) -> bool
+    ensures { result ≡ lacks_steps at.now }
+{
+    let same = at.agreed.hash.as_slice() == at.before.hash.as_slice()
+        && at.agreed.chaining_key.as_slice() == at.before.chaining_key.as_slice();
+    !same
+}
+
+#[tactic(auto, unfolding(crate::specs::Finding::is_of_steps))]
+fn is_of_steps(mistake: Mistake) -> bool
+    ensures { result ≡ is_of_steps mistake }
+{
+    match mistake {
+        Mistake::Hash(HashMistake::StepsLeftOut)
+        | Mistake::Secret(SecretMistake::StepsLeftOut)
+        | Mistake::Text(TextMistake::StepsLeftOut) => true,
+        _ => false,
+    }
 }
 
 /// The mistakes with which a party refuses right bytes: those that don't give these values.
@@ -37,7 +73,7 @@ pub fn refusing_mistakes(
     ensures { IfOk result (λ found. found.items ≡ refusing_mistakes at.now logged.now) }
 {
     let mut found = Vec::new(alloc);
-    for mistake in &REFUSAL {
+    for mistake in refusals() {
         if !explains(alloc, *mistake, at, logged)? {
             found.push(*mistake)?;
         }
@@ -56,14 +92,14 @@ fn explains(
 {
     match mistake {
         Mistake::Name(mistake) => name_explains(alloc, mistake, at, logged),
-        Mistake::Hash(mistake) => Ok(logged.fits(at.bytes, &hash_state(mistake, at))),
+        Mistake::Hash(mistake) => Ok(hash_explains(mistake, at, logged)),
         Mistake::Secret(mistake) => Ok(secret_explains(mistake, at, logged)),
         Mistake::Text(mistake) => text_explains(alloc, mistake, at, logged),
         Mistake::Key(mistake) => key_explains(alloc, mistake, at, logged),
     }
 }
 
-/// The mistakes that are tried at a step of this kind, in their order.
+/// The mistakes of a step of this kind, in their order.
 #[tactic(auto, unfolding(crate::specs::Finding::mistakes_of))]
 pub fn mistakes_of(kind: Kind) -> &'static [Mistake]
     ensures { result.now ≡ mistakes_of kind }
@@ -88,26 +124,29 @@ static NAME: [Mistake; 4] = [
     Mistake::Name(NameMistake::ChainingKeyOfZeros),
 ];
 
-static DATA: [Mistake; 4] = [
+static DATA: [Mistake; 5] = [
     Mistake::Hash(HashMistake::LeftOut),
     Mistake::Hash(HashMistake::LengthInFront),
+    Mistake::Hash(HashMistake::LengthMixed),
     Mistake::Hash(HashMistake::DataFirst),
     Mistake::Hash(HashMistake::StepsLeftOut),
 ];
 
-static EPHEMERAL: [Mistake; 6] = [
+static EPHEMERAL: [Mistake; 7] = [
     Mistake::Hash(HashMistake::LeftOut),
     Mistake::Hash(HashMistake::LengthInFront),
+    Mistake::Hash(HashMistake::LengthMixed),
     Mistake::Hash(HashMistake::DataFirst),
     Mistake::Hash(HashMistake::KeyLeftOut),
     Mistake::Hash(HashMistake::KeyMixed),
     Mistake::Hash(HashMistake::StepsLeftOut),
 ];
 
-static AGREEMENT: [Mistake; 12] = [
+static AGREEMENT: [Mistake; 13] = [
     Mistake::Secret(SecretMistake::InputsExchanged),
     Mistake::Secret(SecretMistake::OutputsExchanged),
     Mistake::Secret(SecretMistake::Reversed),
+    Mistake::Secret(SecretMistake::Digested),
     Mistake::Secret(SecretMistake::CountedFromZero),
     Mistake::Secret(SecretMistake::Unchained),
     Mistake::Secret(SecretMistake::ShortBlocks),
@@ -119,10 +158,11 @@ static AGREEMENT: [Mistake; 12] = [
     Mistake::Secret(SecretMistake::StepsLeftOut),
 ];
 
-static PSK: [Mistake; 13] = [
+static PSK: [Mistake; 14] = [
     Mistake::Secret(SecretMistake::InputsExchanged),
     Mistake::Secret(SecretMistake::OutputsExchanged),
     Mistake::Secret(SecretMistake::Reversed),
+    Mistake::Secret(SecretMistake::Digested),
     Mistake::Secret(SecretMistake::CountedFromZero),
     Mistake::Secret(SecretMistake::Unchained),
     Mistake::Secret(SecretMistake::ShortBlocks),
@@ -135,28 +175,33 @@ static PSK: [Mistake; 13] = [
     Mistake::Secret(SecretMistake::StepsLeftOut),
 ];
 
-static TEXT: [Mistake; 16] = [
+static TEXT: [Mistake; 20] = [
     Mistake::Text(TextMistake::Clear),
     Mistake::Text(TextMistake::TagLeftOff),
     Mistake::Text(TextMistake::TagAdded),
+    Mistake::Text(TextMistake::TagInFront),
     Mistake::Text(TextMistake::BigEndian),
     Mistake::Text(TextMistake::FirstBytes),
     Mistake::Text(TextMistake::BigEndianFirstBytes),
     Mistake::Text(TextMistake::NonceFromOne),
     Mistake::Text(TextMistake::NoAssociatedData),
+    Mistake::Text(TextMistake::ChainingKeyAsData),
     Mistake::Text(TextMistake::EarlierHash),
+    Mistake::Text(TextMistake::TextHashedBefore),
     Mistake::Text(TextMistake::HashLeftOut),
     Mistake::Text(TextMistake::TextHashed),
     Mistake::Text(TextMistake::TagNotHashed),
     Mistake::Text(TextMistake::LengthHashed),
+    Mistake::Text(TextMistake::LengthMixed),
     Mistake::Text(TextMistake::NonceKept),
     Mistake::Text(TextMistake::NonceRaised),
     Mistake::Text(TextMistake::StepsLeftOut),
 ];
 
-static OPENING: [Mistake; 3] = [
+static OPENING: [Mistake; 4] = [
     Mistake::Key(KeyMistake::Exchanged),
     Mistake::Key(KeyMistake::SplitOfHash),
+    Mistake::Key(KeyMistake::SplitOfZeros),
     Mistake::Key(KeyMistake::NonceFromOne),
 ];
 
@@ -176,10 +221,18 @@ static TRANSPORT: [Mistake; 3] = [
     Mistake::Key(KeyMistake::NonceFromOne),
 ];
 
-const REFUSAL: [Mistake; 6] = [
+fn refusals() -> &'static [Mistake]
+    ensures { result.now ≡ refusal_mistakes }
+{
+    &REFUSAL
+}
+
+static REFUSAL: [Mistake; 8] = [
     Mistake::Text(TextMistake::NoAssociatedData),
+    Mistake::Text(TextMistake::ChainingKeyAsData),
     Mistake::Text(TextMistake::EarlierHash),
     Mistake::Text(TextMistake::LaterHash),
+    Mistake::Text(TextMistake::TagInFront),
     Mistake::Text(TextMistake::BigEndian),
     Mistake::Text(TextMistake::FirstBytes),
     Mistake::Text(TextMistake::BigEndianFirstBytes),

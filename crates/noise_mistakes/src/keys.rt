@@ -2,7 +2,7 @@
 
 ghost use Rattle.std.specs.Prelude.{◌≡◌, [], IfOk, drop, replicate};
 ghost use Rattle.noise_aead.specs.Sealing.{nonce_of};
-ghost use Rattle.noise_mistakes.specs.Keys.{fits_with_key, key_explains, other_key_explains, rekey_explains, rekeyed_by, split_of_hash};
+ghost use Rattle.noise_mistakes.specs.Keys.{fits_with_key, key_explains, other_key_explains, rekey_explains, rekeyed_by, split_explains};
 
 use crate::mistake::KeyMistake;
 use crate::secrets::with_nonce;
@@ -23,7 +23,8 @@ pub(crate) fn key_explains(
     ensures { IfOk result (λ b. b ≡ key_explains mistake at.now logged.now) }
 {
     match mistake {
-        KeyMistake::SplitOfHash => Ok(split_of_hash(at, logged)),
+        KeyMistake::SplitOfHash => Ok(split_explains(at, logged, &at.right.hash)),
+        KeyMistake::SplitOfZeros => Ok(split_explains(at, logged, &[0; 32])),
         KeyMistake::Exchanged => Ok(other_key_explains(at, logged)),
         KeyMistake::NonceFromOne => {
             Ok(logged.fits(at.bytes, &with_nonce(&at.right, one_more(at.right.nonce))))
@@ -46,10 +47,11 @@ fn fits_with_key(at: &Situation<'_>, logged: &Logged, key: &[u8]) -> bool
         && nonce_fits(&logged.nonce, at.right.nonce)
 }
 
-fn split_of_hash(at: &Situation<'_>, logged: &Logged) -> bool
-    ensures { result ≡ split_of_hash at.now logged.now }
+// Whether Split gives the logged values where HKDF takes this input.
+fn split_explains(at: &Situation<'_>, logged: &Logged, input: &[u8]) -> bool
+    ensures { result ≡ split_explains at.now logged.now input.now }
 {
-    let (first, second) = expand2(&at.right.chaining_key, &at.right.hash);
+    let (first, second) = expand2(&at.right.chaining_key, input);
     fits_with_key(at, logged, &first) || fits_with_key(at, logged, &second)
 }
 

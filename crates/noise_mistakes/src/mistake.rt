@@ -18,13 +18,15 @@ pub enum NameMistake {
 pub enum HashMistake {
     /// MixHash is left out.
     LeftOut,
-    /// The length of the data, two bytes, is hashed in front of it.
+    /// MixHash takes a length and the data.
     LengthInFront,
+    /// MixHash takes a length, and then the data.
+    LengthMixed,
     /// The data is hashed before the hash.
     DataFirst,
-    /// At `e`: MixKey of a pattern with a psk is left out.
+    /// At `e`, of a pre-message too: MixKey of a pattern with a psk is left out.
     KeyLeftOut,
-    /// At `e`: MixKey is called where the pattern has no psk.
+    /// At `e`, of a pre-message too: MixKey is called where the pattern has no psk.
     KeyMixed,
     /// The steps before it since the last line that agrees are left out.
     StepsLeftOut,
@@ -39,6 +41,8 @@ pub enum SecretMistake {
     OutputsExchanged,
     /// The secret's bytes are reversed.
     Reversed,
+    /// HKDF takes SHA256 of the secret.
+    Digested,
     /// HKDF counts its outputs from 0.
     CountedFromZero,
     /// HKDF's later outputs don't take the ones before them.
@@ -51,7 +55,7 @@ pub enum SecretMistake {
     NonceKept,
     /// The secret isn't mixed.
     LeftOut,
-    /// The secret is hashed too.
+    /// MixHash takes the secret, besides MixKey.
     HashedToo,
     /// At `psk`: MixKey in place of MixKeyAndHash.
     KeyAlone,
@@ -72,6 +76,8 @@ pub enum TextMistake {
     TagLeftOff,
     /// There is no key, and 16 zero bytes follow the text.
     TagAdded,
+    /// The tag is in front of the encrypted text.
+    TagInFront,
     /// The 8 bytes of the nonce are big-endian.
     BigEndian,
     /// The nonce is in the first 8 of 12 bytes.
@@ -82,18 +88,24 @@ pub enum TextMistake {
     NonceFromOne,
     /// There is no associated data.
     NoAssociatedData,
+    /// The associated data is the chaining key.
+    ChainingKeyAsData,
     /// The associated data is the hash before an earlier step.
     EarlierHash,
     /// The associated data is the hash after the text.
     LaterHash,
+    /// MixHash takes the text, and the hash after it is the associated data.
+    TextHashedBefore,
     /// MixHash is left out.
     HashLeftOut,
     /// MixHash takes the text, and not the encrypted bytes.
     TextHashed,
     /// MixHash takes the encrypted bytes without the tag.
     TagNotHashed,
-    /// MixHash takes the length, two bytes, too.
+    /// MixHash takes a length and the bytes.
     LengthHashed,
+    /// MixHash takes a length, and then the bytes.
+    LengthMixed,
     /// The nonce stays as it was.
     NonceKept,
     /// The nonce is raised once more.
@@ -105,8 +117,10 @@ pub enum TextMistake {
 /// A mistake of a key of the transport.
 #[derive(Clone, Copy, PartialEq, Eq)]
 pub enum KeyMistake {
-    /// Split takes the hash, and not nothing.
+    /// Split's HKDF takes the hash, and not no bytes.
     SplitOfHash,
+    /// Split's HKDF takes 32 zero bytes, and not no bytes.
+    SplitOfZeros,
     /// It is another key of the transport.
     Exchanged,
     /// The nonce is one greater.

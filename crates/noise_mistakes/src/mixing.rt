@@ -2,7 +2,8 @@
 
 ghost use Rattle.std.specs.Prelude.{◌≡◌, ◌≤◌, ◌-◌, ◌++◌, Some, IfOk, length, map, replicate, take};
 ghost use Rattle.sha2.specs.Sha256.{sha256};
-ghost use Rattle.noise_mistakes.specs.Mixing.{hash_state, length_of, lower, name_explains, padded, redone, start_fits, started, with_hash, with_key};
+ghost use Rattle.noise_mistakes.specs.States.{fits};
+ghost use Rattle.noise_mistakes.specs.Mixing.{hash_explains, hash_state, length_in_front, length_in_front_explains, length_mixed, length_mixed_explains, lower, name_explains, padded, redone, start_fits, started, with_hash, with_key};
 
 use crate::mistake::{HashMistake, NameMistake};
 use crate::state::{Logged, Situation, State, has, key_fits, nonce_fits};
@@ -80,16 +81,25 @@ fn lower(b: u8) -> u8
     if 65 <= b && b <= 90 { b ^ 32 } else { b }
 }
 
-/// The state after a step that calls MixHash, with a mistake.
+/// Whether a mistake at a step that calls MixHash gives the logged values.
+#[tactic(auto, unfolding(crate::specs::Mixing::hash_explains))]
+pub(crate) fn hash_explains(mistake: HashMistake, at: &Situation<'_>, logged: &Logged) -> bool
+    ensures { result ≡ hash_explains mistake at.now logged.now }
+{
+    match mistake {
+        HashMistake::LengthInFront => length_in_front_explains(at, logged),
+        HashMistake::LengthMixed => length_mixed_explains(at, logged),
+        _ => logged.fits(at.bytes, &hash_state(mistake, at)),
+    }
+}
+
 #[tactic(auto, unfolding(crate::specs::Mixing::hash_state))]
-pub(crate) fn hash_state(mistake: HashMistake, at: &Situation<'_>) -> State
+fn hash_state(mistake: HashMistake, at: &Situation<'_>) -> State
     ensures { result ≡ hash_state mistake at.now }
 {
     match mistake {
         HashMistake::LeftOut => with_hash(&at.right, at.before.hash),
-        HashMistake::LengthInFront => {
-            with_hash(&at.right, mixed_with_length(&at.before.hash, at.data))
-        }
+        HashMistake::LengthInFront | HashMistake::LengthMixed => at.right,
         HashMistake::DataFirst => with_hash(&at.right, mixed(at.data, &at.before.hash)),
         HashMistake::KeyLeftOut => with_hash(&at.before, at.right.hash),
         HashMistake::KeyMixed => with_key(&at.right, &at.before.chaining_key, at.data),
@@ -142,14 +152,41 @@ pub(crate) fn mixed(hash: &[u8], data: &[u8]) -> [u8; 32]
     hasher.finalize()
 }
 
-// The hash of a hash, and of data with its length, two bytes, in front.
-pub(crate) fn mixed_with_length(hash: &[u8; 32], data: &[u8]) -> [u8; 32]
-    requires { length data.now ≤ 65535 }
-    ensures { result ≡ sha256 (hash.now ++ length_of data.now ++ data.now) }
+/// Whether MixHash of a length and the bytes gives the logged values.
+pub(crate) fn length_in_front_explains(at: &Situation<'_>, logged: &Logged) -> bool
+    ensures { result ≡ length_in_front_explains at.now logged.now }
+{
+    let (short, long) = (at.data.len() as u16, at.data.len() as u32);
+    logged.fits(at.bytes, &length_in_front(at, &short.to_be_bytes()))
+        || logged.fits(at.bytes, &length_in_front(at, &short.to_le_bytes()))
+        || logged.fits(at.bytes, &length_in_front(at, &long.to_be_bytes()))
+        || logged.fits(at.bytes, &length_in_front(at, &long.to_le_bytes()))
+}
+
+/// Whether MixHash of a length, and then of the bytes, gives the logged values.
+pub(crate) fn length_mixed_explains(at: &Situation<'_>, logged: &Logged) -> bool
+    ensures { result ≡ length_mixed_explains at.now logged.now }
+{
+    let (short, long) = (at.data.len() as u16, at.data.len() as u32);
+    logged.fits(at.bytes, &length_mixed(at, &short.to_be_bytes()))
+        || logged.fits(at.bytes, &length_mixed(at, &short.to_le_bytes()))
+        || logged.fits(at.bytes, &length_mixed(at, &long.to_be_bytes()))
+        || logged.fits(at.bytes, &length_mixed(at, &long.to_le_bytes()))
+}
+
+fn length_in_front(at: &Situation<'_>, front: &[u8]) -> State
+    ensures { result ≡ length_in_front at.now front.now }
 {
     let mut hasher = Sha256::new();
-    hasher.update(hash);
-    hasher.update((data.len() as u16).to_be_bytes());
-    hasher.update(data);
-    hasher.finalize()
+    hasher.update(at.before.hash);
+    hasher.update(front);
+    hasher.update(at.data);
+    with_hash(&at.right, hasher.finalize())
+}
+
+fn length_mixed(at: &Situation<'_>, front: &[u8]) -> State
+    ensures { result ≡ length_mixed at.now front.now }
+{
+    let hash = mixed(&at.before.hash, front);
+    with_hash(&at.right, mixed(&hash, at.data))
 }

@@ -57,6 +57,7 @@ fn secret_state(mistake: SecretMistake, at: &Situation<'_>) -> State
             )
         }
         SecretMistake::Reversed => after_secret(at, &reversed(at.secret)),
+        SecretMistake::Digested => after_secret(at, &digested(&at.secret)),
         SecretMistake::CountedFromZero => {
             applied(
                 at.kind,
@@ -110,6 +111,12 @@ fn reversed(mut secret: [u8; 32]) -> [u8; 32]
 {
     secret.reverse();
     secret
+}
+
+fn digested(secret: &[u8; 32]) -> [u8; 32]
+    ensures { result ≡ sha256 secret.now }
+{
+    Sha256::digest(secret)
 }
 
 fn expanded(chaining_key: &[u8; 32], input: &[u8]) -> Outputs

@@ -42,15 +42,18 @@ fn hash_sentence(mistake: HashMistake) -> &'static str
             "MixHash is left out: it is called at this step, for no bytes too (5.3)"
         }
         HashMistake::LengthInFront => {
-            "MixHash takes a length of two bytes in front: a length is no part of what is hashed (5.2, 13)"
+            "MixHash takes a length in front: a length is no part of what is hashed (5.2, 13)"
+        }
+        HashMistake::LengthMixed => {
+            "a MixHash of its own takes a length: a length is no part of what is hashed (5.2, 13)"
         }
         HashMistake::DataFirst => "MixHash takes the bytes before h: h comes first (5.2)",
         HashMistake::KeyLeftOut => {
-            "MixKey of e is left out: with a psk it follows MixHash at each e, written or read (9.2)"
+            "MixKey of e is left out: with a psk it follows MixHash at each e, written, read or of a pre-message (9.2)"
         }
         HashMistake::KeyMixed => "MixKey of e is called: only a pattern with a psk has it (9.2)",
         HashMistake::StepsLeftOut => {
-            "the steps after your last line that agrees are left out, or come later"
+            "the steps for which your log has no line here are left out, or come later"
         }
     }
 }
@@ -68,6 +71,9 @@ fn secret_sentence(mistake: SecretMistake) -> &'static str
                 second goes into h (5.2)"
         }
         SecretMistake::Reversed => "the bytes of the DH result or psk are reversed",
+        SecretMistake::Digested => {
+            "HKDF takes SHA256 of the DH result or psk: it takes the DH result or psk itself (5.2)"
+        }
         SecretMistake::CountedFromZero => {
             "HKDF counts its outputs from 0: they are counted from 1 (4.3)"
         }
@@ -82,16 +88,17 @@ fn secret_sentence(mistake: SecretMistake) -> &'static str
         }
         SecretMistake::NonceKept => "n stays as it was: each new key sets it to 0 (5.1, 5.2)",
         SecretMistake::LeftOut => "nothing is mixed at this token",
-        SecretMistake::HashedToo => "the DH result is hashed too: it goes into MixKey alone (5.3)",
+        SecretMistake::HashedToo =>
+            "MixHash takes the DH result, besides MixKey: a DH result goes into MixKey alone (5.3)",
         SecretMistake::KeyAlone => "MixKey stands in place of MixKeyAndHash (9.2)",
         SecretMistake::HashLeftOut => {
             "MixKeyAndHash doesn't hash: HKDF's second output goes into h (5.2)"
         }
         SecretMistake::Other => {
-            "it is another DH result or psk of the run: the first letter is the initiator's key, whoever writes (7.1)"
+            "HKDF takes another DH result or psk of the run: the first letter is the initiator's key, whoever writes (7.1)"
         }
         SecretMistake::StepsLeftOut => {
-            "the steps after your last line that agrees are left out, or come later"
+            "the steps for which your log has no line here are left out, or come later"
         }
     }
 }
@@ -108,6 +115,7 @@ fn text_sentence(mistake: TextMistake) -> &'static str
             "the bytes are taken in the clear: there is a key, so 16 bytes of a tag follow the text (5.2)"
         }
         TextMistake::TagAdded => "16 bytes follow the text: without a key a text has no tag (5.2)",
+        TextMistake::TagInFront => { "the tag is in front: it follows the encrypted text (4.2)" }
         TextMistake::BigEndian => {
             "the nonce is big-endian: 4 zero bytes come first, then 8 little-endian ones (12.3)"
         }
@@ -121,11 +129,18 @@ fn text_sentence(mistake: TextMistake) -> &'static str
         TextMistake::NoAssociatedData => {
             "there is no associated data: it is h before this text (5.2)"
         }
+        TextMistake::ChainingKeyAsData => {
+            "the associated data is ck: it is h before this text (5.2)"
+        }
         TextMistake::EarlierHash => {
             "the associated data is an earlier h: it is h before this text, after all tokens before it (5.2)"
         }
         TextMistake::LaterHash => {
             "the associated data is h after this text: MixHash of it follows decryption (5.2)"
+        }
+        TextMistake::TextHashedBefore => {
+            "MixHash of the plain text comes before encryption: h before this text is the associated data, \
+                then MixHash takes the encrypted bytes (5.2)"
         }
         TextMistake::HashLeftOut => {
             "MixHash of this text is left out: it takes all bytes that are sent, of the last payload too (5.2)"
@@ -137,14 +152,17 @@ fn text_sentence(mistake: TextMistake) -> &'static str
             "MixHash takes the bytes without the tag: it takes all encrypted bytes and the tag (5.2)"
         }
         TextMistake::LengthHashed => {
-            "MixHash takes a length of two bytes in front: a length is no part of what is hashed (5.2, 13)"
+            "MixHash takes a length in front: a length is no part of what is hashed (5.2, 13)"
+        }
+        TextMistake::LengthMixed => {
+            "a MixHash of its own takes a length: a length is no part of what is hashed (5.2, 13)"
         }
         TextMistake::NonceKept => "n isn't raised: each encrypted text raises it by 1 (5.1)",
         TextMistake::NonceRaised => {
             "n is one too great: each encrypted text raises it by 1, and without a key it stays (5.1)"
         }
         TextMistake::StepsLeftOut => {
-            "the steps after your last line that agrees are left out, or come later"
+            "the steps for which your log has no line here are left out, or come later"
         }
     }
 }
@@ -154,7 +172,10 @@ fn key_sentence(mistake: KeyMistake) -> &'static str
     ensures { result.now ≡ key_sentence mistake }
 {
     match mistake {
-        KeyMistake::SplitOfHash => "Split takes h: it is HKDF of ck and nothing (5.2)",
+        KeyMistake::SplitOfHash => "Split's HKDF takes ck and h: it takes ck and no bytes (5.2)",
+        KeyMistake::SplitOfZeros => {
+            "Split's HKDF takes ck and 32 zero bytes: it takes ck and no bytes (5.2)"
+        }
         KeyMistake::Exchanged => {
             "it is another key of the transport: Split's first is for what the initiator sends (5.2)"
         }

@@ -1,14 +1,14 @@
 //! Mistakes of `s` and of a payload.
 
-ghost use Rattle.std.specs.Prelude.{◌≡◌, ◌≤◌, ◌++◌, ◌-◌, ◌+◌, [], IfOk, length, replicate, take};
+ghost use Rattle.std.specs.Prelude.{◌≡◌, ◌≤◌, ◌++◌, ◌-◌, ◌+◌, [], IfOk, drop, length, replicate, take};
 ghost use Rattle.sha2.specs.Sha256.{sha256};
 ghost use Rattle.noise_aead.specs.Sealing.{nonce_of, sealed};
-ghost use Rattle.noise_mistakes.specs.Mixing.{length_of, with_hash};
+ghost use Rattle.noise_mistakes.specs.Mixing.{with_hash};
 ghost use Rattle.noise_mistakes.specs.States.{fits};
-ghost use Rattle.noise_mistakes.specs.Texts.{ad_fits_text, big_endian, big_endian_first_bytes, bytes_fit, earlier_hash_explains, first_bytes, hashed, nonce_fits_text, one_more, sealed_under, text_explains, without_tag};
+ghost use Rattle.noise_mistakes.specs.Texts.{ad_fits_text, big_endian, big_endian_first_bytes, bytes_fit, earlier_hash_explains, first_bytes, hashed, hashed_before, nonce_fits_text, one_more, sealed_under, sealed_with, tag_first, text_explains, without_tag};
 
 use crate::mistake::TextMistake;
-use crate::mixing::{mixed, mixed_with_length, redone, with_hash};
+use crate::mixing::{length_in_front_explains, length_mixed_explains, mixed, redone, with_hash};
 use crate::secrets::with_nonce;
 use crate::state::{Logged, Situation, State};
 use byteorder::{BigEndian, ByteOrder, LittleEndian};
@@ -30,6 +30,7 @@ pub(crate) fn text_explains(
         TextMistake::Clear => Ok(clear_fits(at, logged, at.text)),
         TextMistake::TagLeftOff => Ok(clear_fits(at, logged, without_tag(at.bytes))),
         TextMistake::TagAdded => tag_explains(alloc, at, logged),
+        TextMistake::TagInFront => tag_first_explains(alloc, at, logged),
         TextMistake::BigEndian => big_endian_explains(alloc, at, logged),
         TextMistake::FirstBytes => nonce_fits_text(alloc, at, logged, &first_bytes(n)),
         TextMistake::BigEndianFirstBytes => {
@@ -37,14 +38,19 @@ pub(crate) fn text_explains(
         }
         TextMistake::NonceFromOne => next_nonce_explains(alloc, at, logged),
         TextMistake::NoAssociatedData => ad_fits_text(alloc, at, logged, &[]),
+        TextMistake::ChainingKeyAsData => {
+            ad_fits_text(alloc, at, logged, &at.before.chaining_key)
+        }
         TextMistake::EarlierHash => earlier_hash_explains(alloc, at, logged),
         TextMistake::LaterHash => ad_fits_text(alloc, at, logged, &at.right.hash),
+        TextMistake::TextHashedBefore => hashed_before(alloc, at, logged),
         TextMistake::HashLeftOut => {
             Ok(logged.fits(at.bytes, &with_hash(&at.right, at.before.hash)))
         }
         TextMistake::TextHashed => Ok(logged.fits(at.bytes, &hashed(at, at.text))),
         TextMistake::TagNotHashed => Ok(logged.fits(at.bytes, &hashed(at, without_tag(at.bytes)))),
-        TextMistake::LengthHashed => Ok(logged.fits(at.bytes, &with_length(at))),
+        TextMistake::LengthHashed => Ok(length_in_front_explains(at, logged)),
+        TextMistake::LengthMixed => Ok(length_mixed_explains(at, logged)),
         TextMistake::NonceKept => Ok(logged.fits(at.bytes, &with_nonce(&at.right, n))),
         TextMistake::NonceRaised => {
             Ok(logged.fits(at.bytes, &with_nonce(&at.right, one_more(at.right.nonce))))
@@ -69,6 +75,19 @@ fn tag_explains(alloc: Global, at: &Situation<'_>, logged: &Logged) -> Result<bo
     Ok(bytes_fit(at, logged, &bytes))
 }
 
+fn tag_first_explains(
+    alloc: Global,
+    at: &Situation<'_>,
+    logged: &Logged,
+) -> Result<bool, AllocError>
+    ensures { IfOk result (λ b. b ≡ bytes_fit at.now logged.now (tag_first at.now.bytes.now)) }
+{
+    let (text, tag) = at.bytes.split_at(at.bytes.len().saturating_sub(16));
+    let mut bytes = Vec::from_slice(alloc, tag)?;
+    bytes.extend_from_slice(text)?;
+    Ok(bytes_fit(at, logged, &bytes))
+}
+
 fn big_endian_explains(
     alloc: Global,
     at: &Situation<'_>,
@@ -89,6 +108,14 @@ fn next_nonce_explains(
 {
     let next = nonce(one_more(at.before.nonce));
     nonce_fits_text(alloc, at, logged, &next)
+}
+
+fn hashed_before(alloc: Global, at: &Situation<'_>, logged: &Logged) -> Result<bool, AllocError>
+    ensures { IfOk result (λ b. b ≡ hashed_before at.now logged.now) }
+{
+    let hash = mixed(&at.before.hash, at.text);
+    let bytes = sealed_with(alloc, at, &hash)?;
+    Ok(text_hashed_fits(at, logged, &bytes))
 }
 
 fn earlier_hash_explains(
@@ -128,9 +155,24 @@ fn ad_fits_text(
     requires { length ad.now ≤ 65535 }
     ensures { IfOk result (λ b. b ≡ ad_fits_text at.now logged.now ad.now) }
 {
-    let right = nonce(at.before.nonce);
-    let bytes = sealed_under(alloc, &at.before.key, &right, ad, at.text)?;
+    let bytes = sealed_with(alloc, at, ad)?;
     Ok(bytes_fit(at, logged, &bytes))
+}
+
+// The text with this associated data.
+fn sealed_with(alloc: Global, at: &Situation<'_>, ad: &[u8]) -> Result<Vec<u8>, AllocError>
+    requires { length ad.now ≤ 65535 }
+    ensures { IfOk result (λ v. v.items ≡ sealed_with at.now ad.now) }
+{
+    let right = nonce(at.before.nonce);
+    sealed_under(alloc, &at.before.key, &right, ad, at.text)
+}
+
+// Whether these bytes, and MixHash of the text, are what was logged.
+fn text_hashed_fits(at: &Situation<'_>, logged: &Logged, bytes: &[u8]) -> bool
+    ensures { result ≡ fits logged.now bytes.now (hashed at.now at.now.text.now) }
+{
+    logged.fits(bytes, &hashed(at, at.text))
 }
 
 fn bytes_fit(at: &Situation<'_>, logged: &Logged, bytes: &[u8]) -> bool
@@ -143,12 +185,6 @@ fn hashed(at: &Situation<'_>, bytes: &[u8]) -> State
     ensures { result ≡ hashed at.now bytes.now }
 {
     with_hash(&at.right, mixed(&at.before.hash, bytes))
-}
-
-fn with_length(at: &Situation<'_>) -> State
-    ensures { result ≡ hashed at.now (length_of at.now.data.now ++ at.now.data.now) }
-{
-    with_hash(&at.right, mixed_with_length(&at.before.hash, at.data))
 }
 
 fn without_tag(bytes: &[u8]) -> &[u8]

@@ -1,10 +1,10 @@
 use Rattle.std.proofs.Common.{◌≡◌, take}
 use Rattle.std.specs.Prelude.{not}
 use Rattle.std.specs.List.{filter}
-use Rattle.noise_mistakes.specs.Finding.{explains, refusal_mistakes}
+use Rattle.noise_mistakes.specs.Finding.{explains}
 use Rattle.noise_mistakes.proofs.finding.refusing_mistakes.Given as goal
 
 -- those so far that don't give these values
 abbrev pub invariant-loop-mistake : goal.invariant-loop-mistake
 invariant-loop-mistake l = l.found.items
-    ≡ filter (λ mistake. not (explains mistake l.at l.logged)) (take l.mistake-index refusal_mistakes)
+    ≡ filter (λ mistake. not (explains mistake l.at l.logged)) (take l.mistake-index l.mistake-items)

@@ -1,0 +1,96 @@
+-- The values that the words of a line stand for.
+use Rattle.std.specs.Prelude.{◌≡◌, ℕ, ◌+◌, ◌-◌, ◌*◌, ◌==◌, ◌&&◌, Bool, List, [], Option, Some, None, Result, Ok, Err, Vec, codes, fold, if◌then◌else◌, length, nat_le, option_map, replicate, unwrap_or}
+use Rattle.std.specs.Global.{Global}
+use Rattle.std.specs.Str.{bytes_eq}
+use Rattle.hex.specs.Hex.{decode_of, decode_sized}
+use Rattle.hex.specs.declared.error.FromHexError.{FromHexError}
+use Rattle.noise_mistakes.specs.declared.state.Kind.{Kind}
+use Rattle.noise_mistakes.specs.declared.state.Kind.TheVariants as kind
+use Rattle.noise_mistakes.specs.declared.state.Logged.{Logged}
+use Rattle.noise_mistakes.specs.declared.state.State.{State}
+use Rattle.noise_compare.specs.Lines.{word_at, words_in}
+use Rattle.noise_compare.specs.declared.line.Line.{Line}
+
+abbrev pub decoded_or : List ℕ → Result (List ℕ) FromHexError → List ℕ
+decoded_or other (Ok bytes) = bytes
+decoded_or other (Err e) = other
+
+-- the bytes of hex digits, and none of `-`; of any other word its own
+abbrev pub word_bytes : List ℕ → List ℕ
+word_bytes word = if bytes_eq word (codes "-") then [] else decoded_or word (decode_of word)
+
+-- the 32 bytes of hex digits; of any other word zeros
+abbrev pub word_array : List ℕ → List ℕ
+word_array word = decoded_or (replicate 32 0) (decode_sized word 32)
+
+-- a number with a further decimal digit (48 is `0`), if 8 bytes hold it
+unfoldable pub add_digit : Option ℕ → ℕ → Option ℕ
+add_digit None digit = None
+add_digit (Some n) digit =
+    if nat_le 48 digit && nat_le digit 57 && nat_le (n * 10 + (digit - 48)) 0xffff_ffff_ffff_ffff
+    then Some (n * 10 + (digit - 48)) else None
+
+abbrev pub word_number : List ℕ → Option ℕ
+word_number word = if length word == 0 then None else fold add_digit (Some 0) word
+
+-- ---- a logged line
+
+-- `?` was not logged
+abbrev pub logged_word : List ℕ → Option (List ℕ)
+logged_word word = if bytes_eq word (codes "?") then None else Some (word_bytes word)
+
+-- nor is `-` where each line of a handshake has a value: a line of the transport has none
+abbrev pub logged_if_any : List ℕ → Option (List ℕ)
+logged_if_any word = if bytes_eq word (codes "-") then None else logged_word word
+
+abbrev pub items_of : Option (Vec ℕ Global) → Option (List ℕ)
+items_of value = option_map (λ v. v.items) value
+
+pub record AreLogged (line : Line) (logged : Logged) : Type 0 where
+  pub bytes : items_of logged.bytes ≡ logged_word (word_at (words_in line) 7)
+  pub hash : items_of logged.hash ≡ logged_if_any (word_at (words_in line) 8)
+  pub chaining_key : items_of logged.chaining_key ≡ logged_if_any (word_at (words_in line) 9)
+  pub key : items_of logged.key ≡ logged_word (word_at (words_in line) 10)
+  pub nonce : logged.nonce ≡ word_number (word_at (words_in line) 11)
+
+-- ---- a right line
+
+abbrev pub word_key : List ℕ → Option (List ℕ)
+word_key word = if bytes_eq word (codes "-") then None else Some (word_array word)
+
+-- the state after its step
+abbrev pub state_in : Line → State
+state_in line = record {
+  hash = word_array (word_at (words_in line) 8);
+  chaining_key = word_array (word_at (words_in line) 9);
+  key = word_key (word_at (words_in line) 10);
+  nonce = unwrap_or (word_number (word_at (words_in line) 11)) 0;
+}
+
+abbrev pub start_kind : List ℕ → Kind
+start_kind name = if bytes_eq name (codes "name") then kind.Name
+    else (if bytes_eq name (codes "initiator-e") then kind.Ephemeral
+    else (if bytes_eq name (codes "responder-e") then kind.Ephemeral else kind.Data))
+
+abbrev pub transport_kind : List ℕ → Kind
+transport_kind name = if bytes_eq name (codes "renewed") then kind.Renewal else kind.Transport
+
+abbrev pub agreement_or_text : List ℕ → Kind
+agreement_or_text name = if bytes_eq name (codes "ee") then kind.Agreement
+    else (if bytes_eq name (codes "es") then kind.Agreement
+    else (if bytes_eq name (codes "se") then kind.Agreement
+    else (if bytes_eq name (codes "ss") then kind.Agreement else kind.Text)))
+
+abbrev pub token_kind : List ℕ → Kind
+token_kind name = if bytes_eq name (codes "e") then kind.Ephemeral
+    else (if bytes_eq name (codes "psk") then kind.Secret else agreement_or_text name)
+
+-- what the step is, by its part and its name
+abbrev pub kind_by : List ℕ → List ℕ → Kind
+kind_by part name = if bytes_eq part (codes "start") then start_kind name
+    else (if bytes_eq part (codes "open") then kind.Opening
+    else (if bytes_eq part (codes "transport") then transport_kind name
+    else (if bytes_eq part (codes "datagrams") then transport_kind name else token_kind name)))
+
+abbrev pub kind_in : Line → Kind
+kind_in line = kind_by (word_at (words_in line) 2) (word_at (words_in line) 4)
