@@ -3,9 +3,10 @@
 import functools
 import multiprocessing
 import os
+import subprocess
 
 from cases import words_of
-from program import Ran, run
+from program import PROGRAM, Ran, run
 
 MOST_LIMITS = 400
 
@@ -35,6 +36,17 @@ def tries_of(line, folder):
     for variables in limits("OUTPUT", range(0, len(whole.out), step)):
         yield words, variables, Ran(3, whole.out[: int(variables["OUTPUT_LIMIT"])], b"cannot write\n")
     yield words, {"OUTPUT_PIECE": "1"}, whole
+
+
+def closed_pipe(words, folder):
+    """A command whose output is a pipe that nobody reads has to end with status 3 and without a word. Returns its faults."""
+    reader, writer = os.pipe()
+    os.close(reader)
+    ran = subprocess.run([PROGRAM, *words], cwd=folder, stdin=subprocess.DEVNULL, stdout=writer, stderr=subprocess.PIPE, check=False)
+    os.close(writer)
+    if (ran.returncode, ran.stderr) == (3, b""):
+        return []
+    return [f"command: noise {' '.join(words)} into a closed pipe: status {ran.returncode}, {ran.stderr}"]
 
 
 def limits(stream, sizes):

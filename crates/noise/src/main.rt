@@ -1,18 +1,19 @@
-//! The command `noise`: handshake patterns, and two parties of a Noise session that are run on a vector file. Each call
-//! is of `noise_tool`.
+//! The command `noise`: handshake patterns, and two parties of a Noise session that are run on a vector file. What the
+//! command does is `noise_tool`'s. Here are the words of the command line and the files of the system.
 #![tactic(auto)]
 
 ghost use Rattle.std.specs.Prelude.{◌≡◌, true, IfErr, None};
 ghost use Rattle.noise_lines.specs.Faults.{status_of};
 
 use noise_tool::{
-    Chosen, Fault, FilesByName, LineFault, Order, chosen, names_protocol, perform, read_file,
+    Fault, LineFault, NamedFiles, Order, System, chosen, next_commands, perform, read_file,
     report_fault,
 };
 use std::alloc::Global;
+use std::cell::Cell;
 use std::env;
 use std::fs::File;
-use std::io::{self, BufWriter, ErrorKind, Read};
+use std::io::{self, BufWriter, ErrorKind, Stderr, Stdout, Write};
 use std::process::ExitCode;
 
 fn main(rt: HostRuntime) -> ExitCode {
@@ -36,37 +37,50 @@ fn words(rt: &HostRuntime) -> io::Result<Vec<String>> {
     Ok(env::args(rt)?.collect(rt.alloc())?)
 }
 
-// Does what is asked for, on the file that the order names, if it is on one file.
+// Does what is asked for. The output goes through a buffer.
 fn run(rt: &HostRuntime, order: &Order) -> u8 {
-    match order {
-        Order::Command(command) => run_command(rt, order, command),
-        Order::Test(_) | Order::Explain(_) | Order::Compare(_) => {
-            run_on(rt, order, &mut io::empty())
-        }
+    let closed = Cell::new(false);
+    let output = Output {
+        to: rt.stdout(),
+        closed: &closed,
+    };
+    let mut errors = Errors {
+        to: rt.stderr(),
+        closed: &closed,
+    };
+    match BufWriter::new(rt.alloc(), output) {
+        Ok(mut out) => perform(
+            rt.alloc(),
+            order,
+            &NamedFiles {
+                system: &Opened { rt },
+            },
+            &mut out,
+            &mut errors,
+        ),
+        Err(_) => ends_with(rt, Fault::Memory),
     }
 }
 
-fn run_command(rt: &HostRuntime, order: &Order, command: &Chosen) -> u8 {
-    match command {
-        Chosen::List | Chosen::Show(_) => run_on(rt, order, &mut io::empty()),
-        Chosen::Template(word) if names_protocol(word.as_str()) => {
-            run_on(rt, order, &mut io::empty())
-        }
-        Chosen::Template(name) => run_on_file(rt, order, name.as_str()),
-        Chosen::Check(name) | Chosen::Talk(name) | Chosen::Replay(name) | Chosen::Convert(name) =>
-            run_on_file(rt, order, name.as_str()),
-        Chosen::Trace(traced) => run_on_file(rt, order, traced.file.as_str()),
-    }
+// The files of the system, each opened where it is read.
+#[derive(Clone, Copy)]
+struct Opened<'a> {
+    rt: &'a HostRuntime,
 }
 
-// Does it on the file of this name: `-` is standard input.
-fn run_on_file(rt: &HostRuntime, order: &Order, name: &str) -> u8 {
-    if name == "-" {
-        return run_on(rt, order, &mut rt.stdin());
+impl System for Opened<'_> {
+    ghost file_at = { λ _ _. None };
+
+    ghost unreadable = { λ _ _. true };
+
+    ghost input = { λ _. None };
+
+    fn read_file(&self, alloc: Global, name: &str) -> Result<Vec<u8>, Fault> {
+        read_file(alloc, &mut open(self.rt, name)?)
     }
-    match open(rt, name) {
-        Ok(mut file) => run_on(rt, order, &mut file),
-        Err(fault) => ends_with(rt, fault),
+
+    fn read_input(&self, alloc: Global) -> Result<Vec<u8>, Fault> {
+        read_file(alloc, &mut self.rt.stdin())
     }
 }
 
@@ -80,37 +94,46 @@ fn open(rt: &HostRuntime, name: &str) -> Result<File, Fault>
     }
 }
 
-// The output goes through a buffer.
-fn run_on<R: Read>(rt: &HostRuntime, order: &Order, file: &mut R) -> u8 {
-    match BufWriter::new(rt.alloc(), rt.stdout()) {
-        Ok(mut out) => perform(
-            rt.alloc(),
-            order,
-            file,
-            &Opened { rt },
-            &mut out,
-            &mut rt.stderr(),
-        ),
-        Err(_) => ends_with(rt, Fault::Memory),
+// Standard output, which says whether it is a pipe that nobody reads any more.
+#[derive(Drop)]
+struct Output<'a> {
+    to: Stdout,
+    closed: &'a Cell<bool>,
+}
+
+impl Write for Output<'_> {
+    fn write(&mut self, bytes: &[u8]) -> io::Result<usize> {
+        let written = self.to.write(bytes);
+        if let Err(error) = &written {
+            if error.kind() == ErrorKind::BrokenPipe {
+                self.closed.set(true);
+            }
+        }
+        written
+    }
+
+    fn flush(&mut self) -> io::Result<()> {
+        self.to.flush()
     }
 }
 
-// The files of the system, each opened where it is read: `-` is standard input.
-#[derive(Clone, Copy)]
-struct Opened<'a> {
-    rt: &'a HostRuntime,
+// Standard error, which gets nothing after standard output was closed.
+#[derive(Drop)]
+struct Errors<'a> {
+    to: Stderr,
+    closed: &'a Cell<bool>,
 }
 
-impl FilesByName for Opened<'_> {
-    ghost bytes_at = { λ _ _. None };
-
-    ghost unreadable = { λ _ _. true };
-
-    fn read(&self, alloc: Global, name: &str) -> Result<Vec<u8>, Fault> {
-        if name == "-" {
-            return read_file(alloc, &mut self.rt.stdin());
+impl Write for Errors<'_> {
+    fn write(&mut self, bytes: &[u8]) -> io::Result<usize> {
+        if self.closed.get() {
+            return Ok(bytes.len());
         }
-        read_file(alloc, &mut open(self.rt, name)?)
+        self.to.write(bytes)
+    }
+
+    fn flush(&mut self) -> io::Result<()> {
+        self.to.flush()
     }
 }
 
@@ -122,6 +145,7 @@ fn ends_with(rt: &HostRuntime, fault: Fault) -> u8 {
 fn print_line_fault(rt: &HostRuntime, error: &clap::Error) -> u8 {
     let printed = error.print(rt);
     if error.use_stderr() {
+        let _ = eprint!(rt; "{}", next_commands(error));
         2
     } else if printed.is_ok() {
         0

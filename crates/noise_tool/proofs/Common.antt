@@ -52,7 +52,7 @@ pub use Rattle.noise_vectors.specs.declared.vector.AllowedEvents.TheVariants.{An
 pub use Rattle.noise_vectors.specs.declared.vector.FileDatagrams.{FileDatagrams}
 pub use Rattle.noise_vectors.specs.declared.vector.VectorFile.{VectorFile}
 pub use Rattle.noise_tool.specs.Ends.{IsFilePattern, IsFilePatternFault, IsPlanOf, IsStartFault, file_start, keys_of_role, setup_of, sides_of_file}
-pub use Rattle.noise_tool.specs.Explaining.{AreSaid, ExplainsPrefix, HasExplained, IsExplainedFile, IsExplainedRun, IsExplainedText, IsExplainedVector, Said, StopsExplaining, said_text, worse}
+pub use Rattle.noise_tool.specs.Explaining.{AreSaid, ExplainsPrefix, HasExplained, IsExplainedAt, IsExplainedFile, IsExplainedRun, IsExplainedText, IsExplainedVector, IsUnreadName, Said, StopsExplaining, said_text, worse}
 pub use Rattle.noise_tool.specs.KeyUseLines.{HasLaterNonce, key_use_lines, renewed_lines, transport_lines}
 pub use Rattle.noise_tool.specs.Performing.{AreMet, Converts, DifferAt, HasConverted, HasPrinted, HasUnmet, IsDone, IsFault, IsNotMet, IsOfLines, IsPlain, IsReadVector, IsRunFault, IsShortFile, IsTooLongConverted, IsUnlike, IsUnmet, Printing, ReadsShort, RunsFile, UnlessTwo}
 pub use Rattle.noise_tool.specs.Printed.{frame_numbered, note_line, state_lines}

@@ -1,12 +1,16 @@
 -- What is on the output of a log that is compared.
-use Rattle.std.proofs.Common.{◌≡◌, sym, subst, ℕ, List, Option, Some, None, Result, Ok, Err}
-use Rattle.std.specs.Prelude.{IfOk}
-use Rattle.noise_tool.proofs.Common.{IfSome, status_of, AppendsPrefix, LeavesOutput, Fault}
+use Rattle.std.proofs.Common.{◌≡◌, refl, sym, subst, inl, inr, ℕ, Bool, List, Option, Some, None, Result, Ok, Err}
+use Rattle.std.specs.Prelude.{IfOk, IsTrue}
+use Rattle.noise_tool.proofs.Common.{IfSome, status_of, AppendsPrefix, EndsTest, IsReportedOf, LeavesOutput, Unreadable, error_text, fault_line, Fault}
 use Rattle.noise_compare.specs.declared.comparison.LogReport.{LogReport}
-use Rattle.noise_tool.specs.Comparing.{Compares, ComparesPrefix, IfMade}
+use Rattle.noise_tool.specs.Comparing.{Compares, ComparesPrefix, IfMade, StopsComparing, compared_name}
 use Rattle.noise_tool.specs.declared.comparison.Comparison.{Comparison}
-use Rattle.noise_tool.specs.declared.comparison.Comparison.TheVariants.{Made, Wrong}
+use Rattle.noise_tool.specs.declared.comparison.Comparison.TheVariants.{Made, Unread, Wrong}
+use Rattle.noise_tool.specs.declared.comparison.ComparedFile.{ComparedFile}
 use Rattle.noise_tool.proofs.ExplainLemmas.{left-at-three}
+use Rattle.noise_tool.proofs.TestingLemmas.{reported-ends}
+use Rattle.noise_lines.specs.Verdicts.{named_fault}
+use Rattle.noise_words.specs.declared.orders.Compared.{Compared}
 
 -- a fault from outside, after a part of the report
 pub begun-left : {O : Type 0} (contents : O → Option (List ℕ)) (log file : Option (List ℕ)) (a : Option (List ℕ)) (why : Fault) (middle new : O)
@@ -25,6 +29,25 @@ pub made-known : (r : Result Comparison Fault) (Runs : List ℕ → Type 0) (log
     → IfOk r (λ made. IfMade made (λ report. IfSome log (λ l. IfSome file (λ f. Compares l f report))))
 made-known (Err why) Runs log file text read runs made = tt
 made-known (Ok (Wrong why)) Runs log file text read runs made = tt
+made-known (Ok (Unread which)) Runs log file text read runs made = tt
 made-known (Ok (Made report)) Runs None file text read runs made = tt
 made-known (Ok (Made report)) Runs (Some bytes) None text read runs made = tt
 made-known (Ok (Made report)) Runs (Some bytes) (Some f) text read runs made = subst (λ (l : List ℕ). Compares l f report) read (made f runs)
+
+-- ---- why a comparison ends with status 3
+
+-- memory ran out or a write was refused
+pub stops-comparing : {E : Type 0} (contents : E → Option (List ℕ)) (unreadable : List ℕ → Bool) (names : Compared) (why : Fault) (result : ℕ) (old new : E)
+    → EndsTest why
+    → (reported : Fault) × IsReportedOf why reported × (status_of reported ≡ result) × AppendsPrefix (contents old) (contents new) (error_text reported)
+    → StopsComparing names unreadable (contents old) (contents new)
+stops-comparing contents unreadable names why result old new ends reported =
+    let found = reported-ends why result (contents old) (contents new) ends reported in
+    record { text = error_text found.0; why = inl (found.0, found.1, refl); grown = found.2 }
+
+-- a file can't be read
+pub stops-unread : (unreadable : List ℕ → Bool) (names : Compared) (which : ComparedFile) (before after : Option (List ℕ)) (line : List ℕ)
+    → IsTrue (unreadable (compared_name names which)) → line ≡ named_fault (compared_name names which) (fault_line Unreadable)
+    → AppendsPrefix before after line → StopsComparing names unreadable before after
+stops-unread unreadable names which before after line bad is grown =
+    record { text = line; why = inr (which, bad, is); grown = grown }

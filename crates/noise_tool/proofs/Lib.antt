@@ -7,6 +7,8 @@ pub mod MetLemmas
 pub mod KeyUseLemmas
 pub mod PerformingLemmas
 pub mod PrefixLemmas
+pub mod PatternNameLemmas
+pub mod AskedLemmas
 pub mod Shortness
 pub mod PrintedLemmas
 pub mod RunningLemmas

@@ -1,5 +1,5 @@
 -- What `compare` prints of a log and of a vector file, and its exit status.
-use Rattle.std.specs.Prelude.{⊤, ◌≡◌, ◌<◌, ◌≤◌, ℕ, ◌-◌, true, List, [], ◌++◌, Option, Some, IfSome, codes, decimal, flat_map, length, map, string_bytes}
+use Rattle.std.specs.Prelude.{⊤, ◌≡◌, ◌⊎◌, ◌<◌, ◌≤◌, ℕ, ◌-◌, Bool, true, List, [], ◌++◌, Option, Some, IfSome, IsTrue, codes, decimal, flat_map, length, map, string_bytes}
 use Rattle.std.specs.Io.KnownBytes.{Appends}
 use Rattle.noise_compare.specs.Findings.{IsReport}
 use Rattle.noise_compare.specs.Lines.{words_in, line_words}
@@ -10,9 +10,10 @@ use Rattle.noise_compare.specs.declared.comparison.Finding.TheVariants.{Agrees, 
 use Rattle.noise_compare.specs.declared.line.Line.{Line}
 use Rattle.noise_lines.specs.Faults.{status_of}
 use Rattle.noise_lines.specs.Prefixes.{AppendsPrefix}
-use Rattle.noise_lines.specs.Reported.{fault_line}
+use Rattle.noise_lines.specs.Reported.{error_text, fault_line}
 use Rattle.noise_lines.specs.Verdicts.{named_fault}
-use Rattle.noise_lines.specs.declared.faults.Fault.TheVariants.{TooLong}
+use Rattle.noise_lines.specs.declared.faults.Fault.{Fault}
+use Rattle.noise_lines.specs.declared.faults.Fault.TheVariants.{TooLong, Unreadable}
 use Rattle.noise_vectors.specs.VectorFile.{IsVectorFile}
 use Rattle.noise_vectors.specs.VectorText.{file_text}
 use Rattle.noise_vectors.specs.declared.vector.AllowedEvents.TheVariants.{Any}
@@ -20,10 +21,12 @@ use Rattle.noise_vectors.specs.declared.vector.VectorFile.{VectorFile}
 use Rattle.noise_words.specs.declared.orders.Compared.{Compared}
 use Rattle.noise_tool.specs.Selection.{all_lines}
 use Rattle.noise_tool.specs.Performing.{IsRunFault}
-use Rattle.noise_tool.specs.Testing.{is_input}
+use Rattle.noise_tool.specs.Testing.{EndsTest, is_input}
 use Rattle.noise_tool.specs.Tracing.{HasTraces}
 use Rattle.noise_tool.specs.declared.comparison.Comparison.{Comparison}
-use Rattle.noise_tool.specs.declared.comparison.Comparison.TheVariants.{Made, Wrong}
+use Rattle.noise_tool.specs.declared.comparison.Comparison.TheVariants.{Made, Unread, Wrong}
+use Rattle.noise_tool.specs.declared.comparison.ComparedFile.{ComparedFile}
+use Rattle.noise_tool.specs.declared.comparison.ComparedFile.TheVariants.{Log, Vector}
 use Rattle.noise_tool.specs.declared.comparison.Uncompared.{Uncompared}
 use Rattle.noise_tool.specs.declared.comparison.Uncompared.TheVariants.{NamedTwice, LongLog, WrongFile, NoLine, WrongLine}
 use Rattle.noise_compare.specs.declared.comparison.LogReport.{LogReport}
@@ -62,11 +65,15 @@ pub record Compares (log file : List ℕ) (report : LogReport) : Type 0 where
 
 abbrev pub IfMade : Comparison → (LogReport → Type 0) → Type 0
 IfMade (Made report) P = P report
-IfMade (Wrong why) P = ⊤
+IfMade _ P = ⊤
 
 abbrev pub IfWrong : Comparison → (Uncompared → Type 0) → Type 0
-IfWrong (Made report) P = ⊤
 IfWrong (Wrong why) P = P why
+IfWrong _ P = ⊤
+
+abbrev pub IfUnread : Comparison → (ComparedFile → Type 0) → Type 0
+IfUnread (Unread which) P = P which
+IfUnread _ P = ⊤
 
 -- the log and the file were compared, where their texts are known: the output grew by the report on them, and the
 -- status is that of what was found
@@ -122,6 +129,28 @@ pub record IsNotCompared (names : Compared) (log file : Option (List ℕ)) (befo
   pub why : Uncompared
   pub is_why : IsUncompared names log file why
   pub grown : AppendsPrefix before after (uncompared_line names why)
+
+-- ---- a file that can't be read
+
+abbrev pub compared_name : Compared → ComparedFile → List ℕ
+compared_name names Log = string_bytes names.log
+compared_name names Vector = string_bytes names.file
+
+-- the line that says why a comparison ends with status 3: memory runs out or a write is refused; or one of the files
+-- can't be read, where it may be that it can't, and the line has its name
+abbrev pub IsCompareStop : (List ℕ → Bool) → Compared → List ℕ → Type 0
+IsCompareStop unreadable names text =
+    ((fault : Fault) × EndsTest fault × (text ≡ error_text fault))
+    ⊎ ((which : ComparedFile) × IsTrue (unreadable (compared_name names which))
+    × (text ≡ named_fault (compared_name names which) (fault_line Unreadable)))
+
+-- the error output grew by a prefix of it
+pub record StopsComparing (names : Compared) (unreadable : List ℕ → Bool) (before after : Option (List ℕ)) : Type 0 where
+  pub text : List ℕ
+  pub why : IsCompareStop unreadable names text
+  pub grown : AppendsPrefix before after text
+
+-- ---- standard input named twice
 
 -- Nothing is compared. At status 2 the error output grew by a prefix of the line that standard input is named twice.
 pub record IsRefusedTwice (names : Compared) (before after : Option (List ℕ)) (status : ℕ) : Type 0 where

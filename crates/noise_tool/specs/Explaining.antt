@@ -11,6 +11,7 @@ use Rattle.noise_lines.specs.Reported.{error_text}
 use Rattle.noise_lines.specs.declared.faults.Fault.{Fault}
 use Rattle.noise_lines.specs.declared.faults.Fault.TheVariants.{Line, Unreadable}
 use Rattle.noise_tool.specs.Ends.{IsStartFault}
+use Rattle.noise_tool.specs.PatternNames.{NamesText}
 use Rattle.noise_tool.specs.Performing.{IsUnread}
 use Rattle.noise_tool.specs.Running.{IsRunOf}
 use Rattle.noise_tool.specs.Testing.{EndsTest}
@@ -62,6 +63,21 @@ abbrev pub IsExplainedFile : Option (List ℕ) → List ℕ → Explained → Ty
 IsExplainedFile known name e =
     IfSome known (λ text. IsExplainedText name text e ⊎ ((4194304 < length text) × SaysLong name e))
 
+-- what is said of the pattern of this name
+pub record SaysNamed (name : List ℕ) (e : Explained) : Type 0 where
+  pub text : List ℕ
+  pub named : NamesText name text
+  pub said : IsExplained name text e
+
+-- of the file of a name, or, where it may be that this can't be read, of the pattern of that name
+abbrev pub IsExplainedAt : (List ℕ → Option (List ℕ)) → (List ℕ → Bool) → List ℕ → Explained → Type 0
+IsExplainedAt bytes_at unreadable name e =
+    IsExplainedFile (bytes_at name) name e ⊎ (IsTrue (unreadable name) × SaysNamed name e)
+
+-- it may be that the file of this name can't be read, and it is the name of no pattern
+abbrev pub IsUnreadName : (List ℕ → Bool) → List ℕ → Type 0
+IsUnreadName unreadable name = IsTrue (unreadable name) × ((text : List ℕ) → NamesText name text → ⊥)
+
 -- the name of a file, and what is said of it
 pub record Said : Type 0 where
   pub name : List ℕ
@@ -78,42 +94,43 @@ abbrev pub worst_of : List Said → ℕ
 worst_of said = fold (λ status s. worse status s.explained.status) 0 said
 
 -- it is said of the files of these names
-pub record AreSaid (bytes_at : List ℕ → Option (List ℕ)) (names : List (List ℕ)) (said : List Said) : Type 0 where
+pub record AreSaid (bytes_at : List ℕ → Option (List ℕ)) (unreadable : List ℕ → Bool) (names : List (List ℕ))
+    (said : List Said) : Type 0 where
   pub named : map (λ s. s.name) said ≡ names
-  pub right : All (λ s. IsExplainedFile (bytes_at s.name) s.name s.explained) said
+  pub right : All (λ s. IsExplainedAt bytes_at unreadable s.name s.explained) said
 
 -- the files of these names are explained, in order
-pub record HasExplained (bytes_at : List ℕ
-    → Option (List ℕ)) (names : List (List ℕ)) (before after : Option (List ℕ)) (status : ℕ) : Type 0 where
+pub record HasExplained (bytes_at : List ℕ → Option (List ℕ)) (unreadable : List ℕ → Bool)
+    (names : List (List ℕ)) (before after : Option (List ℕ)) (status : ℕ) : Type 0 where
   pub said : List Said
-  pub are : AreSaid bytes_at names said
+  pub are : AreSaid bytes_at unreadable names said
   pub printed : Appends before after (said_text said)
   pub status_is : status ≡ worst_of said
 
 -- and the error output is as it was
-abbrev pub ExplainsFiles : {E : Type 0} → (List ℕ → Option (List ℕ)) → List (List ℕ) → Option (List ℕ)
-    → Option (List ℕ) → E → E → ℕ → Type 0
-ExplainsFiles bytes_at names before after err err_after status =
-    HasExplained bytes_at names before after status × (err_after ≡ err)
+abbrev pub ExplainsFiles : {E : Type 0} → (List ℕ → Option (List ℕ)) → (List ℕ → Bool) → List (List ℕ)
+    → Option (List ℕ) → Option (List ℕ) → E → E → ℕ → Type 0
+ExplainsFiles bytes_at unreadable names before after err err_after status =
+    HasExplained bytes_at unreadable names before after status × (err_after ≡ err)
 
 -- the output grew by a prefix of what is said of the first of these files
-pub record ExplainsPrefix (bytes_at : List ℕ
-    → Option (List ℕ)) (names : List (List ℕ)) (before after : Option (List ℕ)) : Type 0 where
+pub record ExplainsPrefix (bytes_at : List ℕ → Option (List ℕ)) (unreadable : List ℕ → Bool)
+    (names : List (List ℕ)) (before after : Option (List ℕ)) : Type 0 where
   pub first : List (List ℕ)
   pub others : List (List ℕ)
   pub names_are : first ++ others ≡ names
   pub said : List Said
-  pub are : AreSaid bytes_at first said
+  pub are : AreSaid bytes_at unreadable first said
   pub grown : AppendsPrefix before after (said_text said)
 
 -- ---- where the command ends before its work is done
 
 -- the line that says why: memory runs out or a write is refused; or a file of these can't be read, where it may be that
--- it can't, and the line has its name
+-- it can't and its name is that of no pattern, and the line has its name
 abbrev pub IsStop : (List ℕ → Bool) → List (List ℕ) → List ℕ → Type 0
 IsStop unreadable names text =
     ((fault : Fault) × EndsTest fault × (text ≡ error_text fault))
-    ⊎ ((name : List ℕ) × Contains names name × IsTrue (unreadable name) × (text ≡ unread_head name Unreadable))
+    ⊎ ((name : List ℕ) × Contains names name × IsUnreadName unreadable name × (text ≡ unread_head name Unreadable))
 
 -- the error output grew by a prefix of such a line
 pub record StopsExplaining (unreadable : List ℕ → Bool) (names : List (List ℕ)) (before after : Option (List ℕ))

@@ -6,6 +6,7 @@ pub mod Selection
 pub mod KeyUseLines
 pub mod OnePattern
 pub mod OneRun
+pub mod PatternNames
 pub mod Performing
 pub mod Prefixes
 pub mod Printed

@@ -1,5 +1,5 @@
 -- What a command has done that ends with status 0, and why it ends with another.
-use Rattle.std.specs.Prelude.{⊤, ◌≡◌, ◌≢◌, ◌⊎◌, ◌<◌, ◌≤◌, ℕ, List, [], length, Option, IfSome, MatchResult, Result, map, string_bytes}
+use Rattle.std.specs.Prelude.{⊤, ◌≡◌, ◌≢◌, ◌⊎◌, ◌<◌, ◌≤◌, ℕ, Bool, true, false, List, [], length, Option, None, Some, IfSome, IsTrue, MatchResult, Result, map, option_and_then, string_bytes, if◌then◌else◌}
 use Rattle.std.specs.Io.KnownBytes.{Appends}
 use Rattle.noise_names.specs.Plan.{Plan}
 use Rattle.noise_names.specs.Text.{Spells}
@@ -8,10 +8,11 @@ use Rattle.noise_lines.specs.Verdicts.{IsMet, ReportsUnmet}
 use Rattle.noise_tool.specs.Conversion.{MeetsItself}
 use Rattle.noise_tool.specs.Ends.{IsStartFault}
 use Rattle.noise_lines.specs.Faults.{of_vector, status_of}
-use Rattle.noise_lines.specs.Output.{IsCheckFault, IsShowFault, NamesPattern, check_text, list_text, show_text}
+use Rattle.noise_lines.specs.Output.{IsCheckFault, check_text, list_text}
 use Rattle.noise_lines.specs.Lines.{lines_text}
 use Rattle.noise_lines.specs.Prefixes.{AppendsPrefix}
 use Rattle.noise_lines.specs.Reported.{LeavesOther, ReportsRule, error_text}
+use Rattle.noise_tool.specs.PatternNames.{HasShown, IsShownFault, NamesText}
 use Rattle.noise_tool.specs.Running.{IsRunOf, expected_in}
 use Rattle.noise_tool.specs.Templating.{HasTemplated, IsTemplateFault, LeavesPattern, ReadsShortPattern}
 use Rattle.noise_tool.specs.Selection.{selection_of}
@@ -22,6 +23,7 @@ use Rattle.noise_vectors.specs.Expectations.{IsFirstUnmet}
 use Rattle.noise_vectors.specs.VectorFile.{IsAllowedFile, IsReadFault, IsVectorFile}
 use Rattle.noise_vectors.specs.WrongLine.{IsReported}
 use Rattle.noise_vectors.specs.VectorText.{file_text}
+use Rattle.noise_template.specs.Template.{names_protocol}
 use Rattle.noise_lines.specs.declared.faults.Fault.{Fault}
 use Rattle.noise_lines.specs.declared.faults.Fault.TheVariants.{TooLong, Unmet}
 use Rattle.noise_tool.specs.declared.run.Outcome.{Outcome}
@@ -97,8 +99,7 @@ RunsFile Prints file before after = IfSome file (λ text. HasRun Prints text bef
 -- after what was there before
 abbrev pub IsDone : Chosen → Option (List ℕ) → Option (List ℕ) → Option (List ℕ) → Type 0
 IsDone Listing file before after = Appends before after list_text
-IsDone (Show name) file before after =
-    (p : Plan) × NamesPattern (string_bytes name) p × Appends before after (show_text p)
+IsDone (Show name) file before after = HasShown (string_bytes name) before after
 IsDone (Check path) file before after =
     IfSome file (λ text. (p : Plan) × Spells text p × IsValid p × Appends before after (check_text p))
 IsDone (Template word) file before after = HasTemplated (string_bytes word) file before after
@@ -172,7 +173,7 @@ IsTooLongConverted text fault =
 -- output's, before and after, each where they are known
 abbrev pub IsFault : Chosen → Option (List ℕ) → Option (List ℕ) → Option (List ℕ) → Fault → Type 0
 IsFault Listing file before after fault = ⊥
-IsFault (Show name) file before after fault = IsShowFault (string_bytes name) fault
+IsFault (Show name) file before after fault = IsShownFault (string_bytes name) fault
 IsFault (Check path) file before after fault = IfSome file (λ text. IsTooLong text fault ⊎ IsCheckFault text fault)
 IsFault (Template word) file before after fault = IsTemplateFault (string_bytes word) file fault
 IsFault (Talk path) file before after fault = IsNotMet IsPlain SayOnly file before after fault
@@ -202,6 +203,64 @@ IsStopped printed reported chosen file out out_after err err_after status =
     × (IsOfLines fault ⊎ LeavesOther fault out out_after err err_after)
     × ReportsRule fault (printed out) (printed out_after)
     × AppendsPrefix (reported err) (reported err_after) (error_text fault)
+
+-- ---- the file that a command reads
+
+-- its name, if it reads one: `list` and `show` read none, nor does `template` of a protocol name
+abbrev pub file_of : Chosen → Option (List ℕ)
+file_of Listing = None
+file_of (Show name) = None
+file_of (Check path) = Some (string_bytes path)
+file_of (Template word) = if names_protocol (string_bytes word) then None else Some (string_bytes word)
+file_of (Talk path) = Some (string_bytes path)
+file_of (Replay path) = Some (string_bytes path)
+file_of (Convert path) = Some (string_bytes path)
+file_of (Trace traced) = Some (string_bytes traced.file)
+
+-- the commands that take the name of a pattern, too, where no file of this name can be read
+abbrev pub takes_pattern : Chosen → Bool
+takes_pattern (Check path) = true
+takes_pattern (Template word) = true
+takes_pattern _ = false
+
+-- this is the text of the pattern of that name
+pub record IsPatternOf (unreadable : List ℕ → Bool) (chosen : Chosen) (text : List ℕ) : Type 0 where
+  pub taken : takes_pattern chosen ≡ true
+  pub word : List ℕ
+  pub word_is : file_of chosen ≡ Some word
+  pub no_file : IsTrue (unreadable word)
+  pub names : NamesText word text
+
+-- this is what is known of the bytes that a command is run on: those of the file that it names, where they are known,
+-- or those of a pattern's text
+abbrev pub IsAsked : (List ℕ → Option (List ℕ)) → (List ℕ → Bool) → Chosen → Option (List ℕ) → Type 0
+IsAsked bytes_at unreadable chosen known =
+    (known ≡ option_and_then bytes_at (file_of chosen))
+    ⊎ ((text : List ℕ) × IsPatternOf unreadable chosen text × (known ≡ Some text))
+
+-- of those bytes
+pub record OfAsked (bytes_at : List ℕ → Option (List ℕ)) (unreadable : List ℕ → Bool) (chosen : Chosen)
+    (P : Option (List ℕ) → Type 0) : Type 0 where
+  pub known : Option (List ℕ)
+  pub asked : IsAsked bytes_at unreadable chosen known
+  pub holds : P known
+
+-- these are the bytes, where they are known
+abbrev pub IsKnownAs : List ℕ → Option (List ℕ) → Type 0
+IsKnownAs text known = IfSome known (λ bytes. text ≡ bytes)
+
+-- the file that the command names has more bytes than are read
+pub record IsLongFile (chosen : Chosen) (known : Option (List ℕ)) : Type 0 where
+  pub word : List ℕ
+  pub word_is : file_of chosen ≡ Some word
+  pub long : IfSome known (λ bytes. 4194304 < length bytes)
+
+-- it may be that the file can't be read, and its name is that of no pattern that the command takes
+pub record IsUnreadFile (unreadable : List ℕ → Bool) (chosen : Chosen) : Type 0 where
+  pub word : List ℕ
+  pub word_is : file_of chosen ≡ Some word
+  pub no_file : IsTrue (unreadable word)
+  pub no_pattern : takes_pattern chosen ≡ true → (text : List ℕ) → NamesText word text → ⊥
 
 -- ---- what the words of a command line ask for
 
@@ -238,10 +297,3 @@ abbrev pub LeavesAtTwo : {O : Type 0} → Order → O → O → Type 0
 LeavesAtTwo (Test asked) before after = ⊥
 LeavesAtTwo (Explain files) before after = ⊤
 LeavesAtTwo _ before after = after ≡ before
-
--- `test`, `explain` and `compare` read their files by their names
-abbrev pub LeavesInput : {R : Type 0} → Order → R → R → Type 0
-LeavesInput (Command chosen) before after = LeavesFile chosen before after
-LeavesInput (Test asked) before after = after ≡ before
-LeavesInput (Explain files) before after = after ≡ before
-LeavesInput (Compare names) before after = after ≡ before

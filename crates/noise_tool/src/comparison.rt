@@ -1,17 +1,18 @@
 //! The command `compare`: a key schedule that was logged is compared with that of a vector file.
 
-ghost use Rattle.std.specs.Prelude.{◌≡◌, ◌⊎◌, ◌++◌, ◌≤◌, ℕ, List, true, IfErr, IfOk, IfSome, MatchResult, OnOk, map, string_bytes};
+ghost use Rattle.std.specs.Prelude.{◌≡◌, ◌⊎◌, ◌++◌, ◌≤◌, ℕ, List, true, IfErr, IfOk, IfSome, IsTrue, MatchResult, OnOk, map, string_bytes};
 ghost use Rattle.std.specs.Io.KnownBytes.{Appends};
 ghost use Rattle.noise_compare.specs.Lines.{words_in, line_words};
 ghost use Rattle.noise_compare.specs.Plain.{passed_text};
 ghost use Rattle.noise_lines.specs.Faults.{status_of};
 ghost use Rattle.noise_lines.specs.Prefixes.{AppendsPrefix};
-ghost use Rattle.noise_lines.specs.Reported.{error_text};
-ghost use Rattle.noise_lines.specs.declared.faults.Fault.{Fault};
+ghost use Rattle.noise_lines.specs.Reported.{fault_line};
+ghost use Rattle.noise_lines.specs.Verdicts.{named_fault};
+ghost use Rattle.noise_lines.specs.declared.faults.Fault.TheVariants.{Unreadable, Unwritable};
 ghost use Rattle.noise_lines.specs.TracedLines.{traces_of};
 ghost use Rattle.noise_names.specs.Lists.{bytes_of};
-ghost use Rattle.noise_tool.specs.Comparing.{Compares, ComparesPrefix, IfMade, IfWrong, IsCompared, IsNotCompared, IsRefusedTwice, IsUncompared, IsWrongLog, NamesInputTwice, finding_status, schedule_of, uncompared_line};
-ghost use Rattle.noise_tool.specs.Testing.{RunsTo};
+ghost use Rattle.noise_tool.specs.Comparing.{Compares, ComparesPrefix, IfMade, IfUnread, IfWrong, IsCompared, IsNotCompared, IsRefusedTwice, IsUncompared, IsWrongLog, NamesInputTwice, StopsComparing, compared_name, finding_status, schedule_of, uncompared_line};
+ghost use Rattle.noise_tool.specs.Testing.{EndsTest, RunsTo};
 ghost use Rattle.noise_tool.specs.declared.comparison.Comparison.TheVariants.{Wrong};
 ghost use Rattle.noise_tool.specs.declared.comparison.Uncompared.TheVariants.{NamedTwice, WrongFile};
 
@@ -33,6 +34,17 @@ pub enum Comparison {
     Made(LogReport),
     /// One of them is wrong.
     Wrong(Uncompared),
+    /// One of them can't be read.
+    Unread(ComparedFile),
+}
+
+/// One of the two files that are compared.
+#[derive(Clone, Copy)]
+pub enum ComparedFile {
+    /// The log.
+    Log,
+    /// The vector file.
+    Vector,
 }
 
 /// Why a log isn't compared with a vector file.
@@ -54,8 +66,8 @@ pub enum Uncompared {
 /// Compares the log of a key schedule with the key schedule of a vector file, as `trace` prints it, and writes the
 /// first difference, and the mistakes that give its values. What it writes are secrets. The exit status is 0 where all
 /// lines of the log agree; 1 where one differs, or the log ends before a step of its party's handshake; 2 where the log
-/// or the file is wrong, which is written to `err`; 3 where a file can't be read, the output can't be written, or
-/// memory runs out.
+/// or the file is wrong, which is written to `err`; 3 where a file can't be read, which `err` says with its name, the
+/// output can't be written, or memory runs out.
 pub fn compare_log<F: FilesByName, O: Write, E: Write>(
     alloc: Global,
     names: &Compared,
@@ -72,8 +84,8 @@ pub fn compare_log<F: FilesByName, O: Write, E: Write>(
     ensures twice { NamesInputTwice names.now
         → IsRefusedTwice names.now (E.contents err.old) (E.contents err.new) result }
     ensures unwritten { result ≡ 2 → out.new ≡ out.old }
-    ensures outside { result ≡ 3 → (fault : Fault) × (status_of fault ≡ 3)
-        × AppendsPrefix (E.contents err.old) (E.contents err.new) (error_text fault) }
+    ensures outside { result ≡ 3 → StopsComparing names.now (F.unreadable files.now) (E.contents err.old)
+        (E.contents err.new) }
     ensures prefix { (out.new ≡ out.old) ⊎ ComparesPrefix (F.bytes_at files.now (string_bytes names.now.log))
         (F.bytes_at files.now (string_bytes names.now.file)) (O.contents out.old) (O.contents out.new) }
 {
@@ -89,6 +101,13 @@ pub fn compare_log<F: FilesByName, O: Write, E: Write>(
             }
             Err(_) => report_fault(alloc, Fault::Memory, out, err),
         },
+        Ok(Comparison::Unread(which)) => match unread_line(alloc, names, which) {
+            Ok(line) => {
+                let _ = write(&line, err);
+                3
+            }
+            Err(_) => report_fault(alloc, Fault::Memory, out, err),
+        },
         Err(fault) => report_fault(alloc, fault, out, err),
     }
 }
@@ -98,7 +117,7 @@ fn print_report<O: Write>(report: &LogReport, out: &mut O) -> Result<u8, Fault>
     ensures printed { IfOk result (λ status. Appends (O.contents out.old) (O.contents out.new) report.now.text.items
         × (status ≡ finding_status report.now.finding)) }
     ensures prefix { AppendsPrefix (O.contents out.old) (O.contents out.new) report.now.text.items }
-    ensures fault { IfErr result (λ fault. status_of fault ≡ 3) }
+    ensures fault { IfErr result (λ fault. fault ≡ Unwritable) }
 {
     write(&report.text, out)?;
     flush(out)?;
@@ -120,8 +139,10 @@ fn compare_named<F: FilesByName>(
     ensures wrong { IfOk result (λ made. IfWrong made
         (IsUncompared names.now (F.bytes_at files.now (string_bytes names.now.log)) (F.bytes_at files.now
         (string_bytes names.now.file)))) }
+    ensures unread { IfOk result (λ made. IfUnread made
+        (λ which. IsTrue (F.unreadable files.now (compared_name names.now which)))) }
     ensures twice { IfOk result (λ made. NamesInputTwice names.now → made ≡ Wrong NamedTwice) }
-    ensures fault { IfErr result (λ fault. status_of fault ≡ 3) }
+    ensures fault { IfErr result EndsTest }
 {
     let (log_name, file_name) = (names.log.as_str(), names.file.as_str());
     if is_input(log_name) && is_input(file_name) {
@@ -130,10 +151,12 @@ fn compare_named<F: FilesByName>(
     let log = match files.read(alloc, log_name) {
         Ok(log) => log,
         Err(Fault::TooLong) => return Ok(Comparison::Wrong(Uncompared::LongLog)),
+        Err(Fault::Unreadable) => return Ok(Comparison::Unread(ComparedFile::Log)),
         Err(fault) => return Err(fault),
     };
     match trace_named(alloc, file_name, files) {
         Ok(run) => compare_traced(alloc, &log, &run.facts, &run.traced),
+        Err(Fault::Unreadable) => Ok(Comparison::Unread(ComparedFile::Vector)),
         Err(fault) => wrong_file(fault),
     }
 }
@@ -148,7 +171,8 @@ fn compare_traced(
     ensures made { (file : List ℕ) → RunsTo true file traced.now
         → IfOk result (λ made. IfMade made (Compares log.now file)) }
     ensures wrong { IfOk result (λ made. IfWrong made (IsWrongLog log.now)) }
-    ensures fault { IfErr result (λ fault. status_of fault ≡ 3) }
+    ensures read { IfOk result (λ made. IfUnread made (λ which. ⊥)) }
+    ensures fault { IfErr result EndsTest }
 {
     let right = schedule(alloc, traced)?;
     let plain = plain_text(alloc, log)?;
@@ -189,15 +213,27 @@ fn schedule(alloc: Global, traced: &Traced) -> Result<Vec<Line<'_>>, AllocError>
     Ok(lines)
 }
 
-// That a vector file isn't run; a fault from outside is handed on.
+// That a vector file isn't run; memory that runs out is handed on.
 fn wrong_file(fault: Fault) -> Result<Comparison, Fault>
     ensures wrong { IfOk result (λ made. (made ≡ Wrong (WrongFile fault)) × (status_of fault ≤ 2)) }
-    ensures fault { IfErr result (λ other. status_of other ≡ 3) }
+    ensures fault { IfErr result (λ other. (other ≡ fault) × (status_of other ≡ 3)) }
 {
     if fault.status() == 3 {
         return Err(fault);
     }
     Ok(Comparison::Wrong(Uncompared::WrongFile(fault)))
+}
+
+// The line that says which file can't be read.
+fn unread_line(alloc: Global, names: &Compared, which: ComparedFile) -> Result<Vec<u8>, AllocError>
+    ensures { IfOk result
+        (λ line. line.items ≡ named_fault (compared_name names.now which) (fault_line Unreadable)) }
+{
+    let name = match which {
+        ComparedFile::Log => names.log.as_str(),
+        ComparedFile::Vector => names.file.as_str(),
+    };
+    verdict_lines(alloc, name, &Verdict::CannotRun(Fault::Unreadable))
 }
 
 // The line that says why a log isn't compared.

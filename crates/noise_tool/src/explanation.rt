@@ -1,13 +1,15 @@
 //! The command `explain`: what is wrong with pattern texts and vector files, in sentences, or what follows from the
 //! tokens of their patterns.
 
-ghost use Rattle.std.specs.Prelude.{◌≡◌, ◌⊎◌, ◌≤◌, IfErr, IfNone, IfOk, IfSome, IsTrue, map, string_bytes};
+ghost use Rattle.std.specs.Prelude.{◌≡◌, ◌⊎◌, ◌≤◌, ℕ, List, IfErr, IfNone, IfOk, IfSome, map, string_bytes};
 ghost use Rattle.noise_explain.specs.Shown.{unread_head};
 ghost use Rattle.noise_lines.specs.Prefixes.{AppendsPrefix};
 ghost use Rattle.noise_lines.specs.declared.faults.Fault.TheVariants.{Unreadable};
-ghost use Rattle.noise_tool.specs.Explaining.{ExplainsFiles, ExplainsPrefix, IsExplainedFile, IsExplainedRun, IsExplainedText, IsExplainedVector, StopsExplaining, worse};
+ghost use Rattle.noise_tool.specs.Explaining.{ExplainsFiles, ExplainsPrefix, IsExplainedAt, IsExplainedRun, IsExplainedText, IsExplainedVector, IsUnreadName, SaysNamed, StopsExplaining, worse};
+ghost use Rattle.noise_tool.specs.PatternNames.{NamesText};
 ghost use Rattle.noise_tool.specs.Testing.{EndsTest};
 
+use crate::pattern_names::pattern_text;
 use crate::run::replay;
 use crate::testing::FilesByName;
 use noise_explain::{Explained, explain, explain_long, unread_head};
@@ -20,8 +22,9 @@ use std::alloc::Global;
 use std::io::Write;
 
 /// Explains the file of each name, one after the other. The exit status is the greatest of theirs: 0 of a right file, 1
-/// of a pattern that breaks a rule or of parties that can't be made, 2 of a wrong text. Where a file can't be read,
-/// which `err` says with its name, the output can't be written or memory runs out, the command ends with 3.
+/// of a pattern that breaks a rule or of parties that can't be made, 2 of a wrong text. Where a file can't be read and
+/// its name is that of a pattern, this pattern is explained. Where it can't be read, which `err` says with its name, the
+/// output can't be written or memory runs out, the command ends with 3.
 pub fn explain_files<F: FilesByName, O: Write, E: Write>(
     alloc: Global,
     names: &[String],
@@ -30,12 +33,12 @@ pub fn explain_files<F: FilesByName, O: Write, E: Write>(
     err: &mut E,
 ) -> u8
     ensures status { result ≤ 3 }
-    ensures explained { (result ≡ 3) ⊎ ExplainsFiles (F.bytes_at files.now) (map string_bytes names.now)
-        (O.contents out.old) (O.contents out.new) err.old err.new result }
+    ensures explained { (result ≡ 3) ⊎ ExplainsFiles (F.bytes_at files.now) (F.unreadable files.now)
+        (map string_bytes names.now) (O.contents out.old) (O.contents out.new) err.old err.new result }
     ensures outside { (result ≤ 2) ⊎ StopsExplaining (F.unreadable files.now) (map string_bytes names.now)
         (E.contents err.old) (E.contents err.new) }
-    ensures prefix { ExplainsPrefix (F.bytes_at files.now) (map string_bytes names.now) (O.contents out.old)
-        (O.contents out.new) }
+    ensures prefix { ExplainsPrefix (F.bytes_at files.now) (F.unreadable files.now) (map string_bytes names.now)
+        (O.contents out.old) (O.contents out.new) }
 {
     match explain_each(alloc, names, files, out, err) {
         Ok(status) => status,
@@ -51,12 +54,13 @@ fn explain_each<F: FilesByName, O: Write, E: Write>(
     err: &mut E,
 ) -> Result<u8, Fault>
     ensures status { IfOk result (λ status. status ≤ 3) }
-    ensures explained { IfOk result (λ status. (status ≡ 3) ⊎ ExplainsFiles (F.bytes_at files.now)
+    ensures explained { IfOk result (λ status. (status ≡ 3)
+        ⊎ ExplainsFiles (F.bytes_at files.now) (F.unreadable files.now)
         (map string_bytes names.now) (O.contents out.old) (O.contents out.new) err.old err.new status) }
     ensures outside { IfOk result (λ status. (status ≤ 2) ⊎ StopsExplaining (F.unreadable files.now)
         (map string_bytes names.now) (E.contents err.old) (E.contents err.new)) }
-    ensures prefix { ExplainsPrefix (F.bytes_at files.now) (map string_bytes names.now) (O.contents out.old)
-        (O.contents out.new) }
+    ensures prefix { ExplainsPrefix (F.bytes_at files.now) (F.unreadable files.now) (map string_bytes names.now)
+        (O.contents out.old) (O.contents out.new) }
     ensures fault { IfErr result EndsTest }
     ensures quiet { IfErr result (λ _. err.new ≡ err.old) }
 {
@@ -91,15 +95,15 @@ fn worse(first: u8, second: u8) -> u8
     if first <= second { second } else { first }
 }
 
-// What is said of the file of this name, if it can be read.
+// What is said of the file of this name, if it can be read, or of the pattern of this name.
 fn explain_named<F: FilesByName>(
     alloc: Global,
     name: &str,
     files: &F,
 ) -> Result<Option<Explained>, Fault>
     ensures explained { IfOk result
-        (λ found. IfSome found (IsExplainedFile (F.bytes_at files.now name.now) name.now)) }
-    ensures unread { IfOk result (λ found. IfNone found (IsTrue (F.unreadable files.now name.now))) }
+        (λ found. IfSome found (IsExplainedAt (F.bytes_at files.now) (F.unreadable files.now) name.now)) }
+    ensures unread { IfOk result (λ found. IfNone found (IsUnreadName (F.unreadable files.now) name.now)) }
     ensures bound { IfOk result (λ found. IfSome found (λ e. e.status ≤ 2)) }
     ensures fault { IfErr result EndsTest }
 {
@@ -109,8 +113,21 @@ fn explain_named<F: FilesByName>(
             Ok(Some(explained))
         }
         Err(Fault::TooLong) => Ok(Some(explain_long(alloc, name)?)),
-        Err(Fault::Unreadable) => Ok(None),
+        Err(Fault::Unreadable) => explain_pattern(alloc, name),
         Err(fault) => Err(fault),
+    }
+}
+
+// What is said of the pattern of this name, if there is one.
+fn explain_pattern(alloc: Global, name: &str) -> Result<Option<Explained>, Fault>
+    ensures explained { IfOk result (λ found. IfSome found (SaysNamed name.now)) }
+    ensures none { IfOk result (λ found. IfNone found ((text : List ℕ) → NamesText name.now text → ⊥)) }
+    ensures bound { IfOk result (λ found. IfSome found (λ e. e.status ≤ 2)) }
+    ensures fault { IfErr result EndsTest }
+{
+    match pattern_text(alloc, name)? {
+        Some(text) => Ok(Some(explain(alloc, name, &text)?)),
+        None => Ok(None),
     }
 }
 

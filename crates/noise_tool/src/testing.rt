@@ -359,6 +359,7 @@ pub(crate) fn trace_named<F: FilesByName>(
 ) -> Result<TestedRun, Fault>
     ensures runs { IfOk result
         (λ run. IfSome (F.bytes_at files.now name.now) (λ text. RunsTo true text run.traced)) }
+    ensures failed { IfErr result (λ fault. fault ≡ Unreadable → IsTrue (F.unreadable files.now name.now)) }
     ensures fault { IfErr result (λ fault. (status_of fault ≡ 3)
         ⊎ IfSome (F.bytes_at files.now name.now) (λ text. IsRunFault Any text fault)) }
 {

@@ -163,7 +163,7 @@ fn top<'a>(alloc: Global) -> Result<Command<'a>, AllocError>
 {
     Command::new(alloc, "noise")
         .version("1.0.0")
-        .about("Noise handshake patterns, and transport sessions between two ends, by a file")
+        .about("Noise handshake patterns, and sessions of two parties that are run on a file")
         .subcommand_required(true)
         .bin_name("noise")
 }

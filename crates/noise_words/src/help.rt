@@ -23,9 +23,9 @@ Replace the digits of each placeholder wherever they stand:
   e1e1..  the initiator's ephemeral public key    5151..  its static public key
   e2e2..  the responder's ephemeral public key    5252..  its static public key
   eeee..  the result of DH at ee, e5e5.. at es, 5e5e.. at se, 5555.. at ss
-  a0a0..  the pre-shared secret of psk0, a1a1.. of psk1, up to a8a8.. of psk8
+  a0a0..  the pre-shared key of psk0, a1a1.. of psk1, up to a8a8.. of psk8
 
-Example: noise template Noise_XXpsk3_25519_ChaChaPoly_SHA256";
+Example: noise template XXpsk3";
 
 /// The subcommands that have a value.
 pub const WITH_VALUE: [Subcommand<'static>; 7] = [
@@ -34,15 +34,15 @@ pub const WITH_VALUE: [Subcommand<'static>; 7] = [
         value: "NAME",
         several: false,
         about: "Print the pattern of a protocol name, and how many bytes each message adds",
-        meaning: "A whole protocol name, as Noise_XXpsk3_25519_ChaChaPoly_SHA256",
-        example: "Example: noise show Noise_XX_25519_ChaChaPoly_SHA256",
+        meaning: "A pattern name, as XXpsk3, or a protocol name, as Noise_XXpsk3_25519_ChaChaPoly_SHA256",
+        example: "Example: noise show XXpsk3",
     },
     Subcommand {
         name: "check",
         value: "FILE",
         several: false,
         about: "Say whether the pattern in a file is valid, and how many bytes each message adds",
-        meaning: "A file with the text of a pattern",
+        meaning: "A file with the text of a pattern, or a pattern name, as XX, where no such file can be read",
         example: "Example: noise check examples/patterns/ikpsk2.pattern",
     },
     Subcommand {
@@ -50,7 +50,7 @@ pub const WITH_VALUE: [Subcommand<'static>; 7] = [
         value: "FILE",
         several: true,
         about: "Say in sentences what is wrong with a pattern or a vector file, and what follows from it",
-        meaning: "Files with the text of a pattern, and vector files",
+        meaning: "Files with the text of a pattern, vector files, and pattern names, as XX",
         example: "Example: noise explain examples/patterns/broken.pattern",
     },
     Subcommand {
@@ -58,14 +58,14 @@ pub const WITH_VALUE: [Subcommand<'static>; 7] = [
         value: "NAME|FILE",
         several: false,
         about: "Print a vector file with the lines that a pattern needs, and a placeholder for each key",
-        meaning: "A whole protocol name, as Noise_XXpsk3_25519_ChaChaPoly_SHA256, or a file with the text of a pattern",
+        meaning: "A protocol name, a file with the text of a pattern, or a pattern name, as XXpsk3",
         example: TEMPLATE_HELP,
     },
     Subcommand {
         name: "talk",
         value: "FILE",
         several: false,
-        about: "Run two ends on a vector file and print what each writes and takes",
+        about: "Run two parties on a vector file and print what each writes and reads",
         meaning: "A vector file whose events are all say; lines that it expects are compared",
         example: "Example: noise talk examples/vectors/first-message.vector",
     },
@@ -73,7 +73,7 @@ pub const WITH_VALUE: [Subcommand<'static>; 7] = [
         name: "replay",
         value: "FILE",
         several: false,
-        about: "Run two ends on a vector file whose frames may be lost, repeated or foreign",
+        about: "Run two parties on a vector file whose frames may be lost, repeated or foreign",
         meaning: "A vector file with events of all kinds, and datagrams; lines that it expects are compared",
         example: "Example: noise replay examples/vectors/each-outcome.vector",
     },
@@ -102,7 +102,7 @@ pub const TRACE: Subcommand<'static> = Subcommand {
     name: "trace",
     value: "FILE",
     several: false,
-    about: "Run two ends as replay does and print each end's key schedule: what it prints are secrets",
+    about: "Run two parties as replay does and print the key schedule of each: what it prints are secrets",
     meaning: "A vector file as replay takes it, with keys that are for tests alone",
     example: "Example: noise trace --role responder examples/vectors/nnpsk2.vector",
 };
@@ -112,8 +112,8 @@ pub const COMPARE: Subcommand<'static> = Subcommand {
     name: "compare",
     value: "LOG",
     several: false,
-    about: "Print the first place where a logged key schedule parts from that of a vector file: \
-            what it prints are secrets",
+    about: "Print the first line of a logged key schedule that differs from that of a vector file, \
+            and the mistakes that give its values: what it prints are secrets",
     meaning: "Lines of a key schedule in the form of trace, logged by another implementation",
     example: "Example: noise compare yours.log examples/vectors/xx.vector",
 };

@@ -4,7 +4,9 @@
 mod choices;
 mod command_line;
 mod help;
+mod no_command;
 mod orders;
 
 pub use command_line::chosen;
+pub use no_command::next_commands;
 pub use orders::{Chosen, Compared, LineFault, Order, Tested, Traced, TracedPart, TracedRole};

@@ -1,4 +1,5 @@
-use Rattle.std.proofs.Common.{inr}
+use Rattle.std.proofs.Common.{ap, inr}
+use Rattle.noise_tool.proofs.Common.{status_of}
 use Rattle.noise_tool.proofs.ComparingLemmas.{begun-left}
 use Rattle.noise_tool.proofs.comparison.compare_log.Goals as goal
 
@@ -19,5 +20,5 @@ returns-in-Ok-clause-prefix g c = inr (record {
 
 pub returns-in-Ok-Made-clause-prefix : goal.returns-in-Ok-Made-clause-prefix
 returns-in-Ok-Made-clause-prefix g c = inr (begun-left (g.O.Write.contents) _ _ _ c.in-Err-print_report.fault c.print_report.new.out c.report_fault.new.out
-    c.in-Ok-Made.report c.in-Err-print_report.ensures.fault c.report_fault.ensures.output (rw c.in-Ok-Made.field-0-is at c.in-Ok-Made.ensures.made)
+    c.in-Ok-Made.report (ap status_of c.in-Err-print_report.ensures.fault) c.report_fault.ensures.output (rw c.in-Ok-Made.field-0-is at c.in-Ok-Made.ensures.made)
     c.in-Err-print_report.ensures.prefix)

@@ -1,0 +1,24 @@
+//! The commands that are shown where the words of a command line name none.
+
+ghost use Rattle.std.specs.Prelude.{◌≡◌};
+ghost use Rattle.clap.specs.Words.{kind_of};
+ghost use Rattle.noise_words.specs.NextCommands.{next_commands};
+
+use clap::error::ErrorKind;
+
+const FIRST_COMMANDS: &str = "
+Three commands to begin with:
+  noise show XX
+  noise explain examples/patterns/broken.pattern
+  noise test examples/vectors/xx.vector
+";
+
+/// What is shown after this fault of a command line: three commands, where its words name none, and else nothing.
+pub fn next_commands(error: &clap::Error) -> &'static str
+    ensures { result.now ≡ next_commands (kind_of error.now) }
+{
+    match error.kind() {
+        ErrorKind::MissingSubcommand | ErrorKind::InvalidSubcommand => FIRST_COMMANDS,
+        _ => "",
+    }
+}
