@@ -1,8 +1,10 @@
 """Times this package beside dissononce, beside ChaCha20Poly1305 of `cryptography` in a loop, beside the library from C,
-and beside plain asyncio streams, in turns, in time of the processor: the least of each counts. It is no check.
-PYTHONPATH has the package: checks/python/figures.py."""
+and beside asyncio's streams without and with TLS, in turns, in time of the processor: the least of each counts. It is
+no check. PYTHONPATH has the package: checks/python/figures.py [asyncio]; the word leaves out all but asyncio."""
 import asyncio
+import datetime
 import os
+import ssl
 import statistics
 import subprocess
 import sys
@@ -10,6 +12,9 @@ import tempfile
 import time
 from pathlib import Path
 
+from cryptography import x509
+from cryptography.hazmat.primitives import hashes, serialization
+from cryptography.hazmat.primitives.asymmetric import ec
 from cryptography.hazmat.primitives.ciphers.aead import ChaCha20Poly1305
 from dissononce.cipher.chachapoly import ChaChaPolyCipher
 from dissononce.dh.x25519.x25519 import X25519DH
@@ -149,20 +154,33 @@ async def echo(reader, writer):
     writer.close()
 
 
+def clocks():
+    return time.process_time(), time.perf_counter()
+
+
+def rates(count, since):
+    """The bytes a second by the processor's time, and by the clock on the wall."""
+    return [count / (now - start) for now, start in zip(clocks(), since)]
+
+
 async def carry(listen, connect, size=16384, count=1000):
-    """The bytes a second through a connection, in writes of a size."""
+    """The bytes a second through a connection, in writes of a size, with both parties in this thread."""
     server = await listen()
     reader, writer = await connect(*server.sockets[0].getsockname())
-    payload, start = bytes(size), time.process_time()
+    payload, since = bytes(size), clocks()
     for _ in range(count):
         writer.write(payload)
         await writer.drain()
-    writer.write_eof()
-    await reader.read()
-    taken = time.process_time() - start
+    if writer.can_write_eof():
+        writer.write_eof()
+        await reader.read()
+    else:
+        writer.close()    # TLS has no end of one direction
+        await writer.wait_closed()
+    made = rates(size * count, since)
     writer.close()
     server.close()
-    return size * count / taken
+    return made
 
 
 class Taker(asyncio.BufferedProtocol):
@@ -201,7 +219,7 @@ async def bare(size=16384, count=1000):
     server = await loop.create_server(lambda: Taker(receiver._at[0], size * count, done), "127.0.0.1", 0)
     transport, protocol = await loop.create_connection(
         lambda: asyncio.StreamReaderProtocol(asyncio.StreamReader()), *server.sockets[0].getsockname())
-    start = time.process_time()
+    since = clocks()
     for _ in range(count):
         frame = bytearray(size + STREAM_OVERHEAD)
         with ffi.from_buffer(frame) as room:
@@ -209,20 +227,54 @@ async def bare(size=16384, count=1000):
         transport.write(frame)
         await protocol._drain_helper()
     await done
-    taken = time.process_time() - start
+    made = rates(size * count, since)
     transport.close()
     server.close()
-    return size * count / taken
+    return made
 
 
-def streams():
-    ours, plain, least = [], [], []
-    for _ in range(10):
-        ours.append(asyncio.run(carry(lambda: start_server(echo, "127.0.0.1", 0, PLAIN),
-                                      lambda *address: open_connection(*address, PLAIN))))
-        plain.append(asyncio.run(carry(lambda: asyncio.start_server(echo, "127.0.0.1", 0), asyncio.open_connection)))
-        least.append(asyncio.run(bare()))
-    return max(ours), max(plain), max(least)
+def tls():
+    """The contexts of a server and a client, for the cipher of this package."""
+    key, name = ec.generate_private_key(ec.SECP256R1()), x509.Name([])
+    now = datetime.datetime.utcnow()
+    words = x509.CertificateBuilder().subject_name(name).issuer_name(name).public_key(key.public_key())
+    words = words.serial_number(1).not_valid_before(now).not_valid_after(now + datetime.timedelta(1))
+    contexts = ssl.SSLContext(ssl.PROTOCOL_TLS_SERVER), ssl.SSLContext(ssl.PROTOCOL_TLS_CLIENT)
+    contexts[1].check_hostname, contexts[1].verify_mode = False, ssl.CERT_NONE
+    for it in contexts:
+        it.maximum_version = ssl.TLSVersion.TLSv1_2    # where Python can choose the cipher
+        it.set_ciphers("ECDHE-ECDSA-CHACHA20-POLY1305")
+    with tempfile.NamedTemporaryFile() as file:
+        form = serialization.PrivateFormat.PKCS8
+        file.write(key.private_bytes(serialization.Encoding.PEM, form, serialization.NoEncryption()))
+        file.write(words.sign(key, hashes.SHA256()).public_bytes(serialization.Encoding.PEM))
+        file.flush()
+        contexts[0].load_cert_chain(file.name)
+    return contexts
+
+
+def streams(rounds=ROUNDS):
+    """Prints the bytes a second of each way through asyncio: the best round, the median, and beside this package."""
+    server, client = tls()
+    ways = {
+        "this package": lambda: carry(lambda: start_server(echo, "127.0.0.1", 0, PLAIN),
+                                      lambda *address: open_connection(*address, PLAIN)),
+        "protocols that only call the library": bare,
+        "plain streams": lambda: carry(lambda: asyncio.start_server(echo, "127.0.0.1", 0), asyncio.open_connection),
+        "streams with ssl": lambda: carry(lambda: asyncio.start_server(echo, "127.0.0.1", 0, ssl=server),
+                                          lambda *address: asyncio.open_connection(*address, ssl=client)),
+    }
+    made = {name: [] for name in ways}
+    begun = os.getloadavg()[0]
+    for _ in range(rounds):
+        for name, way in ways.items():
+            made[name].append([it / 1e6 for it in asyncio.run(way())])
+    print(f"16 KiB through asyncio, MB/s, {rounds} rounds, at load {begun:.1f} to {os.getloadavg()[0]:.1f}:")
+    for name, both in made.items():
+        own, wall = zip(*both)
+        times = statistics.median(it[0] / base[0] for it, base in zip(both, made["this package"]))
+        print(f"  {name}: {max(own):.0f} of processor time at best, {statistics.median(own):.0f} as the median; "
+              f"by the clock {max(wall):.0f} and {statistics.median(wall):.0f}; {times:.2f} of this package's speed")
 
 
 def imports():
@@ -237,6 +289,9 @@ def imports():
 
 
 def main():
+    if sys.argv[1:] == ["asyncio"]:
+        streams()
+        return
     own, other = turns([ours, theirs], 5)
     print(f"XX, both parties: {own * 1e3:.2f} ms, dissononce {other * 1e3:.2f} ms: {other / own:.1f} times")
     sizes = (64, 1024, 16384)
@@ -244,9 +299,7 @@ def main():
         own, placed, other, loop = messages(size)
         print(f"{size} bytes, sealed and opened: {own * 1e6:.2f} us, {other / own:.1f} times as fast as dissononce, "
               f"{loop / own:.1f} as cryptography in a loop; in place {placed * 1e6:.2f} us, {placed / least:.2f} of C")
-    own, plain, least = (it / 1e6 for it in streams())
-    print(f"16 KiB through asyncio: {own:.0f} MB/s, plain streams {plain:.0f} MB/s, "
-          f"protocols that only call the library {least:.0f} MB/s")
+    streams()
     least, median = imports()
     print(f"import: {least * 1e3:.0f} ms at least, {median * 1e3:.0f} ms as the median")
 

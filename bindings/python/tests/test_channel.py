@@ -397,11 +397,11 @@ def pass_relay(configured, waits, faults, pieces):
                 with pytest.raises(type(party.fault)):
                     call()
             assert party.channel.data_to_send() == b""
-    judge(parties)
+    check_parties(parties)
     return parties, relays
 
 
-def judge(parties):
+def check_parties(parties):
     """What each party says is what the theorem on streams allows."""
     for role, party in enumerate(parties):
         written = b"".join(TEXTS[1 - role])

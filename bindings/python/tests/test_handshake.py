@@ -46,7 +46,7 @@ def pair(pattern, **words):
     return Handshake(first, True), Handshake(second, False)
 
 
-def judge_transport(initiator, responder):
+def check_transport(initiator, responder):
     """Both directions carry messages; in a one-way pattern only one does."""
     one_way = layout(initiator.config.pattern).one_way
     (send_a, receive_a), (send_b, receive_b) = initiator.split(), responder.split()
@@ -69,7 +69,7 @@ def test_fundamental_patterns(pattern):
     statics = with_static(pattern)
     assert (responder.peer_key is not None, initiator.peer_key is not None) == statics
     assert initiator.protocol == f"Noise_{pattern}_25519_ChaChaPoly_SHA256"
-    judge_transport(initiator, responder)
+    check_transport(initiator, responder)
     assert initiator.closed and initiator.hash == responder.hash
 
 
@@ -78,7 +78,7 @@ def test_patterns_of_texts(name):
     """The deferred patterns, and IKpsk2 as a text, whose hash is that of the name."""
     initiator, responder = pair(OWN[name])
     shake(initiator, responder)
-    judge_transport(initiator, responder)
+    check_transport(initiator, responder)
 
 
 def test_a_text_of_ones_own():
@@ -93,7 +93,7 @@ def test_x25519(pattern):
     """With cryptography's key pairs in place of toys."""
     initiator, responder = pair(pattern, toy=False)
     shake(initiator, responder)
-    judge_transport(initiator, responder)
+    check_transport(initiator, responder)
 
 
 @pytest.mark.parametrize("text, code, line", [
@@ -153,10 +153,10 @@ def test_each_byte_of_each_message():
         read = layout(pattern)
         for index, message in enumerate(read.messages):
             for at in range(message.length):
-                judge_flip(pattern, index, at)
+                check_flip(pattern, index, at)
 
 
-def judge_flip(pattern, index, at):
+def check_flip(pattern, index, at):
     initiator, responder = pair(pattern)
     ends = (initiator, responder)
     for number, message in enumerate(layout(pattern).messages):
@@ -508,7 +508,7 @@ def test_nothing_is_left():
     for _ in range(50):
         initiator, responder = pair("XX")
         shake(initiator, responder)
-        judge_transport(initiator, responder)
+        check_transport(initiator, responder)
     del initiator, responder
     gc.collect()
     assert len(_all) <= before

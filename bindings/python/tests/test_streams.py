@@ -76,7 +76,9 @@ def test_memory_for_what_comes_is_given_back():
                 await reader.readexactly(1)
                 writer.write(bytes(600_000))
                 await writer.drain()
-                frame = writer.transport._below.channel._sealed(bytes(1000))
+                channel = writer.transport._below.channel
+                channel.write(bytes(1000))
+                frame = channel.data_to_send()
                 writer.transport._below.transport.write(frame[:400])
                 assert await reader.readexactly(1) == b"2"
                 writer.transport._below.transport.write(frame[400:])
@@ -665,7 +667,7 @@ async def pass_relay(configured, waits, direction, fault, at):
     return reports, relay
 
 
-def judge(reports, direction, after):
+def check_reports(reports, direction, after):
     """`after` is whether the fault is a byte more after all that came."""
     for role, report in enumerate(reports):
         written = "".join(TEXTS[1 - role]).encode()
@@ -690,7 +692,7 @@ def test_relay(waits):
         async def one(direction, fault, at):
             async with free:
                 reports, relay = await pass_relay(configured, waits, direction, fault, at)
-                judge(reports, direction, fault == "repeat" and len(set(relay.tail)) == 1)
+                check_reports(reports, direction, fault == "repeat" and len(set(relay.tail)) == 1)
 
         async with asyncio.TaskGroup() as group:
             for direction in (0, 1):

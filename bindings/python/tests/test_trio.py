@@ -115,11 +115,17 @@ def test_a_wait_that_is_cancelled():
                 await trio.sleep(0 if len(asked) > 1 else 60)
                 return True
 
+            async def cancel(scope):
+                while not asked:
+                    await trio.sleep(0.005)
+                scope.cancel()
+
             channels = Channel(with_verify(first, verify), True), Channel(second, False)
             streams, got = trio.testing.memory_stream_pair(), []
             async with trio.open_nursery() as nursery:
                 nursery.start_soon(party, channels[1], streams[1], [])
-                with trio.move_on_after(0.05) as scope:
+                with trio.CancelScope() as scope:
+                    nursery.start_soon(cancel, scope)
                     got.append(await next_event(channels[0], streams[0]))
                 assert scope.cancelled_caught and not got
                 channels[0].answer(await verify(b""))

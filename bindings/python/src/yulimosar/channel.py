@@ -3,7 +3,7 @@ the stream has ended, was cut or is broken."""
 from __future__ import annotations
 
 import threading
-from collections.abc import Awaitable, Generator
+from collections.abc import Awaitable, Callable, Generator
 from dataclasses import dataclass, field
 from typing import Any, TypeAlias, TypeVar
 
@@ -12,17 +12,17 @@ from .codes import MAX_PAYLOAD, STREAM_OVERHEAD, Code
 from .config import Config
 from .errors import FORKED, CallError, ChannelCut, MessageRefused
 from .handshake import Handshake, Steps
-from .memory import Buffer, Struct, refuse_text, shared
+from .memory import Buffer, Struct, pointer, refuse_text, shared, uncleared
 from .pattern import layout
 
 T = TypeVar("T")
 CLOSED_HERE = "this party has closed the channel"
 ROOM = 1 << 17    # how many bytes an event loop may receive at once, with what is left of a frame
 
-_stream_write = lib.noise_stream_write
+_stream_write_all = lib.stream_write_all
 _stream_read = lib.noise_stream_read
-_unpack = ffi.unpack
-_from_buffer = ffi.from_buffer
+_stream_read_all = lib.stream_read_all
+_CHARS = ffi.typeof("char[]")
 Payload = ffi.buffer      # where a payload is
 
 
@@ -61,7 +61,7 @@ _Events: TypeAlias = Generator[Event | None, Any, T]
 
 
 class Channel:
-    """One end of a channel. `receive_data` and `receive_eof` take what comes over the connection, `next_event` says
+    """One end of a channel. `receive_data` and `receive_eof` get what the connection has received, `next_event` says
     what it means, and `data_to_send` returns what is to be sent.
 
     `next_event` raises MessageRefused or ChannelCut where the channel ends so; then nothing more is given out, and
@@ -82,6 +82,7 @@ class Channel:
         self._in, self._out = threading.RLock(), threading.RLock()
         self._came = _Came()
         self._eof = self._reads = self._reads_no_more = False
+        self._stop = 0    # what a frame after the last payloads has given
         self._read_result = ffi.new("noise_stream_result *")
         self._write_result = ffi.new("noise_stream_result *")
         self._to_send: list[bytes] = []
@@ -110,48 +111,48 @@ class Channel:
         return self._fault
 
     def receive_data(self, data: Buffer) -> None:
-        """Takes bytes that came over the connection. After the end of the other's stream they are dropped."""
+        """Gives the channel bytes that were received. After the end of the other's stream they are dropped."""
         refuse_text(data)
         with self._in:
             if self._fault is None and not self._reads_no_more:
                 self._came.add(data)
 
     def _get_buffer(self) -> memoryview:
-        """Where an event loop may write what comes, in the place of `receive_data`: then it calls `_buffer_updated`."""
-        with self._in:
-            return self._came.space()
+        """Where an event loop may write what comes, in the place of `receive_data`: then it calls `_buffer_updated`.
+        The thread of the loop makes all calls of such a channel."""
+        return self._came.space()
 
     def _buffer_updated(self, count: int) -> None:
-        with self._in:
-            if self._fault is None and not self._reads_no_more:
-                self._came.took(count)
-            else:
-                self._came.drop()
+        if self._fault is None and not self._reads_no_more:
+            self._came.took(count)
+        else:
+            self._came.drop()
 
     def _settle(self) -> None:
         """Gives back the memory for what comes, but for what is left of a frame."""
-        with self._in:
-            self._came.settle()
+        self._came.settle()
 
     def receive_eof(self) -> None:
-        """Takes that the connection has ended, or was lost: nothing more comes."""
+        """Tells the channel that the connection has ended, or was lost: nothing more comes."""
         with self._in:
             self._eof = True
 
     def next_event(self) -> Event | None:
         """What happened next; None until more comes. After it there may be something to send."""
-        with self._in:
-            event = self._next()
-            return Data(bytes(event)) if type(event) is Payload else event    # type: ignore[return-value]
+        event = self._next(self._read)
+        return Data(bytes(event)) if type(event) is Payload else event    # type: ignore[return-value]
 
-    def _next(self) -> Event | Buffer | None:
-        """What happened next. In the place of Data it has the payload where it came, until more comes."""
+    def _next_of_all(self) -> Event | Buffer | None:
+        """What happened next. In the place of Data it has all payloads that came, where they are until more comes."""
+        return self._next(self._read_all)
+
+    def _next(self, read: Callable[[], End | Buffer | None]) -> Event | Buffer | None:
         with self._in:
             if self._fault is not None:
                 raise self._fault.with_traceback(None)
             try:
                 if self._reads and self._failure is None:
-                    return self._read()
+                    return read()
                 answer, failure, self._answer, self._failure = self._answer, self._failure, None, None
                 return self._events.throw(failure) if failure is not None else self._events.send(answer)
             except StopIteration:
@@ -170,25 +171,20 @@ class Channel:
 
     def write(self, payload: Buffer) -> None:
         """Writes to the stream, once the handshake is done: `data_to_send` has the frames."""
+        data, size = pointer(payload)
+        length = frames_length(size)
+        frames = uncleared(_CHARS, length)
         with self._out:
-            if data := self._sealed(payload):
-                self._to_send.append(bytes(data))
+            self._seal(data, size, frames, length)
+            if length:
+                self._to_send.append(ffi.unpack(frames, length))
 
-    def _sealed(self, payload: Buffer) -> bytearray:
-        """The frames of a payload, which go after what `data_to_send` has returned."""
-        refuse_text(payload)
-        with self._out, _from_buffer(payload) as data:
-            sender, result, size = self._sends(), self._write_result, len(data)
-            length = size + -(-size // MAX_PAYLOAD) * STREAM_OVERHEAD
-            frames = bytearray(length)
-            start = end = 0
-            with _from_buffer(frames) as room:
-                while start < size:
-                    if code := _stream_write(sender, data + start, size - start, room + end, length - end, result):
-                        raise CallError(Code(code))
-                    start += result.used
-                    end += result.len
-            return frames
+    def _seal(self, data: Any, size: int, room: Any, length: int) -> None:
+        """Writes the frames of a payload, which go after what `data_to_send` has returned. One thread calls it."""
+        at = None if self._sender is None or self._fault is not None else self._sender._at
+        sender = at[0] if at is not None else self._sends()
+        if code := _stream_write_all(sender, data, size, room, length, self._write_result):
+            raise CallError(Code(code))
 
     def write_eof(self) -> None:
         """Writes the end of the stream: call it after the last `write`, and only if nothing went wrong."""
@@ -307,28 +303,58 @@ class Channel:
         self._came.use(result.used)
         return (yield from self._pend(handshake.reading(message)))
 
-    def _read(self) -> End | bytes | None:
+    def _read(self) -> End | Buffer | None:
         """The next payload of the other party's stream, or its end; None until more comes."""
         if self._reads_no_more:
             return None
-        at, result = self._receiver._at, self._read_result    # type: ignore[union-attr]
+        came, result = self._came, self._read_result
+        code = _stream_read(self._receives(), came.place + came.start, came.end - came.start, result)
+        if code:
+            return self._stopped(code)
+        place = came.place + came.start + getattr(result, "from")
+        came.start += result.used
+        return Payload(place, result.len)    # type: ignore[no-any-return]
+
+    def _read_all(self) -> End | Buffer | None:
+        """The payloads of all frames that came, or the end; None until more comes. A frame after them that is refused,
+        and the end, are told by the next call."""
+        if self._reads_no_more:
+            return None
+        code, self._stop = self._stop, 0
+        if not code:
+            came, result = self._came, self._read_result
+            place = came.place + came.start
+            code = _stream_read_all(self._receives(), place, came.end - came.start, result)
+            came.start += result.used
+            if result.len:
+                if code != Code.MORE:
+                    self._stop = code
+                return Payload(place + getattr(result, "from"), result.len)    # type: ignore[no-any-return]
+        return self._stopped(code)
+
+    def _receives(self) -> Any:
+        """The struct that receives."""
+        at = self._receiver._at    # type: ignore[union-attr]
         if at is None:
             raise CallError(None, CLOSED_HERE)
-        came = self._came
-        place, left = came.place + came.start, came.end - came.start
-        code = _stream_read(at[0], place, left, result)
-        if not code:
-            came.start += result.used
-            return Payload(place + getattr(result, "from"), result.len)    # type: ignore[no-any-return]
+        return at[0]
+
+    def _stopped(self, code: int) -> End | None:
+        """What it means that there is no further payload."""
         if code == Code.END:
             self._reads_no_more = True
             self._came.drop()
             return End()
         if code != Code.MORE:
             raise MessageRefused(None, None, Code(code))
-        if self._eof and lib.noise_stream_is_cut(at[0], left):
+        if self._eof and lib.noise_stream_is_cut(self._receives(), self._came.end - self._came.start):
             raise ChannelCut
         return None
+
+
+def frames_length(size: int) -> int:
+    """How many bytes the frames of so many bytes have."""
+    return size + -(-size // MAX_PAYLOAD) * STREAM_OVERHEAD
 
 
 class _Room:

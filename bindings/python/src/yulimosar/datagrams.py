@@ -18,7 +18,7 @@ from .transport import Datagrams
 
 
 class DatagramChannel:
-    """One handshake and its keys. `receive` takes a datagram and returns its payload, `send` seals one, and
+    """One handshake and its keys. `receive` gets a datagram and returns its payload, `send` seals one, and
     `datagrams_to_send` returns what is to be sent. Call `repeat` every so often until `agreed` is set.
 
     Only a datagram of the other party changes anything: what a stranger sends, and what comes twice, is dropped. A
@@ -70,7 +70,7 @@ class DatagramChannel:
         return self._result is not None
 
     def receive(self, datagram: Buffer) -> bytes | None:
-        """Takes a datagram. Its payload; None if it has none, or isn't accepted."""
+        """Receives a datagram: its payload; None if it has none, or isn't accepted."""
         came = bytes(datagram)
         if not came:
             return None

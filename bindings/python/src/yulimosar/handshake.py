@@ -55,14 +55,14 @@ class Handshake(Struct):
     `psk_for`, `set_psk` passes the secrets.
     """
 
-    __slots__ = ("config", "initiator", "_layout", "_result", "_stage", "_ephemeral", "_judged", "_used", "_tries",
+    __slots__ = ("config", "initiator", "_layout", "_result", "_stage", "_ephemeral", "_verified", "_used", "_tries",
                  "_kept")
 
     def __init__(self, config: Config, initiator: bool, *, late_psks: bool = True) -> None:
         self._layout = config.checked(initiator, late_psks)
         self.config = config
         self.initiator = initiator
-        self._judged = False    # whether the other party's static key was, if it is known from the start
+        self._verified = False    # whether the other party's static key was, if it is known from the start
         self._used = False      # whether `split`, `datagrams`, `ciphers` or `stream` has used it up
         self._tries = False     # whether `try_read` runs
         self._kept: Any = None  # then the struct as it was before, if the Config has to decide something
@@ -211,11 +211,11 @@ class Handshake(Struct):
                     self._kept = None
 
     def _decides(self) -> bool:
-        """Whether the Config has to do with the next message what the library can't take back: it judges a key that the
-        message has, after it was accepted, or it chooses secrets by a key that a stranger has claimed."""
+        """Whether the Config has to do with the next message what the library can't take back: it verifies a key that
+        the message has, after it was accepted, or it chooses secrets by a key that a stranger has claimed."""
         config = self.config
-        judges = config.verify is not None or config.peer_key is not None
-        return config.psk_for is not None or judges and self.message == self._layout.learns(self.initiator)
+        verifies = config.verify is not None or config.peer_key is not None
+        return config.psk_for is not None or verifies and self.message == self._layout.learns(self.initiator)
 
     def set_psk(self, psk: bytes) -> None:
         """Passes the secret of the first psk token that has none. Later calls can't replace it."""
@@ -231,7 +231,7 @@ class Handshake(Struct):
         data, length = pointer(payload)
         code = lib.noise_message_len(self._open(), length, size)
         if code == Code.OK:
-            yield from self._judge_first()
+            yield from self._verify_known()
         room = ffi.new("char[]", size[0])
         code = yield from self._called(lib.noise_write, data, length, room, size[0])
         if code:
@@ -247,14 +247,14 @@ class Handshake(Struct):
             raise CallError(Code.DONE)
         if self.writes_next:
             raise CallError(Code.NOT_YOUR_TURN)
-        yield from self._judge_first()
+        yield from self._verify_known()
         room, size = copied(message)
         code = yield from self._called(lib.noise_try_read if self._tries else lib.noise_read, room, size)
         if code:
             raise self._refused(index, code)
         payload: bytes = ffi.unpack(room + getattr(self._result, "from"), self._result.len)
         if index == self._layout.learns(self.initiator):
-            yield from self._judge(index + 1)
+            yield from self._verify_peer(index + 1)
         return payload
 
     def _refused(self, index: int, code: int) -> MessageRefused:
@@ -265,7 +265,7 @@ class Handshake(Struct):
         return MessageRefused(index + 1, token, Code(code))
 
     def _called(self, call: Callable[..., int], *words: Any) -> Steps[int]:
-        """Makes a call of the library, and supplies the results of X25519 and the psks that it asks for."""
+        """Makes a call of the library, and supplies the DH results and the psks that it asks for."""
         while True:
             code = call(self._open(), *words, self._result)
             if code == Code.WANTED:
@@ -312,16 +312,16 @@ class Handshake(Struct):
         for psk in psks:
             self.set_psk(psk)
 
-    def _judge_first(self) -> Steps[None]:
+    def _verify_known(self) -> Steps[None]:
         """Decides whether a static key of the other party that is known from the start is accepted."""
-        if not self._judged and self._layout.knows(self.initiator):
-            yield from self._judge(0)
-            self._judged = True
+        if not self._verified and self._layout.knows(self.initiator):
+            yield from self._verify_peer(0)
+            self._verified = True
 
-    def _judge(self, message: int) -> Steps[None]:
-        yield from self._guarded(self._judging(), message)
+    def _verify_peer(self, message: int) -> Steps[None]:
+        yield from self._guarded(self._verifying(), message)
 
-    def _judging(self) -> Steps[None]:
+    def _verifying(self) -> Steps[None]:
         key, config = self.peer_key, self.config
         assert key is not None
         if config.peer_key is not None and key != config.peer_key:

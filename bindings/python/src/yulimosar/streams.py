@@ -10,13 +10,18 @@ from collections.abc import Awaitable, Callable, Iterable
 from types import TracebackType
 from typing import Any, Self, cast
 
-from .channel import CLOSED_HERE, Agreed, Channel, Event, Payload, Pending
-from .codes import Code
+from ._noise import ffi
+from .channel import CLOSED_HERE, Agreed, Channel, Event, Payload, Pending, frames_length
+from .codes import MAX_PAYLOAD, STREAM_OVERHEAD, Code
 from .config import Config
 from .errors import CallError, ChannelCut, ConfigError, HandshakeTimeout, MessageRefused, NoiseError
-from .memory import Buffer, shared
+from .memory import Buffer, pointer, shared, uncleared
 
 LIMIT = 2 ** 16        # of a reader's buffer, as asyncio's
+UNJOINED = 2 ** 15     # how many bytes of frames are sent one by one, in one turn of the loop
+JOINED = 2 ** 16       # how many are sent together after them
+_ROOM = JOINED + 1024  # for four frames of 16 KiB
+_CHARS = ffi.typeof("char[]")
 CLOSE_TIMEOUT = 30.0   # in seconds: how long `close` waits for a peer that takes nothing, as asyncio's does with TLS
 
 logger = logging.getLogger("yulimosar")
@@ -31,6 +36,16 @@ class Reader(asyncio.StreamReader):
         super().__init__(limit=limit, loop=loop)
         self._fault: Exception | None = None
         self._below: _Below | None = None
+        self._wanted = 0    # how many bytes a `read` that waits for some takes
+        self._got = b""     # what it gets, without the buffer
+
+    def feed_data(self, data: Any) -> None:
+        count, self._wanted = self._wanted, 0
+        if count and data:
+            view = memoryview(data)
+            self._got, data = bytes(view[:count]), view[count:]
+            cast(Any, self)._wakeup_waiter()
+        super().feed_data(data)
 
     def feed_eof(self) -> None:
         if self._fault is None and (self._below is None or not self._below.ended):
@@ -47,14 +62,29 @@ class Reader(asyncio.StreamReader):
         return None if isinstance(self._fault, CallError) else self._fault    # a one-way writer may drain
 
     def at_eof(self) -> bool:
-        return self._fault is None and super().at_eof()
+        return self._fault is None and not self._got and super().at_eof()
 
     async def read(self, n: int = -1) -> bytes:
         if n < 0:
             return await self._read_all()
-        data = await super().read(n)
+        own = cast(Any, self)
+        if n and not own._buffer and not own._eof and own._waiter is None:
+            data = await self._read_next(n)
+        else:
+            data = await super().read(n)
         if not data and n:
             self._raise()
+        return data
+
+    async def _read_next(self, n: int) -> bytes:
+        """Waits for bytes, where none are there. What a cancelled call gets is left to the next one."""
+        own, self._wanted = cast(Any, self), n
+        try:
+            await own._wait_for_data("read")
+            data, self._got = self._got, b""
+        finally:
+            own._buffer[:0], self._got, self._wanted = self._got, b"", 0
+        own._maybe_resume_transport()
         return data
 
     async def _read_all(self) -> bytes:
@@ -98,6 +128,19 @@ class Reader(asyncio.StreamReader):
 class Writer(asyncio.StreamWriter):
     """A StreamWriter. `close` sends the end of the stream, unless something went wrong; `abort` doesn't, so that the
     other party gets ChannelCut. As an asynchronous context manager it closes, or aborts after an exception."""
+
+    def __init__(
+        self, transport: _Transport, protocol: asyncio.StreamReaderProtocol, reader: Reader,
+        loop: asyncio.AbstractEventLoop
+    ) -> None:
+        super().__init__(transport, protocol, reader, loop)
+        self._below, self._own_reader = transport._below, reader
+
+    async def drain(self) -> None:
+        """Waits while the transport has too much to send."""
+        below = self._below
+        if below.held or below.over or self._own_reader._fault is not None:
+            await super().drain()
 
     @property
     def noise(self) -> Agreed:
@@ -168,19 +211,21 @@ class _Transport(asyncio.Transport):
 
     def set_write_buffer_limits(self, high: int | None = None, low: int | None = None) -> None:
         self._below.transport.set_write_buffer_limits(high, low)
+        if high is None:
+            high = JOINED if low is None else 4 * low    # as asyncio's
+        self._below.joins = high >= JOINED
 
     def get_write_buffer_limits(self) -> tuple[int, int]:
         return self._below.transport.get_write_buffer_limits()
 
     def get_write_buffer_size(self) -> int:
-        return self._below.transport.get_write_buffer_size()
+        return self._below.transport.get_write_buffer_size() + self._below.joined
 
     def write(self, data: Buffer) -> None:
         if self._ended:
             raise RuntimeError("Cannot call write() after write_eof()")
-        below = self._below
-        if not below.over:
-            below.transport.write(below.channel._sealed(data))
+        if not self._below.over:
+            self._below.write(data)
 
     def writelines(self, list_of_data: Iterable[Buffer]) -> None:
         self.write(b"".join(list_of_data))
@@ -217,6 +262,12 @@ class _Below(asyncio.BufferedProtocol):
         self._timer: asyncio.TimerHandle | None = None
         self._asking: asyncio.Task[None] | None = None    # what waits for an asynchronous function of the Config
         self._forked = False
+        self.held = False       # whether the transport below has said that it has too much to send
+        self.joins = True       # whether frames may be joined, and sent at the loop's next turn
+        self.joined = 0         # how many bytes of frames are
+        self._frames: Any = None    # where they are
+        self._written = 0       # how many bytes of frames were sent since the last `_turned`
+        self._turn: asyncio.Handle | None = None    # of `_turned`, if it is called at the loop's next turn
         shared.add(self)
 
     def set_above(self, above: asyncio.Protocol) -> None:
@@ -228,6 +279,7 @@ class _Below(asyncio.BufferedProtocol):
     def _in_child(self) -> None:
         """In a forked process the connection, and the loop's selector, are the parent's."""
         self.over = self._forked = True
+        self._drop_joined()
 
     def connection_made(self, transport: asyncio.BaseTransport) -> None:
         self.transport = cast(asyncio.Transport, transport)    # that of another loop, as uvloop's, isn't a subclass
@@ -254,7 +306,8 @@ class _Below(asyncio.BufferedProtocol):
             self.channel._settle()
 
     def _pump(self) -> None:
-        following = self.channel._next
+        following = self.channel._next_of_all
+        self._send_joined()    # it was written before this party learns what came
         while not self.over and not self.paused and self._asking is None:
             try:
                 event = following()
@@ -284,6 +337,8 @@ class _Below(asyncio.BufferedProtocol):
         self._stop_timer()
         made = _Transport(self)
         self.above.connection_made(made)
+        if self.held:
+            self.above.pause_writing()    # for what the handshake has sent
         ready, self._ready = self._ready, None    # it may hold the reader, which the caller alone is to hold
         if ready is not None:
             ready(made)
@@ -303,7 +358,49 @@ class _Below(asyncio.BufferedProtocol):
             self.transport.resume_reading()
             self.pump()
 
+    def write(self, data: Buffer) -> None:
+        """Sends the frames of a payload. After the first 32 KiB that a program writes in one turn of the loop they are
+        joined: one call of the system sends 64 KiB, or what there is at the next turn."""
+        payload, size = (data, len(data)) if type(data) is bytes else pointer(data)
+        length = size + STREAM_OVERHEAD if 0 < size <= MAX_PAYLOAD else frames_length(size)
+        if self._turn is None or length > UNJOINED or not self.joins:
+            self._send(payload, size, length)
+            return
+        end = self.joined + length
+        if end > _ROOM:
+            self._send_joined()
+            end = length
+        if self._frames is None:
+            self._frames = uncleared(_CHARS, _ROOM)
+        self.channel._seal(payload, size, self._frames + self.joined, length)
+        self.joined = end
+        if end >= JOINED:
+            self._send_joined()
+
+    def _send(self, payload: Any, size: int, length: int) -> None:
+        self._send_joined()
+        frames = uncleared(_CHARS, length)
+        self.channel._seal(payload, size, frames, length)
+        self._written += length
+        if self._written > UNJOINED and self._turn is None:
+            self._turn = self.loop.call_soon(self._turned)
+        self.transport.write(memoryview(ffi.buffer(frames, length)))
+
+    def _send_joined(self) -> None:
+        if self.joined:
+            frames = memoryview(ffi.buffer(self._frames, self.joined))
+            self._drop_joined()
+            self.transport.write(frames)
+
+    def _drop_joined(self) -> None:
+        self.joined, self._frames = 0, None
+
+    def _turned(self) -> None:
+        self._turn, self._written = None, 0
+        self._send_joined()
+
     def _flush(self) -> None:
+        self._send_joined()
         if data := self.channel.data_to_send():
             self.transport.write(data)
 
@@ -316,6 +413,7 @@ class _Below(asyncio.BufferedProtocol):
         """Ends the channel for a fault: nothing more is sent."""
         if not self.over:
             self.over, self._fault = True, fault
+            self._drop_joined()
             self.channel.close()
             self.transport.abort()
 
@@ -324,6 +422,7 @@ class _Below(asyncio.BufferedProtocol):
         if self._forked:
             return
         if not self.over:
+            self._send_joined()    # as far as the system takes it, like what was written before
             self.over = True
             self.channel.close()
         self.transport.abort()
@@ -369,14 +468,17 @@ class _Below(asyncio.BufferedProtocol):
             self.loop.call_soon(self.pump)
 
     def pause_writing(self) -> None:
+        self.held = True
         if self.channel.agreed is not None:
             self.above.pause_writing()
 
     def resume_writing(self) -> None:
+        self.held = False
         if self.channel.agreed is not None:
             self.above.resume_writing()
 
     def connection_lost(self, exc: Exception | None) -> None:
+        self._drop_joined()
         if not self.over:    # gives out what came before
             self.paused = False
             if exc is not None:

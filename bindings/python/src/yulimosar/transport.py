@@ -70,7 +70,7 @@ class Sender(Struct):
 
     @property
     def nonce(self) -> int:
-        """How many messages were sealed."""
+        """How many messages were encrypted."""
         return _nonce(self, lib.noise_sender_nonce)
 
 
@@ -110,7 +110,7 @@ class Receiver(Struct):
 
     @property
     def nonce(self) -> int:
-        """How many messages were opened."""
+        """How many messages were decrypted."""
         return _nonce(self, lib.noise_receiver_nonce)
 
 
@@ -160,7 +160,7 @@ class Datagrams(Struct):
 
     @property
     def nonce(self) -> int:
-        """How many datagrams were sealed."""
+        """How many datagrams were encrypted."""
         return _nonce(self, lib.noise_datagram_sender_nonce)
 
 
