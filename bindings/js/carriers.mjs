@@ -1,5 +1,6 @@
 // What moves the frames of a channel: a WebSocket, a WebSocketStream, a pair of WHATWG streams, or a stream of Node. Each has
 //   ready()          waits until it is open;
+//   room(size)       memory for a frame of so many bytes, where it has some: that of one that was written before;
 //   write(frames)    sends frames together, and gives a promise that waits until the carrier has taken them, or nothing where it has;
 //   pull()           the next bytes that came, or undefined where the connection has ended;
 //   discard(most)    drops what comes from now on, so that the other party can read on, and reads no more after so many bytes;
@@ -9,47 +10,18 @@
 //   destroy(reason)  ends it at once: what isn't sent yet is dropped, and no listener stays;
 // and a WebSocket calls `overflowed`, where one was set, with the error by which it has destroyed itself.
 import { NoiseError } from './codes.mjs';
+import { joined, ofNode } from './nodestream.mjs';
 import { drain, within } from './waiting.mjs';
 import { ofWebSocket, ofWebSocketStream } from './websocket.mjs';
 
 /**
- * What is used of a stream of Node, as a socket of TCP.
- * @typedef {AsyncIterable<Uint8Array> & {
- *   pipe: unknown,
- *   iterator?: (options: { destroyOnReturn: boolean }) => AsyncIterator<Uint8Array>,
- *   readonly connecting?: boolean,
- *   readonly destroyed?: boolean,
- *   readonly errored?: Error | null,
- *   readonly writable?: boolean,
- *   readonly writableLength?: number,
- *   allowHalfOpen?: boolean,
- *   setNoDelay?: (isOn: boolean) => unknown,
- *   on: (event: 'error', listener: (error: Error) => void) => unknown,
- *   write: (bytes: Uint8Array, done: (error?: Error | null) => void) => boolean,
- *   end: (done: () => void) => unknown,
- *   destroy: () => unknown,
- * }} NodeStream
- */
-/**
  * What is used of a pair of WHATWG streams of bytes, and of a WebSocketStream.
  * @typedef {{ readable: { getReader: () => any }, writable: { getWriter: () => any } }} StreamPair
  * @typedef {{ opened: Promise<any>, closed: Promise<any>, close: () => void }} WebSocketStreamLike
- * @typedef {import('./websocket.mjs').WebSocketLike | WebSocketStreamLike | StreamPair | NodeStream} Connection
+ * @typedef {import('./websocket.mjs').WebSocketLike | WebSocketStreamLike | StreamPair | import('./nodestream.mjs').NodeStream} Connection
  */
 
 const cut = (cause) => new NoiseError('NOISE_CUT', { cause });
-
-/** Some frames as one piece. */
-function joined(frames) {
-  if (frames.length === 1) return frames[0];
-  const bytes = new Uint8Array(frames.reduce((size, { length }) => size + length, 0));
-  let at = 0;
-  for (const frame of frames) {
-    bytes.set(frame, at);
-    at += frame.length;
-  }
-  return bytes;
-}
 
 function ofStreams({ readable, writable }) {
   const reader = readable.getReader();
@@ -84,43 +56,6 @@ function ofStreams({ readable, writable }) {
     destroy: (reason) => {
       for (const done of [unsent > 0 || isClosing ? writer.abort(reason) : end(), reader.cancel(reason)]) done.catch(() => {});
     },
-  };
-}
-
-/** By Duplex.toWeb of Node 20 an error after the close would end the program. */
-function ofNode(stream) {
-  if (stream.allowHalfOpen === false) stream.allowHalfOpen = true;    // the other party may have ended its half, and still take what is sent
-  stream.setNoDelay?.(true);    // a frame that waits for the one before to be acknowledged waits for 40 ms
-  // The iterator of a plain loop destroys a stream of which all was read: what is written may not be sent yet.
-  const chunks = stream.iterator?.({ destroyOnReturn: false }) ?? stream[Symbol.asyncIterator]();
-  let drained;
-  let first = stream.errored ?? undefined;    // later ones only say that the stream was destroyed
-  stream.on('error', (error) => { first ??= error; });
-  const broken = (error) => cut(first ?? error);
-  const read = () => chunks.next().then(({ value, done }) => (done ? undefined : value), (error) => { throw broken(error); });
-  const write = (frames) => {
-    let outcome;
-    let settle = (error) => { outcome = { error }; };
-    stream.write(joined(frames), (error) => settle(error));
-    // A socket passes what it is given to the system in the call, and has nothing left then. What fails isn't writable any more.
-    if (stream.writable === true && stream.writableLength === 0) return undefined;
-    return new Promise((resolve, reject) => {
-      settle = (error) => { if (error) reject(broken(error)); else resolve(); };
-      if (outcome) settle(outcome.error);
-    });
-  };
-  return {
-    ready: async () => {},
-    write,
-    pull: read,
-    discard: (most) => { drained = drain(read, most); },
-    close: async (patience, isOver) => {
-      // The end of one that was destroyed never calls back.
-      if (!stream.connecting && !stream.destroyed) await new Promise((resolve) => { stream.end(resolve); });
-      if (!isOver) await within(patience, drained);
-      stream.destroy();
-    },
-    destroy: () => { stream.destroy(); },
   };
 }
 

@@ -21,7 +21,7 @@ export { protocolName } from './setup.mjs';
 /** @typedef {import('./transport.mjs').Opener} Opener */
 /** @typedef {import('./opening.mjs').NoiseSocketOptions} NoiseSocketOptions */
 /** @typedef {import('./carriers.mjs').Connection} Connection */
-/** @typedef {import('./carriers.mjs').NodeStream} NodeStream */
+/** @typedef {import('./nodestream.mjs').NodeStream} NodeStream */
 /** @typedef {import('./waiting.mjs').Signal} Signal */
 /** @typedef {import('./layout.mjs').Layout} Layout */
 /** @typedef {import('./layout.mjs').Message} Message */

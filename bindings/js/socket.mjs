@@ -128,7 +128,7 @@ export class NoiseSocket {
   /** Seals at once: the payload may change afterwards. */
   #putPayload(payload) {
     this.#sending.mustGoOn();
-    const frame = this.#stream.write(payload);
+    const frame = this.#stream.write(payload, this.#carrier.room);
     return frame.length > 0 ? this.#sending.put(frame) : undefined;
   }
 

@@ -38,15 +38,19 @@ export class Stream extends Sealed {
   /** @private */
   static kinds = ['streamSender', 'streamReceiver'];
 
-  /** The frame of a payload of at most MOST bytes. Of no bytes there is none, and it is empty. */
-  write(payload) {
+  /** The frame of a payload of at most MOST bytes, in memory that `room` has for it, or in its own. Of no bytes there is none, and it is empty. */
+  write(payload, room) {
     const lib = library();
     const [sender] = this.halves;
     if (bytesOf(payload, 'payload').length > MOST) throw new NoiseError('NOISE_TOO_LONG');
     const number = lib.x.noise_stream_write(sender, ...lib.put('payload', payload), lib.at.message, ROOM, lib.at.result);
     lib.wipe('payload', payload.length);
     must(number);
-    return new Uint8Array(lib.view(lib.at.message, lib.streamResult().len));    // `slice` takes longer
+    const frame = lib.view(lib.at.message, lib.streamResult().len);
+    const bytes = room?.(frame.length);
+    if (!bytes) return new Uint8Array(frame);    // `slice` takes longer
+    bytes.set(frame);
+    return bytes;
   }
 
   /** The frame of the end. */

@@ -65,6 +65,34 @@ test('sending', { timeout: 300000 }, async (t) => {
     f.destroy();
   });
 
+  await t.test('a frame that waits for its connection stays as it is while another connection sends frames of the same length', async () => {
+    const [a, b] = await channels(await overTcp());
+    const [c, d] = await channels(await overTcp());
+    const sent = [];
+    for (let waits = false; !waits; waits = await outcome(sent.at(-1), 100) === 'pending') sent.push(a.send(new Uint8Array(16384).fill(sent.length)));
+    for (let n = 0; n < 3; n += 1) {
+      await c.send(new Uint8Array(16384).fill(255));
+      assert.deepEqual(await d.receive(), new Uint8Array(16384).fill(255));
+    }
+    for (let n = 0; n < sent.length; n += 1) assert.deepEqual(await b.receive(), new Uint8Array(16384).fill(n), `payload ${n} of ${sent.length}`);
+    for (const channel of [a, b, c, d]) channel.destroy();
+  });
+
+  await t.test('a stream may keep what it was given after its write has ended', async () => {
+    const near = await overTcp();
+    const kept = [];
+    const write = near[0].write;
+    near[0].write = function keep(chunk, ...rest) { kept.push([chunk, Buffer.from(chunk)]); return write.call(this, chunk, ...rest); };
+    const [a, b] = await channels(near);
+    for (let n = 0; n < 4; n += 1) {
+      await a.send(new Uint8Array(16384).fill(n));
+      await b.receive();
+    }
+    assert.equal(kept.length >= 4, true);
+    for (const [chunk, copy] of kept) assert.deepEqual(Buffer.from(chunk), copy);
+    for (const channel of [a, b]) channel.destroy();
+  });
+
   for (const [kind, connect] of Object.entries(KINDS)) {
     await t.test(`${kind}: a payload of any length is sent, in the order of the calls, and may be changed afterwards`, async () => {
       const [a, b] = await channels(await connect());

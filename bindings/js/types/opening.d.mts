@@ -19,6 +19,14 @@
  */
 export function opened(connection: any, options: any): Promise<{
     carrier: {
+        pull: () => any;
+        discard: (most: any) => void;
+        close: (patience: any, isOver: any) => Promise<void>;
+        destroy: () => void;
+        room: ((size: any) => Uint8Array | undefined) | undefined;
+        write: (frames: any) => Promise<any> | undefined;
+        ready: () => Promise<void>;
+    } | {
         ready: () => any;
         write: (frames: any) => Promise<void>;
         pull: () => any;
@@ -32,13 +40,6 @@ export function opened(connection: any, options: any): Promise<{
         discard: (most: any) => void;
         close: (patience: any, isOver: any) => Promise<void>;
         destroy: (reason: any) => void;
-    } | {
-        ready: () => Promise<void>;
-        write: (frames: any) => Promise<any> | undefined;
-        pull: () => any;
-        discard: (most: any) => void;
-        close: (patience: any, isOver: any) => Promise<void>;
-        destroy: () => void;
     };
     incoming: Incoming | undefined;
     stream: any;

@@ -18,8 +18,8 @@ export const MOST: 65519;
 export class Stream extends Sealed {
     /** @private */
     private static kinds;
-    /** The frame of a payload of at most MOST bytes. Of no bytes there is none, and it is empty. */
-    write(payload: any): Uint8Array;
+    /** The frame of a payload of at most MOST bytes, in memory that `room` has for it, or in its own. Of no bytes there is none, and it is empty. */
+    write(payload: any, room: any): any;
     /** The frame of the end. */
     end(): any;
     /** What the library reads at the start of these bytes, of which it is shown so many: a payload, undefined for the end, or how many more are wanted. */
