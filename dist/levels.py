@@ -1,18 +1,21 @@
-"""Puts functions that were compiled for several levels of x86-64 into one text, each behind a branch on the level of the processor.
+"""Puts functions that were compiled for several levels of x86-64 into one text, each behind a branch on the level of
+the processor.
 
-For dist/make. The texts are of one LLVM module, compiled for x86-64, x86-64-v3 and x86-64-v4. Of the last two a few functions are taken, those in which a
-long message or a handshake spends its time. Where the text had such a function there is a choice now: it reads one word, in which the level stands,
-and jumps to one of the three. The first choice finds the level, by cpuid and xgetbv: more threads may do it at once, since each writes the same.
+For dist/make. The texts are of one LLVM module, compiled for x86-64, x86-64-v3 and x86-64-v4. Of the last two a few
+functions are taken, those in which a long message or a handshake spends its time. Where the text had such a function
+there is a choice now: it reads one word, in which the level stands, and jumps to one of the three. The first choice
+finds the level, by cpuid and xgetbv: more threads may do it at once, since each writes the same.
 """
 import re
 
 BASE = "v1"
 
-# Beside the base: the words for `clang`; the word of the level has the number. Vectors of 512 bits made handshakes 13 per cent slower than those of 256, so
-# these are preferred.
+# Beside the base: the words for `clang`; the word of the level has the number. Vectors of 512 bits made handshakes 13
+# per cent slower than those of 256, so these are preferred.
 LEVELS = {"v3": ["-march=x86-64-v3"], "v4": ["-march=x86-64-v4", "-Xclang", "-target-feature", "-Xclang", "+prefer-256-bit"]}
 
-# The functions, and for which levels each is compiled: where the last is missing, the one before is faster on a processor of that level.
+# The functions, and for which levels each is compiled: where the last is missing, the one before is faster on a
+# processor of that level.
 HOT = {"rand_chacha::guts::refill4": ["v3", "v4"], "noise_poly::Poly1305::take_fours": ["v3", "v4"], "noise_poly::Poly1305::take_aligned": ["v3", "v4"],
        "sha2::block256::compress": ["v3"], "noise_state::cipher::CipherState::encrypt": ["v3", "v4"],
        "noise_state::cipher::CipherState::decrypt": ["v3", "v4"], "noise_aead::keystream::apply": ["v3", "v4"],
@@ -113,7 +116,8 @@ def called(lines):
 
 
 def own(line, level, shared):
-    """The line with the level in the labels that a function has for itself, and the label of the same constant where the text has that before."""
+    """The line with the level in the labels that a function has for itself, and the label of the same constant where
+    the text has that before."""
     def label(it):
         return shared.get(it[0]) or (it[0] if re.fullmatch(SHARED, it[2]) else f"{it[1]}{it[2]}_{level}_{it[3].lstrip('_')}")
     return LABEL.sub(label, line)
@@ -126,7 +130,8 @@ def at_level(lines, form, level):
 
 
 def constants_of(text, base, lines):
-    """The labels of the constants of a function, in the order in which lines name them. What the whole text shares has to be the same in the base."""
+    """The labels of the constants of a function, in the order in which lines name them. What the whole text shares has
+    to be the same in the base."""
     made, left = [], list(lines)
     while left:
         for it in LABEL.finditer(left.pop(0)):
@@ -142,7 +147,8 @@ def constants_of(text, base, lines):
 
 
 def hot_function(text, base, name, level, known):
-    """A function of a text for a level, with its constants. `known` has the label of each constant that stands before, by its section and lines."""
+    """A function of a text for a level, with its constants. `known` has the label of each constant that stands before,
+    by its section and lines."""
     first, last = text.function(text.form.name(name))
     lines, made, shared = text.lines[first:last], [], {}
     for label in constants_of(text, base, lines):
@@ -177,7 +183,8 @@ def has(register, wanted, done):
 
 
 def finding(form):
-    """The function that finds the level, and writes it to the word and to eax. It keeps the registers in which arguments come, of both conventions."""
+    """The function that finds the level, and writes it to the word and to eax. It keeps the registers in which
+    arguments come, of both conventions."""
     name, done = form.name("noise_find_level"), f"{form.local}found"
     section = '\t.section\t.text.noise_find_level,"ax",@progbits' if form.kind == "elf" else "\t.section\t__TEXT,__text,regular,pure_instructions" if form.kind == "macos" else "\t.text"
     saved = ["rbx", "rcx", "rdx"]
@@ -228,7 +235,8 @@ def chosen_by_level(text, others):
 # What one level's text takes for granted of another's
 
 def definitions(module):
-    """Of an optimised module the first line of each function, with all that the optimiser found of its arguments and of its effects."""
+    """Of an optimised module the first line of each function, with all that the optimiser found of its arguments and of
+    its effects."""
     groups = dict(re.findall(r"^attributes (#\d+) = \{ (.*) \}$", module, re.M))
     made = {}
     for line in re.findall(r"^define .*\{$", module, re.M):
@@ -239,7 +247,8 @@ def definitions(module):
 
 
 def must_agree(base, other, calls, level):
-    """A function that one text calls and the other defines has to be the same to its caller. (What neither defines is the system's.)"""
+    """A function that one text calls and the other defines has to be the same to its caller. (What neither defines is
+    the system's.)"""
     for name in sorted(calls):
         if base.get(name) != other.get(name) or name in HOT and name not in base:
             raise Failure(f"{name} isn't called at {level} as it is defined:\n{base.get(name)}\n{other.get(name)}")

@@ -1,8 +1,9 @@
 #!/usr/bin/env python3
-"""Writes the listing of README.md and the first ones of docs/GO.md and docs/RUST.md as modules that compile: listings.py FOLDER. It also compares the other listings of docs/GO.md
-and docs/RUST.md with the tests that run them.
+"""Writes the listing of README.md and the first ones of docs/GO.md and docs/RUST.md as modules that compile:
+listings.py FOLDER. It also compares the other listings of docs/GO.md and docs/RUST.md with the tests that run them.
 
-FOLDER/go and FOLDER/rust get the program; their go.mod, Cargo.toml and .cargo/config.toml are those of the page, with the path of this repository.
+FOLDER/go and FOLDER/rust get the program; their go.mod, Cargo.toml and .cargo/config.toml are those of the page, with
+the path of this repository.
 """
 import re
 import sys

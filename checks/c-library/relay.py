@@ -1,9 +1,11 @@
 #!/usr/bin/env python3
-"""Two parties of one session, by ctypes, with a relay between them that flips, cuts, repeats or drops at each byte, whatever the order in which they end.
+"""Two parties of one session, by ctypes, with a relay between them that flips, cuts, repeats or drops at each byte,
+whatever the order in which they end.
 
-relay.py LIBRARY.so HEADER says how many sessions it tried, and fails where a party reports what the theorem on streams doesn't allow: what it has is the
-first of what the other has written; it reports an end only if the other has ended and all of it came; and else it has refused a message, or reports a cut. The
-pieces in which bytes come are another in each session. X25519 is a toy, as in the checks in C: the result of two public keys is their xor.
+relay.py LIBRARY.so HEADER says how many sessions it tried, and fails where a party reports what the theorem on streams
+doesn't allow: what it has is the first of what the other has written; it reports an end only if the other has ended and
+all of it came; and else it has refused a message, or reports a cut. The pieces in which bytes come are another in each
+session. X25519 is a toy, as in the checks in C: the result of two public keys is their xor.
 """
 import ctypes
 import itertools
@@ -54,7 +56,8 @@ def ref(it):
 
 
 class End:
-    """One party: it does its handshake, writes its texts, and ends its stream, at once or, where it waits, only once the other's has ended."""
+    """One party: it does its handshake, writes its texts, and ends its stream, at once or, where it waits, only once
+    the other's has ended."""
 
     def __init__(self, library, kinds, role, waits, send, close):
         self.call, self.role, self.waits, self.send, self.close = library, role, waits, send, close

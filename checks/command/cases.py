@@ -1,4 +1,5 @@
-"""The cases below cases/: commands with what they print, tables of texts and of lines, and the conversion of each file that is run."""
+"""The cases below cases/: commands with what they print, tables of texts and of lines, and the conversion of each file
+that is run."""
 
 import glob
 import os
@@ -13,7 +14,8 @@ REPEATED = re.compile(rb"\{(.*?), (\d+) times\}", re.DOTALL)
 
 
 class Cases:
-    """The cases, in a copy of their folder, where the long files are written out. `refuse`: the library to preload, or none."""
+    """The cases, in a copy of their folder, where the long files are written out. `refuse`: the library to preload, or
+    none."""
 
     def __init__(self, room, refuse):
         self.folder, self.refuse = f"{room}/cases", refuse
@@ -57,7 +59,8 @@ class Cases:
             self.faults.append(difference(name, expected, shown(ran)))
 
     def run_case(self, path, line, expected):
-        """Runs a command; one with variables is run with the library that reads them. A file of version 1 that was run is also converted."""
+        """Runs a command; one with variables is run with the library that reads them. A file of version 1 that was run
+        is also converted."""
         variables, words = words_of(line)
         words = [written_out(word.encode()).decode() for word in words]
         if variables and not self.refuse:
@@ -70,7 +73,8 @@ class Cases:
             self.convert(name, f"{folder}/{words[1]}", ran)
 
     def convert(self, name, path, ran):
-        """Of a file of version 1: it is converted to one that expects the lines of its run, and that prints the same lines."""
+        """Of a file of version 1: it is converted to one that expects the lines of its run, and that prints the same
+        lines."""
         with open(path, encoding="ascii") as file:
             first, rest = file.readline(), file.read()
         if first != "vector 1\n":
@@ -87,7 +91,8 @@ class Cases:
             self.run_text(f"{os.path.relpath(path, self.folder)}: {text}", command, bytes_of(text), status, told)
 
     def run_explained(self, path):
-        """Runs `explain` on the text of each row, of which a place and two sentences are said, or on a file with a line that is changed."""
+        """Runs `explain` on the text of each row, of which a place and two sentences are said, or on a file with a line
+        that is changed."""
         command, status, name, rows = rows_of(path)
         if name:
             self.run_explained_lines(path, command, status, name, rows)
@@ -97,8 +102,8 @@ class Cases:
             self.expect(f"{os.path.relpath(path, self.folder)}: {text}", expected, run([command, "/dev/stdin"], given=bytes_of(text)))
 
     def run_explained_lines(self, path, command, status, name, rows):
-        """Runs `explain` on a file with one line more or another one, for each row. The whole output is compared: the place, the line and the caret, and
-        each sentence."""
+        """Runs `explain` on a file with one line more or another one, for each row. The whole output is compared: the
+        place, the line and the caret, and each sentence."""
         with open(f"{os.path.dirname(path)}/{name}", "rb") as file:
             lines = file.readlines()
         for place, number, line, told, *sentences in rows:
@@ -109,7 +114,8 @@ class Cases:
             self.expect(f"{os.path.relpath(path, self.folder)}: {place} {number}: {line}", f"{expected}status: {status}\n", run([command, "/dev/stdin"], given=text))
 
     def run_lines(self, path):
-        """Runs a command on a file with one more line, or on the front of it with a last line that isn't ended, for each row."""
+        """Runs a command on a file with one more line, or on the front of it with a last line that isn't ended, for
+        each row."""
         command, status, name, rows = rows_of(path)
         with open(f"{os.path.dirname(path)}/{name}", "rb") as file:
             lines = file.readlines()
@@ -123,7 +129,8 @@ class Cases:
 
 
 def changed(lines, place, number, line):
-    """The text of these lines with another one: before the line of this number, in its place, or last, without its end."""
+    """The text of these lines with another one: before the line of this number, in its place, or last, without its
+    end."""
     before, after = lines[: number - 1], lines[number - 1 :]
     ends = {"before": [b"\n", *after], "instead": [b"\n", *after[1:]], "last": []}
     return b"".join([*before, line, *ends[place]])

@@ -1,7 +1,8 @@
 """Peers and networks that cut, change, repeat and exchange what is sent, each case a file under the command.
 
-Where a damaged message is refused follows from the standard (Noise, 5.3, 9.2 and 11.3) and the table below, and nothing of the program. The sessions are
-drawn from numbers: of three one is of a pattern without a psk, one has `psk0`, and one has `psk` at the last message.
+Where a damaged message is refused follows from the standard (Noise, 5.3, 9.2 and 11.3) and the table below, and nothing
+of the program. The sessions are drawn from numbers: of three one is of a pattern without a psk, one has `psk0`, and one
+has `psk` at the last message.
 """
 
 import multiprocessing
@@ -10,8 +11,8 @@ from typing import NamedTuple
 
 from program import Ran, difference, run, shown
 
-# The fifteen patterns (Noise, 7.4 and 7.5): the base, the number of messages, and their tokens. `d` stands for any DH token, `.` for the payload of a
-# message that isn't the last; `p` is a psk token, where one is put in.
+# The fifteen patterns (Noise, 7.4 and 7.5): the base, the number of messages, and their tokens. `d` stands for any DH
+# token, `.` for the payload of a message that isn't the last; `p` is a psk token, where one is put in.
 PATTERNS = [
     ("N", 1, "ed"),
     ("K", 1, "edd"),
@@ -29,7 +30,8 @@ PATTERNS = [
     ("IK", 2, "edsd.edd"),
     ("IX", 2, "es.eddsd"),
 ]
-# How many cases the numbers from 0, from 15 and from 30 on have, fifteen each: worked out by a program in another language.
+# How many cases the numbers from 0, from 15 and from 30 on have, fifteen each: worked out by a program in another
+# language.
 COUNTS = [5674, 7129, 8378]
 ROLES = ("initiator", "responder")
 ANY_HASH = "[0-9a-f]{64}"
@@ -56,7 +58,8 @@ class Refusal(NamedTuple):
 
 
 def pieces_of(tokens, payloads):
-    """The pieces of messages of these tokens, with these payloads. A DH and a psk make a key, and where there are psks an `e` does."""
+    """The pieces of messages of these tokens, with these payloads. A DH and a psk make a key, and where there are psks
+    an `e` does."""
     pieces, message, token, start, key = [], 0, 0, 0, False
     for letter in tokens:
         payload = letter == "."
@@ -70,7 +73,8 @@ def pieces_of(tokens, payloads):
 
 
 def cut_refusal(pieces, message, length):
-    """Where a message is refused that was cut to so many bytes: at the first piece that isn't whole. None where that is a payload without a key."""
+    """Where a message is refused that was cut to so many bytes: at the first piece that isn't whole. None where that is
+    a payload without a key."""
     piece = next(it for it in pieces if it.message == message and length < it.end)
     if piece.payload and not piece.sealed:
         return None
@@ -79,7 +83,8 @@ def cut_refusal(pieces, message, length):
 
 
 def spoiled_refusal(pieces, message, offset):
-    """Where it comes out that a message is another from this byte on: at the first piece with a tag that ends after it, in this message or a later one."""
+    """Where it comes out that a message is another from this byte on: at the first piece with a tag that ends after it,
+    in this message or a later one."""
     piece = next(it for it in pieces if it.sealed and (it.message > message or (it.message == message and it.end > offset)))
     return Refusal(piece.message, piece.token, "tag")
 
@@ -106,7 +111,8 @@ class Draws:
 
 
 class Session:
-    """What two parties start from, and the payloads of their messages: those of the handshake, and then six of the session."""
+    """What two parties start from, and the payloads of their messages: those of the handshake, and then six of the
+    session."""
 
     def __init__(self, number):
         base, self.handshake, tokens = PATTERNS[number // 3]
@@ -118,7 +124,8 @@ class Session:
         self.frames, self.hash = [], None
 
     def place(self, message):
-        """Who writes a message, and the number of its frame among those of its writer. In a one-way session it is always the initiator."""
+        """Who writes a message, and the number of its frame among those of its writer. In a one-way session it is
+        always the initiator."""
         return (0, message) if self.handshake == 1 else (message % 2, message // 2)
 
     def payload_in(self, message, frame):
@@ -261,7 +268,8 @@ def undamaged(session):
 
 
 def bad_network(session):
-    """Each frame comes twice, and of each two neighbouring transport frames of one direction the second also comes before the first."""
+    """Each frame comes twice, and of each two neighbouring transport frames of one direction the second also comes
+    before the first."""
     schedule, count = Schedule(session), len(session.payloads)
     cases = count
     for message in range(count):
@@ -284,8 +292,8 @@ def bad_network(session):
 
 
 def is_refused(session, message, frame, refusal):
-    """This frame comes in place of that of a message. All is accepted up to the message that is refused, which ends a handshake; of the session the
-    message's own frame is then accepted."""
+    """This frame comes in place of that of a message. All is accepted up to the message that is refused, which ends a
+    handshake; of the session the message's own frame is then accepted."""
     schedule = Schedule(session)
     for before in range(message):
         schedule.say(before)

@@ -24,7 +24,8 @@ class Ran(NamedTuple):
 
 
 def run(words, folder=None, variables=None, given=None):
-    """Runs the program on these words, in this folder, with these variables beside its own, and with these bytes on its standard input."""
+    """Runs the program on these words, in this folder, with these variables beside its own, and with these bytes on its
+    standard input."""
     environment = {**os.environ, "LC_ALL": "C", **(variables or {})}
     try:
         ran = spawned(words, folder, environment) if given is None else piped(words, folder, environment, given)
@@ -89,7 +90,8 @@ def is_met(expected, printed):
 
 
 def difference(name, expected, printed):
-    """What is told of a run that isn't as expected: its lines, those that are expected and not printed after `-`, and those printed after `+`."""
+    """What is told of a run that isn't as expected: its lines, those that are expected and not printed after `-`, and
+    those printed after `+`."""
     lines = difflib.unified_diff(expected.splitlines(), printed.splitlines(), "expected", "printed", n=999, lineterm="")
     return "\n".join([f"command: {name}: not as expected", *lines])
 

@@ -1,4 +1,5 @@
-"""Commands whose file or output fails at each byte, both where the program reads and writes a byte a call, and as it does by itself."""
+"""Commands whose file or output fails at each byte, both where the program reads and writes a byte a call, and as it
+does by itself."""
 
 import functools
 import multiprocessing
@@ -12,7 +13,8 @@ MOST_LIMITS = 400
 
 
 def refuse_each(listed, refuse):
-    """For each command that the file lists, each limit of its reads and of its writes. Returns how many runs there were, and the faults."""
+    """For each command that the file lists, each limit of its reads and of its writes. Returns how many runs there
+    were, and the faults."""
     folder = os.path.dirname(listed)
     with open(listed, encoding="utf-8") as file:
         lines = [line[2:].rstrip("\n") for line in file if line.startswith("$ ")]
@@ -50,7 +52,8 @@ def closed_pipe(words, folder):
 
 
 def limits(stream, sizes):
-    """The variables by which the calls of a stream fail after so many bytes, with calls of any size and with calls of a byte."""
+    """The variables by which the calls of a stream fail after so many bytes, with calls of any size and with calls of a
+    byte."""
     for size in sizes:
         yield {f"{stream}_LIMIT": str(size)}
         yield {f"{stream}_LIMIT": str(size), f"{stream}_PIECE": "1"}

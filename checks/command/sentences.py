@@ -1,4 +1,5 @@
-"""The sentences of the page and of `explain`: each one in the page's tables is one of `explain`. checks/web compares what they say of right patterns."""
+"""The sentences of the page and of `explain`: each one in the page's tables is one of `explain`. checks/web compares
+what they say of right patterns."""
 
 import glob
 import re

@@ -1,9 +1,11 @@
 #!/usr/bin/env python3
-"""The server and the client of examples/programs/c through a relay that damages what the server sends: cut.py SERVER CLIENT.
+"""The server and the client of examples/programs/c through a relay that damages what the server sends: cut.py SERVER
+CLIENT.
 
-Cut after some bytes, or with one of them flipped, doubled or left out, the client has to end with a status other than 0; with nothing done to it, with
-0. So a client never takes a part of the answer for the whole. Meanwhile another server has a client that sends a byte of a handshake each second: the
-server has to end with status 1 after some 10 seconds, all of the handshake's time.
+Cut after some bytes, or with one of them flipped, doubled or left out, the client has to end with a status other than
+0; with nothing done to it, with 0. So a client never takes a part of the answer for the whole. Meanwhile another server
+has a client that sends a byte of a handshake each second: the server has to end with status 1 after some 10 seconds,
+all of the handshake's time.
 """
 import socket
 import subprocess

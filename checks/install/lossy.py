@@ -1,8 +1,9 @@
 #!/usr/bin/env python3
 """The example over UDP through a relay that loses, repeats and forges datagrams: lossy.py UDP.
 
-Each of the first datagrams of each direction is lost, repeated or changed in turn, and others are sent in between that nobody has sealed. The client has to
-print the server's text each time, and both have to end with 0. server.public is there from an earlier run of the server.
+Each of the first datagrams of each direction is lost, repeated or changed in turn, and others are sent in between that
+nobody has sealed. The client has to print the server's text each time, and both have to end with 0. server.public is
+there from an earlier run of the server.
 """
 import select
 import socket

@@ -1,8 +1,9 @@
 #!/usr/bin/env python3
-"""Compares the logs that make.py of examples/vectors/mistakes writes with what the file `logs` says of them: logs.py PROGRAM.
+"""Compares the logs that make.py of examples/vectors/mistakes writes with what the file `logs` says of them: logs.py
+PROGRAM.
 
-`noise compare` has to say of the log of a party with each mistake what is there, and that the log of a right party agrees. The commands of make.py are
-called here, not started: there are a hundred.
+`noise compare` has to say of the log of a party with each mistake what is there, and that the log of a right party
+agrees. The commands of make.py are called here, not started: there are a hundred.
 """
 
 from __future__ import annotations

@@ -1,11 +1,13 @@
 #!/usr/bin/env python3
-"""Puts 54 mistakes into an implementation of its own (mistaken.py), and looks for each with `noise compare` and the log that DEBUGGING.md asks for.
+"""Puts 54 mistakes into an implementation of its own (mistaken.py), and looks for each with `noise compare` and the log
+that DEBUGGING.md asks for.
 
     named.py PROGRAM [SEED]
 
-A mistake, the role that makes it, and the pattern are drawn; 20 of the logs have a second, harmless difference. What is printed has to name the mistake:
-by the words that stand beside it here, worked out by hand. A mistake of frames alone is named by `noise test`. At least 50 have to be named, and no other
-mistake may be said to be the one. It writes what failed, and a last line with the counts.
+A mistake, the role that makes it, and the pattern are drawn; 20 of the logs have a second, harmless difference. What is
+printed has to name the mistake: by the words that stand beside it here, worked out by hand. A mistake of frames alone
+is named by `noise test`. At least 50 have to be named, and no other mistake may be said to be the one. It writes what
+failed, and a last line with the counts.
 """
 
 from __future__ import annotations
@@ -135,7 +137,8 @@ def session_of(pattern: str, prologue: bytes, seed: int) -> Session:
 
 
 def pattern_text(session: Session) -> str:
-    """The text of a pattern of one's own, which has a key of a pre-message that no fundamental pattern has, or nothing."""
+    """The text of a pattern of one's own, which has a key of a pre-message that no fundamental pattern has, or
+    nothing."""
     known, messages = PATTERNS[session.base]
     if not any(token == "e" for _, token in known):
         return ""

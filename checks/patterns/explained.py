@@ -1,7 +1,8 @@
 #!/usr/bin/env python3
-"""What `noise explain` says of random valid patterns: explained.py PROGRAM COUNT SEED. Where each key and payload begins and ends, what is encrypted, what is
-mixed in, which private keys are enough, who can have written a message and whether a recording of it is accepted again has to be as it is worked out here,
-from the standard alone (Noise, 5.2, 5.3, 7.1, 7.3 and 9), with no line of the program's code or output."""
+"""What `noise explain` says of random valid patterns: explained.py PROGRAM COUNT SEED. Where each key and payload
+begins and ends, what is encrypted, what is mixed in, which private keys are enough, who can have written a message and
+whether a recording of it is accepted again has to be as it is worked out here, from the standard alone (Noise, 5.2,
+5.3, 7.1, 7.3 and 9), with no line of the program's code or output."""
 
 import itertools
 import random
@@ -70,7 +71,8 @@ class Walk:
             self.keys.add((sender, token))
 
     def may_encrypt(self, sender):
-        """A DH of the sender's static key comes with that of its ephemeral key and the same remote key (7.3), a psk with its ephemeral key (9.3)."""
+        """A DH of the sender's static key comes with that of its ephemeral key and the same remote key (7.3), a psk
+        with its ephemeral key (9.3)."""
         place = ROLES.index(sender)
         for dh in self.dhs:
             fresh = dh[:place] + "e" + dh[place + 1 :]
@@ -79,7 +81,8 @@ class Walk:
         return not self.has_psk or (sender, "e") in self.keys
 
     def choices(self, sender):
-        """The tokens that may stand next: a key once, a DH once and of known keys, and a static key where its sender may encrypt."""
+        """The tokens that may stand next: a key once, a DH once and of known keys, and a static key where its sender
+        may encrypt."""
         keys = [it for it in "es" if (sender, it) not in self.keys and (it == "e" or self.may_encrypt(sender))]
         return keys + [it for it in DHS if it not in self.dhs and self.keys.issuperset(parties_of(it))]
 
@@ -147,7 +150,8 @@ class Run:
         self.facts.append(fact)
 
     def key(self, what, chooser):
-        """What is mixed into a key, which private keys are enough, and how many keys of its own somebody needs who takes the part of the chooser."""
+        """What is mixed into a key, which private keys are enough, and how many keys of its own somebody needs who
+        takes the part of the chooser."""
         names = set(self.mixed) | ({"psk" if self.count == 1 else "psks"} if self.count else set())
         pairs = [set(parties_of(it)) for it in self.mixed]
         own = {it for it in self.chosen if it[0] == chooser}

@@ -1,5 +1,5 @@
-"""Runs the suite with an implementation in Python that makes one mistake after another: each has to fail a test whose flag names it, and without a mistake
-those tests have to pass.
+"""Runs the suite with an implementation in Python that makes one mistake after another: each has to fail a test whose
+flag names it, and without a mistake those tests have to pass.
 
     mistakes.py SUITE.json
 """
@@ -56,7 +56,8 @@ def failing(tests: list[tuple[dict, dict]], mistake: str, most: int) -> list[dic
 
 
 def with_zeros(groups: list[dict]) -> list[str]:
-    """The tests of keys that may be refused, with an implementation that refuses none, and goes on with zeros (12.1): all bytes have to be right."""
+    """The tests of keys that may be refused, with an implementation that refuses none, and goes on with zeros (12.1):
+    all bytes have to be right."""
     agreement = mistaken.agreement
 
     def or_zeros(private: bytes, public: bytes) -> bytes:
@@ -73,7 +74,8 @@ def with_zeros(groups: list[dict]) -> list[str]:
 
 
 def refused_at_start(groups: list[dict]) -> list[str]:
-    """The tests of keys that may be refused, and those in which all is right, with a party that refuses to start: that is right for the first alone."""
+    """The tests of keys that may be refused, and those in which all is right, with a party that refuses to start: that
+    is right for the first alone."""
 
     class Party(kind_of("")):  # type: ignore[misc]
         def __init__(self, setup: dict, role: str) -> None:

@@ -1,4 +1,5 @@
-"""Prints each so-many-th group of the suite, whose tests keep their numbers: part.py SUITE.json EVERY. Of the format that projects share likewise."""
+"""Prints each so-many-th group of the suite, whose tests keep their numbers: part.py SUITE.json EVERY. Of the format
+that projects share likewise."""
 import json
 import sys
 

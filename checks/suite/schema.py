@@ -1,4 +1,5 @@
-"""Checks the suite against its schema: the keywords that the schema uses, and no others. It also counts what the suite has, and measures it.
+"""Checks the suite against its schema: the keywords that the schema uses, and no others. It also counts what the suite
+has, and measures it.
 
     schema.py FOLDER
 """

@@ -125,7 +125,8 @@ class End:
     # ---- the start
 
     def mix_public(self, letter, key, state):
-        """What a public key does to the state: in a pattern with psks an `e` is mixed as a key too (9.2). Gives the calls."""
+        """What a public key does to the state: in a pattern with psks an `e` is mixed as a key too (9.2). Gives the
+        calls."""
         state.mix_hash(key)
         if letter == "e" and self.setup.psks:
             state.mix_key(key)

@@ -5,7 +5,8 @@ from typing import NamedTuple
 
 from ends import ROLES, Datagrams, End, Keys, Line, other
 
-# The messages of the fifteen patterns, and the tokens of their pre-messages, the initiator's first (Noise, 7.4 and 7.5).
+# The messages of the fifteen patterns, and the tokens of their pre-messages, the initiator's first (Noise, 7.4 and
+# 7.5).
 PATTERNS = {
     "N": (("", "s"), "e es"),
     "K": (("s", "s"), "e es ss"),

@@ -1,5 +1,6 @@
 #!/usr/bin/env python3
-"""Compares what the page saves of its runs with the program of checks/trace, which has its own functions of the suite: schedules.py FOLDER.
+"""Compares what the page saves of its runs with the program of checks/trace, which has its own functions of the suite:
+schedules.py FOLDER.
 
 Each NAME.vector in the folder expects the lines of its run, and NAME.log has the lines of its key schedules.
 """

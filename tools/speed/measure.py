@@ -1,7 +1,9 @@
-"""Measures the library beside its peers: measure.py FOLDER FIGURES. tools/speed/run builds the programs in FOLDER, and calls this.
+"""Measures the library beside its peers: measure.py FOLDER FIGURES. tools/speed/run builds the programs in FOLDER, and
+calls this.
 
-Of each line of the table all programs run in turn, for some rounds, on one processor. A figure is the median over the rounds, and so is a ratio: how many
-times as fast as the peer the library was in the same round. FIGURES gets a line for each, and before them what they were measured on.
+Of each line of the table all programs run in turn, for some rounds, on one processor. A figure is the median over the
+rounds, and so is a ratio: how many times as fast as the peer the library was in the same round. FIGURES gets a line for
+each, and before them what they were measured on.
 """
 from __future__ import annotations
 

@@ -1,13 +1,15 @@
 #!/usr/bin/env python3
-"""Prints a test of the suite as a vector file, which `noise test`, `explain`, `trace` and `compare` read; or writes all tests of a pattern into a folder.
+"""Prints a test of the suite as a vector file, which `noise test`, `explain`, `trace` and `compare` read; or writes all
+tests of a pattern into a folder.
 
     case.py PROGRAM NUMBER [STEP MESSAGE]
     case.py PROGRAM PATTERN FOLDER
 
-PROGRAM is the command `noise`, and NUMBER the test's. The file has what the tested party writes and gets, the public keys and DH results, and the right
-output. MESSAGE, hex digits, is what your implementation wrote in the step STEP, from 0: it takes the place of the right one, and `noise test` says where the
-two differ. PATTERN is a pattern's name with its psk indices, as XXpsk3: of each test of its groups NUMBER.vector is written into FOLDER.
-A test with other nonces, or with bytes that no frame can carry, has no vector file.
+PROGRAM is the command `noise`, and NUMBER the test's. The file has what the tested party writes and gets, the public
+keys and DH results, and the right output. MESSAGE, hex digits, is what your implementation wrote in the step STEP, from
+0: it takes the place of the right one, and `noise test` says where the two differ. PATTERN is a pattern's name with its
+psk indices, as XXpsk3: of each test of its groups NUMBER.vector is written into FOLDER. A test with other nonces, or
+with bytes that no frame can carry, has no vector file.
 """
 
 from __future__ import annotations

@@ -10,7 +10,8 @@ from steps import Step, add, bytes_of, fresh, judged, right
 
 
 class Piece(NamedTuple):
-    """A piece of a message: its kind, its token's number, where it begins, how long it is, and whether it ends with a tag."""
+    """A piece of a message: its kind, its token's number, where it begins, how long it is, and whether it ends with a
+    tag."""
 
     kind: str
     token: int
@@ -138,7 +139,8 @@ def add_turn(group: Group, sender: str, reader: str, number: int) -> None:
 
 
 class Conversation:
-    """Two parties with set-ups of their own, whose messages pass until one is refused. `changes` are those of messages on the way."""
+    """Two parties with set-ups of their own, whose messages pass until one is refused. `changes` are those of messages
+    on the way."""
 
     def __init__(self, group: Group, setups: dict[str, Setup], changes: dict[int, Step]) -> None:
         self.group, self.setups, self.changes = group, setups, changes
@@ -172,7 +174,8 @@ class Conversation:
 
 
 def clear_changes(group: Group) -> None:
-    """A key or a payload in the clear changed: its reader accepts it, and the first encrypted text after it is refused."""
+    """A key or a payload in the clear changed: its reader accepts it, and the first encrypted text after it is
+    refused."""
     for reader, number in reads(group):
         for piece in pieces(group, number):
             if piece.is_sealed or not piece.length:

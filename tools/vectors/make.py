@@ -1,8 +1,8 @@
 #!/usr/bin/env python3
 """Makes the suite of test vectors.
 
-    make.py PROGRAM FOLDER          writes the suite into FOLDER; PROGRAM is the command `noise`, which says what is right
-    make.py PROGRAM FOLDER EVERY    makes each so-many-th part again, and compares it with the suite in FOLDER
+    make.py PROGRAM FOLDER          writes the suite into FOLDER; PROGRAM is the command `noise`, which says what is
+    right make.py PROGRAM FOLDER EVERY    makes each so-many-th part again, and compares it with the suite in FOLDER
 
 The keys are drawn of a seed (`group.SEED`), and X25519 is computed by `cryptography`.
 """
@@ -82,7 +82,8 @@ class Plan:
         self.jobs.append(make)
 
     def plain(self, first: list[Protocol], one: list[Protocol], two: list[Protocol], later: list[Protocol]) -> None:
-        """Each pattern twice: without prologue and payloads, and with both. The second has the tests of messages that are refused."""
+        """Each pattern twice: without prologue and payloads, and with both. The second has the tests of messages that
+        are refused."""
         for protocol in first:
             swapped = self.by_name.get(OTHERS.get(protocol.section, ""))
             pattern = [lambda group, it=swapped: cases.other_pattern(group, it)] if swapped else []
@@ -194,7 +195,8 @@ def suite_of(groups: list[dict[str, Any]]) -> dict[str, Any]:
 
 
 def shared_format(groups: list[dict[str, Any]]) -> dict[str, Any]:
-    """The right conversations in the format that cacophony, snow and others read: patterns that have names, and no rekeying."""
+    """The right conversations in the format that cacophony, snow and others read: patterns that have names, and no
+    rekeying."""
     vectors = []
     for group in groups:
         tests = [it for it in group["tests"] if it["result"] == "valid"]

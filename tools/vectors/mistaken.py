@@ -1,7 +1,8 @@
-"""An implementation of its own, revision 34 with 25519, ChaChaPoly and SHA256, that makes one of the mistakes below, or none.
+"""An implementation of its own, revision 34 with 25519, ChaChaPoly and SHA256, that makes one of the mistakes below, or
+none.
 
-It shares nothing with the code of `noise`. The suite takes of it only messages that a right party has to refuse; what is right comes from the command.
-A `Party` is driven as the runners of examples/vectors-runners drive any Noise.
+It shares nothing with the code of `noise`. The suite takes of it only messages that a right party has to refuse; what
+is right comes from the command. A `Party` is driven as the runners of examples/vectors-runners drive any Noise.
 """
 
 from __future__ import annotations
@@ -18,7 +19,8 @@ ROLES = ("initiator", "responder")
 RESERVED = 2**64 - 1
 LONGEST = 65535
 
-# Each mistake, with what it is and the section of the standard that says otherwise. Its name is the flag of the cases that are for it.
+# Each mistake, with what it is and the section of the standard that says otherwise. Its name is the flag of the cases
+# that are for it.
 MISTAKES = {
     "NonceBigEndian": ("The nonce is 4 zero bytes and 8 big-endian bytes, in place of little-endian ones.", "12.3"),
     "NonceInFirstBytes": ("The nonce's 8 bytes come before the 4 zero bytes.", "12.3"),
@@ -236,7 +238,8 @@ def tokens_of(protocol: str, pattern: list[str], mistake: str) -> tuple[dict[str
 
 
 class Party:
-    """The HandshakeState (5.3), and afterwards both CipherStates. `setup` is a group of the suite; a mistake is one of MISTAKES, or empty."""
+    """The HandshakeState (5.3), and afterwards both CipherStates. `setup` is a group of the suite; a mistake is one of
+    MISTAKES, or empty."""
 
     def __init__(self, setup: dict, role: str, mistake: str = "") -> None:
         own, self.role, self.mistake = setup[role], role, mistake

@@ -1,4 +1,5 @@
-"""The patterns of the suite, as texts of the command: fundamental, deferred, with psks, and others that the command finds valid."""
+"""The patterns of the suite, as texts of the command: fundamental, deferred, with psks, and others that the command
+finds valid."""
 
 from __future__ import annotations
 
@@ -16,7 +17,8 @@ LETTERS = ("e", "s")
 FUNDAMENTAL = ("N", "K", "X", "NN", "NK", "NX", "KN", "KK", "KX", "XN", "XK", "XX", "IN", "IK", "IX")
 EXAMPLES = Path(__file__).resolve().parent.parent.parent / "examples" / "patterns"
 
-# Patterns of one's own: public keys that are known beforehand, also ephemeral ones (9.2), many messages, tokens in other orders.
+# Patterns of one's own: public keys that are known beforehand, also ephemeral ones (9.2), many messages, tokens in
+# other orders.
 OWN = (
     "PE:/  <- e/  .../  -> e, ee/  <- s, es/",
     "PEpsk0:/  <- e/  .../  -> psk, e, ee/  <- s, es/",

@@ -38,7 +38,8 @@ OTHER_FORM = "12.1: the key isn't the least number of its point; to refuse it is
 
 
 def keys(protocol: Protocol) -> list[tuple[int, str, str]]:
-    """The keys that are tried: the points of small order, and other forms of points; with the flag and the sentence of each."""
+    """The keys that are tried: the points of small order, and other forms of points; with the flag and the sentence of
+    each."""
     made = [(key, "LowOrderKey", ZEROS) for point in SMALL for key in (point, point + TOP) if key < 2**256]
     made += [(PRIME + it, "NonCanonicalKey", OTHER_FORM) for it in (2, 3, 9, 18)]
     top = int.from_bytes(public_of(draw(32, protocol.section, "top bit")), "little") | TOP
@@ -46,7 +47,8 @@ def keys(protocol: Protocol) -> list[tuple[int, str, str]]:
 
 
 def bad_keys(command: Command, protocol: Protocol, role: str, letter: str) -> list[Group]:
-    """A party's ephemeral or static key is each of these. Its other DH results are those of the party that is tested."""
+    """A party's ephemeral or static key is each of these. Its other DH results are those of the party that is
+    tested."""
     return [bad_key(command, protocol, (role, letter), *it) for it in keys(protocol)]
 
 
@@ -64,7 +66,8 @@ def rule(count: int) -> dict[str, Any]:
 
 
 def too_long(group: Group) -> None:
-    """A message has at most 65535 bytes (3). What the command can't be asked of the handshake: its frames carry no more."""
+    """A message has at most 65535 bytes (3). What the command can't be asked of the handshake: its frames carry no
+    more."""
     for number in range(group.handshake + 2):
         sender, reader = group.messages[number].sender, other(group.messages[number].sender)
         overhead = len(group.messages[number].data) - len(group.messages[number].payload)

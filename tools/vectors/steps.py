@@ -1,7 +1,7 @@
 """The steps of a test, and what the command says of them.
 
-A step is what the suite has of it: `do` is read or write, `message` a number, and so on. `judged` adds what comes of each: `refused` with the token, or
-the bytes where they aren't those of the right conversation.
+A step is what the suite has of it: `do` is read or write, `message` a number, and so on. `judged` adds what comes of
+each: `refused` with the token, or the bytes where they aren't those of the right conversation.
 """
 
 from __future__ import annotations

@@ -84,7 +84,8 @@ def keys_of(group: Group) -> dict[str, bytes]:
 
 
 def nonces(group: Group) -> None:
-    """Messages at nonces that are set. Each is a right one, since the command accepts it as a datagram of its nonce; the reserved one it refuses (5.1)."""
+    """Messages at nonces that are set. Each is a right one, since the command accepts it as a datagram of its nonce;
+    the reserved one it refuses (5.1)."""
     keys, first = keys_of(group), len(group.messages)
     for nonce in NONCES:
         for role in ROLES:

@@ -1,5 +1,5 @@
-"""The tests that are each for one mistake: messages of an implementation that makes it, which a right party has to refuse; or a whole conversation, where the
-mistake doesn't come out in any message that a right party refuses."""
+"""The tests that are each for one mistake: messages of an implementation that makes it, which a right party has to
+refuse; or a whole conversation, where the mistake doesn't come out in any message that a right party refuses."""
 
 from __future__ import annotations
 

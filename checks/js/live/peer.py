@@ -1,9 +1,11 @@
-"""The other party of a channel, by the standard and without the library: X25519, ChaCha20-Poly1305, SHA-256 and HMAC are those of Python and cryptography.
+"""The other party of a channel, by the standard and without the library: X25519, ChaCha20-Poly1305, SHA-256 and HMAC
+are those of Python and cryptography.
 
-peer.py PATTERN OWN_SECRET PEER_KEY PSK ADDRESS ORDER SIZE COUNT: COUNT connections to ADDRESS as the initiator, one after another; where ADDRESS begins
-with '@' it listens there, prints the address, and is the responder. In each both parties send SIZE bytes, number n is n % 251, and ORDER says how this one
-ends: `ends` at once, `waits` for the other's end before, `closes` without reading. Of each it prints what it has got: how many bytes, their SHA-256, whether
-the other has ended; whether this one has ended, and the error, if any. PSK is `-` where there is none.
+peer.py PATTERN OWN_SECRET PEER_KEY PSK ADDRESS ORDER SIZE COUNT: COUNT connections to ADDRESS as the initiator, one
+after another; where ADDRESS begins with '@' it listens there, prints the address, and is the responder. In each both
+parties send SIZE bytes, number n is n % 251, and ORDER says how this one ends: `ends` at once, `waits` for the other's
+end before, `closes` without reading. Of each it prints what it has got: how many bytes, their SHA-256, whether the
+other has ended; whether this one has ended, and the error, if any. PSK is `-` where there is none.
 """
 
 import hashlib
