@@ -1,8 +1,9 @@
 """Compares what a runner has printed, and its JUnit file, with the suite that it has run: the reports of all languages
 have the same form.
 
-    report.py SUITE.json REPORT JUNIT.xml    compares report.py --wrong SUITE.json EVERY       prints each so-many-th
-    group, and the frames, with a wrong hash or frame: so that every runner has tests that fail
+    report.py SUITE.json REPORT JUNIT.xml    compares
+    report.py --wrong SUITE.json EVERY       prints each so-many-th group, and the frames, with a wrong hash or frame:
+                                             so that every runner has tests that fail
 """
 
 from __future__ import annotations

@@ -2,7 +2,8 @@
 """Makes the suite of test vectors.
 
     make.py PROGRAM FOLDER          writes the suite into FOLDER; PROGRAM is the command `noise`, which says what is
-    right make.py PROGRAM FOLDER EVERY    makes each so-many-th part again, and compares it with the suite in FOLDER
+                                    right
+    make.py PROGRAM FOLDER EVERY    makes each so-many-th part again, and compares it with the suite in FOLDER
 
 The keys are drawn of a seed (`group.SEED`), and X25519 is computed by `cryptography`.
 """

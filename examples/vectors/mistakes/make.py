@@ -72,7 +72,8 @@ MISTAKES = {
 }
 
 
-# Mistakes of which only logs are made: the bytes of each DH result in reverse order, HMAC with blocks of 32 bytes, and HKDF's first two outputs exchanged.
+# Mistakes of which only logs are made: the bytes of each DH result in reverse order, HMAC with blocks of 32 bytes, and
+# HKDF's first two outputs exchanged.
 LOGGED = {
     "dh-reversed": Mistake("NN", "responder", ""),
     "hmac-block": Mistake("NN", "responder", ""),
