@@ -3,6 +3,8 @@ import asyncio
 import contextlib
 import logging
 import os
+import subprocess
+import sys
 
 import pytest
 from loops import connected, each_loop, run, server_of, settle, until
@@ -313,3 +315,28 @@ def test_a_child_leaves_the_parents_channel_alone():
             assert await reader.read() == b""
         await settle()
     run(main)
+
+
+def test_the_collector_finds_a_client_that_has_refused_the_server():
+    code = """
+import asyncio, gc
+from yulimosar import Config, KeyPair, MessageRefused, open_connection, start_server
+
+async def main():
+    key = KeyPair.generate()
+    server = Config(key=key, accept_any_key=True)
+    client = Config(key=key, peer_key=bytes(32))
+    async with await start_server(lambda reader, writer: None, "127.0.0.1", 0, server) as listening:
+        port = listening.sockets[0].getsockname()[1]
+        gc.disable()
+        for _ in range(5):
+            try:
+                await open_connection("127.0.0.1", port, client)
+            except MessageRefused as fault:
+                fault.itself = fault    # so that the collector frees it
+            gc.collect()
+
+asyncio.run(main())
+"""
+    done = subprocess.run([sys.executable, "-c", code], capture_output=True, text=True, timeout=60)
+    assert (done.returncode, done.stderr) == (0, "")

@@ -363,8 +363,9 @@ class _Room:
     __slots__ = ("view", "place", "size")
 
     def __init__(self, size: int) -> None:
-        self.view = memoryview(bytearray(size))
-        self.place: Any = ffi.from_buffer(self.view)
+        memory = bytearray(size)
+        self.view = memoryview(memory)
+        self.place: Any = ffi.from_buffer(memory)    # not of the view: CPython's collector clears views that others use, and crashes
         self.size = size
 
 
