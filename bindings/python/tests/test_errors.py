@@ -165,3 +165,38 @@ def test_types_that_are_right():
                   {"handshake_timeout": 1}, {"handshake_timeout": None}, {"interval": 3}):
         Config(**{"pattern": "NN", "accept_any_key": True, **words}).check(True)
     Config(pattern="NN", accept_any_key=True, payloads=[b"", b"mine"]).check(False)
+
+
+def ended():
+    """Two handshakes that are done."""
+    first, second = Handshake(Config(accept_any_key=True, pattern="NN"), True), Handshake(
+        Config(accept_any_key=True, pattern="NN"), False)
+    second.read(first.write())
+    first.read(second.write())
+    return first, second
+
+
+CALLS = {
+    "seal": lambda view: ended()[0].split()[0].seal(view),
+    "seal_in_place": lambda view: ended()[0].split()[0].seal_in_place(view, len(view)),
+    "open": lambda view: ended()[0].split()[1].open(view),
+    "open_in_place": lambda view: ended()[0].split()[1].open_in_place(view),
+    "datagrams.seal": lambda view: ended()[0].datagrams().seal(view),
+    "datagrams.open": lambda view: ended()[0].datagrams().open(view),
+    "encrypt_with_ad": lambda view: ended()[0].ciphers()[0].encrypt_with_ad(view, view),
+    "decrypt_with_ad": lambda view: ended()[0].ciphers()[1].decrypt_with_ad(view, view),
+    "write": lambda view: ended()[0].write(view),
+    "read": lambda view: Handshake(Config(accept_any_key=True, pattern="NN"), False).read(view[:31]),
+    "channel.write": lambda view: Channel(Config(accept_any_key=True, pattern="NN"), True).write(view),
+    "prologue": lambda view: Handshake(Config(accept_any_key=True, pattern="NN", prologue=view, interval=-1), True),
+}
+
+
+@pytest.mark.parametrize("call", CALLS)
+def test_a_call_that_raises_lets_go_of_its_buffer(call):
+    """A memoryview that a frame of the traceback still uses crashes CPython, if its collector frees both."""
+    view = memoryview(bytearray(65536))
+    with pytest.raises(NoiseError) as caught:
+        CALLS[call](view)
+    view.release()    # which raises a BufferError while anything uses it
+    assert caught.value.__traceback__ is not None

@@ -12,7 +12,7 @@ from .codes import MAX_PAYLOAD, STREAM_OVERHEAD, Code
 from .config import Config
 from .errors import FORKED, CallError, ChannelCut, MessageRefused
 from .handshake import Handshake, Steps
-from .memory import Buffer, Struct, pointer, refuse_text, shared, uncleared
+from .memory import Buffer, Struct, let_go, pointer, refuse_text, shared, uncleared
 from .pattern import layout
 
 T = TypeVar("T")
@@ -182,8 +182,9 @@ class Channel:
     def _seal(self, data: Any, size: int, room: Any, length: int) -> None:
         """Writes the frames of a payload, which go after what `data_to_send` has returned. One thread calls it."""
         at = None if self._sender is None or self._fault is not None else self._sender._at
-        sender = at[0] if at is not None else self._sends()
+        sender = at[0] if at is not None else self._sends(data)
         if code := _stream_write_all(sender, data, size, room, length, self._write_result):
+            let_go(data)
             raise CallError(Code(code))
 
     def write_eof(self) -> None:
@@ -195,15 +196,16 @@ class Channel:
                 raise CallError(Code(code))
             self._to_send.append(ffi.unpack(room, result.len))
 
-    def _sends(self) -> Any:
-        """The struct that sends, if anything may be sent."""
+    def _sends(self, *places: Any) -> Any:
+        """The struct that sends, if anything may be sent; else it lets go of what `pointer` returned."""
+        if self._fault is None and self._sender is not None and self._sender._at is not None:
+            return self._sender._at[0]
+        let_go(*places)
         if self._fault is not None:
             raise self._fault.with_traceback(None)
         if self._sender is None:
             raise CallError(Code.NOT_DONE)
-        if self._sender._at is None:
-            raise self._sender._gone()
-        return self._sender._at[0]
+        raise self._sender._gone()
 
     def data_to_send(self) -> bytes:
         """The bytes to send next over the connection; none after a fault."""
@@ -365,7 +367,7 @@ class _Room:
     def __init__(self, size: int) -> None:
         memory = bytearray(size)
         self.view = memoryview(memory)
-        self.place: Any = ffi.from_buffer(memory)    # not of the view: CPython's collector clears views that others use, and crashes
+        self.place: Any = ffi.from_buffer(memory)    # a view that is used crashes CPython, if its collector frees both
         self.size = size
 
 

@@ -9,7 +9,7 @@ from .codes import KEY_LEN, Code
 from .config import Config
 from .errors import CallError, ConfigError, LowOrderKey, MessageRefused, PeerRefused, PskWanted
 from .keys import DH, KeyPair
-from .memory import Buffer, Struct, copied, pointer
+from .memory import Buffer, Struct, copied, let_go, pointer
 from .pattern import pattern_text
 from .transport import CipherState, Datagrams, Receiver, Sender
 
@@ -91,6 +91,7 @@ class Handshake(Struct):
         lib.noise_wipe(setup, ffi.sizeof(setup[0]))
         if code:
             self._overwrite()
+            let_go(prologue)
             raise ConfigError(_FIELDS.get(code, "pattern"), Code(code))
 
     def _open(self) -> Any:
@@ -227,8 +228,15 @@ class Handshake(Struct):
 
     def writing(self, payload: Buffer) -> Steps[bytes]:
         """`write`, where functions of the Config may be asynchronous."""
-        size = ffi.new("size_t *")
         data, length = pointer(payload)
+        try:
+            return (yield from self._written(data, length))
+        except BaseException:
+            let_go(data)
+            raise
+
+    def _written(self, data: Any, length: int) -> Steps[bytes]:
+        size = ffi.new("size_t *")
         code = lib.noise_message_len(self._open(), length, size)
         if code == Code.OK:
             yield from self._verify_known()

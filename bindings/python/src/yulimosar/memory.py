@@ -31,6 +31,14 @@ def pointer(data: Buffer) -> tuple[Any, int]:
     return there, len(there)
 
 
+def let_go(*places: Any) -> None:
+    """Gives back what `pointer` returned, before a call raises: a memoryview that a frame of the traceback still uses
+    crashes CPython, if its collector frees both."""
+    for place in places:
+        if isinstance(place, ffi.CData):
+            ffi.release(place)
+
+
 def refuse_text(data: Buffer) -> None:
     """Raises a TypeError that says what is wrong with a str."""
     if isinstance(data, str):
@@ -87,8 +95,9 @@ class Struct:
         """Whether it was closed, or used up."""
         return self._at is None
 
-    def _gone(self) -> CallError:
-        """What a call raises that needs the keys, where there are none."""
+    def _gone(self, *places: Any) -> CallError:
+        """What a call raises that needs the keys, where there are none; it lets go of what `pointer` returned."""
+        let_go(*places)
         return CallError(None, self._why)
 
     def __enter__(self) -> Self:

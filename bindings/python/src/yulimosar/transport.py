@@ -6,7 +6,7 @@ from typing import Any
 from ._noise import ffi, lib
 from .codes import DATAGRAM_OVERHEAD, TAG_LEN, Code
 from .errors import CallError, MessageRefused
-from .memory import SMALL, Buffer, Struct, pointer
+from .memory import SMALL, Buffer, Struct, let_go, pointer
 
 _REFUSALS = {Code.SHORT, Code.TAG, Code.TOO_LONG, Code.LENGTH, Code.RESERVED, Code.OLD, Code.REPEATED}
 
@@ -23,11 +23,13 @@ _encrypt = lib.noise_cipher_encrypt
 _decrypt = lib.noise_cipher_decrypt
 
 
-def _unsealed(code: int) -> CallError:
+def _unsealed(code: int, *places: Any) -> CallError:
+    let_go(*places)
     return CallError(Code(code))
 
 
-def _unopened(code: int) -> Exception:
+def _unopened(code: int, *places: Any) -> Exception:
+    let_go(*places)
     if code in _REFUSALS:
         return MessageRefused(None, None, Code(code))
     return CallError(Code(code))
@@ -49,10 +51,10 @@ class Sender(Struct):
         with self._lock:
             at = self._at
             if at is None:
-                raise self._gone()
+                raise self._gone(data)
             room = self._spare if self._spare and length <= SMALL else self._room(length)
             if code := _seal(at[0], data, size, room, length, self._result):
-                raise _unsealed(code)
+                raise _unsealed(code, data)
             return _unpack(room, length)    # type: ignore[no-any-return]
 
     def seal_in_place(self, buffer: bytearray | memoryview, size: int) -> int:
@@ -63,9 +65,9 @@ class Sender(Struct):
         with self._lock:
             at = self._at
             if at is None:
-                raise self._gone()
+                raise self._gone(room)
             if code := _seal_in_place(at[0], room, len(room), size, self._result):
-                raise _unsealed(code)
+                raise _unsealed(code, room)
             return size + TAG_LEN
 
     @property
@@ -89,10 +91,10 @@ class Receiver(Struct):
         with self._lock:
             at = self._at
             if at is None:
-                raise self._gone()
+                raise self._gone(data)
             room = self._spare if self._spare and size <= SMALL else self._room(size)
             if code := _open_copy(at[0], data, size, room, self._result):
-                raise _unopened(code)
+                raise _unopened(code, data)
             return _unpack(room, size - TAG_LEN)    # type: ignore[no-any-return]
 
     def open_in_place(self, message: bytearray | memoryview) -> memoryview:
@@ -102,9 +104,9 @@ class Receiver(Struct):
         with self._lock:
             at = self._at
             if at is None:
-                raise self._gone()
+                raise self._gone(room)
             if code := _open(at[0], room, size, self._result):
-                raise _unopened(code)
+                raise _unopened(code, room)
             view = memoryview(message)
             return (view if view.format == "B" else view.cast("B"))[:size - TAG_LEN]
 
@@ -140,10 +142,10 @@ class Datagrams(Struct):
         with self._lock:
             at = self._at
             if at is None:
-                raise self._gone()
+                raise self._gone(data)
             room = self._spare if self._spare and length <= SMALL else self._room(length)
             if code := _datagram_seal(at[0], data, size, room, length, self._result):
-                raise _unsealed(code)
+                raise _unsealed(code, data)
             return _unpack(room, length)    # type: ignore[no-any-return]
 
     def open(self, datagram: Buffer) -> bytes:
@@ -152,10 +154,10 @@ class Datagrams(Struct):
         with self._lock:
             at = self._at
             if at is None:
-                raise self._gone()
+                raise self._gone(data)
             room = self._spare if self._spare and size <= SMALL else self._room(size)
             if code := _datagram_open_copy(at[1], data, size, room, self._result):
-                raise _unopened(code)
+                raise _unopened(code, data)
             return _unpack(room + 8, size - DATAGRAM_OVERHEAD)    # type: ignore[no-any-return]
 
     @property
@@ -179,12 +181,12 @@ class CipherState(Struct):
         ad_data, ad_size = pointer(ad)
         with self._lock:
             if self._at is None:
-                raise self._gone()
+                raise self._gone(data, ad_data)
             room = self._room(size + TAG_LEN)
             ffi.memmove(room, data, size)
             code = _encrypt(self._at[0], ad_data, ad_size, room, size + TAG_LEN, size, self._result)
             if code:
-                raise _unsealed(code)
+                raise _unsealed(code, data, ad_data)
             return _unpack(room, self._result.len)    # type: ignore[no-any-return]
 
     def decrypt_with_ad(self, ad: Buffer, ciphertext: Buffer) -> bytes:
@@ -193,12 +195,12 @@ class CipherState(Struct):
         ad_data, ad_size = pointer(ad)
         with self._lock:
             if self._at is None:
-                raise self._gone()
+                raise self._gone(data, ad_data)
             room = self._room(size)
             ffi.memmove(room, data, size)
             code = _decrypt(self._at[0], ad_data, ad_size, room, size, self._result)
             if code:
-                raise _unopened(code)
+                raise _unopened(code, data, ad_data)
             return _unpack(room + getattr(self._result, "from"), self._result.len)    # type: ignore[no-any-return]
 
     @property
