@@ -188,7 +188,6 @@ CALLS = {
     "write": lambda view: ended()[0].write(view),
     "read": lambda view: Handshake(Config(accept_any_key=True, pattern="NN"), False).read(view[:31]),
     "channel.write": lambda view: Channel(Config(accept_any_key=True, pattern="NN"), True).write(view),
-    "prologue": lambda view: Handshake(Config(accept_any_key=True, pattern="NN", prologue=view, interval=-1), True),
 }
 
 

@@ -91,7 +91,6 @@ class Handshake(Struct):
         lib.noise_wipe(setup, ffi.sizeof(setup[0]))
         if code:
             self._overwrite()
-            let_go(prologue)
             raise ConfigError(_FIELDS.get(code, "pattern"), Code(code))
 
     def _open(self) -> Any:
