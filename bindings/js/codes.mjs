@@ -56,8 +56,8 @@ const TEXTS = Object.freeze({
   DISPOSED: 'this object is used up',
   NOT_LOADED: 'await load() first',
   KEY: "X25519 fails for the other party's public key, or gives all zeros: close",
-  REFUSED: "judge didn't return true for the other party's static key, and the connection was closed",
-  UNAUTHENTICATED: 'nothing says who may be the other party: pass judge, remoteStatic, psks or pskFor, or acceptAnyKey: true',
+  REFUSED: "verify didn't return true for the other party's static key, and the connection was closed",
+  UNAUTHENTICATED: 'nothing says who may be the other party: pass verify, remoteStatic, psks or pskFor, or acceptAnyKey: true',
   BACKLOG: 'more came over the WebSocket than may wait until it is received, and the connection was closed',
 });
 

@@ -10,17 +10,17 @@ import { Waiting } from './waiting.mjs';
 import { EARLY } from './websocket.mjs';
 
 /**
- * Refuses options that don't say who may be the other party, and a `judge` that would never be called; tells whether it is to be called. The package
+ * Refuses options that don't say who may be the other party, and a `verify` that would never be called; tells whether it is to be called. The package
  * for Go decides alike.
  */
-function hasToJudge({ pattern, responder, remoteStatic, psks = [], pskFor }, judge, acceptAnyKey) {
-  if (judge !== undefined && typeof judge !== 'function') throw new TypeError('judge has to be a function');
+function hasToVerify({ pattern, responder, remoteStatic, psks = [], pskFor }, verify, acceptAnyKey) {
+  if (verify !== undefined && typeof verify !== 'function') throw new TypeError('verify has to be a function');
   const isKeyed = staticKeysOf(pattern)[responder ? 'initiator' : 'responder'];
   if (acceptAnyKey !== true) {
-    if (judge && !isKeyed) throw new TypeError('judge would never be called: the other party has no static key in this pattern');
-    if (!judge && !remoteStatic && !pskFor && psks.length === 0) throw new NoiseError('NOISE_UNAUTHENTICATED');
+    if (verify && !isKeyed) throw new TypeError('verify would never be called: the other party has no static key in this pattern');
+    if (!verify && !remoteStatic && !pskFor && psks.length === 0) throw new NoiseError('NOISE_UNAUTHENTICATED');
   }
-  return judge !== undefined && isKeyed;
+  return verify !== undefined && isKeyed;
 }
 
 /** A number of bytes, from 0 on. */
@@ -30,8 +30,8 @@ function sizeOf(value, what) {
 }
 
 /**
- * How much may wait over a WebSocket: 1 MiB until the last message of the handshake has come, `backlog` then, and while the program is asked for its
- * verdict or a secret 1 MiB more than what waits.
+ * How much may wait over a WebSocket: 1 MiB until the last message of the handshake has come, `backlog` then, and while `verify` or `pskFor` is asked
+ * 1 MiB more than what waits.
  */
 class Bound {
   #carrier;
@@ -63,15 +63,15 @@ class Bound {
  * Passes the messages of a handshake, each of at most `limit` bytes, as long as `waiting` isn't over. Gives the frames that are kept back: that of the last
  * message, if this party writes it, leaves with the first payload.
  */
-async function pass({ carrier, incoming, handshake, judge, limit, waiting, bound }) {
-  let isDue = judge !== undefined;
+async function pass({ carrier, incoming, handshake, verify, limit, waiting, bound }) {
+  let isDue = verify !== undefined;
   const kept = [];
   for (;;) {
     const { done, writesNext, messages, passed } = handshake.stage;
     const { remoteStatic } = handshake;
     if (isDue && (done || remoteStatic)) {
       isDue = false;
-      if ((await waiting.for(judge(remoteStatic))) !== true) throw new NoiseError('NOISE_REFUSED');
+      if ((await waiting.for(verify(remoteStatic))) !== true) throw new NoiseError('NOISE_REFUSED');
     }
     if (done) return kept;
     const isLast = passed + 1 === messages;
@@ -100,16 +100,16 @@ function endBy(signal, waiting) {
 /**
  * @typedef {object} SocketOptions
  * @property {number} [interval] Each direction is rekeyed after so many of its messages, the same number at both parties; 0 is never.
- * @property {(remoteStatic: Uint8Array) => boolean | Promise<boolean>} [judge] Called once, as soon as the other party's static key is known, before
+ * @property {(remoteStatic: Uint8Array) => boolean | Promise<boolean>} [verify] Called once, as soon as the other party's static key is known, before
  * anything else is sent or read. Unless it returns true itself, the connection is closed, and `open` throws NOISE_REFUSED. In a pattern in which the
  * other party has no static key it is a TypeError.
- * @property {boolean} [acceptAnyKey] Talks to anybody, where none of `judge`, `remoteStatic`, `psks` and `pskFor` says who it may be. Without it
+ * @property {boolean} [acceptAnyKey] Talks to anybody, where none of `verify`, `remoteStatic`, `psks` and `pskFor` says who it may be. Without it
  * `open` throws NOISE_UNAUTHENTICATED.
  * @property {import('./waiting.mjs').Signal} [signal] Ends the call of `open`, whatever it waits for: it destroys the connection, and throws the signal's reason.
  * @property {number} [handshakeLimit] How many bytes a handshake message may have: 4096, if nothing is said. At more `open` throws NOISE_TOO_LONG.
  * @property {number} [backlog] How many bytes of a WebSocket that can't be paused may wait until they are received: 64 MiB, if nothing is said, each
  * message with 256 more. At more the connection is closed, and `receive` throws NOISE_BACKLOG. Until the last message of the handshake has come that is 1 MiB, and while
- * `judge` or `pskFor` is asked 1 MiB more than what waits then.
+ * `verify` or `pskFor` is asked 1 MiB more than what waits then.
  */
 /** @typedef {import('./setup.mjs').HandshakeOptions & SocketOptions} NoiseSocketOptions The set-up of a handshake, and of a channel. */
 
@@ -123,16 +123,16 @@ export async function opened(connection, options) {
   let handshake;
   let letGo;
   try {
-    const { interval = 0, judge, acceptAnyKey, signal, handshakeLimit = 4096, backlog = 1 << 26, ...setup } = optionsOf(options, true);
+    const { interval = 0, verify, acceptAnyKey, signal, handshakeLimit = 4096, backlog = 1 << 26, ...setup } = optionsOf(options, true);
     const limit = sizeOf(handshakeLimit, 'handshakeLimit');
     const bound = new Bound(carrier, sizeOf(backlog, 'backlog'));
     handshake = new Handshake(typeof setup.pskFor === 'function' ? { ...setup, pskFor: bound.asking(setup.pskFor) } : setup);
-    const isJudged = hasToJudge(setup, judge, acceptAnyKey);
+    const isDue = hasToVerify(setup, verify, acceptAnyKey);
     letGo = endBy(signal, waiting);
     carrier.overflowed = (error) => waiting.end(error);
     await waiting.for(carrier.ready());
     const incoming = new Incoming(() => carrier.pull());
-    const kept = await pass({ carrier, incoming, handshake, judge: isJudged ? bound.asking(judge) : undefined, limit, waiting, bound });
+    const kept = await pass({ carrier, incoming, handshake, verify: isDue ? bound.asking(verify) : undefined, limit, waiting, bound });
     carrier.overflowed = undefined;    // the next call of receive throws it
     bound.hasLast();
     const isSilent = handshake.stage.messages === 1 && !setup.responder;

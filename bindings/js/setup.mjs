@@ -18,10 +18,10 @@ import { library } from './module.mjs';
  * or `read`, and nothing is sent.
  */
 const OF_HANDSHAKE = ['pattern', 'responder', 'prologue', 'staticKey', 'ephemeralKey', 'remoteStatic', 'remoteEphemeral', 'psks', 'pskFor'];
-const OF_CHANNEL = ['interval', 'judge', 'acceptAnyKey', 'signal', 'handshakeLimit', 'backlog'];
+const OF_CHANNEL = ['interval', 'verify', 'acceptAnyKey', 'signal', 'handshakeLimit', 'backlog'];
 /** What to do instead, where a handshake is passed an option of a channel. */
 const INSTEAD = {
-  judge: 'compare remoteStatic once it is known', acceptAnyKey: 'compare remoteStatic once it is known', interval: 'pass it to finish',
+  verify: 'compare remoteStatic once it is known', acceptAnyKey: 'compare remoteStatic once it is known', interval: 'pass it to finish',
 };
 const encoder = new TextEncoder();
 let lastPattern = { text: '', bytes: new Uint8Array(0) };

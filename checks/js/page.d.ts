@@ -5,7 +5,7 @@ declare const pskOf: Map<string, Uint8Array>;
 declare const [pattern, responder]: [string, boolean];
 declare const [staticKey, key]: import('yulimosar').KeyPair[];
 declare const server: Uint8Array;
-declare const judge: (remoteStatic: Uint8Array) => boolean;
+declare const verify: (remoteStatic: Uint8Array) => boolean;
 declare const socket: WebSocket;
 declare const serve: (socket: WebSocket) => Promise<void>;
 declare const channel: import('yulimosar').NoiseSocket;

@@ -5,7 +5,7 @@ await load({ href: 'https://example.org/noise_c.wasm' });
 const staticKey: KeyPair = await KeyPair.generate();
 declare const socket: NodeStream;
 declare const connection: Connection;
-const channel = await NoiseSocket.open(socket, { pattern: 'XX', staticKey, judge: (key) => key.length === 32 });
+const channel = await NoiseSocket.open(socket, { pattern: 'XX', staticKey, verify: (key) => key.length === 32 });
 await channel.send(new Uint8Array(3));
 for await (const payload of channel) if (payload.length > 3) break;
 for await (const payload of channel.readable) if (payload.length > 3) break;

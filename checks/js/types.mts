@@ -43,7 +43,7 @@ else if ('rule' in verdict) console.log(verdict.token);
 else console.log(verdict.line);
 console.log(layout('XX').messages[0].pieces[0].kind);
 const { readable, writable } = new TransformStream<Uint8Array, Uint8Array>();
-const channel = await NoiseSocket.open({ readable, writable }, { pattern: 'XX', judge: (key) => key.length === 32 });
+const channel = await NoiseSocket.open({ readable, writable }, { pattern: 'XX', verify: (key) => key.length === 32 });
 for await (const payload of channel) await channel.send(payload);
 await channel.end();
 await channel.close({ timeout: 100 });

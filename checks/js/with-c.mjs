@@ -28,7 +28,7 @@ const channel = await NoiseSocket.open(socket, {
   interval: 1000,
   staticKey: await KeyPair.generate(),
   remoteStatic: pattern === 'IK' ? server : undefined,
-  judge: (key) => Buffer.compare(key, server) === 0,
+  verify: (key) => Buffer.compare(key, server) === 0,
 });
 await channel.send(bytes('hello from JavaScript'));
 assert.equal(new TextDecoder().decode(await channel.receive()).replace(/\0$/, ''), 'hello from JavaScript');

@@ -64,7 +64,7 @@ const channel = await NoiseSocket.open(await connection(), {
   staticKey: plan.static[role] ? await keyPair(bytes(secret)) : undefined,
   remoteStatic: plan.before[other].includes('s') ? bytes(peer) : undefined,
   ...secrets(),
-  ...(plan.static[other] ? { judge: (key) => Buffer.compare(key, bytes(peer)) === 0 } : { acceptAnyKey: true }),
+  ...(plan.static[other] ? { verify: (key) => Buffer.compare(key, bytes(peer)) === 0 } : { acceptAnyKey: true }),
 });
 if (role === 'responder') {
   const all = await readAll(channel);

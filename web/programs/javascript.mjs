@@ -37,7 +37,7 @@ function keys({ has, knowsEphemeral, psks }) {
 function socket(role, facts) {
   const { has, interval, psks } = facts;
   const [reads, writes, other, isOther] = role === 'initiator' ? ['back', 'there', 'server', has.responder] : ['there', 'back', 'client', has.initiator];
-  const more = [interval > 0 && `interval: ${interval}`, isOther && `judge: (key) => String(key) === String(${other}Key.publicKey)`,
+  const more = [interval > 0 && `interval: ${interval}`, isOther && `verify: (key) => String(key) === String(${other}Key.publicKey)`,
     !isOther && psks === 0 && 'acceptAnyKey: true'].filter(Boolean);
   return `  NoiseSocket.open({ readable: ${reads}.readable, writable: ${writes}.writable }, ${object([...options(role, facts), ...more], '  ')}),`;
 }

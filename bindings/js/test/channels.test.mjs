@@ -43,28 +43,28 @@ test('channels', async (t) => {
     const pattern = protocolName('XX');
     const [near, far] = pair();
     const [a, b] = await Promise.allSettled([
-      NoiseSocket.open(near, { pattern, staticKey: await KeyPair.generate(), judge: () => false }),
+      NoiseSocket.open(near, { pattern, staticKey: await KeyPair.generate(), verify: () => false }),
       NoiseSocket.open(far, { pattern, staticKey: await KeyPair.generate(), responder: true, acceptAnyKey: true }).then((channel) => channel.receive()),
     ]);
     assert.equal(a.reason.code, 'NOISE_REFUSED');
-    assert.match(a.reason.message, /judge didn't return true/u);
+    assert.match(a.reason.message, /verify didn't return true/u);
     assert.equal(b.reason?.code, 'NOISE_CUT'); // no message 3
     const [cut, cutter] = pair();
     await Promise.all([assert.rejects(NoiseSocket.open(cut, { pattern, staticKey: await KeyPair.generate(), acceptAnyKey: true }), refused('NOISE_CUT')),
       (async () => { const reader = cutter.readable.getReader(); await reader.read(); await cutter.writable.getWriter().close(); })()]);
   });
 
-  // Which key `judge` gets, how many messages this party has sent then, and that nothing is sent after a refusal.
+  // Which key `verify` gets, how many messages this party has sent then, and that nothing is sent after a refusal.
   for (const [pattern, responder, sent] of [['XX', false, 1], ['XX', true, 1], ['IX', false, 1], ['IX', true, 0], ['IK', false, 0], ['IK', true, 0]]) {
-    await t.test(`${pattern}: the ${responder ? 'responder' : 'initiator'} judges as soon as it knows the key`, async () => {
+    await t.test(`${pattern}: the ${responder ? 'responder' : 'initiator'} verifies as soon as it knows the key`, async () => {
       for (const verdict of [true, false, 1, -1, 'yes', {}, undefined]) {    // as Buffer.compare of two keys that differ returns 1 or -1
         let count = 0;
         const counting = new TransformStream({ transform: (chunk, controller) => { count += 1; controller.enqueue(chunk); } }, undefined, { highWaterMark: 16 });
         const other = new TransformStream(undefined, undefined, { highWaterMark: 16 });
         const [one, two] = [await KeyPair.generate(), await KeyPair.generate()];
         const seen = [];
-        const judge = (key) => { seen.push([key, count]); return verdict; };
-        const here = { pattern, responder, staticKey: one, judge };
+        const verify = (key) => { seen.push([key, count]); return verdict; };
+        const here = { pattern, responder, staticKey: one, verify };
         const there = { pattern, responder: !responder, staticKey: two, acceptAnyKey: true };
         if (pattern === 'IK') [here, there].find((it) => !it.responder).remoteStatic = responder ? one.publicKey : two.publicKey;
         const [a, b] = await Promise.allSettled([
@@ -86,8 +86,8 @@ test('channels', async (t) => {
     const options = { pattern: protocolName('XX'), interval: 3 };
     const same = (key) => (got) => Buffer.compare(got, key.publicKey) === 0;
     const [a, b] = await Promise.all([
-      NoiseSocket.open({ readable: down.readable, writable: up.writable }, { ...options, staticKey: client, judge: same(server) }),
-      NoiseSocket.open({ readable: up.readable, writable: down.writable }, { ...options, staticKey: server, responder: true, judge: same(client) }),
+      NoiseSocket.open({ readable: down.readable, writable: up.writable }, { ...options, staticKey: client, verify: same(server) }),
+      NoiseSocket.open({ readable: up.readable, writable: down.writable }, { ...options, staticKey: server, responder: true, verify: same(client) }),
     ]);
     for (let n = 0; n < 7; n += 1) {
       await a.send(text(`hello ${n}`));
@@ -99,7 +99,7 @@ test('channels', async (t) => {
 
   await t.test('who may be the other party has to be said, as in the package for Go', async () => {
     const [staticKey, { publicKey }] = [await KeyPair.generate(), await KeyPair.generate()];
-    const [judge, psk, acceptAnyKey] = [() => true, new Uint8Array(32), true];
+    const [verify, psk, acceptAnyKey] = [() => true, new Uint8Array(32), true];
     const unsaid = refused('NOISE_UNAUTHENTICATED');
     const cases = [
       [{ pattern: 'XX', staticKey }, unsaid],
@@ -107,10 +107,10 @@ test('channels', async (t) => {
       [{ pattern: 'XX', staticKey, acceptAnyKey: 'yes' }, unsaid],
       [{ pattern: 'NN' }, unsaid],
       [{ pattern: 'NK', staticKey, responder: true }, unsaid],
-      [{ pattern: 'NN', judge }, TypeError],
-      [{ pattern: 'NNpsk0', psks: [psk], judge }, TypeError],
-      [{ pattern: 'NK', staticKey, responder: true, judge }, TypeError],
-      [{ pattern: 'XX', staticKey, judge: 'yes' }, TypeError],
+      [{ pattern: 'NN', verify }, TypeError],
+      [{ pattern: 'NNpsk0', psks: [psk], verify }, TypeError],
+      [{ pattern: 'NK', staticKey, responder: true, verify }, TypeError],
+      [{ pattern: 'XX', staticKey, verify: 'yes' }, TypeError],
     ];
     for (const [options, fault] of cases) {
       const [near, far] = pair();
@@ -118,10 +118,10 @@ test('channels', async (t) => {
       assert.deepEqual(await far.readable.getReader().read(), { value: undefined, done: true });    // closed, and nothing was sent
     }
     const said = [
-      [{ pattern: 'NN', acceptAnyKey }, { pattern: 'NN', acceptAnyKey, judge }],
+      [{ pattern: 'NN', acceptAnyKey }, { pattern: 'NN', acceptAnyKey, verify }],
       [{ pattern: 'NNpsk0', psks: [psk] }, { pattern: 'NNpsk0', psks: [psk] }],
       [{ pattern: 'NK', remoteStatic: staticKey.publicKey }, { pattern: 'NK', staticKey, acceptAnyKey }],
-      [{ pattern: 'XX', staticKey, judge }, { pattern: 'XX', staticKey, acceptAnyKey }],
+      [{ pattern: 'XX', staticKey, verify }, { pattern: 'XX', staticKey, acceptAnyKey }],
       [{ pattern: 'XXpsk3', staticKey, psks: [psk] }, { pattern: 'XXpsk3', staticKey, pskFor: () => psk }],
     ];
     for (const [client, server] of said) {

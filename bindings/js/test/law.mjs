@@ -16,7 +16,7 @@ function keyOf(role, ofStatic) {
 }
 export const OPTIONS = [0, 1].map((role) => ({
   pattern: 'XX', responder: role === 1, interval: 2, staticKey: keyOf(role, 1), ephemeralKey: keyOf(role, 0),
-  judge: (key) => Buffer.compare(key, keyOf(1 - role, 1).publicKey) === 0,
+  verify: (key) => Buffer.compare(key, keyOf(1 - role, 1).publicKey) === 0,
 }));
 
 /** What a fault makes of a message, as several messages, or undefined where it cuts the connection. */

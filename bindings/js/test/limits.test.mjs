@@ -59,15 +59,15 @@ test('limits', { timeout: 300000 }, async (t) => {
     assert.equal(got, 60 * 65519 + 2);
   });
 
-  await t.test('what a stranger sends until judge has answered is bounded, and the connection is closed', async () => {
+  await t.test('what a stranger sends until verify has answered is bounded, and the connection is closed', async () => {
     const [near, far] = openSockets();
     const staticKey = await KeyPair.generate();
-    let judged;
-    const isJudged = new Promise((resolve) => { judged = resolve; });
-    const judge = () => { judged(); return new Promise(() => {}); };
-    const opened = outcome(NoiseSocket.open(near, { pattern: 'XX', staticKey, responder: true, judge }));
+    let asked;
+    const isAsked = new Promise((resolve) => { asked = resolve; });
+    const verify = () => { asked(); return new Promise(() => {}); };
+    const opened = outcome(NoiseSocket.open(near, { pattern: 'XX', staticKey, responder: true, verify }));
     const peer = NoiseSocket.open(far, { pattern: 'XX', staticKey, acceptAnyKey: true });
-    await Promise.all([isJudged, peer]);
+    await Promise.all([isAsked, peer]);
     const message = new Uint8Array(65519);
     let count = 0;
     while (near.listeners('message') > 0 && count < 1000) {
@@ -77,7 +77,7 @@ test('limits', { timeout: 300000 }, async (t) => {
     assert.ok(count <= 17, `${count} messages`);
     assert.deepEqual(EVENTS.map((it) => near.listeners(it)), [0, 0, 0]);
     await once(near, 'close');
-    assert.equal(await opened, 'NOISE_BACKLOG');    // though judge hasn't answered
+    assert.equal(await opened, 'NOISE_BACKLOG');    // though verify hasn't answered
     const [here, there] = openSockets();
     const refusal = outcome(NoiseSocket.open(here, { ...NN, responder: true }));
     for (let n = 0; n < 1000; n += 1) here.take(message);
@@ -90,7 +90,7 @@ test('limits', { timeout: 300000 }, async (t) => {
     const [one, two] = [await KeyPair.generate(), await KeyPair.generate()];
     const slow = { publicKey: two.publicKey, agree: async (remote) => { await new Promise((resolve) => { setTimeout(resolve, 30); }); return two.agree(remote); } };
     const isOne = (key) => Buffer.compare(key, one.publicKey) === 0;
-    for (const server of [{ pattern: 'XX', judge: isOne }, { pattern: 'XXpsk3', pskFor: () => new Uint8Array(32) }]) {
+    for (const server of [{ pattern: 'XX', verify: isOne }, { pattern: 'XXpsk3', pskFor: () => new Uint8Array(32) }]) {
       const [near, far] = openSockets();
       const opening = NoiseSocket.open(near, { ...server, staticKey: slow, responder: true });
       const a = await NoiseSocket.open(far, { pattern: server.pattern, staticKey: one, psks: server.pskFor ? [new Uint8Array(32)] : [], acceptAnyKey: true });
@@ -202,11 +202,11 @@ test('limits', { timeout: 300000 }, async (t) => {
     });
   }
 
-  await t.test('a signal ends a judge, a secret and a key that never answer, and one byte each 10 ms', async () => {
+  await t.test('a signal ends verify, a secret and a key that never answer, and one byte each 10 ms', async () => {
     const [one, two] = [await KeyPair.generate(), await KeyPair.generate()];
     const never = () => new Promise(() => {});
     const hangs = [
-      { pattern: 'XX', staticKey: one, judge: never },
+      { pattern: 'XX', staticKey: one, verify: never },
       { pattern: 'XXpsk3', staticKey: one, pskFor: never },
       { pattern: 'XX', staticKey: { publicKey: one.publicKey, agree: never }, acceptAnyKey: true },
     ];

@@ -67,7 +67,7 @@ test('values', async (t) => {
 
   await t.test('an option that would be ignored is refused, and named', async () => {
     const staticKey = await KeyPair.generate();
-    const ofOpen = { judge: () => false, acceptAnyKey: false, interval: 3, signal: AbortSignal.timeout(1000), handshakeLimit: 4096, backlog: 1 };
+    const ofOpen = { verify: () => false, acceptAnyKey: false, interval: 3, signal: AbortSignal.timeout(1000), handshakeLimit: 4096, backlog: 1 };
     for (const [name, value] of Object.entries(ofOpen)) {
       const message = new RegExp(`^${name} is an option of NoiseSocket.open, and not of Handshake`, 'u');
       assert.throws(() => new Handshake({ pattern: 'XX', staticKey, [name]: value }), { name: 'TypeError', message });
@@ -77,7 +77,7 @@ test('values', async (t) => {
       assert.throws(() => new Handshake({ pattern: 'XX', staticKey, [name]: true }), fault);
       await assert.rejects(NoiseSocket.open(pair()[0], { pattern: 'XX', staticKey, acceptAnyKey: true, [name]: true }), fault);
     }
-    assert.ok(new Handshake({ pattern: 'XX', staticKey, judge: undefined }));
+    assert.ok(new Handshake({ pattern: 'XX', staticKey, verify: undefined }));
   });
 
   await t.test('keys are compared, and are a Map’s keys, whatever array has them', async () => {

@@ -1,16 +1,16 @@
 /**
  * @typedef {object} SocketOptions
  * @property {number} [interval] Each direction is rekeyed after so many of its messages, the same number at both parties; 0 is never.
- * @property {(remoteStatic: Uint8Array) => boolean | Promise<boolean>} [judge] Called once, as soon as the other party's static key is known, before
+ * @property {(remoteStatic: Uint8Array) => boolean | Promise<boolean>} [verify] Called once, as soon as the other party's static key is known, before
  * anything else is sent or read. Unless it returns true itself, the connection is closed, and `open` throws NOISE_REFUSED. In a pattern in which the
  * other party has no static key it is a TypeError.
- * @property {boolean} [acceptAnyKey] Talks to anybody, where none of `judge`, `remoteStatic`, `psks` and `pskFor` says who it may be. Without it
+ * @property {boolean} [acceptAnyKey] Talks to anybody, where none of `verify`, `remoteStatic`, `psks` and `pskFor` says who it may be. Without it
  * `open` throws NOISE_UNAUTHENTICATED.
  * @property {import('./waiting.mjs').Signal} [signal] Ends the call of `open`, whatever it waits for: it destroys the connection, and throws the signal's reason.
  * @property {number} [handshakeLimit] How many bytes a handshake message may have: 4096, if nothing is said. At more `open` throws NOISE_TOO_LONG.
  * @property {number} [backlog] How many bytes of a WebSocket that can't be paused may wait until they are received: 64 MiB, if nothing is said, each
  * message with 256 more. At more the connection is closed, and `receive` throws NOISE_BACKLOG. Until the last message of the handshake has come that is 1 MiB, and while
- * `judge` or `pskFor` is asked 1 MiB more than what waits then.
+ * `verify` or `pskFor` is asked 1 MiB more than what waits then.
  */
 /** @typedef {import('./setup.mjs').HandshakeOptions & SocketOptions} NoiseSocketOptions The set-up of a handshake, and of a channel. */
 /**
@@ -55,9 +55,9 @@ export type SocketOptions = {
      * anything else is sent or read. Unless it returns true itself, the connection is closed, and `open` throws NOISE_REFUSED. In a pattern in which the
      * other party has no static key it is a TypeError.
      */
-    judge?: ((remoteStatic: Uint8Array) => boolean | Promise<boolean>) | undefined;
+    verify?: ((remoteStatic: Uint8Array) => boolean | Promise<boolean>) | undefined;
     /**
-     * Talks to anybody, where none of `judge`, `remoteStatic`, `psks` and `pskFor` says who it may be. Without it
+     * Talks to anybody, where none of `verify`, `remoteStatic`, `psks` and `pskFor` says who it may be. Without it
      * `open` throws NOISE_UNAUTHENTICATED.
      */
     acceptAnyKey?: boolean | undefined;
@@ -72,7 +72,7 @@ export type SocketOptions = {
     /**
      * How many bytes of a WebSocket that can't be paused may wait until they are received: 64 MiB, if nothing is said, each
      * message with 256 more. At more the connection is closed, and `receive` throws NOISE_BACKLOG. Until the last message of the handshake has come that is 1 MiB, and while
-     * `judge` or `pskFor` is asked 1 MiB more than what waits then.
+     * `verify` or `pskFor` is asked 1 MiB more than what waits then.
      */
     backlog?: number | undefined;
 };

@@ -41,16 +41,16 @@ impl<T: AsyncRead + AsyncWrite + Unpin> AsyncStream<T> {
         accept: impl FnOnce([u8; 32]) -> F,
     ) -> io::Result<AsyncStream<T>> {
         let mut accept = Some(accept);
-        let judge = |key| {
-            let judged = accept.take().map(|accept| accept(key));
+        let verify = |key| {
+            let verified = accept.take().map(|accept| accept(key));
             async move {
-                match judged {
-                    Some(judged) => judged.await,
+                match verified {
+                    Some(verified) => verified.await,
                     None => false,
                 }
             }
         };
-        AsyncStream::open(below, Passing::new(handshake, Peer::Judged)?, judge, |_| ready(None)).await
+        AsyncStream::open(below, Passing::new(handshake, Peer::Verified)?, verify, |_| ready(None)).await
     }
 
     /// Runs a handshake in which the other party has no static key, or one that you don't compare: with a secret that both have (psk), or with anybody.
@@ -76,8 +76,8 @@ impl<T: AsyncRead + AsyncWrite + Unpin> AsyncStream<T> {
     ) -> io::Result<AsyncStream<T>> {
         loop {
             match (Pass { below: &mut below, passing: &mut passing }).await? {
-                Asked::Judge(key) if accept(key).await => passing.connecting.accept(),
-                Asked::Judge(_) => return Err(Error::Refused.into()),
+                Asked::Verify(key) if accept(key).await => passing.connecting.accept(),
+                Asked::Verify(_) => return Err(Error::Refused.into()),
                 Asked::Psk(key) => {
                     let mut secret = psk_for(key).await.ok_or(Error::Refused)?;
                     let passed = passing.connecting.set_psk(&secret);

@@ -35,7 +35,7 @@ use core::sync::atomic::{AtomicBool, Ordering};
 ///             from.sent(count);
 ///         }
 ///         Step::Receive(_) => {}
-///         Step::Judge(_key) => from.accept(), // look the key up first
+///         Step::Verify(_key) => from.accept(), // look the key up first
 ///         Step::Done => return Ok(true),
 ///         other => panic!("{other:?}"),
 ///     }

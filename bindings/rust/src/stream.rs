@@ -84,7 +84,7 @@ impl<T: Read + Write> Stream<T> {
         handshake: Handshake<S, E>,
         accept: impl FnOnce(&[u8; 32]) -> bool,
     ) -> Result<Stream<T>, HandshakeError<T, S, E>> {
-        MidHandshake::new(below, handshake, Peer::Judged)?.resume(accept)
+        MidHandshake::new(below, handshake, Peer::Verified)?.resume(accept)
     }
 
     /// Runs a handshake in which the other party has no static key, or one that you don't compare: with a secret that

@@ -218,7 +218,7 @@ fn ends_of_a_stream() {
 
 // `Stream::new` refuses a pattern by which the other party has no static key, before it reads or sends a byte.
 #[test]
-fn a_pattern_without_a_key_to_judge_is_refused_at_once() {
+fn a_pattern_without_a_key_to_verify_is_refused_at_once() {
     for pattern in patterns() {
         let ((client, server), finished) = (begun(&pattern), done(&pattern));
         for (party, finished) in [(client, finished.0), (server, finished.1)] {
@@ -334,7 +334,7 @@ fn nothing_is_sent_after_a_refusal_or_a_cut() {
 }
 
 #[test]
-fn the_other_key_is_judged() {
+fn the_other_key_is_verified() {
     let ((a, b), (client, server)) = (tcp(), begun("XX"));
     let server = std::thread::spawn(move || failure(Stream::new(b, server, |_| true)).kind());
     let refused = failure(Stream::new(a, client, |_| false));

@@ -151,8 +151,8 @@ fn a_failed_handshake_is_over() {
 fn a_key_that_nobody_accepted_makes_no_channel() {
     let ((client, server), mut wire) = (begun("X"), Vec::new());
     let (mut client, mut server) = (Connecting::new(client).unwrap(), Connecting::new(server).unwrap());
-    assert_eq!(client.step(), Ok(Step::Judge([5; 32])));
-    assert_eq!(client.step(), Ok(Step::Judge([5; 32])));
+    assert_eq!(client.step(), Ok(Step::Verify([5; 32])));
+    assert_eq!(client.step(), Ok(Step::Verify([5; 32])));
     client.accept();
     while let Step::Send(bytes) = client.step().unwrap() {
         wire.extend(bytes);
@@ -165,7 +165,7 @@ fn a_key_that_nobody_accepted_makes_no_channel() {
     while let Step::Receive(_) = server.step().unwrap() {
         rest = &rest[server.receive(rest)..];
     }
-    assert_eq!(server.step(), Ok(Step::Judge([3; 32])));
+    assert_eq!(server.step(), Ok(Step::Verify([3; 32])));
     assert_eq!(server.finish().err(), Some(Error::Refused));
     assert!(client.finish().is_ok());
     assert_eq!(Connecting::new(begun("XX").0).unwrap().finish().err(), Some(Error::NotDone));

@@ -53,7 +53,7 @@ function options({ pattern, responder }, { own, other, psk }) {
     staticKey: plan.static[role] ? own : undefined,
     remoteStatic: plan.before[remote].includes('s') ? other.publicKey : undefined,
     psks: psk === '-' ? [] : [new Uint8Array(Buffer.from(psk, 'hex'))],
-    judge: plan.static[remote] ? (key) => hex(key) === hex(other.publicKey) : undefined,
+    verify: plan.static[remote] ? (key) => hex(key) === hex(other.publicKey) : undefined,
   };
 }
 

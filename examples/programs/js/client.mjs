@@ -14,7 +14,7 @@ const channel = await NoiseSocket.open(connect(4043, '127.0.0.1'), {
   pattern: 'XX',
   prologue: new TextEncoder().encode('echo 1'),    // the same at both parties
   staticKey,
-  judge: (remoteStatic) => server.equals(remoteStatic),
+  verify: (remoteStatic) => server.equals(remoteStatic),
   signal: AbortSignal.timeout(30000),
 });
 try {

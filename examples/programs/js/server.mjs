@@ -15,7 +15,7 @@ async function serve(socket) {
     responder: true,
     prologue: new TextEncoder().encode('echo 1'),
     staticKey,
-    judge: (remoteStatic) => client.equals(remoteStatic),    // with many clients, whether their list has this key
+    verify: (remoteStatic) => client.equals(remoteStatic),    // with many clients, whether their list has this key
     signal: AbortSignal.timeout(30000),    // the handshake takes 30 seconds at most
   });
   try {

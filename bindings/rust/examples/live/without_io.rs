@@ -50,7 +50,7 @@ fn connected(run: &Run, socket: &mut WebSocket) -> io::Result<Connection> {
                 None => connecting.closed(),
             },
             Step::Receive(_) => drop(came.drain(..connecting.receive(&came))),
-            Step::Judge(key) if Some(key) == peer => connecting.accept(),
+            Step::Verify(key) if Some(key) == peer => connecting.accept(),
             Step::Done => return Ok(connecting.finish()?),
             _ => return Err(Error::Refused.into()),
         }

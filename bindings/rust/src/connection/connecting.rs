@@ -31,7 +31,7 @@ pub enum Step<'c> {
     /// More bytes are needed, of which `receive` accepts at most so many; or `closed` says that none comes.
     Receive(usize),
     /// The other party's static key is known. If it is one that you accept call `accept`; else drop the handshake, and close the connection.
-    Judge([u8; 32]),
+    Verify([u8; 32]),
     /// A psk token needs its secret: the one that you share with the owner of this static key. Pass it to `set_psk`; or drop the handshake, and close the
     /// connection. The other party hasn't shown yet that it has the secret key.
     WantedPsk([u8; 32]),
@@ -42,16 +42,16 @@ pub enum Step<'c> {
 // Who may be the other party.
 #[derive(Clone, Copy, Debug, PartialEq, Eq)]
 pub(crate) enum Peer {
-    Judged,
+    Verified,
     Anybody,
     Chosen, // a secret is chosen for it
 }
 
 impl<S: Dh, E: Ephemeral> Connecting<S, E> {
-    /// A handshake in which you verify the other party's static key: [`Step::Judge`] comes as soon as it is known. A pattern without such a key, as NN, is
+    /// A handshake in which you verify the other party's static key: [`Step::Verify`] comes as soon as it is known. A pattern without such a key, as NN, is
     /// refused: see `anonymous`.
     pub fn new(handshake: Handshake<S, E>) -> Result<Self, Error> {
-        Connecting::with(handshake, Peer::Judged)
+        Connecting::with(handshake, Peer::Verified)
     }
 
     /// A handshake in which the other party has no static key, or one that you don't compare: with a secret that both have (psk), or with anybody.
@@ -70,7 +70,7 @@ impl<S: Dh, E: Ephemeral> Connecting<S, E> {
             return Err(Error::PskCount);
         }
         match peer {
-            Peer::Judged if !handshake.other_has_static() => return Err(Error::Refused),
+            Peer::Verified if !handshake.other_has_static() => return Err(Error::Refused),
             Peer::Chosen if !handshake.other_has_static() => return Err(Error::WantedPsk { remote_static: None }),
             _ => {}
         }
@@ -81,7 +81,7 @@ impl<S: Dh, E: Ephemeral> Connecting<S, E> {
             wanted: 0,
             is_closed: false,
             peer,
-            is_accepted: peer != Peer::Judged,
+            is_accepted: peer != Peer::Verified,
             failure: None,
         })
     }
@@ -109,7 +109,7 @@ impl<S: Dh, E: Ephemeral> Connecting<S, E> {
         self.wanted = 0;
         loop {
             if let Some(key) = self.handshake.remote_static().filter(|_| !self.is_accepted) {
-                return Ok(Some(Step::Judge(key)));
+                return Ok(Some(Step::Verify(key)));
             }
             if self.handshake.is_done() {
                 return Ok(Some(Step::Done));
@@ -175,7 +175,7 @@ impl<S: Dh, E: Ephemeral> Connecting<S, E> {
         self.outgoing.sent(count);
     }
 
-    /// Accepts the key of [`Step::Judge`].
+    /// Accepts the key of [`Step::Verify`].
     pub fn accept(&mut self) {
         self.is_accepted |= self.handshake.remote_static().is_some();
     }

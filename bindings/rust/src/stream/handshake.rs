@@ -50,7 +50,7 @@ pub enum HandshakeError<T, S: Dh, E: Ephemeral> {
 pub struct MidHandshake<T, S: Dh, E: Ephemeral>(Box<Parts<T, S, E>>);
 
 type Passed<T, S, E> = Result<Stream<T>, HandshakeError<T, S, E>>;
-type Judge<'a> = &'a mut dyn FnMut(&[u8; 32]) -> bool;
+type Verify<'a> = &'a mut dyn FnMut(&[u8; 32]) -> bool;
 type Choose<'a> = &'a mut dyn FnMut(&[u8; 32]) -> Option<[u8; 32]>;
 
 struct Parts<T, S: Dh, E: Ephemeral> {
@@ -68,7 +68,7 @@ impl<T: Read + Write, S: Dh, E: Ephemeral> MidHandshake<T, S, E> {
     /// Continues a handshake of [`Stream::new`]. `accept` isn't called again if it was called before.
     pub fn resume(self, accept: impl FnOnce(&[u8; 32]) -> bool) -> Passed<T, S, E> {
         let mut accept = Some(accept);
-        self.pass(Peer::Judged, &mut |key| accept.take().map_or(false, |accept| accept(key)), &mut |_| None)
+        self.pass(Peer::Verified, &mut |key| accept.take().map_or(false, |accept| accept(key)), &mut |_| None)
     }
 
     /// Continues a handshake of [`Stream::anonymous`].
@@ -82,7 +82,7 @@ impl<T: Read + Write, S: Dh, E: Ephemeral> MidHandshake<T, S, E> {
     }
 
     // Passes messages until all have passed, or the stream below has to be waited for.
-    fn pass(mut self, peer: Peer, accept: Judge, psk_for: Choose) -> Passed<T, S, E> {
+    fn pass(mut self, peer: Peer, accept: Verify, psk_for: Choose) -> Passed<T, S, E> {
         if peer != self.0.passing.connecting.peer() {
             return Err(Error::Refused.into());
         }
@@ -98,11 +98,11 @@ impl<T: Read + Write, S: Dh, E: Ephemeral> MidHandshake<T, S, E> {
 }
 
 impl<T: Read + Write, S: Dh, E: Ephemeral> Parts<T, S, E> {
-    fn pass(&mut self, accept: Judge, psk_for: Choose) -> io::Result<()> {
+    fn pass(&mut self, accept: Verify, psk_for: Choose) -> io::Result<()> {
         loop {
             match self.passing.pass(&mut self.below)? {
-                Asked::Judge(key) if accept(&key) => self.passing.connecting.accept(),
-                Asked::Judge(_) => return Err(Error::Refused.into()),
+                Asked::Verify(key) if accept(&key) => self.passing.connecting.accept(),
+                Asked::Verify(_) => return Err(Error::Refused.into()),
                 Asked::Psk(key) => {
                     let mut secret = psk_for(&key).ok_or(Error::Refused)?;
                     let passed = self.passing.connecting.set_psk(&secret);

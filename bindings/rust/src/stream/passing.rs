@@ -12,7 +12,7 @@ pub(crate) struct Passing<S: Dh, E: Ephemeral> {
 
 // What a handshake asks its party for.
 pub(crate) enum Asked {
-    Judge([u8; 32]),
+    Verify([u8; 32]),
     Psk([u8; 32]),
     Nothing, // all messages have passed
 }
@@ -43,7 +43,7 @@ impl<S: Dh, E: Ephemeral> Passing<S, E> {
                     0 => self.connecting.closed(),
                     count => self.connecting.came(count),
                 },
-                Step::Judge(key) => return Ok(Asked::Judge(key)),
+                Step::Verify(key) => return Ok(Asked::Verify(key)),
                 Step::WantedPsk(key) => return Ok(Asked::Psk(key)),
                 Step::Done => return Ok(Asked::Nothing),
             }

@@ -180,7 +180,7 @@ impl Alone<Connecting<Toy, Toy>> {
                     let count = self.connection.receive(self.came.make_contiguous());
                     self.came.drain(..count);
                 }
-                Step::Judge(_) => self.connection.accept(),
+                Step::Verify(_) => self.connection.accept(),
                 Step::Done => return Ok(()),
                 other => panic!("{other:?}"),
             }

@@ -104,7 +104,7 @@ const options = {
   staticKey: letters === 'NN' ? undefined : await KeyPair.fromSecret(bytes(secret)),
   remoteStatic: knows ? bytes(peer) : undefined,
   psks: psk === '-' ? [] : [bytes(psk)],
-  judge: letters === 'NN' ? undefined : (key) => Buffer.from(key).toString('hex') === peer,
+  verify: letters === 'NN' ? undefined : (key) => Buffer.from(key).toString('hex') === peer,
   acceptAnyKey: letters === 'NN',
 };
 try {
