@@ -16,9 +16,9 @@
    the initiator can't receive: ONE_WAY (Noise, 7.4). At last noise_wipe overwrites each struct.
 
    A call returns a code for each wrong value. No length and no content of an opaque struct makes a
-   call stop the process or access memory that it wasn't given. An opaque struct begins with a mark
-   of its type and of its layout's version: a call refuses one of zeros, of another type, or of a
-   build with another layout by STRUCT.
+   call stop the process, or access memory that it wasn't given, beside constants of the library
+   and, on x86-64, one word of it (dist/README.md). An opaque struct begins with a mark of its type
+   and layout: a call returns STRUCT at zeros, at another type, and at another build's layout.
 
    WHAT THE CALLER MUST ENSURE, since no call can check it; docs/C.md says why
    - A pointer that has a count may be NULL if the count is 0, and no other may. Each leads to as
@@ -192,7 +192,7 @@ uint32_t noise_start(noise_handshake *h, const uint8_t *pattern, size_t pattern_
    static one. There is room for eight, twice what a message wants: the oldest gives way to a ninth.
    Codes: STRUCT (it isn't a handshake's struct). */
 uint32_t noise_answer(noise_handshake *h, uint8_t of_static, const uint8_t remote[32],
-    const uint8_t answer[32]);
+    const uint8_t dh_result[32]);
 
 /* Supplies the psk of the first psk token that lacks one (Noise, 9.2); then all is as if
    noise_start had been given it. At WANTED_PSK the other party has proved neither its static key
@@ -246,8 +246,8 @@ uint32_t noise_remote_static(const noise_handshake *h, noise_key *key);
    Codes: STRUCT. */
 uint32_t noise_stage(const noise_handshake *h, noise_stage_result *result);
 
-/* Checks the text of a pattern, as noise_start does (Noise, 7.3, 9.3): docs/C.md has the five
-   rules. A valid pattern isn't necessarily a secure one.
+/* Checks the text of a pattern, as noise_start does (Noise, 7.3, 9.3): docs/PATTERNS.md has the
+   five rules. A valid pattern isn't necessarily a secure one.
    Codes: HEADING to ENDING · RULE. */
 uint32_t noise_check_pattern(const uint8_t *text, size_t text_len, noise_pattern_result *result);
 
@@ -306,8 +306,8 @@ uint32_t noise_stream_end(noise_stream_sender *s, uint8_t *out, size_t out_len,
 uint32_t noise_stream_read(noise_stream_receiver *r, uint8_t *buffer, size_t buffer_len,
     noise_stream_result *result);
 
-/* Says whether the connection's end cuts the stream; `left` bytes of the buffer are unused. OK,
-   which is 0: the other party had ended it, and nothing is left.
+/* Says whether the stream was truncated, once the connection has ended; `left` bytes of the buffer
+   are unused. OK, which is 0: the other party had ended the stream, and nothing is left.
    Codes: STRUCT · CUT. */
 uint32_t noise_stream_is_cut(const noise_stream_receiver *r, size_t left);
 

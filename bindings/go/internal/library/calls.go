@@ -57,7 +57,7 @@ func Start(h *Handshake, pattern *byte, patternLen uint, prologue *byte, prologu
 // Answer is noise_answer.
 //
 //go:noescape
-func Answer(h *Handshake, ofStatic uint8, remote *byte, answer *byte) uint32
+func Answer(h *Handshake, ofStatic uint8, remote *byte, dhResult *byte) uint32
 
 // SetPsk is noise_set_psk.
 //

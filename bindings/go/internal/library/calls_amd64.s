@@ -138,13 +138,13 @@ TEXT ·Start(SB), 0, $13216-52
 	MOVL AX, ret+48(FP)
 	RET
 
-// func Answer(h *Handshake, ofStatic uint8, remote *byte, answer *byte) uint32
+// func Answer(h *Handshake, ofStatic uint8, remote *byte, dhResult *byte) uint32
 TEXT ·Answer(SB), 0, $160-36
 	NO_LOCAL_POINTERS
 	MOVQ h+0(FP), DI
 	MOVBLZX ofStatic+8(FP), SI
 	MOVQ remote+16(FP), DX
-	MOVQ answer+24(FP), CX
+	MOVQ dhResult+24(FP), CX
 	LEAQ block<>+106576(SB), AX
 	MOVQ SP, R12
 	LEAQ 160(SP), SP

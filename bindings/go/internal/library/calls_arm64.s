@@ -157,13 +157,13 @@ wipe:
 	MOVW R0, ret+48(FP)
 	RET
 
-// func Answer(h *Handshake, ofStatic uint8, remote *byte, answer *byte) uint32
+// func Answer(h *Handshake, ofStatic uint8, remote *byte, dhResult *byte) uint32
 TEXT ·Answer(SB), 0, $288-36
 	NO_LOCAL_POINTERS
 	MOVD h+0(FP), R0
 	MOVBU ofStatic+8(FP), R1
 	MOVD remote+16(FP), R2
-	MOVD answer+24(FP), R3
+	MOVD dhResult+24(FP), R3
 	MOVD $block<>(SB), R9
 	ADD $54752, R9, R9
 	MOVD RSP, R19

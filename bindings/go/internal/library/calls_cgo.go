@@ -61,8 +61,8 @@ func Start(h *Handshake, pattern *byte, patternLen uint, prologue *byte, prologu
 }
 
 // Answer is noise_answer.
-func Answer(h *Handshake, ofStatic uint8, remote *byte, answer *byte) uint32 {
-	return uint32(C.noise_answer((*C.noise_handshake)(unsafe.Pointer(h)), C.uint8_t(ofStatic), (*C.uint8_t)(unsafe.Pointer(remote)), (*C.uint8_t)(unsafe.Pointer(answer))))
+func Answer(h *Handshake, ofStatic uint8, remote *byte, dhResult *byte) uint32 {
+	return uint32(C.noise_answer((*C.noise_handshake)(unsafe.Pointer(h)), C.uint8_t(ofStatic), (*C.uint8_t)(unsafe.Pointer(remote)), (*C.uint8_t)(unsafe.Pointer(dhResult))))
 }
 
 // SetPsk is noise_set_psk.
