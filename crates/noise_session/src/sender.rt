@@ -1,6 +1,6 @@
 //! The sending half of a transport (Noise, 5.2 and 11.3).
 
-ghost use Rattle.std.specs.Prelude.{◌≡◌, ◌≤◌, ◌<◌, ◌+◌, length, take, None};
+ghost use Rattle.std.specs.Prelude.{◌≡◌, ◌≤◌, ◌<◌, ◌+◌, length, take, None, Ok};
 ghost use Rattle.noise_session.specs.Halves.{sender_fault, writes_nothing};
 ghost use Rattle.noise_session.specs.HalfCalls.{SenderSeals, SenderSealsFrame};
 ghost use Rattle.noise_session.specs.Parts.{half_in};
@@ -120,8 +120,7 @@ impl Sender {
         if let Some(fault) = self.refusal(payload.len()) {
             return Err(fault);
         }
-        out[..payload.len()].copy_from_slice(payload);
-        self.seal_in_place(out, payload.len())
+        Ok(self.seal_due(payload, out))
     }
 
     /// Seals the payload in the first `payload_len` bytes of `buffer` in place: the message is in the first bytes, 16
@@ -139,13 +138,7 @@ impl Sender {
         if let Some(fault) = self.refusal(payload_len) {
             return Err(fault);
         }
-        match self.half.cipher.encrypt(&[], buffer, payload_len) {
-            Ok(len) => {
-                renew(&mut self.half.cipher, self.half.interval);
-                Ok(len)
-            }
-            Err(_) => unreachable!(),
-        }
+        Ok(self.encrypt_due(buffer, payload_len))
     }
 
     /// Seals a payload as a frame into the first bytes of `out`, 18 more than it has: the message after its length in 2
@@ -159,8 +152,31 @@ impl Sender {
         if let Some(fault) = self.refusal(payload.len()) {
             return Err(fault);
         }
-        match self.seal(payload, &mut out[2..]) {
-            Ok(len) => Ok(frame_message(out, len)),
+        let len = self.seal_due(payload, &mut out[2..]);
+        Ok(frame_message(out, len))
+    }
+
+    // Seals a payload for which there is no fault.
+    fn seal_due(&mut self, payload: &[u8], out: &mut [u8]) -> usize
+        requires due { sender_fault self.old (length payload.now) ≡ None }
+        requires room { length payload.now + 16 ≤ length out.old }
+        ensures { SenderSeals self.old self.new (length payload.now) payload.now out.old out.new (Ok result) }
+    {
+        out[..payload.len()].copy_from_slice(payload);
+        self.encrypt_due(out, payload.len())
+    }
+
+    // Seals the payload at the front of `buffer` in place, for which there is no fault.
+    fn encrypt_due(&mut self, buffer: &mut [u8], payload_len: usize) -> usize
+        requires due { sender_fault self.old payload_len ≡ None }
+        requires room { payload_len + 16 ≤ length buffer.old }
+        ensures { SenderSeals self.old self.new payload_len (take payload_len buffer.old) buffer.old buffer.new (Ok result) }
+    {
+        match self.half.cipher.encrypt(&[], buffer, payload_len) {
+            Ok(len) => {
+                renew(&mut self.half.cipher, self.half.interval);
+                len
+            }
             Err(_) => unreachable!(),
         }
     }

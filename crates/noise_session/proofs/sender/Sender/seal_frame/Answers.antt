@@ -5,14 +5,14 @@ use Rattle.noise_session.proofs.sender.Sender.seal_frame.Goals as goal
 
 pub returns : goal.returns
 returns c =
-    let s = c.in-Ok.ensures in
-    let message = framed c.in-Ok.len c.frame_message.result c.args.out.now c.seal.new.out c.frame_message.new.out (omega arith)
+    let s = c.seal_due-len.ensures in
+    let message = framed c.seal_due-len.result c.frame_message.result c.args.out.now c.seal_due-len.new.out c.frame_message.new.out (omega arith)
     c.frame_message.ensures.frame in
     record {
       fault = search rules;
       below = search rules;
       len = search rules;
-      rest = rest-after 2 c.in-Ok.len c.frame_message.result c.args.out.now c.seal.new.out c.frame_message.new.out (omega arith)
+      rest = rest-after 2 c.seal_due-len.result c.frame_message.result c.args.out.now c.seal_due-len.new.out c.frame_message.new.out (omega arith)
           (omega arith) c.frame_message.ensures.beyond s.rest;
       counted = search rules;
       unchanged = search rules;
