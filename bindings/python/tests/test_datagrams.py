@@ -489,6 +489,19 @@ def test_a_payload_that_no_datagram_takes(each_loop):
     run(main)
 
 
+def test_the_first_message_is_sent_once_until_it_is_due_again(each_loop):
+    async def main(_result):
+        loop = asyncio.get_running_loop()
+        transport, silent = await loop.create_datagram_endpoint(lambda: Recorder(None), local_addr=("127.0.0.1", 0))
+        first, _ = configs("NN")
+        async with client_at(transport.get_extra_info("sockname"), first):
+            begun = loop.time()
+            sent = [await silent.came.get(), await silent.came.get()]
+            assert sent[0] == sent[1] and loop.time() - begun >= udp.RESEND / 2
+        transport.close()
+    run(main)
+
+
 def test_a_handshake_that_does_not_succeed(each_loop):
     """Nobody answers; the server has another psk; and the socket is closed."""
     async def main(_result):

@@ -83,7 +83,6 @@ class DatagramProtocol(asyncio.DatagramProtocol):
         self._transport = cast(asyncio.DatagramTransport, transport)
         if self._initiator:
             self._begin(None, b"")
-        self._tick()
 
     def connection_lost(self, exc: Exception | None) -> None:
         self._transport = None
