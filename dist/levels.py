@@ -12,14 +12,23 @@ BASE = "v1"
 
 # Beside the base: the words for `clang`; the word of the level has the number. Vectors of 512 bits made handshakes 13
 # per cent slower than those of 256, so these are preferred.
-LEVELS = {"v3": ["-march=x86-64-v3"], "v4": ["-march=x86-64-v4", "-Xclang", "-target-feature", "-Xclang", "+prefer-256-bit"]}
+LEVELS = {
+    "v3": ["-march=x86-64-v3"],
+    "v4": ["-march=x86-64-v4", "-Xclang", "-target-feature", "-Xclang", "+prefer-256-bit"],
+}
 
 # The functions, and for which levels each is compiled: where the last is missing, the one before is faster on a
 # processor of that level.
-HOT = {"rand_chacha::guts::refill4": ["v3", "v4"], "noise_poly::Poly1305::take_fours": ["v3", "v4"], "noise_poly::Poly1305::take_aligned": ["v3", "v4"],
-       "sha2::block256::compress": ["v3"], "noise_state::cipher::CipherState::encrypt": ["v3", "v4"],
-       "noise_state::cipher::CipherState::decrypt": ["v3", "v4"], "noise_aead::keystream::apply": ["v3", "v4"],
-       "noise_aead::authenticator::tag": ["v3", "v4"]}
+HOT = {
+    "rand_chacha::guts::refill4": ["v3", "v4"],
+    "noise_poly::Poly1305::take_fours": ["v3", "v4"],
+    "noise_poly::Poly1305::take_aligned": ["v3", "v4"],
+    "sha2::block256::compress": ["v3"],
+    "noise_state::cipher::CipherState::encrypt": ["v3", "v4"],
+    "noise_state::cipher::CipherState::decrypt": ["v3", "v4"],
+    "noise_aead::keystream::apply": ["v3", "v4"],
+    "noise_aead::authenticator::tag": ["v3", "v4"],
+}
 
 # The labels that a function has for itself, and those of constants that the whole text shares.
 OWN, SHARED = "BB|CPI|JTI|func_end|tmp", "_?static|_?switch"
@@ -53,7 +62,10 @@ class Form:
         return lines + [f"{name}:", f".seh_proc {name}" if self.kind == "windows" else "\t.cfi_startproc"]
 
     def pushed(self, register, count):
-        return [f"\tpushq\t%{register}", f"\t.seh_pushreg %{register}" if self.kind == "windows" else f"\t.cfi_adjust_cfa_offset 8\n\t.cfi_offset %{register}, {-8 * (count + 1)}"]
+        if self.kind == "windows":
+            return [f"\tpushq\t%{register}", f"\t.seh_pushreg %{register}"]
+        place = f"\t.cfi_adjust_cfa_offset 8\n\t.cfi_offset %{register}, {-8 * (count + 1)}"
+        return [f"\tpushq\t%{register}", place]
 
     def popped(self, register):
         return [f"\tpopq\t%{register}"] + ([] if self.kind == "windows" else ["\t.cfi_adjust_cfa_offset -8"])
@@ -70,7 +82,10 @@ class Form:
             return [f"\t.private_extern\t{name}", "\t.section\t__DATA,__data", *place]
         if self.kind == "windows":
             return ["\t.bss", f"\t.globl\t{name}", *place]
-        return [f"\t.hidden\t{name}", f"\t.globl\t{name}", f"\t.type\t{name},@object", f'\t.section\t.bss.{name},"aw",@nobits', *place, f"\t.size\t{name}, 4"]
+        return [
+            f"\t.hidden\t{name}", f"\t.globl\t{name}", f"\t.type\t{name},@object",
+            f'\t.section\t.bss.{name},"aw",@nobits', *place, f"\t.size\t{name}, 4",
+        ]
 
 
 class Text:
@@ -119,13 +134,17 @@ def own(line, level, shared):
     """The line with the level in the labels that a function has for itself, and the label of the same constant where
     the text has that before."""
     def label(it):
-        return shared.get(it[0]) or (it[0] if re.fullmatch(SHARED, it[2]) else f"{it[1]}{it[2]}_{level}_{it[3].lstrip('_')}")
+        return shared.get(it[0]) or (
+            it[0] if re.fullmatch(SHARED, it[2]) else f"{it[1]}{it[2]}_{level}_{it[3].lstrip('_')}"
+        )
     return LABEL.sub(label, line)
 
 
 def at_level(lines, form, level):
     """Lines of a function with its own name, and those of the hot ones that it calls, as those of the level."""
-    names = {form.name(it): form.name(it, level if level in [BASE, *levels] else levels[-1]) for it, levels in HOT.items()}
+    names = {
+        form.name(it): form.name(it, level if level in [BASE, *levels] else levels[-1]) for it, levels in HOT.items()
+    }
     return [re.sub(r'"[^"]+"', lambda it: names.get(it[0], it[0]), line) for line in lines]
 
 
@@ -159,7 +178,10 @@ def hot_function(text, base, name, level, known):
         renamed = own(label, level, {})
         if not any(LABEL.search(line) for line in content):
             known[content] = renamed
-        made += [text.section[label], text.align[label] or "\t.p2align\t4", f"{renamed}:", *(own(line, level, {}) for line in content[1:])]
+        made += [
+            text.section[label], text.align[label] or "\t.p2align\t4", f"{renamed}:",
+            *(own(line, level, {}) for line in content[1:]),
+        ]
     head = text.form.begin(text.form.name(name, level), text.section[text.form.name(name)])[:-2]
     return [*made, *head, *(own(line, level, shared) for line in at_level(lines, text.form, level)), ""]
 
@@ -168,10 +190,13 @@ def choice(form, it, section, number):
     """The function that chooses: by one branch on the level for the newest processors, by two for the rest."""
     name, find, chosen = form.name(it), f"{form.local}find{number}", f"{form.local}chosen{number}"
     jumps = zip(["ja", "je"] if HOT[it] == ["v3", "v4"] else ["jae"], reversed(HOT[it]))
-    return [*form.begin(name, section), *(["\t.seh_endprologue"] if form.kind == "windows" else []),
-            f"\tmovl\t{form.name('noise_processor_level')}(%rip), %eax", "\ttestl\t%eax, %eax", f"\tje\t{find}", f"{chosen}:", "\tcmpl\t$3, %eax",
-            *(f"\t{jump}\t{form.name(it, level)}" for jump, level in jumps), f"\tjmp\t{form.name(it, BASE)}",
-            f"{find}:", f"\tcallq\t{form.name('noise_find_level')}", f"\tjmp\t{chosen}", *form.end(name), ""]
+    return [
+        *form.begin(name, section), *(["\t.seh_endprologue"] if form.kind == "windows" else []),
+        f"\tmovl\t{form.name('noise_processor_level')}(%rip), %eax", "\ttestl\t%eax, %eax", f"\tje\t{find}",
+        f"{chosen}:", "\tcmpl\t$3, %eax", *(f"\t{jump}\t{form.name(it, level)}" for jump, level in jumps),
+        f"\tjmp\t{form.name(it, BASE)}", f"{find}:", f"\tcallq\t{form.name('noise_find_level')}", f"\tjmp\t{chosen}",
+        *form.end(name), "",
+    ]
 
 
 def bits(*numbers):
@@ -186,17 +211,28 @@ def finding(form):
     """The function that finds the level, and writes it to the word and to eax. It keeps the registers in which
     arguments come, of both conventions."""
     name, done = form.name("noise_find_level"), f"{form.local}found"
-    section = '\t.section\t.text.noise_find_level,"ax",@progbits' if form.kind == "elf" else "\t.section\t__TEXT,__text,regular,pure_instructions" if form.kind == "macos" else "\t.text"
+    sections = {
+        "elf": '\t.section\t.text.noise_find_level,"ax",@progbits',
+        "macos": "\t.section\t__TEXT,__text,regular,pure_instructions",
+        "windows": "\t.text",
+    }
     saved = ["rbx", "rcx", "rdx"]
-    made = form.begin(name, section)
+    made = form.begin(name, sections[form.kind])
     for count, register in enumerate(saved, 1):
         made += form.pushed(register, count)
     made += ["\t.seh_endprologue"] if form.kind == "windows" else []
-    made += ["\tmovl\t$1, %r10d", "\txorl\t%eax, %eax", "\tcpuid", "\tcmpl\t$7, %eax", f"\tjb\t{done}", "\tmovl\t$1, %eax", "\tcpuid"]
-    made += has("ecx", bits(0, 9, 12, 13, 19, 20, 22, 23, 27, 28, 29), done)    # SSE3, SSSE3, FMA, CX16, SSE4.1, SSE4.2, MOVBE, POPCNT, OSXSAVE, AVX, F16C
+    made += [
+        "\tmovl\t$1, %r10d", "\txorl\t%eax, %eax", "\tcpuid", "\tcmpl\t$7, %eax", f"\tjb\t{done}", "\tmovl\t$1, %eax",
+        "\tcpuid",
+    ]
+    # SSE3, SSSE3, FMA, CX16, SSE4.1, SSE4.2, MOVBE, POPCNT, OSXSAVE, AVX, F16C
+    made += has("ecx", bits(0, 9, 12, 13, 19, 20, 22, 23, 27, 28, 29), done)
     made += ["\txorl\t%ecx, %ecx", "\txgetbv", "\tmovl\t%eax, %r11d"]
     made += has("eax", bits(1, 2), done)    # the system keeps the registers xmm and ymm
-    made += ["\tmovl\t$0x80000000, %eax", "\tcpuid", "\tcmpl\t$0x80000001, %eax", f"\tjb\t{done}", "\tmovl\t$0x80000001, %eax", "\tcpuid"]
+    made += [
+        "\tmovl\t$0x80000000, %eax", "\tcpuid", "\tcmpl\t$0x80000001, %eax", f"\tjb\t{done}",
+        "\tmovl\t$0x80000001, %eax", "\tcpuid",
+    ]
     made += has("ecx", bits(0, 5), done)    # LAHF, LZCNT
     made += ["\tmovl\t$7, %eax", "\txorl\t%ecx, %ecx", "\tcpuid", "\tmovl\t%ebx, %eax"]
     made += has("ebx", bits(3, 5, 8), done)    # BMI1, AVX2, BMI2

@@ -59,7 +59,9 @@ def stands(page: str, listing: str, test: str) -> None:
 def main() -> None:
     folder = Path(sys.argv[1])
     first, *others = listings("GO.md", "go")
-    assert first == (TOP / "bindings/go/examples/hello/main.go").read_text(encoding="utf-8"), "GO.md: the first listing isn't bindings/go/examples/hello"
+    assert first == (TOP / "bindings/go/examples/hello/main.go").read_text(
+        encoding="utf-8"
+    ), "GO.md: the first listing isn't bindings/go/examples/hello"
     write(folder / "go/go.mod", indented("GO.md", "module example.org/hello"))
     write(folder / "go/main.go", first)
     (lines,) = listings("README.md", "go", ".")

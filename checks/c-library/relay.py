@@ -20,16 +20,23 @@ LONG = 4096
 
 
 class Result(ctypes.Structure):
-    _fields_ = [("start", ctypes.c_size_t), ("len", ctypes.c_size_t), ("token", ctypes.c_uint8), ("of_static", ctypes.c_uint8),
-                ("remote", ctypes.c_uint8 * 32), ("remote_known", ctypes.c_uint8)]
+    _fields_ = [
+        ("start", ctypes.c_size_t), ("len", ctypes.c_size_t), ("token", ctypes.c_uint8), ("of_static", ctypes.c_uint8),
+        ("remote", ctypes.c_uint8 * 32), ("remote_known", ctypes.c_uint8),
+    ]
 
 
 class StreamResult(ctypes.Structure):
-    _fields_ = [("start", ctypes.c_size_t), ("len", ctypes.c_size_t), ("used", ctypes.c_size_t), ("wanted", ctypes.c_size_t)]
+    _fields_ = [
+        ("start", ctypes.c_size_t), ("len", ctypes.c_size_t), ("used", ctypes.c_size_t), ("wanted", ctypes.c_size_t),
+    ]
 
 
 class Stage(ctypes.Structure):
-    _fields_ = [("messages", ctypes.c_uint8), ("passed", ctypes.c_uint8), ("ended", ctypes.c_uint8), ("writes_next", ctypes.c_uint8)]
+    _fields_ = [
+        ("messages", ctypes.c_uint8), ("passed", ctypes.c_uint8), ("ended", ctypes.c_uint8),
+        ("writes_next", ctypes.c_uint8),
+    ]
 
 
 class Key(ctypes.Structure):
@@ -37,8 +44,10 @@ class Key(ctypes.Structure):
 
 
 class Setup(ctypes.Structure):
-    _fields_ = [("responder", ctypes.c_uint8), ("e", Key), ("s", Key), ("remote_e", Key), ("remote_s", Key), ("psk_count", ctypes.c_uint8),
-                ("psks", (ctypes.c_uint8 * 32) * 9)]
+    _fields_ = [
+        ("responder", ctypes.c_uint8), ("e", Key), ("s", Key), ("remote_e", Key), ("remote_s", Key),
+        ("psk_count", ctypes.c_uint8), ("psks", (ctypes.c_uint8 * 32) * 9),
+    ]
 
 
 def struct_of(header, name):
@@ -91,7 +100,9 @@ class End:
         stage, result = Stage(), StreamResult()
         self.must(self.call.noise_stage(ref(self.h), ref(stage)))
         if stage.passed == stage.messages:
-            self.must(self.call.noise_finish_stream(ref(self.h), ctypes.c_uint64(2), ref(self.sender), ref(self.receiver)))
+            self.must(
+                self.call.noise_finish_stream(ref(self.h), ctypes.c_uint64(2), ref(self.sender), ref(self.receiver))
+            )
             self.is_open = True
             return True
         if stage.writes_next:
@@ -220,10 +231,14 @@ def main():
         for direction, kind in itertools.product((0, 1), ("flip", "cut", "repeat", "drop")):
             for at in range(sent[direction]):
                 fault = (kind, at, pieces.randrange(8))
-                whole, _ = pass_session(library, kinds, waits, [fault, none] if direction == 0 else [none, fault], pieces)
+                whole, _ = pass_session(
+                    library, kinds, waits, [fault, none] if direction == 0 else [none, fault], pieces
+                )
                 assert not whole[1 - direction], (waits, direction, fault)
                 sessions += 1
-    print(f"c-library: relay.py: {sessions} damaged sessions by ctypes; in each the reader of the damaged direction knew")
+    print(
+        f"c-library: relay.py: {sessions} damaged sessions by ctypes; in each the reader of the damaged direction knew"
+    )
 
 
 main()

@@ -49,7 +49,9 @@ class Cases:
                 texts.setdefault(os.path.dirname(path), set()).update(file.read().split())
         for path in self.files("*"):
             folder, name = os.path.split(path)
-            if not name.endswith((".case", ".commands", ".table", ".explained", ".lines", ".long")) and name not in texts.get(folder, ()):
+            if not name.endswith(
+                (".case", ".commands", ".table", ".explained", ".lines", ".long")
+            ) and name not in texts.get(folder, ()):
                 yield os.path.relpath(path, self.folder)
 
     def expect(self, name, expected, ran):
@@ -99,7 +101,10 @@ class Cases:
             return
         for text, place, says, mends in rows:
             expected = f"/dev/stdin:{place}: [..]\n  [..]\n  {says}\n  {mends}\nstatus: {status}\n"
-            self.expect(f"{os.path.relpath(path, self.folder)}: {text}", expected, run([command, "/dev/stdin"], given=bytes_of(text)))
+            self.expect(
+                f"{os.path.relpath(path, self.folder)}: {text}", expected,
+                run([command, "/dev/stdin"], given=bytes_of(text)),
+            )
 
     def run_explained_lines(self, path, command, status, name, rows):
         """Runs `explain` on a file with one line more or another one, for each row. The whole output is compared: the
@@ -110,8 +115,13 @@ class Cases:
             text = changed(lines, place, int(number), bytes_of(line))
             at, column, word = told.replace(":", " ").split()
             shown_lines = caret_lines(text.split(b"\n")[int(at) - 1], int(column))
-            expected = f"/dev/stdin:{at}:{column}: line {at} {word}\n{shown_lines}" + "".join(f"  {it}\n" for it in sentences)
-            self.expect(f"{os.path.relpath(path, self.folder)}: {place} {number}: {line}", f"{expected}status: {status}\n", run([command, "/dev/stdin"], given=text))
+            expected = f"/dev/stdin:{at}:{column}: line {at} {word}\n{shown_lines}" + "".join(
+                f"  {it}\n" for it in sentences
+            )
+            self.expect(
+                f"{os.path.relpath(path, self.folder)}: {place} {number}: {line}", f"{expected}status: {status}\n",
+                run([command, "/dev/stdin"], given=text),
+            )
 
     def run_lines(self, path):
         """Runs a command on a file with one more line, or on the front of it with a last line that isn't ended, for
@@ -159,7 +169,9 @@ def rows_of(path):
 
 def bytes_of(text):
     """The bytes of a row's text, with its escapes and repetitions written out."""
-    for escape, meant in (("\\n", "\n"), ("\\r", "\r"), ("\\t", "\t"), ("\\x7f", "\x7f"), ("\\u2192", "\u2192"), ("\\ufeff", "\ufeff")):
+    for escape, meant in (
+        ("\\n", "\n"), ("\\r", "\r"), ("\\t", "\t"), ("\\x7f", "\x7f"), ("\\u2192", "\u2192"), ("\\ufeff", "\ufeff"),
+    ):
         text = text.replace(escape, meant)
     return written_out(text.encode())
 

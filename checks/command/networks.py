@@ -85,7 +85,9 @@ def cut_refusal(pieces, message, length):
 def spoiled_refusal(pieces, message, offset):
     """Where it comes out that a message is another from this byte on: at the first piece with a tag that ends after it,
     in this message or a later one."""
-    piece = next(it for it in pieces if it.sealed and (it.message > message or (it.message == message and it.end > offset)))
+    piece = next(
+        it for it in pieces if it.sealed and (it.message > message or (it.message == message and it.end > offset))
+    )
     return Refusal(piece.message, piece.token, "tag")
 
 
@@ -146,7 +148,10 @@ def head_of(base, places, draws):
     prologue, interval, psk = draws.key(), draws.byte() % 4, draws.key()
     keys = [draws.key().hex() for _ in range(4)]
     name = base + "".join(f"psk{place}" for place in places)
-    lines = ["vector 1", f"protocol Noise_{name}_25519_ChaChaPoly_SHA256", f"prologue {prologue.hex()}", f"interval {interval}"]
+    lines = [
+        "vector 1", f"protocol Noise_{name}_25519_ChaChaPoly_SHA256", f"prologue {prologue.hex()}",
+        f"interval {interval}",
+    ]
     lines += [f"psk {psk.hex()}" for _ in places]
     return "\n".join([*lines, f"initiator xor {keys[0]} {keys[1]}", f"responder xor {keys[2]} {keys[3]}", ""])
 
@@ -278,7 +283,10 @@ def bad_network(session):
             receiver = ROLES[1 - session.place(message)[0]]
             is_last = message + 1 == session.handshake
             schedule.comes_through(message)
-            schedule.deliver(message, f"dropped {receiver} tag" if is_last else f"left {receiver} your-turn {len(session.frames[message])}")
+            schedule.deliver(
+                message,
+                f"dropped {receiver} tag" if is_last else f"left {receiver} your-turn {len(session.frames[message])}",
+            )
     step = 1 if session.handshake == 1 else 2
     for message in range(session.handshake, count):
         dropped = f"dropped {ROLES[1 - session.place(message)[0]]} tag"
@@ -335,7 +343,9 @@ def cases_of(number):
             for offset in range(len(frame) - 2):
                 spoiled = spoiled_refusal(session.pieces, message, offset)
                 is_refused(session, message, flipped_frame(frame, offset), spoiled)
-                is_refused(session, message, cut_frame(frame, offset), cut_refusal(session.pieces, message, offset) or spoiled)
+                is_refused(
+                    session, message, cut_frame(frame, offset), cut_refusal(session.pieces, message, offset) or spoiled
+                )
                 cases += 2
     except NotMet as fault:
         return 0, str(fault)

@@ -30,14 +30,19 @@ def run(words, folder=None, variables=None, given=None):
     try:
         ran = spawned(words, folder, environment) if given is None else piped(words, folder, environment, given)
     except subprocess.TimeoutExpired:    # (thousands of others would take as long)
-        tell(f"command: noise {' '.join(words)[:200]}: it takes more than {LIMIT} seconds, with {variables or 'no variables'}")
+        tell(
+            f"command: noise {' '.join(words)[:200]}: it takes more than {LIMIT} seconds, with "
+            f"{variables or 'no variables'}"
+        )
         os._exit(1)
     return ran
 
 
 def piped(words, folder, environment, given):
     """A run with these bytes on standard input."""
-    ran = subprocess.run([PROGRAM, *words], cwd=folder, env=environment, input=given, capture_output=True, check=False, timeout=LIMIT)
+    ran = subprocess.run(
+        [PROGRAM, *words], cwd=folder, env=environment, input=given, capture_output=True, check=False, timeout=LIMIT
+    )
     return Ran(ran.returncode, ran.stdout, ran.stderr)
 
 

@@ -41,10 +41,13 @@ def tries_of(line, folder):
 
 
 def closed_pipe(words, folder):
-    """A command whose output is a pipe that nobody reads has to end with status 3 and without a word. Returns its faults."""
+    """A command whose output is a pipe that nobody reads has to end with status 3 and without a word. Returns its
+    faults."""
     reader, writer = os.pipe()
     os.close(reader)
-    ran = subprocess.run([PROGRAM, *words], cwd=folder, stdin=subprocess.DEVNULL, stdout=writer, stderr=subprocess.PIPE, check=False)
+    ran = subprocess.run(
+        [PROGRAM, *words], cwd=folder, stdin=subprocess.DEVNULL, stdout=writer, stderr=subprocess.PIPE, check=False
+    )
     os.close(writer)
     if (ran.returncode, ran.stderr) == (3, b""):
         return []

@@ -21,7 +21,9 @@ def of_the_page():
     with open(f"{TOP}/web/faults.mjs", encoding="utf-8") as file:
         text = file.read()
     for table in TABLES:
-        rows = re.search(rf"^(?:export )?const {table} = Object\.freeze\(\{{\n(.*?)^\}}\);", text, re.DOTALL | re.MULTILINE)[1]
+        rows = re.search(
+            rf"^(?:export )?const {table} = Object\.freeze\(\{{\n(.*?)^\}}\);", text, re.DOTALL | re.MULTILINE
+        )[1]
         for sentence in STRING.findall(rows):
             if sentence != "{mend}":  # one of MIXES
                 yield plain(sentence)
@@ -40,4 +42,6 @@ def compare_sentences():
     """How many sentences were compared, and a fault for each that `explain` hasn't."""
     known = set(of_explain())
     sentences = list(of_the_page())
-    return len(sentences), [f"command: explain doesn't say what the page says: {it}" for it in sentences if it not in known]
+    return len(sentences), [
+        f"command: explain doesn't say what the page says: {it}" for it in sentences if it not in known
+    ]

@@ -51,9 +51,12 @@ def pump(source, target, kind="nothing", at=0):
 
 def run(server, client, kind, at):
     """The status of the client, and how many bytes the server has sent."""
-    with socket.create_server(("127.0.0.1", CLIENT_PORT), reuse_port=False) as relay, \
-            subprocess.Popen([server, "XX", str(SERVER_PORT)], stdout=subprocess.DEVNULL, stderr=subprocess.DEVNULL) as serving, \
-            subprocess.Popen([client, "XX", TEXT, str(CLIENT_PORT)], stdout=subprocess.DEVNULL, stderr=subprocess.DEVNULL) as asking:
+    quiet = {"stdout": subprocess.DEVNULL, "stderr": subprocess.DEVNULL}
+    with (
+        socket.create_server(("127.0.0.1", CLIENT_PORT), reuse_port=False) as relay,
+        subprocess.Popen([server, "XX", str(SERVER_PORT)], **quiet) as serving,
+        subprocess.Popen([client, "XX", TEXT, str(CLIENT_PORT)], **quiet) as asking,
+    ):
         try:
             relay.settimeout(PATIENCE)
             near, _ = relay.accept()
@@ -86,8 +89,11 @@ def connect(port, serving):
 
 def be_slow(server, said):
     """Sends a frame's bytes one a second, and tells when the server has had enough."""
-    with subprocess.Popen([server, "XX", str(SLOW_PORT)], stdout=subprocess.DEVNULL, stderr=subprocess.DEVNULL) as serving, \
-            connect(SLOW_PORT, serving) as slow:
+    quiet = {"stdout": subprocess.DEVNULL, "stderr": subprocess.DEVNULL}
+    with (
+        subprocess.Popen([server, "XX", str(SLOW_PORT)], **quiet) as serving,
+        connect(SLOW_PORT, serving) as slow,
+    ):
         begun = time.monotonic()
         while serving.poll() is None and time.monotonic() - begun < 30:
             try:
@@ -112,7 +118,8 @@ def main():
     for kind in ("cut", "flip", "double", "drop"):
         for at in places if kind in ("cut", "flip") else places[::3]:
             status, _ = run(server, client, kind, at)
-            if status == 0 and not (kind == "double" and at == sent - 1):   # a byte after the end takes nothing from the answer
+            # (a byte after the end takes nothing from the answer)
+            if status == 0 and not (kind == "double" and at == sent - 1):
                 sys.exit(f"cut.py: {kind} at byte {at} of {sent}, and the client ends with 0")
             runs += 1
     slowness.join()

@@ -56,8 +56,11 @@ def relay(near, far, asking, direction, kind, number):
 
 
 def run(udp, direction, kind, number):
-    with socket.socket(socket.AF_INET, socket.SOCK_DGRAM) as near, socket.socket(socket.AF_INET, socket.SOCK_DGRAM) as far, \
-            subprocess.Popen([udp, "server", str(SERVER_PORT)], stdout=subprocess.DEVNULL) as serving:
+    with (
+        socket.socket(socket.AF_INET, socket.SOCK_DGRAM) as near,
+        socket.socket(socket.AF_INET, socket.SOCK_DGRAM) as far,
+        subprocess.Popen([udp, "server", str(SERVER_PORT)], stdout=subprocess.DEVNULL) as serving,
+    ):
         near.bind(("127.0.0.1", CLIENT_PORT))
         far.connect(("127.0.0.1", SERVER_PORT))
         try:
@@ -70,11 +73,18 @@ def run(udp, direction, kind, number):
         finally:
             serving.kill()
     if status != 0 or said != f"client: the server says: {TEXT}\n":
-        sys.exit(f"lossy.py: {kind} datagram {number} of direction {direction}: status {status}, the client says {said!r}")
+        sys.exit(
+            f"lossy.py: {kind} datagram {number} of direction {direction}: status {status}, the client says {said!r}"
+        )
 
 
 def main():
-    cases = [(direction, kind, number) for direction in (0, 1) for kind in ("lose", "repeat", "change", "junk") for number in (0, 1)]
+    cases = [
+        (direction, kind, number)
+        for direction in (0, 1)
+        for kind in ("lose", "repeat", "change", "junk")
+        for number in (0, 1)
+    ]
     for case in cases:
         run(sys.argv[1], *case)
     print(f"install: the example over UDP came through {len(cases)} lossy networks")

@@ -7,8 +7,12 @@ async function run() {
   const [client, server] = [await KeyPair.generate(), await KeyPair.generate()];
   const same = (key) => (got) => got.toString() === key.publicKey.toString();
   const [a, b] = await Promise.all([
-    NoiseSocket.open({ readable: down.readable, writable: up.writable }, { pattern: 'XX', staticKey: client, verify: same(server) }),
-    NoiseSocket.open({ readable: up.readable, writable: down.writable }, { pattern: 'XX', responder: true, staticKey: server, verify: same(client) }),
+    NoiseSocket.open({ readable: down.readable, writable: up.writable }, {
+      pattern: 'XX', staticKey: client, verify: same(server),
+    }),
+    NoiseSocket.open({ readable: up.readable, writable: down.writable }, {
+      pattern: 'XX', responder: true, staticKey: server, verify: same(client),
+    }),
   ]);
   const sending = a.send(new TextEncoder().encode('bundled')).then(() => a.end());
   const parts = [];

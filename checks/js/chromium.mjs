@@ -1,4 +1,5 @@
-// Channels over a WebSocketStream of headless Chromium, with ends in Node: an echo, and a page that reads slowly and makes the sender wait.
+// Channels over a WebSocketStream of headless Chromium, with ends in Node: an echo, and a page that reads slowly and
+// makes the sender wait.
 import assert from 'node:assert/strict';
 import { NoiseSocket, load } from '../../bindings/js/noise.mjs';
 import { Browser } from '../web/browser.mjs';
@@ -29,8 +30,9 @@ const server = await serve('.');
 const browser = await Browser.start();
 await browser.open(`${server.url}bindings/js/package.json`);
 await browser.until('document.readyState === "complete" && location.href.endsWith("package.json")');
-if (await browser.evaluate('typeof WebSocketStream') === 'undefined') console.log('js: left out: a channel over WebSocketStream: this Chromium has none');
-else {
+if (await browser.evaluate('typeof WebSocketStream') === 'undefined') {
+  console.log('js: left out: a channel over WebSocketStream: this Chromium has none');
+} else {
   const accepted = accept();
   const outcome = browser.evaluate(`(${PAGE})(${JSON.stringify(url)})`);
   const channel = await NoiseSocket.open(await accepted, { ...NN, responder: true });

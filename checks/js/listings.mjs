@@ -1,10 +1,11 @@
-// Puts the listings of pages to files: node listings.mjs FOLDER PAGE... One whose first line is a comment that begins with a name is that file; the others
-// are parts of programs, and get the names that they import.
+// Puts the listings of pages to files: node listings.mjs FOLDER PAGE... One whose first line is a comment that begins
+// with a name is that file; the others are parts of programs, and get the names that they import.
 import { readFile, writeFile } from 'node:fs/promises';
 import { join } from 'node:path';
 
 // The types of Debian's TypeScript lack it.
-const TIMEOUT = '/** @type {{ timeout(milliseconds: number): AbortSignal }} */ (/** @type {unknown} */ (AbortSignal)).timeout';
+const TIMEOUT =
+  '/** @type {{ timeout(milliseconds: number): AbortSignal }} */ (/** @type {unknown} */ (AbortSignal)).timeout';
 const IMPORTS = [
   "import { createHash } from 'node:crypto';",
   "import { createReadStream, createWriteStream } from 'node:fs';",

@@ -1,5 +1,6 @@
-// Channels with a relay between both parties that damages one byte or message: over TCP at each byte, and over WebSockets of the package ws at each byte and
-// message: node relays.mjs [tcp] [ws]. What the parties report has to be what the theorem on streams allows.
+// Channels with a relay between both parties that damages one byte or message: over TCP at each byte, and over
+// WebSockets of the package ws at each byte and message: node relays.mjs [tcp] [ws]. What the parties report has to be
+// what the theorem on streams allows.
 import assert from 'node:assert/strict';
 import { load } from '../../bindings/js/noise.mjs';
 import { overTcp } from '../../bindings/js/test/connections.mjs';
@@ -49,7 +50,10 @@ const byWebSocket = (pair) => async (faults) => {
   }
   pass(one, two, faults[0], act);
   pass(two, one, faults[1], act);
-  return { ends, sent: (role) => sent[role], messages: (role) => messages[role], close: () => { clearTimeout(timer); breaks(); } };
+  return { ends, sent: (role) => sent[role], messages: (role) => messages[role], close: () => {
+    clearTimeout(timer);
+    breaks();
+  } };
 };
 
 /** One session, in which both parties send, end, and read. */
@@ -66,7 +70,9 @@ async function session(connect, faults) {
 async function all(connect, kinds, places) {
   const whole = await session(connect, [NOTHING, NOTHING]);
   assert.ok(whole.reports.every(({ gotEnd, error }) => gotEnd && !error), 'without a fault');
-  const faults = (direction, kind) => Array.from({ length: places(whole.link, direction, kind) }, (_, at) => ({ direction, kind, at, bit: at % 8 }));
+  const faults = (direction, kind) => Array.from(
+    { length: places(whole.link, direction, kind) }, (_, at) => ({ direction, kind, at, bit: at % 8 }),
+  );
   const runs = [0, 1].flatMap((direction) => kinds.flatMap((kind) => faults(direction, kind)));
   const last = runs.map(({ direction, kind }) => places(whole.link, direction, kind) - 1);
   let next = 0;
@@ -94,7 +100,9 @@ if (words.includes('ws')) {
   const { webSockets } = await import('./ws.mjs');
   const { pair, close } = await webSockets();
   const kinds = ['flip', 'cut', 'repeat', 'drop', 'shorten', 'lengthen'];
-  const count = await all(byWebSocket(pair), kinds, (link, role, kind) => (kind === 'flip' ? link.sent(role) : link.messages(role)));
+  const count = await all(
+    byWebSocket(pair), kinds, (link, role, kind) => (kind === 'flip' ? link.sent(role) : link.messages(role)),
+  );
   console.log(`js: ${count} channels over WebSockets of the package ws behind a relay that damages one byte or message`);
   close();
 }

@@ -1,4 +1,5 @@
-// A slow reader at the end of a WebSocket of the package ws: all comes, and the sender waits meanwhile. And a stranger's message of 90 MiB isn't taken.
+// A slow reader at the end of a WebSocket of the package ws: all comes, and the sender waits meanwhile. And a
+// stranger's message of 90 MiB isn't taken.
 import assert from 'node:assert/strict';
 import { once } from 'node:events';
 import { NoiseSocket, load } from '../../bindings/js/noise.mjs';
@@ -11,7 +12,9 @@ const NN = { pattern: 'NN', acceptAnyKey: true };
 await load();
 const { pair, close } = await webSockets();
 const [near, far] = await pair();
-const [a, b] = await Promise.all([NoiseSocket.open(near, NN), NoiseSocket.open(far, { ...NN, responder: true, backlog: 3 << 20 })]);
+const [a, b] = await Promise.all([
+  NoiseSocket.open(near, NN), NoiseSocket.open(far, { ...NN, responder: true, backlog: 3 << 20 }),
+]);
 const payload = new Uint8Array(SIZE);
 let [sent, got, most] = [0, 0, 0];
 const sending = (async () => {
@@ -38,7 +41,9 @@ const opened = NoiseSocket.open(taken, { ...NN, responder: true });
 stranger.on('error', () => {});
 if (stranger.readyState === 0) await once(stranger, 'open');
 stranger.send(new Uint8Array(90 << 20));
-await assert.rejects(opened, ({ code, cause }) => code === 'NOISE_CUT' && cause.code === 'WS_ERR_UNSUPPORTED_MESSAGE_LENGTH');
+await assert.rejects(
+  opened, ({ code, cause }) => code === 'NOISE_CUT' && cause.code === 'WS_ERR_UNSUPPORTED_MESSAGE_LENGTH',
+);
 stranger.terminate();
 close();
 console.log(`js: ${got >> 20} MiB over a WebSocket of the package ws to a slow reader, at most ${most >> 20} MiB of them on the way`);

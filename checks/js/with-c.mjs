@@ -1,4 +1,5 @@
-// A client in JavaScript of the server of examples/programs/c: node live.mjs PATTERN FOLDER, where FOLDER has the server's public key.
+// A client in JavaScript of the server of examples/programs/c: node live.mjs PATTERN FOLDER, where FOLDER has the
+// server's public key.
 import assert from 'node:assert/strict';
 import { readFile } from 'node:fs/promises';
 import { connect } from 'node:net';
@@ -12,7 +13,9 @@ const bytes = (text) => new TextEncoder().encode(text);
 async function connection() {
   for (let n = 0; n < 600; n += 1) {
     const socket = connect(4041, '127.0.0.1');
-    const said = await new Promise((resolve) => { socket.once('connect', () => resolve('connected')).once('error', resolve); });
+    const said = await new Promise((resolve) => {
+      socket.once('connect', () => resolve('connected')).once('error', resolve);
+    });
     if (said === 'connected') return socket;
     await new Promise((resolve) => { setTimeout(resolve, 50); });
   }

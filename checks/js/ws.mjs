@@ -7,7 +7,9 @@ const { WebSocket, WebSocketServer } = createRequire(import.meta.url)('/usr/shar
 /** As docs/JAVASCRIPT.md says. */
 const OPTIONS = { perMessageDeflate: false, maxPayload: 65535 };
 
-/** A server on 127.0.0.1 at `url`: `accept` gives the next socket that connects, and `pair` both sides of a connection. */
+/**
+ * A server on 127.0.0.1 at `url`: `accept` gives the next socket that connects, and `pair` both sides of a connection.
+ */
 export async function webSockets() {
   const server = new WebSocketServer({ port: 0, host: '127.0.0.1', ...OPTIONS });
   await once(server, 'listening');

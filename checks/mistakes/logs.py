@@ -52,7 +52,11 @@ def fault_of(program: str, row: str, right: pathlib.Path) -> str:
     if not any(advice in line for line in lines):
         return f"compare has other advice on {who} than {advice}"
     status, lines = compare(program, made("--right", name, role), right)
-    return "" if status == 0 and lines[0].startswith("agrees in ") else f"compare and make.py --right have other key schedules: {who}: {lines[0]}"
+    return (
+        ""
+        if status == 0 and lines[0].startswith("agrees in ")
+        else f"compare and make.py --right have other key schedules: {who}: {lines[0]}"
+    )
 
 
 def main(words: list[str]) -> int:

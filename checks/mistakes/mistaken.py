@@ -1,5 +1,5 @@
-"""An implementation of its own (revision 34: 25519, ChaChaPoly, SHA256), both parties of which can make one of 54 mistakes, and the log that
-DEBUGGING.md asks for.
+"""An implementation of its own (revision 34: 25519, ChaChaPoly, SHA256), both parties of which can make one of 54
+mistakes, and the log that DEBUGGING.md asks for.
 
 It shares nothing with the code of `noise`. A mistake is a name; "" is none. It needs python's `cryptography`.
 """
@@ -196,7 +196,10 @@ class Party:
 
     def say(self, part: str, name: str, data: bytes = b"") -> None:
         key = self.cipher.key.hex() if self.cipher.key else "-"
-        self.log.append(f"trace {self.role} {part} ? {name} ? ? {data.hex() or '-'} {self.h.hex()} {self.ck.hex()} {key} {self.cipher.n}")
+        self.log.append(
+            f"trace {self.role} {part} ? {name} ? ? {data.hex() or '-'} {self.h.hex()} {self.ck.hex()} {key} "
+            f"{self.cipher.n}"
+        )
 
     def mix_hash(self, data: bytes) -> None:
         form = LENGTHS.get(self.mistake)
@@ -413,7 +416,9 @@ class Event(NamedTuple):
     frame: bytes
 
 
-def run(session: Session, mistakes: dict[str, str], payloads: Callable[[int], bytes], transport: int) -> tuple[list[Event], list[str]]:
+def run(
+    session: Session, mistakes: dict[str, str], payloads: Callable[[int], bytes], transport: int
+) -> tuple[list[Event], list[str]]:
     """The events of both parties until one refuses, and their log."""
     log: list[str] = []
     events: list[Event] = []

@@ -95,7 +95,10 @@ CASES = {
 }
 
 # Differences of a log that change nothing.
-HARMLESS = ("carriage returns", "byte order mark", "prefix", "indentation", "upper case", "0x", "bytes of Python", "role", "other lines", "spaces")
+HARMLESS = (
+    "carriage returns", "byte order mark", "prefix", "indentation", "upper case", "0x", "bytes of Python", "role",
+    "other lines", "spaces",
+)
 
 
 def harmless(difference: str, lines: list[str]) -> bytes:
@@ -131,7 +134,10 @@ def secret(seed: int, name: str) -> bytes:
 
 
 def session_of(pattern: str, prologue: bytes, seed: int) -> Session:
-    keys = {role: Keys(Key(secret(seed, role + " e")), Key(secret(seed, role + " s"))) for role in ("initiator", "responder")}
+    keys = {
+        role: Keys(Key(secret(seed, role + " e")), Key(secret(seed, role + " s")))
+        for role in ("initiator", "responder")
+    }
     session = Session(pattern, prologue, keys, [], 2)
     return session._replace(psks=[secret(seed, f"psk {place}") for place in session.places])
 
@@ -142,7 +148,10 @@ def pattern_text(session: Session) -> str:
     known, messages = PATTERNS[session.base]
     if not any(token == "e" for _, token in known):
         return ""
-    lines = [f"{session.pattern}:", *(f"  {'->' if role == 'initiator' else '<-'} {token}" for role, token in known), "  ..."]
+    lines = [
+        f"{session.pattern}:", *(f"  {'->' if role == 'initiator' else '<-'} {token}" for role, token in known),
+        "  ...",
+    ]
     for number, tokens in enumerate(messages):
         words = [*("psk" for place in session.places if place == number == 0), *tokens.split()]
         words += ["psk" for place in session.places if place == number + 1]
@@ -157,11 +166,18 @@ def vector(program: str, session: Session, events: list[Event]) -> str:
     text = subprocess.run([program, "template", name], input=own, stdout=subprocess.PIPE, text=True, check=True).stdout
     one, two = session.keys["initiator"], session.keys["responder"]
     digits = {"e1": one.e.public, "51": one.s.public, "e2": two.e.public, "52": two.s.public}
-    digits |= {"ee": one.e.agree(two.e.public), "e5": one.e.agree(two.s.public), "5e": one.s.agree(two.e.public), "55": one.s.agree(two.s.public)}
+    digits |= {
+        "ee": one.e.agree(two.e.public), "e5": one.e.agree(two.s.public), "5e": one.s.agree(two.e.public),
+        "55": one.s.agree(two.s.public),
+    }
     digits |= {f"a{place}": psk for place, psk in zip(session.places, session.psks, strict=True)}
     for placeholder, data in digits.items():
         text = text.replace(" " + placeholder * 32, " " + data.hex())
-    text = text.replace("vector 1", "vector 2", 1).replace("prologue -", f"prologue {session.prologue.hex() or '-'}").replace("interval 0", f"interval {session.interval}")
+    text = (
+        text.replace("vector 1", "vector 2", 1)
+        .replace("prologue -", f"prologue {session.prologue.hex() or '-'}")
+        .replace("interval 0", f"interval {session.interval}")
+    )
     lines = [line for line in text.splitlines() if not line.startswith("say")]
     lines += [f"say {role} {payload.hex() or '-'} -" for role, payload, _ in events]
     counts = {"initiator": 0, "responder": 0}
@@ -173,7 +189,8 @@ def vector(program: str, session: Session, events: list[Event]) -> str:
 
 
 def verdict(printed: str, words: str) -> str:
-    """`named` where the words are among those of the mistakes that are said, `misleading` where another is said to be the one, or else `missing`."""
+    """`named` where the words are among those of the mistakes that are said, `misleading` where another is said to be
+    the one, or else `missing`."""
     if words in printed and NONE not in printed:
         return "named"
     return "misleading" if SAID[0] in printed or "refused what is right" in printed else "missing"
@@ -198,12 +215,21 @@ def main(words: list[str]) -> int:
             file_path.write_text(vector(program, session, events))
             command = "test" if case.words.startswith("differs at byte") else "compare"
             files = [str(file_path)] if command == "test" else [str(log_path), str(file_path)]
-            ran = subprocess.run([program, command, *files], stdout=subprocess.PIPE, stderr=subprocess.STDOUT, text=True, check=False)
+            ran = subprocess.run(
+                [program, command, *files], stdout=subprocess.PIPE, stderr=subprocess.STDOUT, text=True, check=False
+            )
             said = verdict(ran.stdout, case.words)
             counts[said] += 1
             if said != "named":
-                print(f"mistakes: {said}: {mistake}, {pattern}, {role}, {difference or 'no other difference'}:\n{ran.stdout}", file=sys.stderr)
-    print(f"mistakes: of {len(CASES)} mistakes {counts['named']} named, {counts['misleading']} misleading, {counts['missing']} not named; seed {seed}")
+                print(
+                    f"mistakes: {said}: {mistake}, {pattern}, {role}, "
+                    f"{difference or 'no other difference'}:\n{ran.stdout}",
+                    file=sys.stderr,
+                )
+    print(
+        f"mistakes: of {len(CASES)} mistakes {counts['named']} named, {counts['misleading']} misleading, "
+        f"{counts['missing']} not named; seed {seed}"
+    )
     return 0 if counts["named"] >= 50 and not counts["misleading"] else 1
 
 

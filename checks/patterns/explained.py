@@ -216,7 +216,9 @@ class Run:
 WORDS = {f"the {role}'s {key}": frozenset([(role, key)]) for role, key in KEYS}
 WORDS |= {f"the {role}'s e and s": frozenset([(role, "e"), (role, "s")]) for role in ROLES}
 WORDS |= {f"both parties' {key}": frozenset((role, key) for role in ROLES) for key in "es"}
-WORDS |= {f"the initiator's {one} and the responder's {two}": frozenset(parties_of(one + two)) for one, two in ("es", "se")}
+WORDS |= {
+    f"the initiator's {one} and the responder's {two}": frozenset(parties_of(one + two)) for one, two in ("es", "se")
+}
 LINES = {
     "message": re.compile(r"  message (\d+), of the (\w+), is (\d+) bytes longer than its payload"),
     "piece": re.compile(r"    ([es]): bytes (\d+) to (\d+), (in the clear|encrypted)\b.*"),
@@ -233,7 +235,11 @@ def ways(text):
 
 
 def key_fact(what, mixed, text):
-    found = re.fullmatch(r"Enough: ([^.;]*)(?:; and in each case the psks?)?\.(?: Whoever takes the \w+'s part needs only (an e|an e and an s) of its own(?: and the psks?)?\.)?", text)
+    found = re.fullmatch(
+        r"Enough: ([^.;]*)(?:; and in each case the psks?)?\.(?: Whoever takes the \w+'s part needs only (an e|an e "
+        r"and an s) of its own(?: and the psks?)?\.)?",
+        text,
+    )
     is_none = text.startswith("No DH") or re.fullmatch(r"Enough: the psks? alone\.", text)
     part = re.findall("an? ([es])", found[2]) if found and found[2] else None
     return ("key", what, set(mixed.split(", ")), None if is_none else ways(found[1]), [part] if part else [])
@@ -243,7 +249,10 @@ def origin_fact(text):
     found = re.fullmatch(r"whoever has ([^.;]*)(?:; and in each case the psks?)?\.", text)
     if found and found[1] not in ("the psk", "the psks"):
         return ["origin", "whoever has", ways(found[1])]
-    return ["origin", "whoever has the psk" if found else re.match(r"anyone(, with an e|: everybody|: it has no tag)", text)[0], None]
+    return [
+        "origin",
+        "whoever has the psk" if found else re.match(r"anyone(, with an e|: everybody|: it has no tag)", text)[0], None,
+    ]
 
 
 def said_facts(lines):
@@ -294,9 +303,14 @@ def main():
     for pattern, text, lines in zip(drawn_ones, texts, explained(str(Path(program).resolve()), texts)):
         for expected, said in itertools.zip_longest(Run(pattern).all_facts(), said_facts(lines)):
             if expected != said:
-                sys.exit(f"patterns: explain says something else of this pattern:\n{text}expected {expected}\nsaid {said}")
+                sys.exit(
+                    f"patterns: explain says something else of this pattern:\n{text}expected {expected}\nsaid {said}"
+                )
     lengths = [len(it.messages) for it in drawn_ones]
-    print(f"patterns: {count} random patterns, of {min(lengths)} to {max(lengths)} messages, are explained as another program works them out (seed {seed})")
+    print(
+        f"patterns: {count} random patterns, of {min(lengths)} to {max(lengths)} messages, are explained as another "
+        f"program works them out (seed {seed})"
+    )
 
 
 if __name__ == "__main__":

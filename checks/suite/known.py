@@ -13,7 +13,10 @@ from pathlib import Path
 
 SUITE = Path(__file__).resolve().parent.parent.parent / "vectors" / "25519_ChaChaPoly_SHA256.json"
 # The flags by which deviations are told apart: a test counts for the first that it has.
-CAUSES = ("EphemeralInPreMessageWithPsk", "Rekey", "ReservedNonceUsed", "LongMessageTaken", "RightAfterRefused", "WriteOutOfTurn", "ReadOutOfTurn")
+CAUSES = (
+    "EphemeralInPreMessageWithPsk", "Rekey", "ReservedNonceUsed", "LongMessageTaken", "RightAfterRefused",
+    "WriteOutOfTurn", "ReadOutOfTurn",
+)
 
 
 def flags_of_tests() -> dict[int, list[str]]:

@@ -67,10 +67,17 @@ def with_zeros(groups: list[dict]) -> list[str]:
             return bytes(32)
 
     mistaken.agreement = or_zeros
-    tests = [(group, test | {"result": "valid"}) for group in groups for test in group["tests"] if test["result"] == "acceptable"]
+    tests = [
+        (group, test | {"result": "valid"})
+        for group in groups
+        for test in group["tests"]
+        if test["result"] == "acceptable"
+    ]
     wrong = failing(tests, "", 1)
     mistaken.agreement = agreement
-    return [f"test {it['tcId']} fails where zeros are taken" for it in wrong] + ([] if tests else ["no test is acceptable"])
+    return [f"test {it['tcId']} fails where zeros are taken" for it in wrong] + (
+        [] if tests else ["no test is acceptable"]
+    )
 
 
 def refused_at_start(groups: list[dict]) -> list[str]:
@@ -81,8 +88,17 @@ def refused_at_start(groups: list[dict]) -> list[str]:
         def __init__(self, setup: dict, role: str) -> None:
             raise mistaken.Refused
 
-    tests = [(group, test) for group in groups for test in group["tests"] if test["result"] in ("acceptable", "valid") and "steps" in test]
-    wrong = [test["tcId"] for group, test in tests if runner.outcome(group, test, Party)[0] != ("passed" if test["result"] == "acceptable" else "failed")]
+    tests = [
+        (group, test)
+        for group in groups
+        for test in group["tests"]
+        if test["result"] in ("acceptable", "valid") and "steps" in test
+    ]
+    wrong = [
+        test["tcId"]
+        for group, test in tests
+        if runner.outcome(group, test, Party)[0] != ("passed" if test["result"] == "acceptable" else "failed")
+    ]
     return [f"test {wrong[0]} and {len(wrong) - 1} more take a refused start for the other outcome"] if wrong else []
 
 
@@ -98,8 +114,10 @@ def main(words: list[str]) -> int:
         if wrong := failing(tests[:20], "", 1):
             faults.append(f"{mistake}: test {wrong[0]['tcId']} fails without a mistake")
     print("\n".join(f"mistakes: {it}" for it in faults), end="\n" if faults else "")
-    print(f"mistakes: {len(mistaken.MISTAKES) - len(faults)} of {len(mistaken.MISTAKES)} are caught by a test of their flag, {accepted} first by one that has "
-          "to be refused")  # fmt: skip
+    print(
+        f"mistakes: {len(mistaken.MISTAKES) - len(faults)} of {len(mistaken.MISTAKES)} are caught by a test of their "
+        f"flag, {accepted} first by one that has to be refused"
+    )
     return int(bool(faults))
 
 

@@ -46,17 +46,24 @@ def of_the_report(tests: dict[int, tuple[str, dict]], notes: dict[str, dict]) ->
     for flag, kind, *numbers in shown:
         of_flag = {number for number, (_, test) in tests.items() if flag in test["flags"]}
         if (kind, *map(int, numbers)) != (notes[flag]["kind"], len(of_flag - failed), len(of_flag & failed), 0):
-            faults.append(f"the page's line of {flag} isn't: {notes[flag]['kind']} {len(of_flag - failed)} {len(of_flag & failed)} 0")
+            faults.append(
+                f"the page's line of {flag} isn't: {notes[flag]['kind']} {len(of_flag - failed)} "
+                f"{len(of_flag & failed)} 0"
+            )
     lines = re.findall(r"^    (failed (\d+) .*), \.\.\.$", PAGE, re.M)
     for line, number in lines:
         protocol, test = tests[int(number)]
-        if not f"failed {number} {protocol.split('_')[1]} {','.join(test['flags'])}: {test['comment']}:".startswith(line):
+        if not f"failed {number} {protocol.split('_')[1]} {','.join(test['flags'])}: {test['comment']}:".startswith(
+            line
+        ):
             faults.append(f"the page's line of test {number} isn't that of the suite")
     said = re.findall(r"fails (\d+) tests of `(\w+)`, and all of them have also `(\w+)`", PAGE.replace("\n", " "))
     for count, flag, cause in said:
         of_flag = [test["flags"] for number, (_, test) in tests.items() if flag in test["flags"] and number in failed]
         if len(of_flag) != int(count) or not all(cause in it for it in of_flag):
-            faults.append(f"{flag}: {len(of_flag)} tests fail, {sum(cause in it for it in of_flag)} of them have {cause}")
+            faults.append(
+                f"{flag}: {len(of_flag)} tests fail, {sum(cause in it for it in of_flag)} of them have {cause}"
+            )
     return faults + ([] if shown and lines and said else ["the page shows no report"])
 
 
@@ -69,7 +76,10 @@ def main() -> int:
     names = {protocol.split("_")[1] for protocol, _ in tests.values() if protocol}
     if f"one of the {len(names)} patterns" not in PAGE:
         faults.append(f"the page doesn't say: one of the {len(names)} patterns")
-    words = f"{len(tests):,} tests: {results['valid']:,} in which all is right, {results['invalid']:,} of refusals, and {results['acceptable']} of"
+    words = (
+        f"{len(tests):,} tests: {results['valid']:,} in which all is right, {results['invalid']:,} of refusals, "
+        f"and {results['acceptable']} of"
+    )
     if words not in PAGE.replace("\n", " "):
         faults.append(f"the page doesn't say: {words}")
     for column, peer in enumerate(("flynn", "dissononce"), 1):
@@ -79,7 +89,9 @@ def main() -> int:
     for section, number in re.findall(r"\b([A-Z]+(?:psk\d)?) \((\d+)\)", PAGE):
         if f"Noise_{section}_" not in tests[int(number)][0]:
             faults.append(f"test {number} isn't of {section}")
-    example = json.loads(re.sub(r'", "\.\."\]|"\.\."', '""', PAGE.split("```json\n")[1].split("```")[0].replace(', ".."]', "]")))["tests"][0]
+    example = json.loads(
+        re.sub(r'", "\.\."\]|"\.\."', '""', PAGE.split("```json\n")[1].split("```")[0].replace(', ".."]', "]"))
+    )["tests"][0]
     if tests[example["tcId"]][1] != example:
         faults.append(f"test {example['tcId']} isn't as the page shows it")
     print("\n".join([*(f"page: {it}" for it in faults), f"page: {len(faults)} numbers of docs/VECTORS.md are wrong"]))

@@ -41,7 +41,10 @@ def table(lines: list[str], tests: list[tuple[str, dict]], notes: dict[str, dict
     faults, failed = ([] if lines[0] == HEAD else [f"the first line isn't: {HEAD}"]), Counter[str]()
     for flag, line in zip(flags, lines[1 : len(flags) + 1]):
         numbers = [int(it) for it in re.findall(r" +(\d+)(?= |$)", line[36:])]
-        if len(numbers) != 3 or line != f"{flag:28} {notes[flag]['kind']:7} {numbers[0]:7} {numbers[1]:7} {numbers[2]:7}":
+        if (
+            len(numbers) != 3
+            or line != f"{flag:28} {notes[flag]['kind']:7} {numbers[0]:7} {numbers[1]:7} {numbers[2]:7}"
+        ):
             faults.append(f"{flag}, a {notes[flag]['kind']}: the line is: {line}")
         elif sum(numbers) != flags[flag]:
             faults.append(f"{flag} has {flags[flag]} tests: {line}")
@@ -53,7 +56,10 @@ def table(lines: list[str], tests: list[tuple[str, dict]], notes: dict[str, dict
 def listed(lines: list[str], tests: list[tuple[str, dict]]) -> tuple[list[str], Counter[str]]:
     """What is wrong with the lines of the tests that failed, and how many those are by flag."""
     faults, failed = [], Counter[str]()
-    starts = {f"failed {it['tcId']}": (f"failed {it['tcId']} {pattern} {','.join(it['flags'])}: {it['comment']}: ", it) for pattern, it in tests}
+    starts = {
+        f"failed {it['tcId']}": (f"failed {it['tcId']} {pattern} {','.join(it['flags'])}: {it['comment']}: ", it)
+        for pattern, it in tests
+    }
     for line in (it for it in lines if it.startswith("failed ")):
         start, test = starts[" ".join(line.split(" ")[:2])]
         if not line.startswith(start) or line == start:
@@ -75,14 +81,27 @@ def main(words: list[str]) -> int:
     faults += more
     whole, ended = named.pop("all", 0), re.fullmatch(r"(\d+) passed, (\d+) failed, (\d+) not run", lines[-1])
     if counted != named and not faults:
-        faults.append(f"the flags of the tests that failed aren't those of the table: {named - counted}, {counted - named}")
+        faults.append(
+            f"the flags of the tests that failed aren't those of the table: {named - counted}, {counted - named}"
+        )
     if not ended or int(ended[2]) != whole or sum(map(int, ended.groups())) != len(tests):
         faults.append(f"{whole} of {len(tests)} tests failed, and the last line is: {lines[-1]}")
     cases = list(ElementTree.parse(words[2]).getroot().iter("testcase"))
     wanted = [f"{it['tcId']} {pattern}: {it['comment']}" for pattern, it in tests]
-    faults += [f"JUnit's test is {it.get('name')}, in place of {name}" for it, name in zip(cases, wanted) if it.get("name") != name]
+    faults += [
+        f"JUnit's test is {it.get('name')}, in place of {name}"
+        for it, name in zip(cases, wanted)
+        if it.get("name") != name
+    ]
     faults += [f"JUnit has {len(cases)} tests"] if len(cases) != len(tests) else []
-    print("\n".join([*(f"report: {it}" for it in faults[:10]), f"report: {whole} of {len(tests)} tests fail, {len(faults)} lines aren't as they have to be"]))
+    print(
+        "\n".join(
+            [
+                *(f"report: {it}" for it in faults[:10]),
+                f"report: {whole} of {len(tests)} tests fail, {len(faults)} lines aren't as they have to be",
+            ]
+        )
+    )
     return int(bool(faults) or not whole)
 
 

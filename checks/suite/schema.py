@@ -16,8 +16,8 @@ from typing import Any
 
 TYPES = {"object": dict, "array": list, "string": str, "integer": int}
 KNOWN = {
-    "$schema", "$ref", "$defs", "title", "description", "type", "required", "properties", "additionalProperties", "items", "minItems", "minimum",
-    "enum", "pattern", "oneOf",
+    "$schema", "$ref", "$defs", "title", "description", "type", "required", "properties", "additionalProperties",
+    "items", "minItems", "minimum", "enum", "pattern", "oneOf",
 }  # fmt: skip
 POSITIVE, NEGATIVE, BYTES, PACKED = 1000, 4000, 10_000_000, 1_000_000
 
@@ -47,7 +47,11 @@ class Schema:
             return self.members(value, schema, place)
         if isinstance(value, list):
             few = [f"{place}: too few items"] if len(value) < schema.get("minItems", 0) else []
-            return few + [it for at, item in enumerate(value) for it in self.faults(item, schema.get("items", {}), f"{place}[{at}]")]
+            return few + [
+                it
+                for at, item in enumerate(value)
+                for it in self.faults(item, schema.get("items", {}), f"{place}[{at}]")
+            ]
         if isinstance(value, str) and not re.search(schema.get("pattern", ""), value):
             return [f"{place}: {value[:80]!r} doesn't fit"]
         if isinstance(value, int) and value < schema.get("minimum", value):
@@ -72,7 +76,8 @@ def counted(suite: dict, sizes: tuple[int, int]) -> list[str]:
     rules = {
         f"{results['valid']} tests are valid": results["valid"] >= POSITIVE,
         f"{results['invalid']} tests are invalid": results["invalid"] >= NEGATIVE,
-        "the tests aren't numbered from 1": [test["tcId"] for test in tests] == list(range(1, suite["numberOfTests"] + 1)),
+        "the tests aren't numbered from 1": [test["tcId"] for test in tests]
+        == list(range(1, suite["numberOfTests"] + 1)),
         "the flags aren't those of the notes": flags == suite["notes"].keys(),
         f"{sizes[0]} bytes": sizes[0] < BYTES,
         f"{sizes[1]} bytes by gzip": sizes[1] < PACKED,

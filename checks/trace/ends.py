@@ -172,7 +172,9 @@ class End:
 
     def step(self, number, name, call, start, piece, state):
         """The line of a token or of the payload."""
-        self.show("handshake", str(self.passed + 1), f"{number} {name} {call} {start} {hex_word(piece)} {state.words()}")
+        self.show(
+            "handshake", str(self.passed + 1), f"{number} {name} {call} {start} {hex_word(piece)} {state.words()}"
+        )
 
     def write_message(self, payload, head):
         """WriteMessage (5.3): the message, or the token that it stops at."""
@@ -192,7 +194,8 @@ class End:
                 if answer is None:
                     self.phase = "ended"
                     self.say(f"unwritten {self.role} agreement {number}")
-                    self.show_steps([(*step[:4], b"", step[5]) for step in shown])    # no message is there to show bytes of
+                    # (no message is there to show bytes of)
+                    self.show_steps([(*step[:4], b"", step[5]) for step in shown])
                     return None
                 state.mix_key(answer)
             shown.append((number, token, call, len(message), piece, state.copy()))

@@ -1,5 +1,5 @@
-// axe-core over the page, at four widths, in light and in dark, and over the pages beside it. Chromium's own tools have axe-core, as a part of Lighthouse:
-// it is taken from there, and left out where it isn't.
+// axe-core over the page, at four widths, in light and in dark, and over the pages beside it. Chromium's own tools have
+// axe-core, as a part of Lighthouse: it is taken from there, and left out where it isn't.
 import assert from 'node:assert/strict';
 import vm from 'node:vm';
 
@@ -39,7 +39,9 @@ const BORDERS = `(() => {
 
 /** A page with a bit of all: a run with a refusal, a key schedule, two patterns beside each other, a fault. */
 async function fill(page) {
-  await page.open('#pattern=IK%3A%0A++%3C-+s%0A++...%0A++-%3E+e%2C+es%2C+s%2C+ss%0A++%3C-+e%2C+ee%2C+se%0A&mode=stream');
+  await page.open(
+    '#pattern=IK%3A%0A++%3C-+s%0A++...%0A++-%3E+e%2C+es%2C+s%2C+ss%0A++%3C-+e%2C+ee%2C+se%0A&mode=stream',
+  );
   await page.begin();
   await page.passAll();
   await page.write('initiator');
@@ -49,11 +51,19 @@ async function fill(page) {
   await page.until('document.querySelectorAll(".schedule").length >= 1');
 }
 
-/** In forced colours what is pressed looks otherwise than what isn't, and where less motion is asked for nothing moves. */
+/**
+ * In forced colours what is pressed looks otherwise than what isn't, and where less motion is asked for nothing moves.
+ */
 async function preferences(page, scheme) {
-  const style = (selector, name) => page.evaluate(`getComputedStyle(document.querySelector(${JSON.stringify(selector)})).${name}`);
-  await scheme('light', { name: 'forced-colors', value: 'active' }, { name: 'prefers-reduced-motion', value: 'reduce' });
-  assert.notEqual(await style('#languages [aria-pressed=true]', 'backgroundColor'), await style('#languages [aria-pressed=false]', 'backgroundColor'));
+  const style = (selector, name) =>
+    page.evaluate(`getComputedStyle(document.querySelector(${JSON.stringify(selector)})).${name}`);
+  await scheme('light', { name: 'forced-colors', value: 'active' }, {
+    name: 'prefers-reduced-motion', value: 'reduce',
+  });
+  assert.notEqual(
+    await style('#languages [aria-pressed=true]', 'backgroundColor'),
+    await style('#languages [aria-pressed=false]', 'backgroundColor'),
+  );
   assert.notEqual(await style('#picture .e', 'fill'), await style('#picture .tag', 'fill'));
   assert.equal(await style('#picture', 'transitionDuration'), '0s');
   await scheme('light');
@@ -62,7 +72,9 @@ async function preferences(page, scheme) {
 export async function axe(page) {
   const { browser } = page;
   const text = await source(browser);
-  const scheme = (value, ...more) => browser.send('Emulation.setEmulatedMedia', { features: [{ name: 'prefers-color-scheme', value }, ...more] });
+  const scheme = (value, ...more) => browser.send('Emulation.setEmulatedMedia', {
+    features: [{ name: 'prefers-color-scheme', value }, ...more],
+  });
   if (!text) return 'left out: axe-core: this Chromium’s tools have none';
   let runs = 0;
   const at = async (width, what, rules) => {
@@ -75,7 +87,9 @@ export async function axe(page) {
   for (const colours of ['light', 'dark']) {
     await scheme(colours);
     const isDark = colours === 'dark';
-    for (const width of isDark ? [390, 1440] : WIDTHS) await at(width, `the page, ${colours},`, isDark ? COLOURS : RULES);
+    for (const width of isDark ? [390, 1440] : WIDTHS) {
+      await at(width, `the page, ${colours},`, isDark ? COLOURS : RULES);
+    }
     assert.deepEqual(await page.evaluate(BORDERS), [], `borders, ${colours}`);
   }
   await page.type('prologue', 'another');

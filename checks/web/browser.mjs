@@ -13,10 +13,15 @@ export class Browser {
   static async start() {
     const browser = new Browser();
     browser.profile = await mkdtemp(join(tmpdir(), 'noise-page-'));
-    const words = ['--headless=new', '--remote-debugging-pipe', '--no-first-run', '--disable-gpu', '--hide-scrollbars', '--force-color-profile=srgb'];
+    const words = [
+      '--headless=new', '--remote-debugging-pipe', '--no-first-run', '--disable-gpu', '--hide-scrollbars',
+      '--force-color-profile=srgb',
+    ];
     words.push(`--user-data-dir=${browser.profile}`);
     if (process.getuid() === 0) words.push('--no-sandbox');
-    browser.child = spawn('chromium', [...words, 'about:blank'], { stdio: ['ignore', 'ignore', 'ignore', 'pipe', 'pipe'] });
+    browser.child = spawn('chromium', [...words, 'about:blank'], {
+      stdio: ['ignore', 'ignore', 'ignore', 'pipe', 'pipe'],
+    });
     browser.child.on('error', (error) => browser.#fail(error));
     browser.child.on('exit', () => browser.#fail(new Error('chromium has ended')));
     let held = '';
@@ -65,8 +70,12 @@ export class Browser {
 
   /** What an expression of the page gives, a promise awaited. */
   async evaluate(expression) {
-    const { result, exceptionDetails } = await this.send('Runtime.evaluate', { expression, awaitPromise: true, returnByValue: true, userGesture: true });
-    if (exceptionDetails) throw new Error(`${exceptionDetails.exception?.description ?? exceptionDetails.text}\nin ${expression}`);
+    const { result, exceptionDetails } = await this.send('Runtime.evaluate', {
+      expression, awaitPromise: true, returnByValue: true, userGesture: true,
+    });
+    if (exceptionDetails) {
+      throw new Error(`${exceptionDetails.exception?.description ?? exceptionDetails.text}\nin ${expression}`);
+    }
     return result.value;
   }
 
@@ -80,9 +89,15 @@ export class Browser {
   }
 
   async press(key, text, modifiers = 0) {
-    const code = { Tab: 9, Enter: 13, ' ': 32, End: 35, Home: 36, ArrowLeft: 37, ArrowUp: 38, ArrowRight: 39, ArrowDown: 40 }[key] ?? 0;
-    await this.send('Input.dispatchKeyEvent', { type: 'keyDown', key, code: key === ' ' ? 'Space' : key, windowsVirtualKeyCode: code, text, modifiers });
-    await this.send('Input.dispatchKeyEvent', { type: 'keyUp', key, code: key === ' ' ? 'Space' : key, windowsVirtualKeyCode: code, modifiers });
+    const code = {
+      Tab: 9, Enter: 13, ' ': 32, End: 35, Home: 36, ArrowLeft: 37, ArrowUp: 38, ArrowRight: 39, ArrowDown: 40,
+    }[key] ?? 0;
+    await this.send('Input.dispatchKeyEvent', {
+      type: 'keyDown', key, code: key === ' ' ? 'Space' : key, windowsVirtualKeyCode: code, text, modifiers,
+    });
+    await this.send('Input.dispatchKeyEvent', {
+      type: 'keyUp', key, code: key === ' ' ? 'Space' : key, windowsVirtualKeyCode: code, modifiers,
+    });
   }
 
   /** A letter with the control key, as a keyboard sends it. */
@@ -100,7 +115,9 @@ export class Browser {
 
   async picture(width, height, dark, isWhole = false) {
     await this.send('Emulation.setDeviceMetricsOverride', { width, height, deviceScaleFactor: 1, mobile: width < 500 });
-    await this.send('Emulation.setEmulatedMedia', { features: [{ name: 'prefers-color-scheme', value: dark ? 'dark' : 'light' }] });
+    await this.send('Emulation.setEmulatedMedia', {
+      features: [{ name: 'prefers-color-scheme', value: dark ? 'dark' : 'light' }],
+    });
     await this.evaluate('new Promise((done) => setTimeout(done, 250))');
     const { data } = await this.send('Page.captureScreenshot', { format: 'png', captureBeyondViewport: isWhole });
     return Buffer.from(data, 'base64');

@@ -1,5 +1,5 @@
-// The page as a user meets it: node check.mjs TOP ROOM BUILT, with the top of the repository and the folder that web/build has made. Saved vector files and
-// key schedules go to ROOM/files, screenshots to ROOM/pictures.
+// The page as a user meets it: node check.mjs TOP ROOM BUILT, with the top of the repository and the folder that
+// web/build has made. Saved vector files and key schedules go to ROOM/files, screenshots to ROOM/pictures.
 import assert from 'node:assert/strict';
 import { writeFile } from 'node:fs/promises';
 import { join } from 'node:path';
@@ -32,11 +32,16 @@ async function allPatterns() {
     await page.begin();
     await page.passAll();
     assert.match(await page.textOf('state'), /initiator is open .*responder is open/, base);
-    assert.match(await page.evaluate('document.querySelector("#current-body .hash").textContent'), /^hash at both parties [0-9a-f]{64} /, base);
+    assert.match(
+      await page.evaluate('document.querySelector("#current-body .hash").textContent'),
+      /^hash at both parties [0-9a-f]{64} /, base,
+    );
     // Each length in the picture is that of the message that the library has written, with a payload of two bytes.
     const labels = await page.evaluate('[...document.querySelectorAll("#picture text")].map((it) => it.textContent)');
     const drawn = labels.map((label) => /: (\d+) bytes \+ payload/.exec(label)?.[1]).filter(Boolean).map(Number);
-    const written = await page.evaluate('noisePage.lines.filter((it) => it.startsWith("wrote")).map((it) => it.split(" ")[3].length / 2 - 4)');
+    const written = await page.evaluate(
+      'noisePage.lines.filter((it) => it.startsWith("wrote")).map((it) => it.split(" ")[3].length / 2 - 4)',
+    );
     assert.deepEqual(drawn, written, base);
     await page.write('initiator');
     await page.deliver(written.length);
@@ -61,7 +66,10 @@ async function faults() {
     ['MINE:\n  -> e, psk\n', 'psk', 'Line 2. psk0 in the heading is a psk before message 1'],
     ['XX:\n  -> e\n', 'XX', 'Line 1. This name belongs to a fundamental pattern'],
     ['MINE:\n  <- s\n  -> s\n  ...\n  -> e, es\n', '  -> s', 'Line 3. Above “...” a line has e, s'],
-    ['MINE:\n  -> e\n  <- e, e, e, e, e, e, e, e, e\n', '  <- e, e, e, e, e, e, e, e, e', 'Line 3. A message has from 1 to 8 tokens besides psk, and this one has more.'],
+    [
+      'MINE:\n  -> e\n  <- e, e, e, e, e, e, e, e, e\n', '  <- e, e, e, e, e, e, e, e, e',
+      'Line 3. A message has from 1 to 8 tokens besides psk, and this one has more.',
+    ],
     ['MINE:\n', 'MINE:', 'Line 2. There is no message.'],
     ['MINE:\n  -> e\n\n', ' ', 'Line 3. The line is empty.'],
   ];
@@ -75,7 +83,12 @@ async function faults() {
   }
   await page.type('text', 'mine:\n  -> e\n');
   await page.click('#places input[value="0"]');
-  assert.equal(await page.evaluate('document.querySelector(\'#places input[value="0"]\').checked + document.getElementById("text").value'), 'falsemine:\n  -> e\n');
+  assert.equal(
+    await page.evaluate(
+      'document.querySelector(\'#places input[value="0"]\').checked + document.getElementById("text").value',
+    ),
+    'falsemine:\n  -> e\n',
+  );
   report(`${cases.length} faults are marked at their places`);
 }
 
@@ -90,7 +103,10 @@ async function ownPattern() {
   for (let n = 0; n < 5; n += 1) await page.write('initiator');
   for (const n of [3, 4, 5]) await page.deliver(n);
   await page.deliver(3);
-  assert.match(await page.last(), /^refused: \d+\. Responder refused transport message 1 of the initiator: a tag is wrong\. Transport message 4 was due\. It goes on as before/);
+  assert.match(
+    await page.last(),
+    /^refused: \d+\. Responder refused transport message 1 of the initiator: a tag is wrong\. Transport message 4 was due\. It goes on as before/,
+  );
   await page.deliver(6, [0]);
   assert.match(await page.last(), /^refused: .*Changed on the way: byte 0\./);
   await page.deliver(6);
@@ -110,7 +126,10 @@ async function refusals() {
   assert.match(await page.last(), /other party’s turn/);
   await page.write('responder');
   await page.deliver(1, [40]);
-  assert.match(await page.last(), /Initiator refused message 2, token s: a tag is wrong\. Changed on the way: byte 40\. Its handshake has ended/);
+  assert.match(
+    await page.last(),
+    /Initiator refused message 2, token s: a tag is wrong\. Changed on the way: byte 40\. Its handshake has ended/,
+  );
   await page.deliver(1);
   await page.save('refused');
 }
@@ -131,7 +150,9 @@ async function datagrams() {
   await page.until('location.hash.includes("datagrams") && location.hash.includes("IK")');
   const fragment = await page.evaluate('location.hash');
   await page.open(fragment);
-  assert.equal(await page.evaluate('document.getElementById("mode").value + document.getElementById("pick").value'), 'datagramsIK');
+  assert.equal(
+    await page.evaluate('document.getElementById("mode").value + document.getElementById("pick").value'), 'datagramsIK',
+  );
 }
 
 /** Long payloads and long runs: the page stays short, and all of it can be seen. */
@@ -142,7 +163,9 @@ async function long() {
   await page.passAll();
   await page.type('payload', 'a'.repeat(2000));
   for (let n = 0; n < 30; n += 1) await page.write('initiator');
-  const height = await page.evaluate('document.getElementById("log").offsetHeight + document.getElementById("current-body").offsetHeight');
+  const height = await page.evaluate(
+    'document.getElementById("log").offsetHeight + document.getElementById("current-body").offsetHeight',
+  );
   assert.ok(height < 3500, `a long run makes a long page: ${height} px`);
   const entry = await page.evaluate('document.querySelector("#current-body").offsetHeight');
   assert.ok(entry < 550, `a long payload makes a long entry: ${entry} px`);
@@ -161,7 +184,9 @@ async function walks() {
     await page.resize(width);
     await new Walk(page, new Hand(browser)).all();
   }
-  report('a pattern of one’s own, its fault mended, undo, a run with a refusal, its key schedule and link, streams: by keyboard alone and by pointer, at a width each');
+  report(
+    'a pattern of one’s own, its fault mended, undo, a run with a refusal, its key schedule and link, streams: by keyboard alone and by pointer, at a width each',
+  );
 }
 
 /** Channels over the browser's WebSocket, from a page of this server that isn't the one of web/. */
@@ -178,8 +203,13 @@ async function sockets() {
 
 async function pictures() {
   const [wide, phone] = [[1440, 900], [390, 844]];
-  for (const [name, [width, height], dark] of [['page-wide', wide, false], ['page-wide-dark', wide, true], ['page-phone', phone, false], ['page-phone-dark', phone, true]]) {
-    await browser.send('Emulation.setDeviceMetricsOverride', { width, height, deviceScaleFactor: 1, mobile: width < 500 });
+  for (const [name, [width, height], dark] of [
+    ['page-wide', wide, false], ['page-wide-dark', wide, true], ['page-phone', phone, false],
+    ['page-phone-dark', phone, true],
+  ]) {
+    await browser.send('Emulation.setDeviceMetricsOverride', {
+      width, height, deviceScaleFactor: 1, mobile: width < 500,
+    });
     await page.open();
     assert.equal(await page.evaluate('document.getElementById("write").offsetHeight'), 0);
     if (!name.includes('phone')) await page.type('pick', 'IK');
@@ -200,7 +230,10 @@ async function offline() {
   await there.open();
   await there.until('navigator.serviceWorker.controller !== null');
   const scripts = await there.evaluate('performance.getEntriesByType("resource").map(({ name }) => name)');
-  assert.ok(scripts.every((name) => name.startsWith(`${other.url}some/place/`)), 'the page asks for something outside of its folder');
+  assert.ok(
+    scripts.every((name) => name.startsWith(`${other.url}some/place/`)),
+    'the page asks for something outside of its folder',
+  );
   other.close();
   await there.evaluate('delete globalThis.noisePage');
   await browser.open(`${there.url}#mode=stream`);
@@ -235,7 +268,9 @@ try {
   await pictures();
   assert.deepEqual(browser.said, [], 'the console has to be silent');
   await offline();
-  report('a pattern of one’s own, refusals, transport, datagrams, the link, what a screen reader gets: as they should be; the console is silent');
+  report(
+    'a pattern of one’s own, refusals, transport, datagrams, the link, what a screen reader gets: as they should be; the console is silent',
+  );
 } finally {
   await browser.close();
   server.close();

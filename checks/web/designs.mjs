@@ -1,11 +1,15 @@
-// Three designs made from nothing, by keyboard, by pointer, and by pointer at 390 px: a device that knows its server's key, with a psk; a one-way pattern; and one
-// with three faults, mended by the buttons. What a person would take for it is reckoned from what was pressed.
+// Three designs made from nothing, by keyboard, by pointer, and by pointer at 390 px: a device that knows its server's
+// key, with a psk; a one-way pattern; and one with three faults, mended by the buttons. What a person would take for it
+// is reckoned from what was pressed.
 import assert from 'node:assert/strict';
 import { Keyboard, Pointer } from './hands.mjs';
 
 const ONE_WAY = 'OURS:\n  <- s\n  ...\n  -> e, es, s, ss\n';
 const FAULTY = 'DEV:\n  -> e, es\n  <- e, ee, ee\n  -> e\n';
-/** Seconds of the keystroke-level model: a key of someone who types seldom, a move of the pointer with its click, and a thought before each act. */
+/**
+ * Seconds of the keystroke-level model: a key of someone who types seldom, a move of the pointer with its click, and a
+ * thought before each act.
+ */
 const [KEY, MOVE, THOUGHT] = [0.5, 1.3, 1.35];
 
 /** The browser, which counts the keys that are pressed. */
@@ -24,7 +28,9 @@ function counted(Hand, browser) {
   const spent = { seconds: 0, keys: 0 };
   const hand = new Hand(counting(browser, spent));
   const move = Hand === Keyboard ? 0 : MOVE;
-  const counts = { type: (_, text) => move + text.length * KEY, press: () => move, tick: () => move, choose: () => 2 * move };
+  const counts = {
+    type: (_, text) => move + text.length * KEY, press: () => move, tick: () => move, choose: () => 2 * move,
+  };
   const acts = Object.fromEntries(Object.entries(counts).map(([name, seconds]) => [name, async (...words) => {
     const before = spent.keys;
     await hand[name](...words);
@@ -35,7 +41,9 @@ function counted(Hand, browser) {
 
 async function design(page, hand) {
   const text = () => page.evaluate('document.getElementById("text").value');
-  const verdict = () => page.evaluate('document.getElementById("verdict").className + " " + document.querySelector("#verdict .title").textContent');
+  const verdict = () => page.evaluate(
+    'document.getElementById("verdict").className + " " + document.querySelector("#verdict .title").textContent',
+  );
   await page.run('localStorage.clear()');
   await page.open('');
   await hand.choose('#pick', 'NK');
@@ -55,7 +63,9 @@ async function design(page, hand) {
 /** The three designs with each hand: how long they take. */
 export async function designs(page) {
   const told = [];
-  for (const [Hand, width, name] of [[Pointer, 1440, 'by pointer'], [Keyboard, 1440, 'by keyboard'], [Pointer, 390, 'at 390 px']]) {
+  for (const [Hand, width, name] of [
+    [Pointer, 1440, 'by pointer'], [Keyboard, 1440, 'by keyboard'], [Pointer, 390, 'at 390 px'],
+  ]) {
     await page.resize(width, 900);
     const hand = counted(Hand, page.browser);
     await design(page, hand);

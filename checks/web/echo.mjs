@@ -1,6 +1,7 @@
-// One end over TCP: node echo.mjs PATTERN OWN_SECRET PEER_KEY PSKS ADDRESS. It connects as the initiator, sends 128 KiB, and wants them back; where
-// ADDRESS begins with '@' it listens there, prints the address, and sends back what it reads. PSKS are joined by commas, and '-' where there is none;
-// "KEY=SECRET,.." has the secrets that a listener chooses by the other party's key.
+// One end over TCP: node echo.mjs PATTERN OWN_SECRET PEER_KEY PSKS ADDRESS. It connects as the initiator, sends 128
+// KiB, and wants them back; where ADDRESS begins with '@' it listens there, prints the address, and sends back what it
+// reads. PSKS are joined by commas, and '-' where there is none; "KEY=SECRET,.." has the secrets that a listener
+// chooses by the other party's key.
 import assert from 'node:assert/strict';
 import { once } from 'node:events';
 import { connect, createServer } from 'node:net';
@@ -46,7 +47,9 @@ async function readAll(channel) {
 }
 
 async function sendAll(channel, all) {
-  for (let at = 0, size = 1; at < all.length; at += size, size = Math.min(size * 3, 65519)) await channel.send(all.subarray(at, at + size));
+  for (let at = 0, size = 1; at < all.length; at += size, size = Math.min(size * 3, 65519)) {
+    await channel.send(all.subarray(at, at + size));
+  }
   await channel.end();
 }
 

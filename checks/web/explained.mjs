@@ -1,6 +1,7 @@
-// The page and `noise explain` say the same of a pattern's tokens: explained.mjs PROGRAM. Of each pattern of the standard, without and with psks, and of
-// valid ones that are drawn at random, the command's lines have to be those that the page's rows come to, and each sentence of the page has to occur. Of
-// patterns that break rules both have to tell the same faults.
+// The page and `noise explain` say the same of a pattern's tokens: explained.mjs PROGRAM. Of each pattern of the
+// standard, without and with psks, and of valid ones that are drawn at random, the command's lines have to be those
+// that the page's rows come to, and each sentence of the page has to occur. Of patterns that break rules both have to
+// tell the same faults.
 import assert from 'node:assert/strict';
 import { spawnSync } from 'node:child_process';
 import { mkdtempSync, rmSync, writeFileSync } from 'node:fs';
@@ -10,7 +11,9 @@ import { checkPattern } from '../../bindings/js/check.mjs';
 import { layout as layoutOf } from '../../bindings/js/layout.mjs';
 import { load } from '../../bindings/js/module.mjs';
 import { explain } from '../../web/faults.mjs';
-import { MEANING, SENTENCES, UNJUDGED, againWords, keyWords, mixedWords, rowsOf, unmixedOf, writerWords } from '../../web/facts.mjs';
+import {
+  MEANING, SENTENCES, UNJUDGED, againWords, keyWords, mixedWords, rowsOf, unmixedOf, writerWords,
+} from '../../web/facts.mjs';
 import { DEFERRED, FUNDAMENTAL, textOf } from '../../web/patterns.mjs';
 import { layout } from '../../web/plan.mjs';
 import { faultsOf } from '../../web/reading.mjs';
@@ -83,7 +86,9 @@ function numbers(start) {
 function drawn(count, isWanted) {
   const next = numbers(82);
   const pick = (list) => list[next(list.length)];
-  const known = ['', '', '  <- s\n  ...\n', '  -> s\n  ...\n', '  -> s\n  <- s\n  ...\n', '  <- e, s\n  ...\n', '  -> e\n  ...\n'];
+  const known = [
+    '', '', '  <- s\n  ...\n', '  -> s\n  ...\n', '  -> s\n  <- s\n  ...\n', '  <- e, s\n  ...\n', '  -> e\n  ...\n',
+  ];
   const found = new Set();
   while (found.size < count) {
     const body = Array.from({ length: 1 + next(4) }, (_, at) => {
@@ -107,7 +112,9 @@ function ofTheStandard() {
 /** The faults of a pattern that breaks rules, below its place and the line with the caret. */
 function faultLines(text) {
   const told = faultsOf(text, checkPattern(text)).map((fault) => explain(text, fault));
-  return plain(told.flatMap(({ title, says, mend }) => [`${title}.`, says, mend]).map((line) => `  ${line}\n`).join(''));
+  return plain(
+    told.flatMap(({ title, says, mend }) => [`${title}.`, says, mend]).map((line) => `  ${line}\n`).join(''),
+  );
 }
 
 /** What the command says of each text, with this status. */
@@ -130,7 +137,9 @@ await load();
 const texts = [...ofTheStandard(), ...drawn(400, ({ valid }) => valid)];
 saidOf(texts, 0).forEach((said, n) => assert.equal(said, explained(`${n}.pattern`, texts[n]), texts[n]));
 const wrong = drawn(300, ({ rule }) => rule);
-saidOf(wrong, 1).forEach((said, n) => assert.equal(said.split('\n').slice(3).join('\n'), faultLines(wrong[n]), wrong[n]));
+saidOf(wrong, 1).forEach(
+  (said, n) => assert.equal(said.split('\n').slice(3).join('\n'), faultLines(wrong[n]), wrong[n]),
+);
 const missing = Object.keys(SENTENCES).filter((name) => !met.has(name));
 assert.deepEqual(missing, [], 'sentences of the page that no pattern has');
 console.log(`web: noise explain says of ${texts.length} patterns what the page says, in its ${met.size} sentences, and tells the faults of ${wrong.length} others`);

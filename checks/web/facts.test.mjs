@@ -1,5 +1,6 @@
-// The facts about tokens (web/facts.mjs), the faults of a text (web/reading.mjs), and the corrections that the page offers (web/mends.mjs): node --test
-// facts.test.mjs. What is expected was worked out by hand from the patterns of the standard.
+// The facts about tokens (web/facts.mjs), the faults of a text (web/reading.mjs), and the corrections that the page
+// offers (web/mends.mjs): node --test facts.test.mjs. What is expected was worked out by hand from the patterns of the
+// standard.
 import assert from 'node:assert/strict';
 import { before, test } from 'node:test';
 import { checkPattern } from '../../bindings/js/check.mjs';
@@ -135,9 +136,12 @@ test('the first fault that the page reads is the library’s', () => {
     const text = `${heading}\n${pick(known)}${heading === 'MINEpsk0:' ? body.replace('-> ', '-> psk, ') : body}`;
     const verdict = checkPattern(text);
     const [first] = readingOf(text);
-    if (verdict.valid) assert.equal(first, undefined, JSON.stringify(text));
-    // Places of psk are the library's alone.
-    else if (verdict.code !== 35) assert.deepEqual({ ...first }, Object.fromEntries(Object.keys(first).map((key) => [key, verdict[key]])), JSON.stringify(text));
+    if (verdict.valid) {
+      assert.equal(first, undefined, JSON.stringify(text));
+    } else if (verdict.code !== 35) { // Places of psk are the library's alone.
+      const same = Object.fromEntries(Object.keys(first).map((key) => [key, verdict[key]]));
+      assert.deepEqual({ ...first }, same, JSON.stringify(text));
+    }
     met.add(verdict.valid ? 0 : verdict.rule ?? verdict.code);
     for (const fault of verdict.valid ? [] : faultsOf(text, verdict)) {
       const { span, title, says } = explain(text, fault);
@@ -169,7 +173,9 @@ test('no correction takes a psk away, or makes a message a key known before', ()
     const message = () => Array.from({ length: 1 + next(4) }, () => pieces[next(pieces.length)]).join(', ');
     const given = `${['MINE:', 'MINEpsk0:', 'MINEpsk1:', 'mine'][next(4)]}\n${Array.from({ length: 1 + next(3) }, (_, at) => `  ${at % 2 ? '<-' : '->'} ${message()}\n`).join('')}`;
     const found = checkPattern(given);
-    for (const offer of found.valid ? [] : mendsOf(given, found)) assert.ok(count(offer.text) >= count(given), JSON.stringify([given, offer]));
+    for (const offer of found.valid ? [] : mendsOf(given, found)) {
+      assert.ok(count(offer.text) >= count(given), JSON.stringify([given, offer]));
+    }
   }
 });
 

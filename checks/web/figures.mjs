@@ -1,5 +1,5 @@
-// What the page and the module take in Chromium. These are printed, and nothing fails by them: how fast a machine is, and what else it does, differs.
-// Of several runs the faster half counts. How many bytes the page has is demanded.
+// What the page and the module take in Chromium. These are printed, and nothing fails by them: how fast a machine is,
+// and what else it does, differs. Of several runs the faster half counts. How many bytes the page has is demanded.
 import assert from 'node:assert/strict';
 import { gzipSync } from 'node:zlib';
 
@@ -7,7 +7,10 @@ const TYPING = `const it = document.getElementById('text'); const start = perfor
   for (let n = 0; n < 50; n += 1) { it.value = 'MINE:\\n  -> e, s\\n  <- e, ee, se\\n'.slice(0, 6 + n % 30); it.dispatchEvent(new Event('input')); }
   return (performance.now() - start) / 50;`;
 
-/** How long it takes from a key to the frame after it is drawn: the median of 20, of which each waits for the next frame of the screen. */
+/**
+ * How long it takes from a key to the frame after it is drawn: the median of 20, of which each waits for the next frame
+ * of the screen.
+ */
 const PAINTING = `const it = document.getElementById('text'); const times = [];
   for (let n = 0; n < 20; n += 1) {
     const start = performance.now();
@@ -17,8 +20,8 @@ const PAINTING = `const it = document.getElementById('text'); const times = [];
   }
   return times.sort((x, y) => x - y)[10];`;
 
-// Both parties of XX, and six times what WebCrypto takes for one result of X25519: a key imported, and bits derived. The last 200 of 400: in the
-// first ones the engine compiles what runs often.
+// Both parties of XX, and six times what WebCrypto takes for one result of X25519: a key imported, and bits derived.
+// The last 200 of 400: in the first ones the engine compiles what runs often.
 const RATIO = `const { Handshake, KeyPair, protocolName } = await import('../bindings/js/noise.mjs');
   const name = 'X25519';
   const pair = async () => {
@@ -62,7 +65,11 @@ const SEALING = `const { Handshake, protocolName } = await import('../bindings/j
 export async function weight(page) {
   await page.open();
   const names = await page.evaluate(`[location.href.split('#')[0], ...performance.getEntriesByType('resource').map(({ name }) => name)]`);
-  const sizes = await Promise.all([...new Set(names)].map(async (name) => gzipSync(Buffer.from(await (await fetch(name)).arrayBuffer()), { level: 9 }).length));
+  const sizes = await Promise.all(
+    [...new Set(names)].map(
+      async (name) => gzipSync(Buffer.from(await (await fetch(name)).arrayBuffer()), { level: 9 }).length,
+    ),
+  );
   const sum = sizes.reduce((a, b) => a + b, 0);
   assert.ok(sum <= 160e3, `the page has ${sum} bytes`);
   return `the page has ${(sum / 1000).toFixed(0)} KB in ${sizes.length} files, compressed`;
@@ -75,7 +82,9 @@ export async function figures(browser, open) {
     await open();
     loads.push(await browser.evaluate('noisePage.firstVerdict'));
   }
-  const [first, key, paint, ratio, rate] = [loads.sort((x, y) => x - y)[2], await run(TYPING), await run(PAINTING), await run(RATIO), await run(SEALING)];
+  const [first, key, paint, ratio, rate] = [
+    loads.sort((x, y) => x - y)[2], await run(TYPING), await run(PAINTING), await run(RATIO), await run(SEALING),
+  ];
   return `first verdict ${first.toFixed(0)} ms after the page is asked for, ${key.toFixed(2)} ms a key, ${paint.toFixed(0)} ms until it is painted, `
     + `both parties of XX ${ratio.toFixed(2)} times six results of X25519, sealing 16 KiB ${rate.toFixed(0)} MB/s`;
 }

@@ -1,4 +1,5 @@
-// Two ways to use the page: by the keyboard alone, and by the pointer. Both have the same calls; a selector names what is used.
+// Two ways to use the page: by the keyboard alone, and by the pointer. Both have the same calls; a selector names what
+// is used.
 import assert from 'node:assert/strict';
 
 const quoted = JSON.stringify;
@@ -45,7 +46,10 @@ export class Keyboard extends Hand {
     const back = far < 0 ? 8 : 0;
     for (let n = 1; n < Math.abs(far); n += 1) await this.browser.press('Tab', undefined, back);
     for (let n = 0; n < 150 && !await this.evaluate(is); n += 1) await this.browser.press('Tab', undefined, back);
-    assert.ok(await this.evaluate(is), `Tab doesn't reach ${selector}: it is at ${await this.evaluate('document.activeElement.outerHTML.slice(0, 120)')}`);
+    assert.ok(
+      await this.evaluate(is),
+      `Tab doesn't reach ${selector}: it is at ${await this.evaluate('document.activeElement.outerHTML.slice(0, 120)')}`,
+    );
   }
 
   async press(selector) {
@@ -99,7 +103,9 @@ export class Pointer extends Hand {
       if (!it.contains(there)) throw new Error(${quoted(selector)} + ' is covered by ' + there?.outerHTML.slice(0, 100));
       return at; })()`);
     await this.browser.send('Input.dispatchMouseEvent', { type: 'mouseMoved', x, y });
-    for (const type of ['mousePressed', 'mouseReleased']) await this.browser.send('Input.dispatchMouseEvent', { type, x, y, button: 'left', clickCount: 1 });
+    for (const type of ['mousePressed', 'mouseReleased']) {
+      await this.browser.send('Input.dispatchMouseEvent', { type, x, y, button: 'left', clickCount: 1 });
+    }
   }
 
   async press(selector) {

@@ -1,4 +1,5 @@
-// What the page's address brings: a set-up and a run, or a sentence on what of them is left out; Back and Forward; a place of the page.
+// What the page's address brings: a set-up and a run, or a sentence on what of them is left out; Back and Forward; a
+// place of the page.
 import assert from 'node:assert/strict';
 
 const NN = 'NN:\n  -> e\n  <- e, ee\n';
@@ -25,7 +26,9 @@ async function leftOut(page) {
   await page.open(linkOf({ run: 'wi_dr.0' }));
   assert.equal(await page.textOf('notice'), 'This link has a run, which is done again with new keys. See the run');
   await page.click('#notice a');
-  await page.until('document.getElementById("run").getBoundingClientRect().top < innerHeight / 2 && location.hash.includes("pattern=NN") && !location.hash.includes("run=")');
+  await page.until(
+    'document.getElementById("run").getBoundingClientRect().top < innerHeight / 2 && location.hash.includes("pattern=NN") && !location.hash.includes("run=")',
+  );
   await page.resize(1100);
   await page.reload();
   assert.equal(await page.textOf('notice'), '');
@@ -35,7 +38,10 @@ async function leftOut(page) {
   await page.evaluate(`location.hash = ${JSON.stringify(linkOf({ run: 'wi.00_dr.0' }))}`);
   await page.until('document.getElementById("notice").textContent.startsWith("This link has a run")');
   await page.open(linkOf({ run: 'wi_dr.3' }));
-  assert.equal(await page.textOf('said'), 'Of the run 1 of 2 steps were done again with new keys: 1 entry. There is no such message.');
+  assert.equal(
+    await page.textOf('said'),
+    'Of the run 1 of 2 steps were done again with new keys: 1 entry. There is no such message.',
+  );
 }
 
 /** A run that has become too long for a link: it isn't put in one, and the page says so. */
@@ -48,7 +54,10 @@ async function tooLong(page) {
   await page.until('!location.hash.includes("run=")');
 }
 
-/** Each entry of the browser's history has its set-up, and its run is done again; the focus isn't lost with the log that it was in. */
+/**
+ * Each entry of the browser's history has its set-up, and its run is done again; the focus isn't lost with the log that
+ * it was in.
+ */
 async function backAndForward(page) {
   const at = async (text, count) => {
     await page.until(`document.getElementById("text").value === ${JSON.stringify(text)} && document.getElementById("log").childElementCount === ${count}`);

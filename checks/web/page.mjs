@@ -35,12 +35,14 @@ export class Page {
   }
 
   async resize(width, height = 844) {
-    await this.browser.send('Emulation.setDeviceMetricsOverride', { width, height, deviceScaleFactor: 1, mobile: width < 500 });
+    await this.browser.send('Emulation.setDeviceMetricsOverride', {
+      width, height, deviceScaleFactor: 1, mobile: width < 500,
+    });
   }
 
   /**
-   * Whether nothing is wider than the window, of which so many pixels were asked for: a phone shows a page that is too wide smaller, and its window has
-   * more pixels then.
+   * Whether nothing is wider than the window, of which so many pixels were asked for: a phone shows a page that is too
+   * wide smaller, and its window has more pixels then.
    */
   isWithin(width) {
     return this.evaluate(`document.documentElement.scrollWidth <= ${width}`);
@@ -69,7 +71,9 @@ export class Page {
   }
 
   async last() {
-    return this.evaluate('document.querySelector("#log li").className + ": " + document.querySelector("#log li .who").textContent');
+    return this.evaluate(
+      'document.querySelector("#log li").className + ": " + document.querySelector("#log li .who").textContent',
+    );
   }
 
   /** What stands in a part of the message that is shown. */
@@ -79,7 +83,9 @@ export class Page {
 
   async begin() {
     await this.run(`const it = document.getElementById('start'); (it.hidden ? document.getElementById('step') : it).click()`);
-    await this.until('document.getElementById("log").childElementCount === 0 && document.getElementById("all").getAttribute("aria-disabled") === "false"');
+    await this.until(
+      'document.getElementById("log").childElementCount === 0 && document.getElementById("all").getAttribute("aria-disabled") === "false"',
+    );
   }
 
   async passAll() {

@@ -1,4 +1,5 @@
-// What of the page has no DOM besides its facts: links, the picture, and runs whose parties have other psks. node --test parts.test.mjs.
+// What of the page has no DOM besides its facts: links, the picture, and runs whose parties have other psks. node
+// --test parts.test.mjs.
 import assert from 'node:assert/strict';
 import { before, test } from 'node:test';
 import { load } from '../../bindings/js/module.mjs';
@@ -18,9 +19,14 @@ before(() => load());
 const SETUP = { text: 'NN:\n', prologue: 'p', interval: 3, mode: 'stream', window: 256, ownPsks: true, beside: 'XX' };
 
 test('a link has the set-up and the run, and is read as it was written', () => {
-  const steps = [{ step: 'write', role: 'initiator', payload: Uint8Array.of(1, 255) }, { step: 'write', role: 'responder', payload: new Uint8Array(0) },
-    { step: 'deliver', role: 'responder', n: 0, flips: [3, 40] }, { step: 'end', role: 'initiator' }, { step: 'cut', role: 'responder', n: 1, count: 9 },
-    { step: 'close', role: undefined }];
+  const steps = [
+    { step: 'write', role: 'initiator', payload: Uint8Array.of(1, 255) },
+    { step: 'write', role: 'responder', payload: new Uint8Array(0) },
+    { step: 'deliver', role: 'responder', n: 0, flips: [3, 40] },
+    { step: 'end', role: 'initiator' },
+    { step: 'cut', role: 'responder', n: 1, count: 9 },
+    { step: 'close', role: undefined },
+  ];
   assert.deepEqual(read(write(SETUP, steps), {}), SETUP);
   assert.deepEqual(readRun(write(SETUP, steps)), { steps, fault: '' });
   assert.deepEqual(readRun(write(SETUP)), { steps: [], fault: '' });
@@ -30,23 +36,41 @@ test('a link has the set-up and the run, and is read as it was written', () => {
 });
 
 test('a run that can’t be read is left out, with the step', () => {
-  for (const run of ['x', 'wi.0', 'wi.gg', 'w', 'wi.aa.bb', 'd.0', 'di', 'di.1.x', 'di.123456', 'ci.1', 'ci.1.2.3', 'e', 'ei.1', 'qi', 'q.1', '']) {
-    assert.deepEqual(readRun(`#run=wr_${run}`), { steps: [], fault: 'The run of this link is left out: its step 2 can’t be read.' }, run);
+  for (const run of [
+    'x', 'wi.0', 'wi.gg', 'w', 'wi.aa.bb', 'd.0', 'di', 'di.1.x', 'di.123456', 'ci.1', 'ci.1.2.3', 'e', 'ei.1', 'qi',
+    'q.1', '',
+  ]) {
+    assert.deepEqual(
+      readRun(`#run=wr_${run}`), { steps: [], fault: 'The run of this link is left out: its step 2 can’t be read.' },
+      run,
+    );
   }
   assert.equal(readRun(`#run=${Array(400).fill('wi').join('_')}`).steps.length, 400);
-  assert.match(readRun(`#run=${Array(401).fill('wi').join('_')}`).fault, /: it has 401 steps, and a link can have 400\.$/);
+  assert.match(
+    readRun(`#run=${Array(401).fill('wi').join('_')}`).fault, /: it has 401 steps, and a link can have 400\.$/,
+  );
 });
 
 test('a set-up that can’t be read is left out, by name', () => {
-  assert.match(faultOf('#interval=-1&mode=x&window=65&psks=no&beside=xx'), /left out: interval, mode, window, psks, beside\.$/);
+  assert.match(
+    faultOf('#interval=-1&mode=x&window=65&psks=no&beside=xx'), /left out: interval, mode, window, psks, beside\.$/,
+  );
   assert.match(faultOf(`#pattern=${'x'.repeat(2001)}`), /left out: pattern\.$/);
-  assert.deepEqual(read('#interval=x&mode=x&window=65&__proto__=1&toString=2', SETUP), { ...SETUP, mode: 'transport', window: 64, ownPsks: false, beside: '' });
+  assert.deepEqual(read('#interval=x&mode=x&window=65&__proto__=1&toString=2', SETUP), {
+    ...SETUP, mode: 'transport', window: 64, ownPsks: false, beside: '',
+  });
   assert.deepEqual([isSetup('#run'), isSetup(''), isSetup('#mode=stream')], [false, false, true]);
 });
 
 test('which addresses open only on this computer', () => {
-  const local = ['http://localhost:8000/web/', 'http://a.localhost/', 'http://127.0.0.1/', 'http://[::1]:1/', 'http://0.0.0.0:8000/', 'file:///web/index.html'];
-  const others = ['https://example.org/', 'https://localhost.example.org/', 'https://127.0.0.1.example.org/', 'http://192.168.1.2/', 'http://notlocalhost/'];
+  const local = [
+    'http://localhost:8000/web/', 'http://a.localhost/', 'http://127.0.0.1/', 'http://[::1]:1/', 'http://0.0.0.0:8000/',
+    'file:///web/index.html',
+  ];
+  const others = [
+    'https://example.org/', 'https://localhost.example.org/', 'https://127.0.0.1.example.org/', 'http://192.168.1.2/',
+    'http://notlocalhost/',
+  ];
   for (const url of local) assert.equal(isLocal(new URL(url)), true, url);
   for (const url of others) assert.equal(isLocal(new URL(url)), false, url);
 });
@@ -76,7 +100,9 @@ test('names, comments, vector files and links are taken', () => {
   assert.equal(intake('NN'), undefined, 'a word of a heading');
   assert.equal(intake('  -> e, ee'), undefined);
   assert.deepEqual(intake('# ours\r\nM: # mine\r\n  -> e   # new\r\n\r\n').setup, { text: 'M:\n  -> e\n' });
-  assert.equal(intake('https://example.org/web/index.html#pattern=NN%3A&mode=stream').fragment, '#pattern=NN%3A&mode=stream');
+  assert.equal(
+    intake('https://example.org/web/index.html#pattern=NN%3A&mode=stream').fragment, '#pattern=NN%3A&mode=stream',
+  );
   const vector = 'vector 2\nprotocol Noise_M_25519_ChaChaPoly_SHA256\nM:\n  -> e\nend\nprologue ff\ninterval 3\ninitiator xor - -\nresponder xor - -\ndatagrams 256\n';
   const { setup, says } = intake(vector);
   assert.deepEqual(setup, { text: 'M:\n  -> e\n', interval: 3, mode: 'datagrams', window: 256, prologue: '' });
@@ -105,18 +131,28 @@ function coveredBy(text, width) {
 test('the hash covers the psks so far too', () => {
   const start = 'the protocol name, the prologue';
   const [said, drawn] = coveredBy(textOf('NN', [2]), 900);
-  assert.deepEqual(said, [`${start}, and all bytes of message 1`, `${start}, the psk, and all bytes of messages 1 and 2`]);
-  assert.deepEqual(drawn, ['the hash covers: name, prologue, message 1', 'the hash covers: name, prologue, psk, messages 1 and 2']);
+  assert.deepEqual(said, [
+    `${start}, and all bytes of message 1`, `${start}, the psk, and all bytes of messages 1 and 2`,
+  ]);
+  assert.deepEqual(drawn, [
+    'the hash covers: name, prologue, message 1', 'the hash covers: name, prologue, psk, messages 1 and 2',
+  ]);
   assert.deepEqual(coveredBy(textOf('XK', [0, 3]), 900)[1], [
-    'the hash covers: name, prologue, known keys, psk, message 1', 'the hash covers: name, prologue, known keys, psk, messages 1 and 2',
+    'the hash covers: name, prologue, known keys, psk, message 1',
+    'the hash covers: name, prologue, known keys, psk, messages 1 and 2',
     'the hash covers: name, prologue, known keys, 2 psks, messages 1 to 3']);
-  assert.deepEqual(coveredBy(textOf('XK', [0, 3]), 900)[0][2], `${start}, the keys known before, 2 psks, and all bytes of messages 1 to 3`);
+  assert.deepEqual(
+    coveredBy(textOf('XK', [0, 3]), 900)[0][2],
+    `${start}, the keys known before, 2 psks, and all bytes of messages 1 to 3`,
+  );
   assert.deepEqual(coveredBy(textOf('NN'), 900)[0][0], `${start}, and all bytes of message 1`);
   assert.deepEqual(coveredBy(textOf('XK', [0]), 250)[1][0], 'hash: name, prologue, keys, psk,');
 });
 
 test('what is left of a handshake is passed, also where a message is on its way', async () => {
-  const started = () => Run.start({ text: textOf('XX'), prologue: new Uint8Array(0), interval: 0, mode: 'transport', window: 64 });
+  const started = () => Run.start({
+    text: textOf('XX'), prologue: new Uint8Array(0), interval: 0, mode: 'transport', window: 64,
+  });
   const nothing = () => new Uint8Array(0);
   for (const written of [0, 1, 2]) {
     const run = await started();
@@ -135,30 +171,42 @@ test('what is left of a handshake is passed, also where a message is on its way'
   await run.deliver('responder', 0);
   (await run.write('responder', nothing())).item.flips.add(95);
   await run.passAll(nothing);
-  assert.match(sentenceOf(run, run.log.at(-1)), /^Initiator refused message 2, payload: a tag is wrong\. Changed on the way: byte 95\./);
+  assert.match(
+    sentenceOf(run, run.log.at(-1)),
+    /^Initiator refused message 2, payload: a tag is wrong\. Changed on the way: byte 95\./,
+  );
   assert.deepEqual([run.next, run.pending, item.comings], [undefined, undefined, ['accepted']]);
   run.dispose();
 });
 
 async function runOf(base, places, ownPsks) {
-  const run = await Run.start({ text: textOf(base, places), prologue: new Uint8Array(0), interval: 0, mode: 'transport', window: 64, ownPsks });
+  const run = await Run.start({
+    text: textOf(base, places), prologue: new Uint8Array(0), interval: 0, mode: 'transport', window: 64, ownPsks,
+  });
   await run.passAll(() => new Uint8Array(0));
   return run;
 }
 
 test('parties with other psks: the first tag after a psk is refused', async () => {
   for (const [base, places, said] of [
-    ['NN', [0], 'Responder refused message 1, payload'], ['NN', [2], 'Initiator refused message 2, payload'], ['XX', [0], 'Responder refused message 1, payload'],
-    ['IK', [1], 'Responder refused message 1, payload'], ['XX', [1, 3], 'Responder refused message 1, payload'], ['X', [0], 'Responder refused message 1, token s'],
+    ['NN', [0], 'Responder refused message 1, payload'], ['NN', [2], 'Initiator refused message 2, payload'],
+    ['XX', [0], 'Responder refused message 1, payload'],
+    ['IK', [1], 'Responder refused message 1, payload'], ['XX', [1, 3], 'Responder refused message 1, payload'],
+    ['X', [0], 'Responder refused message 1, token s'],
   ]) {
     const run = await runOf(base, places, true);
-    assert.equal(sentenceOf(run, run.log.at(-1)), `${said}: a tag is wrong. The parties’ psks differ. Its handshake has ended.`, base);
+    assert.equal(
+      sentenceOf(run, run.log.at(-1)), `${said}: a tag is wrong. The parties’ psks differ. Its handshake has ended.`,
+      base,
+    );
     assert.equal(run.hasOwnPsks, true);
     // Each party's schedule is worked out from its own psks: what was written has the hash of the library's.
     const { whole, entries } = await scheduleOf(run);
     const psks = whole.filter((line) => line.split(' ')[4] === 'psk').map((line) => line.split(' ').slice(8).join());
     assert.equal(psks.length, new Set(psks).size, base);
-    assert.equal([...entries.values()].flat().length + whole.filter((line) => line.split(' ')[2] === 'start').length, whole.length);
+    assert.equal(
+      [...entries.values()].flat().length + whole.filter((line) => line.split(' ')[2] === 'start').length, whole.length,
+    );
     run.dispose();
   }
 });
@@ -173,10 +221,15 @@ test('without psks, or with the same, nothing of it shows', async () => {
 });
 
 test('a refusal before the psk isn’t laid to it', async () => {
-  const run = await Run.start({ text: textOf('XX', [3]), prologue: new Uint8Array(0), interval: 0, mode: 'transport', window: 64, ownPsks: true });
+  const run = await Run.start({
+    text: textOf('XX', [3]), prologue: new Uint8Array(0), interval: 0, mode: 'transport', window: 64, ownPsks: true,
+  });
   await run.write('initiator', Uint8Array.of(1));
   const entry = await run.deliver('responder', 0, [40]);
-  assert.equal(sentenceOf(run, entry), 'Responder refused message 1, payload: a tag is wrong. Changed on the way: byte 40. Its handshake has ended.');
+  assert.equal(
+    sentenceOf(run, entry),
+    'Responder refused message 1, payload: a tag is wrong. Changed on the way: byte 40. Its handshake has ended.',
+  );
   await assert.rejects(run.deliver('responder', 0, [400]), { message: 'The message has no such byte.' });
   run.dispose();
 });

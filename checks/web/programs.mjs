@@ -1,5 +1,5 @@
-// Writes the programs that the page shows for several set-ups: node programs.mjs FOLDER. Their files are FOLDER/LANGUAGE/NUMBER/NAME, and
-// FOLDER/LANGUAGE/NUMBER/expected is what the program has to print.
+// Writes the programs that the page shows for several set-ups: node programs.mjs FOLDER. Their files are
+// FOLDER/LANGUAGE/NUMBER/NAME, and FOLDER/LANGUAGE/NUMBER/expected is what the program has to print.
 import { mkdir, writeFile } from 'node:fs/promises';
 import { join } from 'node:path';
 import { load } from '../../bindings/js/noise.mjs';
@@ -35,12 +35,19 @@ const CALLS = {
   Python: { transport: /\.split\(/, stream: /connect\(/, datagrams: /\.datagrams\(/ },
 };
 /** What compares the responder's static key. */
-const COMPARES = { C: /compare\(&client, &server\.s\)/, Go: /client\.PeerStatic/, Rust: /server_public/, JavaScript: /serverKey\.publicKey/, Python: /peer_key=server_key/ };
+const COMPARES = {
+  C: /compare\(&client, &server\.s\)/, Go: /client\.PeerStatic/, Rust: /server_public/,
+  JavaScript: /serverKey\.publicKey/, Python: /peer_key=server_key/,
+};
 
 function mustFit(language, { mode, text }, made, plan) {
   const called = Object.entries(CALLS[language]).filter(([, call]) => call.test(made)).map(([name]) => name);
-  if (called.join() !== mode) throw new Error(`the program in ${language} of ${text.split('\n')[0]} is one for ${called}, not for ${mode}`);
-  if (plan.static.responder && !COMPARES[language].test(made)) throw new Error(`the program in ${language} of ${text.split('\n')[0]} compares no key`);
+  if (called.join() !== mode) {
+    throw new Error(`the program in ${language} of ${text.split('\n')[0]} is one for ${called}, not for ${mode}`);
+  }
+  if (plan.static.responder && !COMPARES[language].test(made)) {
+    throw new Error(`the program in ${language} of ${text.split('\n')[0]} compares no key`);
+  }
   if (/[\u202a-\u202e\u2066-\u2069]/.test(made)) throw new Error(`the program in ${language} turns its text around`);
 }
 
@@ -57,6 +64,8 @@ for (const [number, setup] of SETUPS.entries()) {
     const place = join(folder, language, String(number));
     await mkdir(place, { recursive: true });
     await writeFile(join(place, name), text);
-    await writeFile(join(place, 'expected'), `the server reads: hello\n${answers ? 'the client reads: and hello\n' : ''}`);
+    await writeFile(
+      join(place, 'expected'), `the server reads: hello\n${answers ? 'the client reads: and hello\n' : ''}`,
+    );
   }
 }

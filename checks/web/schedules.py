@@ -34,7 +34,9 @@ def main():
     for name, fault in faults.items():
         print(f"web: {name}: {fault}", file=sys.stderr)
     if not faults:
-        print(f"web: the program of checks/trace has the same runs and key schedules as {len(paths)} that the page saved")
+        print(
+            f"web: the program of checks/trace has the same runs and key schedules as {len(paths)} that the page saved"
+        )
     return int(bool(faults) or not paths)
 
 

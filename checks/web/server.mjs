@@ -3,7 +3,10 @@ import { createServer } from 'node:http';
 import { readFile } from 'node:fs/promises';
 import { extname, join, normalize } from 'node:path';
 
-const TYPES = { '.html': 'text/html', '.json': 'application/json', '.css': 'text/css', '.mjs': 'text/javascript', '.wasm': 'application/wasm' };
+const TYPES = {
+  '.html': 'text/html', '.json': 'application/json', '.css': 'text/css', '.mjs': 'text/javascript',
+  '.wasm': 'application/wasm',
+};
 
 export async function serve(folder, below = '') {
   const server = createServer(async ({ url }, answer) => {
@@ -21,5 +24,8 @@ export async function serve(folder, below = '') {
     }
   });
   await new Promise((resolve) => { server.listen(0, '127.0.0.1', resolve); });
-  return { server, url: `http://127.0.0.1:${server.address().port}/`, close: () => { server.closeAllConnections(); server.close(); } };
+  return { server, url: `http://127.0.0.1:${server.address().port}/`, close: () => {
+    server.closeAllConnections();
+    server.close();
+  } };
 }

@@ -6,7 +6,8 @@ import { join } from 'node:path';
 const WIDTHS = [280, 320, 390, 820, 1440];
 /** Widths between those, at some of which a row breaks. */
 const BETWEEN = Array.from({ length: 23 }, (_, n) => 340 + 40 * n);
-const PSKS = '#pattern=XKpsk0%2Bpsk3%3A%0A++%3C-+s%0A++...%0A++-%3E+psk%2C+e%2C+es%0A++%3C-+e%2C+ee%0A++-%3E+s%2C+se%2C+psk%0A';
+const PSKS =
+  '#pattern=XKpsk0%2Bpsk3%3A%0A++%3C-+s%0A++...%0A++-%3E+psk%2C+e%2C+es%0A++%3C-+e%2C+ee%0A++-%3E+s%2C+se%2C+psk%0A';
 
 /** How far the page's parts moved while it loaded, as Chromium counts it. */
 const SHIFT = `new Promise((done) => {

@@ -1,7 +1,10 @@
 // Channels over the engine's own WebSocket, with the ends of socket-server.mjs: a browser and Node run this.
 import { KeyPair, NoiseSocket, load, protocolName } from '../../bindings/js/noise.mjs';
 
-export const OPTIONS = { pattern: protocolName('XXpsk3'), prologue: new TextEncoder().encode('sockets'), psks: [new Uint8Array(32).fill(7)], interval: 3 };
+export const OPTIONS = {
+  pattern: protocolName('XXpsk3'), prologue: new TextEncoder().encode('sockets'), psks: [new Uint8Array(32).fill(7)],
+  interval: 3,
+};
 
 /** What comes back of messages of several lengths, and after the end of them. */
 async function echo(channel) {
@@ -9,7 +12,9 @@ async function echo(channel) {
     const sent = Uint8Array.from({ length }, (_, n) => n % 251);
     await channel.send(sent);
     const got = await channel.receive();
-    if (got.length !== length || !got.every((byte, n) => byte === sent[n])) return `other bytes came back, of ${length}`;
+    if (got.length !== length || !got.every((byte, n) => byte === sent[n])) {
+      return `other bytes came back, of ${length}`;
+    }
   }
   await channel.send(new Uint8Array(65520));
   await channel.send(Uint8Array.of(1));
@@ -30,7 +35,9 @@ async function attempt(url, path) {
   const staticKey = await KeyPair.generate();
   let channel;
   try {
-    channel = await NoiseSocket.open(new WebSocket(url + path), { ...OPTIONS, responder: path === 'echo-responder', staticKey });
+    channel = await NoiseSocket.open(new WebSocket(url + path), {
+      ...OPTIONS, responder: path === 'echo-responder', staticKey,
+    });
     return await (isEcho ? echo(channel) : receive(channel));
   } catch (error) {
     if (error.code === undefined) throw error;

@@ -1,4 +1,5 @@
-// The server's ends of channels over a WebSocket, by the path that the client asks for: those that answer as they should, and those that don't.
+// The server's ends of channels over a WebSocket, by the path that the client asks for: those that answer as they
+// should, and those that don't.
 import { KeyPair, NoiseSocket, load } from '../../bindings/js/noise.mjs';
 import { OPTIONS } from './socket-client.mjs';
 import { takeWebSockets } from './websocket.mjs';

@@ -1,4 +1,5 @@
-// Channels over a WebSocket in Node, over TCP, and over pairs of WHATWG streams: node --experimental-websocket sockets.mjs.
+// Channels over a WebSocket in Node, over TCP, and over pairs of WHATWG streams: node --experimental-websocket
+// sockets.mjs.
 import assert from 'node:assert/strict';
 import { once } from 'node:events';
 import { connect, createServer } from 'node:net';
@@ -16,8 +17,12 @@ async function overWebSockets() {
   const told = await takeChannels(server);
   assert.deepEqual(await attempts(`${url.replace('http', 'ws')}`, Object.keys(EXPECTED)), EXPECTED);
   const staticKey = await KeyPair.generate();
-  await assert.rejects(NoiseSocket.open(new WebSocket('ws://127.0.0.1:9/'), { ...OPTIONS, staticKey }), { code: 'NOISE_CUT' });
-  for (let n = 0; n < 200 && told.closed < Object.keys(EXPECTED).length; n += 1) await new Promise((resolve) => { setTimeout(resolve, 10); });
+  await assert.rejects(NoiseSocket.open(new WebSocket('ws://127.0.0.1:9/'), { ...OPTIONS, staticKey }), {
+    code: 'NOISE_CUT',
+  });
+  for (let n = 0; n < 200 && told.closed < Object.keys(EXPECTED).length; n += 1) {
+    await new Promise((resolve) => { setTimeout(resolve, 10); });
+  }
   assert.deepEqual(told, { closed: Object.keys(EXPECTED).length, failed: [] });
   close();
   console.log(`js: ${Object.keys(EXPECTED).length} channels over a WebSocket of Node: echoes, closed and cut connections, text frames, messages too long`);
@@ -40,13 +45,17 @@ const FAULTS = {
   'half a length': [(socket) => socket.end(Buffer.of(1)), 'NOISE_CUT'],
   'half a message': [(socket) => socket.end(Buffer.of(0, 20, 1, 2, 3)), 'NOISE_CUT'],
   'an empty message': [(socket) => socket.write(Buffer.of(0, 0)), 'NOISE_SHORT'],
-  'a message that nobody sealed': [(socket) => socket.write(Buffer.concat([Buffer.of(255, 255), Buffer.alloc(65535)])), 'NOISE_TAG'],
+  'a message that nobody sealed': [
+    (socket) => socket.write(Buffer.concat([Buffer.of(255, 255), Buffer.alloc(65535)])), 'NOISE_TAG',
+  ],
 };
 
 async function overTcp() {
   for (const [fault, [commit, expected]] of Object.entries(FAULTS)) {
     const [near, far] = await pair();
-    const open = async (socket, responder) => NoiseSocket.open(socket, { ...OPTIONS, responder, staticKey: await KeyPair.generate() });
+    const open = async (socket, responder) => NoiseSocket.open(socket, {
+      ...OPTIONS, responder, staticKey: await KeyPair.generate(),
+    });
     const [a, b] = await Promise.all([open(near, false), open(far, true)]);
     for (const length of [1, 65519, 65536]) {
       await a.send(new Uint8Array(length).fill(5));
@@ -70,9 +79,15 @@ async function overTcp() {
 
 async function otherStreams() {
   const texts = { readable: new ReadableStream({ start: (it) => it.enqueue('text') }), writable: new WritableStream() };
-  await assert.rejects(NoiseSocket.open(texts, { ...OPTIONS, responder: true, staticKey: await KeyPair.generate() }), TypeError);
-  const broken = { readable: new ReadableStream({ start: (it) => it.error(new Error('broken')) }), writable: new WritableStream() };
-  await assert.rejects(NoiseSocket.open(broken, { ...OPTIONS, staticKey: await KeyPair.generate() }), { code: 'NOISE_CUT' });
+  await assert.rejects(
+    NoiseSocket.open(texts, { ...OPTIONS, responder: true, staticKey: await KeyPair.generate() }), TypeError,
+  );
+  const broken = {
+    readable: new ReadableStream({ start: (it) => it.error(new Error('broken')) }), writable: new WritableStream(),
+  };
+  await assert.rejects(NoiseSocket.open(broken, { ...OPTIONS, staticKey: await KeyPair.generate() }), {
+    code: 'NOISE_CUT',
+  });
 }
 
 await load();

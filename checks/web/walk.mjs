@@ -1,5 +1,5 @@
-// The page as a designer uses it, with one hand: a pattern of one's own from nothing, its fault mended, and nothing of it lost; a run with a refusal, its
-// key schedule and its link; streams, an end and a cut. `hand` is one of hands.mjs.
+// The page as a designer uses it, with one hand: a pattern of one's own from nothing, its fault mended, and nothing of
+// it lost; a run with a refusal, its key schedule and its link; streams, an end and a cut. `hand` is one of hands.mjs.
 import assert from 'node:assert/strict';
 
 const FAULTY = 'MINE:\n  <- s\n  -> e, es\n  <- e, ee\n';
@@ -68,7 +68,9 @@ export class Walk {
     await hand.choose('#beside', '');
   }
 
-  /** What the page changes in the editor the browser's undo takes back, and Back, and the list of one's own patterns. */
+  /**
+   * What the page changes in the editor the browser's undo takes back, and Back, and the list of one's own patterns.
+   */
   async undone() {
     const { hand } = this;
     assert.match(await this.text(), /^NK:/);
@@ -172,7 +174,10 @@ export class Walk {
     }
   }
 
-  /** A responder with other psks: the refusal, the key schedules that part at the psk, and the way back to psks that are the same. */
+  /**
+   * A responder with other psks: the refusal, the key schedules that part at the psk, and the way back to psks that are
+   * the same.
+   */
   async psks() {
     const { hand } = this;
     const isShown = (id) => this.page.evaluate(`document.getElementById("${id}").checkVisibility()`);

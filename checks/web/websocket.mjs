@@ -1,4 +1,5 @@
-// The server's end of a WebSocket (RFC 6455): as much as these checks need. There are no extensions, and pings aren't answered.
+// The server's end of a WebSocket (RFC 6455): as much as these checks need. There are no extensions, and pings aren't
+// answered.
 import { createHash } from 'node:crypto';
 
 const [CONTINUED, TEXT, BINARY, CLOSE] = [0, 1, 2, 8];
@@ -87,7 +88,8 @@ export class ServerSocket extends EventTarget {
 /** Calls `taken(socket, path)` for each WebSocket that connects to a server. */
 export function takeWebSockets(server, taken) {
   server.on('upgrade', ({ headers, url }, socket, head) => {
-    const accepted = createHash('sha1').update(`${headers['sec-websocket-key']}258EAFA5-E914-47DA-95CA-C5AB0DC85B11`).digest('base64');
+    const accepted =
+      createHash('sha1').update(`${headers['sec-websocket-key']}258EAFA5-E914-47DA-95CA-C5AB0DC85B11`).digest('base64');
     socket.write(`HTTP/1.1 101 Switching Protocols\r\nupgrade: websocket\r\nconnection: upgrade\r\nsec-websocket-accept: ${accepted}\r\n\r\n`);
     taken(new ServerSocket(socket, head), url);
   });

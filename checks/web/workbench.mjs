@@ -1,4 +1,5 @@
-// The page as a workbench: what is where at each width, one button for the next step, nothing lost and nothing in the address, what comes in from elsewhere.
+// The page as a workbench: what is where at each width, one button for the next step, nothing lost and nothing in the
+// address, what comes in from elsewhere.
 import assert from 'node:assert/strict';
 
 const quoted = JSON.stringify;
@@ -15,9 +16,16 @@ const disabled = (page, id) => page.evaluate(`document.getElementById(${quoted(i
 async function panes(page) {
   await page.resize(1440, 900);
   await page.open(fragment(XX));
-  const [text, verdict, facts, picture, step] = await Promise.all(['.editor', '#verdict', '#facts', '#picture svg', '#step'].map((it) => box(page, it)));
-  assert.ok(text.right < picture.left && verdict.right < picture.left && facts.right < picture.left, 'the picture isn’t beside the text');
-  for (const [name, it] of Object.entries({ text, verdict, picture, step })) assert.ok(it.bottom <= 900, `${name} is below the window`);
+  const [text, verdict, facts, picture, step] = await Promise.all(
+    ['.editor', '#verdict', '#facts', '#picture svg', '#step'].map((it) => box(page, it)),
+  );
+  assert.ok(
+    text.right < picture.left && verdict.right < picture.left && facts.right < picture.left,
+    'the picture isn’t beside the text',
+  );
+  for (const [name, it] of Object.entries({ text, verdict, picture, step })) {
+    assert.ok(it.bottom <= 900, `${name} is below the window`);
+  }
   assert.ok(facts.top < 600, `the facts begin at ${facts.top}`);
   assert.ok(picture.right > 1300, 'the width isn’t used');
   await page.resize(390, 844);
@@ -64,10 +72,14 @@ async function twoClicks(page) {
     const { left, top, right, bottom } = await box(page, '#current .go');
     for (const count of [2, 3]) {
       const at = { x: (left + right) / 2, y: (top + bottom) / 2, button: 'left', clickCount: 1 };
-      for (const type of ['mousePressed', 'mouseReleased']) await browser.send('Input.dispatchMouseEvent', { type, ...at });
+      for (const type of ['mousePressed', 'mouseReleased']) {
+        await browser.send('Input.dispatchMouseEvent', { type, ...at });
+      }
       await page.until(`document.getElementById("log").childElementCount === ${count}`);
     }
-    assert.equal(await page.newest('.who'), '3. Responder refused message 1: it is the other party’s turn. It goes on as before. ');
+    assert.equal(
+      await page.newest('.who'), '3. Responder refused message 1: it is the other party’s turn. It goes on as before. ',
+    );
   }
   await page.resize(1440, 900);
 }
@@ -80,9 +92,13 @@ async function oldFacts(page) {
   assert.equal(await page.evaluate('document.getElementById("words").checkVisibility()'), false);
   assert.match(await page.textOf('shape-old'), /^This is the last valid pattern/);
   assert.equal(await page.textOf('shape-of'), 'XX');
-  assert.equal(await page.evaluate('document.getElementById("verdict").querySelectorAll(".title, .more li").length'), 3);
+  assert.equal(
+    await page.evaluate('document.getElementById("verdict").querySelectorAll(".title, .more li").length'), 3,
+  );
   assert.equal(await page.evaluate('document.querySelectorAll("mark").length'), 3);
-  assert.deepEqual(await page.evaluate('[...document.querySelectorAll("#verdict .title a")].map((it) => it.getAttribute("href"))'),
+  assert.deepEqual(await page.evaluate(
+    '[...document.querySelectorAll("#verdict .title a")].map((it) => it.getAttribute("href"))',
+  ),
     ['rules.html#rule-1', 'https://noiseprotocol.org/noise.html#handshake-pattern-validity']);
   await page.type('text', 'DEV:\n  -> e\n  <- e\n');
   assert.equal(await page.evaluate('document.getElementById("verdict").className'), 'warned');
@@ -91,9 +107,13 @@ async function oldFacts(page) {
 /** The token that the caret is in is marked in the picture, with its bytes. */
 async function caret(page) {
   await page.open(fragment(XX));
-  await page.run('const it = document.getElementById("text"); it.focus(); it.setSelectionRange(it.value.indexOf("s, es"), it.value.indexOf("s, es"))');
+  await page.run(
+    'const it = document.getElementById("text"); it.focus(); it.setSelectionRange(it.value.indexOf("s, es"), it.value.indexOf("s, es"))',
+  );
   await page.until('document.querySelectorAll("#picture .under").length === 2');
-  assert.equal(await page.textOf('caret'), 's in message 2: static key, encrypted, 32 bytes; tag, 16 bytes (bytes 32 to 79)');
+  assert.equal(
+    await page.textOf('caret'), 's in message 2: static key, encrypted, 32 bytes; tag, 16 bytes (bytes 32 to 79)',
+  );
 }
 
 /** Designs of one name are all kept, and what replaces the text can be undone. */
@@ -135,11 +155,15 @@ async function wayIn(page) {
   assert.equal(await textOf(page), 'DEV:\n  -> e\n  <- e, ee\n');
   await drop(page, 'xx.vector', 'vector 2\nprotocol Noise_XXpsk3_25519_ChaChaPoly_SHA256\nprologue 6162\ninterval 5\n');
   await page.until('document.getElementById("text").value.startsWith("XXpsk3:")');
-  assert.equal(await page.evaluate('document.getElementById("prologue").value + document.getElementById("interval").value'), 'ab5');
+  assert.equal(
+    await page.evaluate('document.getElementById("prologue").value + document.getElementById("interval").value'), 'ab5',
+  );
   await drop(page, 'mine.pattern', 'OURS:\n  -> e\n');
   await page.until('document.getElementById("text").value.startsWith("OURS:")');
   await paste(page, `http://localhost:8000/web/${fragment('NN:\n  -> e\n  <- e, ee\n', { mode: 'stream' })}`);
-  await page.until('document.getElementById("text").value.startsWith("NN:") && document.getElementById("mode").value === "stream"');
+  await page.until(
+    'document.getElementById("text").value.startsWith("NN:") && document.getElementById("mode").value === "stream"',
+  );
 }
 
 /** No payload is in the history after a run, a long text isn't in the address, and nothing turns text around. */
@@ -152,7 +176,9 @@ async function leaks(page) {
   await page.until('Object.values(sessionStorage).some((it) => it.includes("7365637265742d6d657373616765"))');
   await page.type('pick', 'NN');
   const { entries } = await page.browser.send('Page.getNavigationHistory');
-  for (const { url } of entries) assert.doesNotMatch(url, /secret|7365637265742d|run=(?!w|x)[^&]*7365/, 'a payload is in the history');
+  for (const { url } of entries) {
+    assert.doesNotMatch(url, /secret|7365637265742d|run=(?!w|x)[^&]*7365/, 'a payload is in the history');
+  }
   assert.ok(!(await page.evaluate('location.href + JSON.stringify(history.state)')).includes('7365637265742d'));
   await page.type('text', `MINE:\n  -> e${', e'.repeat(300000)}\n`);
   await page.until('location.hash.length < 10');
@@ -197,7 +223,9 @@ async function touch(page) {
   await page.write('initiator');
   const { left, top } = await box(page, '#current-body [data-at="3"]');
   await page.browser.send('Emulation.setTouchEmulationEnabled', { enabled: true });
-  await page.browser.send('Input.dispatchTouchEvent', { type: 'touchStart', touchPoints: [{ x: left + 8, y: top + 8 }] });
+  await page.browser.send('Input.dispatchTouchEvent', {
+    type: 'touchStart', touchPoints: [{ x: left + 8, y: top + 8 }],
+  });
   await page.browser.send('Input.dispatchTouchEvent', { type: 'touchEnd', touchPoints: [] });
   await page.until('document.querySelector("#current-body .piece").textContent.startsWith("byte 3: ephemeral key")');
   await page.browser.send('Emulation.setTouchEmulationEnabled', { enabled: false });
@@ -206,7 +234,9 @@ async function touch(page) {
   assert.equal(await page.evaluate('document.querySelectorAll("#current-body [aria-pressed=true]").length'), 1);
   await page.click('#current-body .schedules summary');
   await page.until('document.querySelectorAll("#current-body .schedule dd").length > 3');
-  assert.match(await page.evaluate('document.querySelector("#current-body .schedule dd").textContent'), /^h [0-9a-f]{64}$/);
+  assert.match(
+    await page.evaluate('document.querySelector("#current-body .schedule dd").textContent'), /^h [0-9a-f]{64}$/,
+  );
 }
 
 /** Text that a user has made larger is larger everywhere, and still fits. */

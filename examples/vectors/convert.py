@@ -3,15 +3,18 @@
 
     convert.py FILE FOLDER
 
-FILE has vectors in one of the two forms that Noise projects share: a JSON object whose `vectors` list has objects with `protocol_name`,
-`init_ephemeral`, `messages` and so on; or blocks of lines such as `handshake=..`, `gen_init_ephemeral=..`, `msg_0_payload=..`. For each vector
-of the names 25519, ChaChaPoly and SHA256 a file of version 2 is written into FOLDER: its keys are the public keys, its DH results are computed
-by X25519, and its `expect` lines are the vector's messages. `noise test` on it ends with status 0 exactly if the messages are the same.
+FILE has vectors in one of the two forms that Noise projects share: a JSON object whose `vectors` list has objects with
+`protocol_name`, `init_ephemeral`, `messages` and so on; or blocks of lines such as `handshake=..`,
+`gen_init_ephemeral=..`, `msg_0_payload=..`. For each vector of the names 25519, ChaChaPoly and SHA256 a file of version
+2 is written into FOLDER: its keys are the public keys, its DH results are computed by X25519, and its `expect` lines
+are the vector's messages. `noise test` on it ends with status 0 exactly if the messages are the same.
 
-What is left out is named on standard output, a line each, with the reason. The status is 0 if at least one file was written.
+What is left out is named on standard output, a line each, with the reason. The status is 0 if at least one file was
+written.
 
-The state lines of the output have the handshake hash. It is the vector's, where the vector has one, and else is computed here from the
-vector's messages by the key schedule of the standard (5.1, 5.2), which shares nothing with the code of `noise`.
+The state lines of the output have the handshake hash. It is the vector's, where the vector has one, and else is
+computed here from the vector's messages by the key schedule of the standard (5.1, 5.2), which shares nothing with the
+code of `noise`.
 """
 
 import hashlib
@@ -55,7 +58,8 @@ class LeftOut(Exception):
 
 
 class Pattern:
-    """A handshake pattern: the roles whose static key is known before, the messages as lists of tokens, and the text where one is needed."""
+    """A handshake pattern: the roles whose static key is known before, the messages as lists of tokens, and the text
+    where one is needed."""
 
     def __init__(self, section):
         found = re.fullmatch(r"([A-Z][A-Z0-9]{0,7}?)((?:psk[0-8](?:\+psk[0-8])*)?)", section)
@@ -97,7 +101,8 @@ def hkdf(chaining_key, text, count):
 
 
 class KeySchedule:
-    """The hash and the chaining key of a handshake (5.2), as its messages are read by somebody who has all keys and decrypts nothing."""
+    """The hash and the chaining key of a handshake (5.2), as its messages are read by somebody who has all keys and
+    decrypts nothing."""
 
     def __init__(self, name):
         text = name.encode()
@@ -125,7 +130,8 @@ def agreement(private, public):
 
 
 class Vector:
-    """A vector of either form: the name, the prologue, the private keys by role and letter, the psks, the messages, and the hash or None."""
+    """A vector of either form: the name, the prologue, the private keys by role and letter, the psks, the messages, and
+    the hash or None."""
 
     def __init__(self, name, prologue, private, psks, messages, handshake_hash):
         self.name, self.prologue, self.psks, self.hash = name, prologue, psks, handshake_hash
@@ -176,8 +182,9 @@ class Vector:
         return schedule
 
     def senders(self, pattern, schedule):
-        """Who sends each message. No vector says so: after the handshake it is whoever has the key that opens the message, and else the parties in
-        turn. A message of the responder ends a one-way pattern's, since it may send none (7.4)."""
+        """Who sends each message. No vector says so: after the handshake it is whoever has the key that opens the
+        message, and else the parties in turn. A message of the responder ends a one-way pattern's, since it may send
+        none (7.4)."""
         ciphers = dict(zip(ROLES, map(ChaCha20Poly1305, hkdf(schedule.chaining_key, b"", 2))))
         sent, senders = dict.fromkeys(ROLES, 0), [ROLES[number % 2] for number in range(len(pattern.messages))]
 
@@ -240,7 +247,10 @@ def from_json(vector):
         return bytes.fromhex(vector.get(name) or "")
 
     def private(party):
-        return {(ROLES[party == "resp"], letter): get(f"{party}_{word}") for letter, word in (("e", "ephemeral"), ("s", "static"))}
+        return {
+            (ROLES[party == "resp"], letter): get(f"{party}_{word}")
+            for letter, word in (("e", "ephemeral"), ("s", "static"))
+        }
 
     messages = [(bytes.fromhex(it["payload"]), bytes.fromhex(it["ciphertext"])) for it in vector["messages"]]
     psks = [bytes.fromhex(it) for it in vector.get("init_psks") or ()]

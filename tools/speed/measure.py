@@ -22,7 +22,13 @@ LONG = [64, 256, 1024, 4096, 16384, 65519]
 
 # In which language, what, of how many bytes, and the peers: PROGRAM:OPERATION, and what the table calls it.
 ROWS = [
-    ("C", "seal", LONG, {"go:flynn.seal": "flynn/noise", "peers:libsodium.seal": "libsodium", "peers:OpenSSL.seal": "OpenSSL", "peers:nettle.seal": "nettle"}),
+    (
+        "C", "seal", LONG,
+        {
+            "go:flynn.seal": "flynn/noise", "peers:libsodium.seal": "libsodium", "peers:OpenSSL.seal": "OpenSSL",
+            "peers:nettle.seal": "nettle",
+        },
+    ),
     ("C", "transport", SHORT, {"go:flynn.transport": "flynn/noise", "peers:libsodium.transport": "libsodium"}),
     ("C", "stream", SHORT, {"go:flynn.transport": "flynn/noise"}),
     ("C", "NN", [0], {"go:flynn.NN.free": "flynn/noise"}),
@@ -30,7 +36,10 @@ ROWS = [
     ("Go", "transport", SHORT, {"go:flynn.transport": "flynn/noise"}),
     ("Go", "XX", [0], {"go:flynn.XX": "flynn/noise"}),
     ("Rust", "transport", SHORT, {"rust:ring.transport": "ring"}),
-    ("Python", "transport", SHORT, {"python:dissononce.transport": "dissononce", "python:cryptography.transport": "cryptography"}),
+    (
+        "Python", "transport", SHORT,
+        {"python:dissononce.transport": "dissononce", "python:cryptography.transport": "cryptography"},
+    ),
     ("Python", "XX", [0], {"python:dissononce.XX": "dissononce"}),
     ("JavaScript", "transport", SHORT, {"js:node:crypto.transport": "node:crypto"}),
     ("JavaScript", "seal", [16384], {"C:seal": "C"}),
@@ -108,11 +117,17 @@ def rows(programs: dict[str, Program], subjects: dict[str, list[str]], options: 
         theirs = {key: name for key, name in peers.items() if key.partition(":")[0] in programs}
         for size in sizes if ours and theirs else ():
             mine = [Job(programs[it], operation, size) for it in ours]
-            others = {name: Job(programs[key.partition(":")[0]], key.partition(":")[2], size) for key, name in theirs.items()}
+            others = {
+                name: Job(programs[key.partition(":")[0]], key.partition(":")[2], size) for key, name in theirs.items()
+            }
             measured([*mine, *others.values()], options.rounds, options.milliseconds)
             for job, label in zip(mine, ours):
                 said = language if label == language or label not in subjects["C"] else label
-                made += [f"{said} {operation} {size} {job.median():.0f} {name} {peer.median():.0f} {job.times_as_fast(peer):.2f}" for name, peer in others.items()]
+                made += [
+                    f"{said} {operation} {size} {job.median():.0f} {name} {peer.median():.0f} "
+                    f"{job.times_as_fast(peer):.2f}"
+                    for name, peer in others.items()
+                ]
                 print(*made[-len(others):], sep="\n", flush=True)
     return made
 
@@ -120,7 +135,10 @@ def rows(programs: dict[str, Program], subjects: dict[str, list[str]], options: 
 def instructions(words: list[str], operation: str, size: int, count: int, folder: Path) -> int:
     """What valgrind counts from the start of a program to its end."""
     out = folder / "callgrind.out"
-    subprocess.run(["valgrind", "--tool=callgrind", f"--callgrind-out-file={out}", *words], input=f"{operation} {size} {count}\n", capture_output=True, text=True, check=True)
+    subprocess.run(
+        ["valgrind", "--tool=callgrind", f"--callgrind-out-file={out}", *words], input=f"{operation} {size} {count}\n",
+        capture_output=True, text=True, check=True,
+    )
     found = re.search(r"^(?:totals|summary): (\d+)", out.read_text(encoding="utf-8"), re.M)
     if not found:
         sys.exit("speed: valgrind's callgrind counts nothing")
@@ -133,7 +151,10 @@ def counted(words: list[str], name: str, folder: Path) -> list[str]:
     for operation, sizes in COUNTED:
         for size in sizes:
             few, many = (20, 220) if size <= 1024 else (5, 55)
-            made[operation, size] = round((instructions(words, operation, size, many, folder) - instructions(words, operation, size, few, folder)) / (many - few))
+            made[operation, size] = round(
+                (instructions(words, operation, size, many, folder) - instructions(words, operation, size, few, folder))
+                / (many - few)
+            )
     for size in SHORT:
         made["open", size] = made["transport", size] - made["seal", size]
     return [f"instructions {name} {operation} {size} {count}" for (operation, size), count in made.items()]
@@ -141,7 +162,9 @@ def counted(words: list[str], name: str, folder: Path) -> list[str]:
 
 def first_line(*words: str) -> str:
     try:
-        return (subprocess.run(words, capture_output=True, text=True, check=False).stdout.splitlines() or ["none"])[0].strip()
+        return (subprocess.run(words, capture_output=True, text=True, check=False).stdout.splitlines() or ["none"])[
+            0
+        ].strip()
     except FileNotFoundError:
         return "none"
 
@@ -149,12 +172,17 @@ def first_line(*words: str) -> str:
 def circumstances(load: tuple[float, float], level: str) -> list[str]:
     processor = re.search(r"^model name\s*: (.*)", Path("/proc/cpuinfo").read_text(encoding="utf-8"), re.M)
     system = re.search(r'^PRETTY_NAME="(.*)"', Path("/etc/os-release").read_text(encoding="utf-8"), re.M)
-    tools = [first_line("gcc", "--version"), first_line("go", "version"), first_line("/usr/bin/rustc", "--version"), first_line("python3", "--version"), f"node {first_line('node', '--version')}"]
+    tools = [
+        first_line("gcc", "--version"), first_line("go", "version"), first_line("/usr/bin/rustc", "--version"),
+        first_line("python3", "--version"), f"node {first_line('node', '--version')}",
+    ]
     return [
         f"date {datetime.date.today().isoformat()}",
-        f"machine {processor[1] if processor else os.uname().machine}, {os.cpu_count()} processors, {first_line('systemd-detect-virt')}; level x86-64-v{level}",
+        f"machine {processor[1] if processor else os.uname().machine}, {os.cpu_count()} processors, "
+        f"{first_line('systemd-detect-virt')}; level x86-64-v{level}",
         f"load {load[0]:.1f} at the start, {load[1]:.1f} at the end",
-        f"system {system[1] if system else os.uname().sysname}; {'; '.join(it for it in tools if not it.endswith('none'))}",
+        f"system {system[1] if system else os.uname().sysname}; "
+        f"{'; '.join(it for it in tools if not it.endswith('none'))}",
     ]
 
 
@@ -164,7 +192,9 @@ def main() -> None:
     words.add_argument("figures", type=Path)
     words.add_argument("--rounds", type=int, default=9)
     words.add_argument("--milliseconds", type=float, default=10, help="of one sample")
-    words.add_argument("--beside", action="append", default=[], help="the name of another library in C, whose program is FOLDER/NAME")
+    words.add_argument(
+        "--beside", action="append", default=[], help="the name of another library in C, whose program is FOLDER/NAME"
+    )
     words.add_argument("--level", default="?", help="the level of this processor")
     options = words.parse_args()
     begun = os.getloadavg()[0]
@@ -179,7 +209,12 @@ def main() -> None:
     made = rows(programs, subjects, options)
     for name in subjects["C"]:
         made += counted(calls[name], name, options.folder)
-    options.figures.write_text("\n".join(["# Made by tools/speed/run.", *circumstances((begun, os.getloadavg()[0]), options.level), *made, ""]), encoding="utf-8")
+    options.figures.write_text(
+        "\n".join(
+            ["# Made by tools/speed/run.", *circumstances((begun, os.getloadavg()[0]), options.level), *made, ""]
+        ),
+        encoding="utf-8",
+    )
 
 
 main()

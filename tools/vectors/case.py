@@ -40,7 +40,9 @@ def group_of(command: Command, told: dict[str, Any]) -> Group:
     protocol = protocol_of("\n".join([f"{section}:", *told["pattern"]]), "")
     keys = {role: {it: bytes.fromhex(told[role][it]) for it in "es" if it in told[role]} for role in ROLES}
     psks = [bytes.fromhex(it) for it in told["psks"]]
-    group = Told(command, "", protocol, [], data_of(told["prologue"]), interval=told.get("interval", 0), psks=psks, keys=keys)
+    group = Told(
+        command, "", protocol, [], data_of(told["prologue"]), interval=told.get("interval", 0), psks=psks, keys=keys
+    )
     for it in told["messages"]:
         data = b"" if isinstance(it["message"], dict) else bytes.fromhex(it["message"])
         group.messages.append(Message(it["from"], data_of(it["payload"]), data))
@@ -101,7 +103,12 @@ def print_one(command: Command, number: int, yours: list[str]) -> str:
 
 def write_all(command: Command, pattern: str, folder: Path) -> str:
     """Writes the tests of a pattern, and returns what is wrong."""
-    chosen = [(told, test) for told in groups() if told.get("protocol", "").startswith(f"Noise_{pattern}_") for test in told["tests"]]
+    chosen = [
+        (told, test)
+        for told in groups()
+        if told.get("protocol", "").startswith(f"Noise_{pattern}_")
+        for test in told["tests"]
+    ]
     if not chosen:
         return f"the suite has no pattern {pattern}"
     folder.mkdir(exist_ok=True)

@@ -62,7 +62,9 @@ def with_hash(group: Group, role: str, steps: list[Step]) -> list[Step]:
     return steps[:at] + looks + steps[at:]
 
 
-def refusal(group: Group, role: str, number: int, comment: str, flag: str, change: Step, then_right: bool = False) -> None:
+def refusal(
+    group: Group, role: str, number: int, comment: str, flag: str, change: Step, then_right: bool = False
+) -> None:
     """A party reads a changed message, which it has to refuse; afterwards, perhaps, the right one."""
     steps = right(group, role, number) + [{"do": "read", "message": number} | change]
     if then_right:
@@ -79,7 +81,10 @@ def cuts(group: Group) -> None:
         for piece in pieces(group, number):
             lengths |= {piece.start, piece.end - 1} | ({piece.end - 16, piece.end - 17} if piece.is_sealed else set())
         for length in sorted(it for it in lengths if 0 <= it < whole):
-            refusal(group, role, number, f"message {number + 1}, the first {length} of {whole} bytes", "MessageCut", {"cut": length})
+            refusal(
+                group, role, number, f"message {number + 1}, the first {length} of {whole} bytes", "MessageCut",
+                {"cut": length},
+            )
 
 
 def sealed_changes(group: Group) -> None:
@@ -89,12 +94,24 @@ def sealed_changes(group: Group) -> None:
         for piece in pieces(group, number):
             if not piece.is_sealed:
                 continue
-            places = {"first byte": piece.start, "last byte": piece.end - 17, "tag's first byte": piece.end - 16, "tag's last byte": piece.end - 1}
+            places = {
+                "first byte": piece.start, "last byte": piece.end - 17, "tag's first byte": piece.end - 16,
+                "tag's last byte": piece.end - 1,
+            }
             for what, at in places.items():
                 if at < piece.start or what == "last byte" and at == piece.start:
                     continue
-                flag = "TagEndChanged" if at == piece.end - 1 else "TagChanged" if at >= piece.end - 16 else flags[piece.kind]
-                refusal(group, role, number, f"message {number + 1}: {piece.kind}, the {what}", flag, {"xor": [at, 1 << at % 8]})
+                flag = (
+                    "TagEndChanged"
+                    if at == piece.end - 1
+                    else "TagChanged"
+                    if at >= piece.end - 16
+                    else flags[piece.kind]
+                )
+                refusal(
+                    group, role, number, f"message {number + 1}: {piece.kind}, the {what}", flag,
+                    {"xor": [at, 1 << at % 8]},
+                )
         refusal(group, role, number, f"message {number + 1}: a byte more", "ByteAppended", {"append": "00"})
 
 
@@ -102,8 +119,13 @@ def ended(group: Group) -> None:
     """After a refused message the handshake has ended: the right message is refused, too (5)."""
     for role, number in reads(group):
         last = len(group.messages[number].data) - 1
-        for what, change in (("a changed byte", {"xor": [last, 128]}), ("a missing byte", {"cut": last}), ("no byte", {"cut": 0})):
-            refusal(group, role, number, f"message {number + 1} with {what}, then the right one", "RightAfterRefused", change, True)
+        for what, change in (
+            ("a changed byte", {"xor": [last, 128]}), ("a missing byte", {"cut": last}), ("no byte", {"cut": 0}),
+        ):
+            refusal(
+                group, role, number, f"message {number + 1} with {what}, then the right one", "RightAfterRefused",
+                change, True,
+            )
 
 
 def out_of_turn(group: Group) -> None:
@@ -113,17 +135,29 @@ def out_of_turn(group: Group) -> None:
         reader = other(sender)
         if number:
             own = number - 1
-            add_judged(group, reader, f"message {own + 1}, its own, in place of message {number + 1}", "Reflected", number, {"message": own})
+            add_judged(
+                group, reader, f"message {own + 1}, its own, in place of message {number + 1}", "Reflected", number,
+                {"message": own},
+            )
         if number >= 2:
-            add_judged(group, reader, f"message {number - 1} again, in place of message {number + 1}", "Repeated", number, {"message": number - 2})
+            add_judged(
+                group, reader, f"message {number - 1} again, in place of message {number + 1}", "Repeated", number,
+                {"message": number - 2},
+            )
         if number + 2 < group.handshake:
-            add_judged(group, reader, f"message {number + 3} in place of message {number + 1}", "OutOfOrder", number, {"message": number + 2})
+            add_judged(
+                group, reader, f"message {number + 3} in place of message {number + 1}", "OutOfOrder", number,
+                {"message": number + 2},
+            )
         add_turn(group, sender, reader, number)
 
 
 def add_judged(group: Group, role: str, comment: str, flag: str, number: int, step: Step) -> None:
     data = bytes_of(group, step)  # what stands for keys in it has DH results, too
-    done = judged(group, role, right(group, role, number) + [{"do": "read"} | step], met=[data[:32].ljust(32), data[32:64].ljust(32)])
+    done = judged(
+        group, role, right(group, role, number) + [{"do": "read"} | step],
+        met=[data[:32].ljust(32), data[32:64].ljust(32)],
+    )
     if done and "refused" in done[-1]:
         add(group, role, comment, [flag], done)
 
@@ -132,10 +166,16 @@ def add_turn(group: Group, sender: str, reader: str, number: int) -> None:
     """A party does the other thing than what is due, and then what is due."""
     due = {"do": "read", "message": number}
     done = judged(group, reader, right(group, reader, number) + [{"do": "write", "message": number}, due])
-    add(group, reader, f"it writes where message {number + 1} is to be read, and then reads it", ["WriteOutOfTurn"], done)
+    add(
+        group, reader, f"it writes where message {number + 1} is to be read, and then reads it", ["WriteOutOfTurn"],
+        done,
+    )
     due = {"do": "write", "message": number}
     done = judged(group, sender, right(group, sender, number) + [{"do": "read", "message": number}, due])
-    add(group, sender, f"it reads where message {number + 1} is to be written, and then writes it", ["ReadOutOfTurn"], done)
+    add(
+        group, sender, f"it reads where message {number + 1} is to be written, and then writes it", ["ReadOutOfTurn"],
+        done,
+    )
 
 
 class Conversation:
@@ -202,7 +242,10 @@ def changed_later(group: Group, reader: str, number: int, piece: Piece, change: 
     add(group, role, f"{what} in the clear, {at} in message {number + 1}: {last}", [name], steps)
     accepted = [it for it in conversation.steps[reader]] if role != reader else []
     if accepted:
-        add(group, reader, f"{what} in the clear, {at} in message {number + 1}: not refused here", [name], conversation.judge(reader))
+        add(
+            group, reader, f"{what} in the clear, {at} in message {number + 1}: not refused here", [name],
+            conversation.judge(reader),
+        )
 
 
 def other_setups(group: Group) -> None:

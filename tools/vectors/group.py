@@ -63,8 +63,8 @@ class Setup:
 
 @dataclass
 class Group:
-    """`name` is of the seed: the keys and payloads are drawn by it. `bad` are public keys in place of a party's own, by role and letter. After `interval`
-    messages a direction is rekeyed."""
+    """`name` is of the seed: the keys and payloads are drawn by it. `bad` are public keys in place of a party's own, by
+    role and letter. After `interval` messages a direction is rekeyed."""
 
     command: Command
     name: str
@@ -128,24 +128,38 @@ class Group:
         lines = ["vector 2", f"protocol {protocol.name}"]
         if not protocol.is_fundamental:
             lines += [protocol.text + "end"]
-        lines += [f"prologue {digits(setup.prologue)}", f"interval {self.interval}", *(f"psk {it.hex()}" for it in setup.psks)]
+        lines += [
+            f"prologue {digits(setup.prologue)}", f"interval {self.interval}",
+            *(f"psk {it.hex()}" for it in setup.psks),
+        ]
         for role in ROLES:
             own = self.keys[role].keys() & protocol.own(role)
             lines.append(" ".join([role, "table", *(self.public(role, it).hex() if it in own else "-" for it in "es")]))
             theirs = [self.public(other(role), it) for it in sorted(self.keys[other(role)])] + met.get(role, [])
             pairs = [(letter, remote) for remote in dict.fromkeys(theirs) for letter in sorted(own)]
-            lines += [f"answer {letter} {remote.hex()} {self.dh(role, letter, remote).hex()}" for letter, remote in pairs[:8]]
+            lines += [
+                f"answer {letter} {remote.hex()} {self.dh(role, letter, remote).hex()}" for letter, remote in pairs[:8]
+            ]
         return "\n".join(lines) + "\n"
 
-    def replay(self, events: list[str], setup: Setup | None = None, met: dict[str, list[bytes]] | None = None) -> list[str]:
-        return self.command.run("replay", self.head(setup or self.setup, met or {}) + "".join(f"{it}\n" for it in events))
+    def replay(
+        self, events: list[str], setup: Setup | None = None, met: dict[str, list[bytes]] | None = None
+    ) -> list[str]:
+        return self.command.run(
+            "replay", self.head(setup or self.setup, met or {}) + "".join(f"{it}\n" for it in events)
+        )
 
     def converse(self) -> None:
         """Has the command hold the right conversation."""
-        self.messages = [Message(self.sender(it), self.payload(it)) for it in range(self.handshake + len(self.transport))]
+        self.messages = [
+            Message(self.sender(it), self.payload(it)) for it in range(self.handshake + len(self.transport))
+        ]
         lines = self.replay([f"say {it.sender} {digits(it.payload)} -" for it in self.messages])
         for message, wrote, accepted in zip(self.messages, lines[::2], lines[1::2]):
-            if not wrote.startswith(f"wrote {message.sender} ") or accepted != f"payload {other(message.sender)} {digits(message.payload)}":
+            if (
+                not wrote.startswith(f"wrote {message.sender} ")
+                or accepted != f"payload {other(message.sender)} {digits(message.payload)}"
+            ):
                 raise Fault(f"{self.name}: {wrote[:200]}; {accepted[:200]}")
             message.data = bytes.fromhex(wrote.split(" ")[3])[2:]
         self.hash = lines[-1].split(" ")[5]

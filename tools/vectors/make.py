@@ -30,9 +30,15 @@ from patterns import Protocol
 
 Made = list[dict[str, Any]]
 # The pattern that the other party has in its place.
-OTHERS = dict(N="X", K="N", X="N", NN="NX", NK="XK", NX="NN", KN="KX", KK="IK", KX="KN", XN="IN", XK="IK", XX="IX", IN="XN", IK="KK", IX="XX")
+OTHERS = dict(
+    N="X", K="N", X="N", NN="NX", NK="XK", NX="NN", KN="KX", KK="IK", KX="KN", XN="IN", XK="IK", XX="IX", IN="XN",
+    IK="KK", IX="XX",
+)
 NAME, SHARED_NAME = "25519_ChaChaPoly_SHA256.json", "25519_ChaChaPoly_SHA256_shared.json"
-SIZES = (0, 1, 2, 15, 16, 17, 31, 32, 33, 63, 64, 65, 127, 128, 129, 255, 256, 257, 511, 512, 1024, 4096, 16384, 32767, 32768, 65518, 65519)
+SIZES = (
+    0, 1, 2, 15, 16, 17, 31, 32, 33, 63, 64, 65, 127, 128, 129, 255, 256, 257, 511, 512, 1024, 4096, 16384, 32767,
+    32768, 65518, 65519,
+)
 
 
 class Plan:
@@ -70,11 +76,32 @@ class Plan:
     def mistakes(self) -> None:
         def make() -> Made:
             names = ("NN", "XX", "IX", "IK", "KK", "X", "NNpsk0", "NNpsk2", "KNpsk0", "XXpsk3", "IKpsk1")
-            groups = [self.group(f"{it}, mistakes", self.by_name[it], [self.by_name[it].kind], transport=(0, 3, 5, 4)) for it in names]
-            groups.append(self.group("NN, prologue, mistakes", self.by_name["NN"], ["Prologue"], prologue=b"prologue", lengths=(3,)))
-            groups.append(self.group("KN, prologue, mistakes", self.by_name["KN"], ["Prologue"], prologue=b"prologue", lengths=(3,)))
-            groups.append(self.group("XX, rekey, mistakes", self.by_name["XX"], ["Rekey"], also=["Rekey"], transport=(5,) * 8, interval=1, lengths=(4,)))
-            groups.append(self.group("NN, rekey, mistakes", self.by_name["NN"], ["Rekey"], also=["Rekey"], transport=(5,) * 8, interval=2, lengths=(4,)))
+            groups = [
+                self.group(f"{it}, mistakes", self.by_name[it], [self.by_name[it].kind], transport=(0, 3, 5, 4))
+                for it in names
+            ]
+            groups.append(
+                self.group(
+                    "NN, prologue, mistakes", self.by_name["NN"], ["Prologue"], prologue=b"prologue", lengths=(3,)
+                )
+            )
+            groups.append(
+                self.group(
+                    "KN, prologue, mistakes", self.by_name["KN"], ["Prologue"], prologue=b"prologue", lengths=(3,)
+                )
+            )
+            groups.append(
+                self.group(
+                    "XX, rekey, mistakes", self.by_name["XX"], ["Rekey"], also=["Rekey"], transport=(5,) * 8,
+                    interval=1, lengths=(4,),
+                )
+            )
+            groups.append(
+                self.group(
+                    "NN, rekey, mistakes", self.by_name["NN"], ["Rekey"], also=["Rekey"], transport=(5,) * 8,
+                    interval=2, lengths=(4,),
+                )
+            )
             for group in groups:
                 cases.positive(group)
             wrong.mistakes(groups)
@@ -92,11 +119,14 @@ class Plan:
             also = [transport.one_way] if protocol.is_one_way else []
             self.add(
                 cases.positive, cases.negative, transport.negative, *pattern, *also,
-                name=f"{protocol.section} with payloads", protocol=protocol, flags=[protocol.kind, "Prologue"], prologue=b"\x01", lengths=(3, 1, 20),
-                transport=(2, 3, 4, 5),
+                name=f"{protocol.section} with payloads", protocol=protocol, flags=[protocol.kind, "Prologue"],
+                prologue=b"\x01", lengths=(3, 1, 20), transport=(2, 3, 4, 5),
             )  # fmt: skip
         for number, protocol in enumerate(one + later):
-            kinds = ((cases.negative,), (cases.sealed_changes, cases.clear_changes), (cases.cuts, cases.other_setups, cases.ended))
+            kinds = (
+                (cases.negative,), (cases.sealed_changes, cases.clear_changes),
+                (cases.cuts, cases.other_setups, cases.ended),
+            )
             negative = kinds[number % 3] if number % 8 else (cases.negative, transport.negative)
             self.add(cases.positive, name=protocol.section, protocol=protocol, flags=[protocol.kind])
             self.add(
@@ -105,13 +135,21 @@ class Plan:
                 prologue=draw(number % 40, "prologue", number), lengths=(number % 5 + 1, 2, 30), transport=(1, 2, 3, 4),
             )  # fmt: skip
         for number, protocol in enumerate(two):
-            negative = (cases.other_setups,) if number % 4 else (cases.other_setups, cases.sealed_changes, cases.clear_changes)
-            self.add(cases.positive, *negative, name=protocol.section, protocol=protocol, flags=[protocol.kind], lengths=(number % 7, 1))
+            negative = (
+                (cases.other_setups,) if number % 4 else (cases.other_setups, cases.sealed_changes, cases.clear_changes)
+            )
+            self.add(
+                cases.positive, *negative, name=protocol.section, protocol=protocol, flags=[protocol.kind],
+                lengths=(number % 7, 1),
+            )
 
     def own(self) -> None:
         later = patterns.psk_places(self.command, patterns.deferred(self.command), 1, "DeferredPattern")
         for number, protocol in enumerate(later):
-            self.add(cases.positive, name=protocol.section, protocol=protocol, flags=[protocol.kind, "OnePsk"], lengths=(number % 3,), transport=(3, 2))
+            self.add(
+                cases.positive, name=protocol.section, protocol=protocol, flags=[protocol.kind, "OnePsk"],
+                lengths=(number % 3,), transport=(3, 2),
+            )
         for text in patterns.OWN:
             protocol = patterns.protocol_of(text, "OwnPattern")
             early = []
@@ -119,22 +157,35 @@ class Plan:
                 early = ["EphemeralInPreMessageWithPsk" if protocol.psks else "EphemeralInPreMessage"]
             self.add(
                 cases.positive, cases.cuts, cases.sealed_changes,
-                name=protocol.section, protocol=protocol, flags=[protocol.kind], also=early, lengths=(2,), prologue=b"own",
+                name=protocol.section, protocol=protocol, flags=[protocol.kind], also=early, lengths=(2,),
+                prologue=b"own",
             )  # fmt: skip
         for number, protocol in enumerate(patterns.drawn(self.command, "suite", 120)):
             negative = (cases.sealed_changes, cases.clear_changes) if number % 6 == 0 else ()
-            self.add(cases.positive, *negative, name=protocol.section, protocol=protocol, flags=[protocol.kind], lengths=(number % 4,), transport=(0, 9))
+            self.add(
+                cases.positive, *negative, name=protocol.section, protocol=protocol, flags=[protocol.kind],
+                lengths=(number % 4,), transport=(0, 9),
+            )
 
     def special(self) -> None:
         by = self.by_name
         for section, count in (("NN", 1), ("XX", 255), ("IK", 65535), ("XXpsk3", 65535), ("N", 65535)):
             flags = ["LongPrologue" if count > 1 else "Prologue"]
-            self.add(cases.positive, cases.other_setups, name=f"{section}, a prologue of {count}", protocol=by[section], flags=flags, prologue=b"p" * count)
+            self.add(
+                cases.positive, cases.other_setups, name=f"{section}, a prologue of {count}", protocol=by[section],
+                flags=flags, prologue=b"p" * count,
+            )
         for section in ("NN", "XX", "IK", "IX", "KK", "N", "X", "NNpsk0", "IKpsk2", "XXpsk0+psk3"):
-            self.add(self.longest, cases.positive, name=f"{section}, longest", protocol=by[section], flags=["LongestPayload"], byte=b"l", transport=())
+            self.add(
+                self.longest, cases.positive, name=f"{section}, longest", protocol=by[section],
+                flags=["LongestPayload"], byte=b"l", transport=(),
+            )
         for number, size in enumerate(SIZES):
             section = ("NN", "XX", "IK", "N", "KKpsk0")[number % 5]
-            what = {"name": f"{section}, transport of {size}", "protocol": by[section], "flags": ["TransportSizes"], "byte": b"t"}
+            what = {
+                "name": f"{section}, transport of {size}", "protocol": by[section], "flags": ["TransportSizes"],
+                "byte": b"t",
+            }
             self.add(cases.positive, **what, transport=(size,) * 2)
         for interval in (1, 2, 3, 5):
             for section in ("NN", "XX", "IK", "X", "NNpsk0"):
@@ -142,11 +193,17 @@ class Plan:
                 negative = (transport.negative,) if section in ("XX", "X") else ()
                 self.add(
                     cases.positive, *negative,
-                    name=name, protocol=by[section], flags=["Rekey"], also=["Rekey"], interval=interval, transport=(6,) * (2 * interval + 4),
+                    name=name, protocol=by[section], flags=["Rekey"], also=["Rekey"], interval=interval,
+                    transport=(6,) * (2 * interval + 4),
                 )  # fmt: skip
         for section in ("NN", "XX", "IKpsk2"):
-            self.add(transport.nonces, name=f"{section}, nonces", protocol=by[section], flags=["HighNonce"], transport=())
-            self.add(special.too_long, name=f"{section}, 65536 bytes", protocol=by[section], flags=["LongMessageTaken"], transport=(1, 1))
+            self.add(
+                transport.nonces, name=f"{section}, nonces", protocol=by[section], flags=["HighNonce"], transport=()
+            )
+            self.add(
+                special.too_long, name=f"{section}, 65536 bytes", protocol=by[section], flags=["LongMessageTaken"],
+                transport=(1, 1),
+            )
         for section, role, letter in special.TRIED:
             what = self.command, by[section], role, letter
             self.jobs.append(lambda it=what: [group.as_json() for group in special.bad_keys(*it)])
@@ -202,8 +259,16 @@ def shared_format(groups: list[dict[str, Any]]) -> dict[str, Any]:
     for group in groups:
         tests = [it for it in group["tests"] if it["result"] == "valid"]
         flags = {flag for it in tests for flag in it["flags"]}
-        is_plain = group["type"] == "NoiseHandshake" and tests and not flags & {"OwnPattern", "Rekey", "LongestPayload", "TransportSizes", "LongPrologue"}
-        if is_plain and not any(isinstance(it["message"], dict) for it in group["messages"]) and "HighNonce" not in flags:
+        is_plain = (
+            group["type"] == "NoiseHandshake"
+            and tests
+            and not flags & {"OwnPattern", "Rekey", "LongestPayload", "TransportSizes", "LongPrologue"}
+        )
+        if (
+            is_plain
+            and not any(isinstance(it["message"], dict) for it in group["messages"])
+            and "HighNonce" not in flags
+        ):
             vectors.append(shared_vector(group))
     return {"vectors": vectors}
 
@@ -241,7 +306,14 @@ def main(words: list[str]) -> int:
     groups = list(numbered(made))
     if every > 1:
         differ = differing(groups, folder)
-        print("\n".join([*(f"make: differs: {it}" for it in differ), f"make: {len(groups)} groups made again, {len(differ)} differ"]))
+        print(
+            "\n".join(
+                [
+                    *(f"make: differs: {it}" for it in differ),
+                    f"make: {len(groups)} groups made again, {len(differ)} differ",
+                ]
+            )
+        )
         return int(bool(differ))
     (folder / NAME).write_text(text_of(suite_of(groups)), encoding="ascii")
     shared = ",\n".join(json.dumps(it, separators=(",", ":")) for it in shared_format(groups)["vectors"])

@@ -259,7 +259,10 @@ class Party:
     def note(self, part: str, name: str, data: bytes) -> None:
         """Logs the state after a step."""
         state = self.symmetric
-        words = [data.hex() or "-", state.h.hex(), state.ck.hex(), state.cipher.key.hex() if state.cipher.key else "-", str(state.cipher.nonce)]
+        words = [
+            data.hex() or "-", state.h.hex(), state.ck.hex(), state.cipher.key.hex() if state.cipher.key else "-",
+            str(state.cipher.nonce),
+        ]
         self.log.append(" ".join(["trace", self.role, part, "?", name, "? ?", *words]))
 
     def mix_prologue(self, prologue: bytes) -> None:

@@ -126,7 +126,11 @@ def deferred(command: Command) -> list[Protocol]:
 
 def psk_places(command: Command, protocols: list[Protocol], count: int, kind: str) -> list[Protocol]:
     """Each protocol with `count` psk tokens, at all places that the rules allow."""
-    made = [with_psks(it, places, kind) for it in protocols for places in itertools.combinations(range(len(it.messages) + 1), count)]
+    made = [
+        with_psks(it, places, kind)
+        for it in protocols
+        for places in itertools.combinations(range(len(it.messages) + 1), count)
+    ]
     return [it for it in made if is_valid(command, it)]
 
 

@@ -57,7 +57,10 @@ def bad_key(command: Command, protocol: Protocol, whose: tuple[str, str], key: i
     data, tested = key.to_bytes(32, "little"), other(role)
     group = Group(command, f"{protocol.section} {data.hex()}", protocol, [flag], b"", (2,), (4, 4), bad={whose: data})
     steps = right(group, tested, len(group.messages))
-    add(group, tested, f"{protocol.section}: the {role}'s {letter} is {data.hex()}; {why}", [flag], steps, result="acceptable")
+    add(
+        group, tested, f"{protocol.section}: the {role}'s {letter} is {data.hex()}; {why}", [flag], steps,
+        result="acceptable",
+    )
     return group
 
 
@@ -73,7 +76,10 @@ def too_long(group: Group) -> None:
         overhead = len(group.messages[number].data) - len(group.messages[number].payload)
         step: Step = {"do": "write", "payload": rule(65536 - overhead)}
         steps = [*right(group, sender, number), step, {"do": "write", "message": number}]
-        add(group, sender, f"a payload that makes 65536 bytes of message {number + 1}; then the right one", ["LongMessageTaken"], judged(group, sender, steps))
+        add(
+            group, sender, f"a payload that makes 65536 bytes of message {number + 1}; then the right one",
+            ["LongMessageTaken"], judged(group, sender, steps),
+        )
         steps = [*right(group, reader, number), {"do": "read", "bytes": rule(65536), "refused": "too-long"}]
         add(group, reader, f"65536 bytes in place of message {number + 1}", ["LongMessageTaken"], steps)
     for role in ROLES:
@@ -87,12 +93,19 @@ def frames(group: Group, number: int) -> dict[str, Any]:
     tests: list[dict[str, Any]] = []
     for message in group.messages:
         frame = f"{len(message.data):04x}{message.data.hex()}"
-        tests.append(frame_test(f"a message of {len(message.data)} bytes", ["Frame"], "valid", message.data.hex(), frame))
+        tests.append(
+            frame_test(f"a message of {len(message.data)} bytes", ["Frame"], "valid", message.data.hex(), frame)
+        )
     message = group.messages[number]
     data = message.data
-    cut = [(0, "no byte"), (1, "half of its length"), (2, "its length alone"), (3, "one byte of it"), (len(data) + 1, "all but its last byte")]
+    cut = [
+        (0, "no byte"), (1, "half of its length"), (2, "its length alone"), (3, "one byte of it"),
+        (len(data) + 1, "all but its last byte"),
+    ]
     for length, what in cut:
-        tests.append(open_frame(group, number, f"{what} has come", ["FrameCut"], (len(data).to_bytes(2, "big") + data)[:length]))
+        tests.append(
+            open_frame(group, number, f"{what} has come", ["FrameCut"], (len(data).to_bytes(2, "big") + data)[:length])
+        )
     counted, little = (len(data) + 2).to_bytes(2, "big") + data, len(data).to_bytes(2, "little") + data
     tests.append(open_frame(group, number, "the length counts itself", ["FrameCountsItself"], counted))
     tests.append(open_frame(group, number, "the length is little-endian", ["FrameLittleEndian"], little))

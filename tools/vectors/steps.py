@@ -30,12 +30,18 @@ def right(group: Group, role: str, until: int, first: int = 0) -> list[Step]:
     for number in range(first, until):
         sender = group.messages[number].sender
         if role == "both":
-            steps += [{"role": sender, "do": "write", "message": number}, {"role": other_role(sender), "do": "read", "message": number}]
+            steps += [
+                {"role": sender, "do": "write", "message": number},
+                {"role": other_role(sender), "do": "read", "message": number},
+            ]
         else:
             steps.append({"do": "write" if sender == role else "read", "message": number})
         if is_renewed(group, number):
             parties = ROLES if role == "both" else (role,)
-            named = [({"role": it} if role == "both" else {}) | {"do": "rekey", "direction": direction(it, sender)} for it in parties]
+            named = [
+                ({"role": it} if role == "both" else {}) | {"do": "rekey", "direction": direction(it, sender)}
+                for it in parties
+            ]
             steps += named
     return steps
 
@@ -84,14 +90,18 @@ def event(group: Group, role: str, step: Step) -> str | None:
     return None
 
 
-def judged(group: Group, role: str, steps: list[Step], setup: Setup | None = None, met: list[bytes] | None = None) -> list[Step] | None:
+def judged(
+    group: Group, role: str, steps: list[Step], setup: Setup | None = None, met: list[bytes] | None = None
+) -> list[Step] | None:
     """The steps with what comes of each; None if a DH result is wanted that nobody has."""
     events = [event(group, role, step) for step in steps]
     lines = iter(group.replay([it for it in events if it], setup, {role: met or []}))
     return _filled(group, setup.protocol if setup else group.protocol, role, steps, events, lines)
 
 
-def _filled(group: Group, protocol: Protocol, role: str, steps: list[Step], events: list[str | None], lines: Any) -> list[Step] | None:
+def _filled(
+    group: Group, protocol: Protocol, role: str, steps: list[Step], events: list[str | None], lines: Any
+) -> list[Step] | None:
     done, passed = [], 0
     for step, happened in zip(steps, events):
         step = dict(step)

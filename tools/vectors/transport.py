@@ -36,24 +36,35 @@ def changed(group: Group, role: str, number: int) -> None:
     before, whole = right(group, role, number), len(group.messages[number].data)
     for length in sorted({0, 1, 15, 16, whole - 1}):
         steps = [*before, read(number, cut=length), read(number)]
-        check(group, role, f"a transport message, the first {length} of {whole} bytes; then whole", "TransportCut", steps)
+        check(
+            group, role, f"a transport message, the first {length} of {whole} bytes; then whole", "TransportCut", steps
+        )
     for what, at in (("the first byte", 0), ("the tag's first byte", whole - 16), ("the tag's last byte", whole - 1)):
         steps = [*before, read(number, xor=[at, 1 << at % 8]), read(number)]
         check(group, role, f"a transport message with {what} changed; then the right one", "TransportChanged", steps)
     steps = [*before, read(number, append="00"), read(number)]
     check(group, role, "a transport message with a byte more; then the right one", "TransportByteAppended", steps)
     twice = [read(number, xor=[0, 128]), read(number, cut=0), read(number, xor=[whole - 1, 64])]
-    check(group, role, "three changed transport messages; then the right one", "TransportChanged", [*before, *twice, read(number)])
+    check(
+        group, role, "three changed transport messages; then the right one", "TransportChanged",
+        [*before, *twice, read(number)],
+    )
 
 
 def lost(group: Group, role: str, due: list[int]) -> None:
     first, second = due[0], due[1]
     before = right(group, role, first)
     steps = [*before, read(second), *right(group, role, second + 1, first)]
-    check(group, role, "the second transport message comes before the first; then both in order", "TransportReordered", steps)
+    check(
+        group, role, "the second transport message comes before the first; then both in order", "TransportReordered",
+        steps,
+    )
     steps = [*right(group, role, first + 1), read(first), *right(group, role, second + 1, first + 1)]
     check(group, role, "the first transport message comes twice; then the second", "TransportRepeated", steps)
-    check(group, role, "the first transport message is lost: the second is refused", "TransportLost", [*before, read(second)])
+    check(
+        group, role, "the first transport message is lost: the second is refused", "TransportLost",
+        [*before, read(second)],
+    )
 
 
 def reflected(group: Group, role: str, due: list[int]) -> None:
@@ -64,15 +75,24 @@ def reflected(group: Group, role: str, due: list[int]) -> None:
     theirs = [it for it in range(group.handshake) if group.messages[it].sender != role]
     if theirs:
         steps = [*right(group, role, due[0]), read(theirs[-1]), read(due[0])]
-        check(group, role, "a message of the handshake in place of the first transport message; then that", "HandshakeInTransport", steps)
+        check(
+            group, role, "a message of the handshake in place of the first transport message; then that",
+            "HandshakeInTransport", steps,
+        )
 
 
 def one_way(group: Group) -> None:
     """In a one-way pattern the responder sends nothing (7.4)."""
     last = len(group.messages)
     step = {"do": "write", "message": group.handshake}
-    check(group, "responder", "the responder writes in a one-way pattern", "OneWayAnswer", [*right(group, "responder", last), step])
-    check(group, "initiator", "the initiator reads in a one-way pattern", "OneWayAnswer", [*right(group, "initiator", last), read(group.handshake)])
+    check(
+        group, "responder", "the responder writes in a one-way pattern", "OneWayAnswer",
+        [*right(group, "responder", last), step],
+    )
+    check(
+        group, "initiator", "the initiator reads in a one-way pattern", "OneWayAnswer",
+        [*right(group, "initiator", last), read(group.handshake)],
+    )
 
 
 def keys_of(group: Group) -> dict[str, bytes]:
@@ -98,7 +118,10 @@ def nonces(group: Group) -> None:
         for role in ROLES:
             way = "send" if role == message.sender else "receive"
             step = {"do": "write" if way == "send" else "read", "message": number}
-            before = [*right(group, role, group.handshake), {"do": "nonce", "direction": way, "nonce": str(message.nonce)}]
+            before = [
+                *right(group, role, group.handshake),
+                {"do": "nonce", "direction": way, "nonce": str(message.nonce)},
+            ]
             add(group, role, f"a transport message to {way} at nonce {message.nonce}", ["HighNonce"], [*before, step])
             if message.nonce == RESERVED - 1:
                 exhausted = [*before, step, step | {"refused": "exhausted"}]
@@ -107,7 +130,9 @@ def nonces(group: Group) -> None:
 
 def accept(group: Group, messages: list[Message]) -> None:
     """Asks the command whether it accepts these messages as datagrams, and refuses the reserved nonce."""
-    events = [f"say {it.sender} {it.payload.hex() or '-'} -" for it in group.messages[: group.handshake]] + ["datagrams 64"]
+    events = [f"say {it.sender} {it.payload.hex() or '-'} -" for it in group.messages[: group.handshake]] + [
+        "datagrams 64"
+    ]
     events += [f"foreign {other(it.sender)} {it.nonce:016x}{it.data.hex()}" for it in messages]
     events += [f"foreign {role} {RESERVED:016x}{bytes(16).hex()}" for role in ROLES]
     lines = [it for it in group.replay(events) if it.startswith(("payload", "rejected"))][group.handshake :]

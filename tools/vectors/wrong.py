@@ -86,7 +86,8 @@ def mistakes(groups: list[Group]) -> None:
                 number, data = wrong
                 done = judged(group, reader, [*right(group, reader, number), {"do": "read", "bytes": data.hex()}])
                 if done and "refused" in done[-1]:
-                    comment = f"{MESSAGE[number >= group.handshake]} {number + 1} of a party with this mistake: {what} ({section})"
+                    which = f"{MESSAGE[number >= group.handshake]} {number + 1}"
+                    comment = f"{which} of a party with this mistake: {what} ({section})"
                     add(group, reader, comment, [mistake], done)
                     found, caught = found + 1, True
         if not caught:
@@ -98,6 +99,10 @@ def flag_conversation(groups: list[Group], mistake: str) -> None:
     for role in ("initiator", "responder"):
         for group in groups:
             if not comes_through(group, role, mistake):
-                tests = [it for it in group.tests if it["role"] == role and it["result"] == "valid" and len(it["steps"]) >= len(group.messages)]
+                tests = [
+                    it
+                    for it in group.tests
+                    if it["role"] == role and it["result"] == "valid" and len(it["steps"]) >= len(group.messages)
+                ]
                 tests[0]["flags"] = [*tests[0]["flags"], mistake]
                 break

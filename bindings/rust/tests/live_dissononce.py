@@ -1,5 +1,6 @@
-"""Runs the example `echo` of this crate, whose path is the one argument, against python3-dissononce over TCP on 127.0.0.1: the fundamental patterns,
-without a secret and with one at each place, in both roles. 128 KiB go there and, but with a one-way pattern, back."""
+"""Runs the example `echo` of this crate, whose path is the one argument, against python3-dissononce over TCP on
+127.0.0.1: the fundamental patterns, without a secret and with one at each place, in both roles. 128 KiB go there and,
+but with a one-way pattern, back."""
 
 import contextlib
 import socket

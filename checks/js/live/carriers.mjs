@@ -20,7 +20,11 @@ function pipe(from, to, { kind, at }, acted) {
       return;
     }
     const here = { flip: [chunk[n] ^ 1], repeat: [chunk[n], chunk[n]], drop: [], cut: [] }[kind];
-    to.write(Buffer.concat([chunk.subarray(0, n), Buffer.from(here), kind === 'cut' ? Buffer.alloc(0) : chunk.subarray(n + 1)]));
+    to.write(
+      Buffer.concat([
+        chunk.subarray(0, n), Buffer.from(here), kind === 'cut' ? Buffer.alloc(0) : chunk.subarray(n + 1),
+      ]),
+    );
     if (kind === 'cut') for (const it of [from, to]) it.end();
   });
   from.on('end', () => to.end());
@@ -64,7 +68,12 @@ function toMessages(peer, socket) {
 export async function overWebSocket(peer) {
   const { server, url, close } = await serve('.');
   takeWebSockets(server, (socket) => {
-    socket.addEventListener('message', ({ data }) => peer.write(Buffer.concat([Buffer.of(data.byteLength >> 8, data.byteLength & 255), Buffer.from(data)])));
+    socket.addEventListener(
+      'message',
+      ({ data }) => peer.write(
+        Buffer.concat([Buffer.of(data.byteLength >> 8, data.byteLength & 255), Buffer.from(data)]),
+      ),
+    );
     socket.addEventListener('close', () => peer.end());
     toMessages(peer, socket);
   });

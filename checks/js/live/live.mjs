@@ -1,6 +1,6 @@
-// Channels with a program of another kind at the other end, over TCP and WebSocket, whatever the order in which both end, and behind a relay that flips,
-// cuts, repeats or drops a byte: live.mjs PEER COMMAND.., where the command takes the words of peer.py. What both report is compared with the theorem of
-// docs/THEOREM.md.
+// Channels with a program of another kind at the other end, over TCP and WebSocket, whatever the order in which both
+// end, and behind a relay that flips, cuts, repeats or drops a byte: live.mjs PEER COMMAND.., where the command takes
+// the words of peer.py. What both report is compared with the theorem of docs/THEOREM.md.
 import assert from 'node:assert/strict';
 import { spawn } from 'node:child_process';
 import { createHash, randomBytes } from 'node:crypto';
@@ -13,7 +13,10 @@ import { overWebSocket, relayed } from './carriers.mjs';
 const [peerName, ...command] = process.argv.slice(2);
 const PATTERNS = ['XX', 'IK', 'NNpsk0', 'XXpsk3', 'IKpsk2', 'KK'];
 /** When both end their streams: JavaScript's end, then the peer's. */
-const ORDERS = ['ends ends', 'waits ends', 'ends waits', 'closes ends', 'ends closes', 'closes closes', 'waits closes', 'closes waits'].map((it) => it.split(' '));
+const ORDERS = [
+  'ends ends', 'waits ends', 'ends waits', 'closes ends', 'ends closes', 'closes closes', 'waits closes',
+  'closes waits',
+].map((it) => it.split(' '));
 const NOTHING = { kind: 'nothing', at: 0 };
 const MEGABYTE = 1 << 20;
 
@@ -41,7 +44,11 @@ async function start({ pattern, responder, order, size }, count) {
     await once(it, 'connect');
     return it;
   };
-  return { own, other, psk, line, socket, end: async () => { server?.close(); if (child.exitCode === null) await once(child, 'exit'); assert.equal(child.exitCode, 0); } };
+  return { own, other, psk, line, socket, end: async () => {
+    server?.close();
+    if (child.exitCode === null) await once(child, 'exit');
+    assert.equal(child.exitCode, 0);
+  } };
 }
 
 /** What open is passed. */
@@ -99,15 +106,23 @@ async function party(carrier, setup, { order: [order], size }) {
 /** What the peer reports. */
 function reported(line) {
   const [count, digest, otherEnded, ended, error] = line.split(' ');
-  return { count: Number(count), sum: digest, otherEnded: otherEnded === '1', ended: ended === '1', error: error === '-' ? undefined : error };
+  return {
+    count: Number(count), sum: digest, otherEnded: otherEnded === '1', ended: ended === '1',
+    error: error === '-' ? undefined : error,
+  };
 }
 
-/** Whether what a party reports is what the theorem on streams allows: a front of what was written, and an end only after all of it, where the other has ended. */
+/**
+ * Whether what a party reports is what the theorem on streams allows: a front of what was written, and an end only
+ * after all of it, where the other has ended.
+ */
 function judge(mine, other, size, what) {
   assert.ok(mine.count <= size, what);
   assert.equal(mine.sum, sum(bytes(mine.count)), `${what}: other bytes`);
   // An end may have left just before the other refused what came, which then reports that it couldn't end.
-  if (mine.otherEnded) assert.ok((other.ended || other.error) && mine.count === size, `${what}: an end, and not all of it came`);
+  if (mine.otherEnded) {
+    assert.ok((other.ended || other.error) && mine.count === size, `${what}: an end, and not all of it came`);
+  }
 }
 
 /** Runs one connection, and gives both reports. */
@@ -128,10 +143,21 @@ async function run(peer, session, between) {
 /** A connection that nothing damages: both parties of which receive until the end get all of it. */
 async function whole(peer, session, between) {
   const { reports, what } = await run(peer, session, between);
-  for (const n of [0, 1]) if (session.order[n] !== 'closes' && session.order[1 - n] !== 'closes') assert.ok(reports[n].otherEnded && !reports[n].error, what);
-  // A close of JavaScript loses nothing. A peer that closes without reading may break the connection before all has come.
-  if (session.order[0] === 'closes' && session.order[1] !== 'closes') assert.ok(reports[1].otherEnded && reports[1].count === session.size, what);
-  for (const n of [0, 1]) if (session.order[n] !== 'closes') assert.ok(reports[n].otherEnded || reports[n].error, `${what}: neither an end nor a refusal`);
+  for (const n of [0, 1]) {
+    if (session.order[n] !== 'closes' && session.order[1 - n] !== 'closes') {
+      assert.ok(reports[n].otherEnded && !reports[n].error, what);
+    }
+  }
+  // A close of JavaScript loses nothing. A peer that closes without reading may break the connection before all has
+  // come.
+  if (session.order[0] === 'closes' && session.order[1] !== 'closes') {
+    assert.ok(reports[1].otherEnded && reports[1].count === session.size, what);
+  }
+  for (const n of [0, 1]) {
+    if (session.order[n] !== 'closes') {
+      assert.ok(reports[n].otherEnded || reports[n].error, `${what}: neither an end nor a refusal`);
+    }
+  }
 }
 
 const direct = async (socket) => ({ carrier: socket });
@@ -170,13 +196,21 @@ async function orders() {
   return count;
 }
 
-/** What both send by XX with 100 bytes of payload, in 4 frames and that of the end: the initiator's messages 1 and 3, or the responder's message 2. */
+/**
+ * What both send by XX with 100 bytes of payload, in 4 frames and that of the end: the initiator's messages 1 and 3, or
+ * the responder's message 2.
+ */
 const SENT = { initiator: 34 + 66 + 100 + 5 * 18, responder: 98 + 100 + 5 * 18 };
 
-/** Each fault at each thirteenth byte of a direction, others for each kind. What repeats the last byte comes after the end. */
+/**
+ * Each fault at each thirteenth byte of a direction, others for each kind. What repeats the last byte comes after the
+ * end.
+ */
 function faultsIn(length) {
   const places = Array.from({ length }, (_, at) => at);
-  return ['flip', 'cut', 'drop', 'repeat'].flatMap((kind, n) => places.filter((at) => at % 13 === n && at < length - 1).map((at) => ({ kind, at })));
+  return ['flip', 'cut', 'drop', 'repeat'].flatMap(
+    (kind, n) => places.filter((at) => at % 13 === n && at < length - 1).map((at) => ({ kind, at })),
+  );
 }
 
 /** Behind a relay that damages one byte: the end that receives it reports no end. */
@@ -188,7 +222,9 @@ async function relays() {
     const runs = roles.flatMap((role, direction) => faultsIn(SENT[role]).map((fault) => [direction, fault]));
     const peer = await start(session, runs.length);
     for (const [direction, fault] of runs) {
-      const between = async (socket) => ({ carrier: await relayed(socket, direction === 0 ? [fault, NOTHING] : [NOTHING, fault]) });
+      const between = async (socket) => ({
+        carrier: await relayed(socket, direction === 0 ? [fault, NOTHING] : [NOTHING, fault]),
+      });
       const { reports, what } = await run(peer, session, between);
       assert.ok(!reports[1 - direction].otherEnded, `${what}: ${fault.kind} at ${fault.at} of ${direction}`);
       count += 1;

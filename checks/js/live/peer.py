@@ -179,7 +179,9 @@ class End:
     """This party of one connection, and what it reports."""
 
     def __init__(self, connection, words, initiator):
-        self.connection, self.got, self.other_ended, self.ended, self.error = connection, hashlib.sha256(), False, False, "-"
+        self.connection, self.got, self.other_ended, self.ended, self.error = (
+            connection, hashlib.sha256(), False, False, "-",
+        )
         self.count, self.order, self.size = 0, words.order, words.size
         self.arguments = (words.pattern, initiator, words.static, words.remote, words.psk)
         self.over = threading.Event()

@@ -1,14 +1,16 @@
 #!/usr/bin/env python3
 """Tries the cases of the suite that a Nebula node can be asked: nebula_live.py PORT CERTIFICATE KEY.
 
-A node draws its own ephemeral keys, so the suite's bytes are of no use to it. Here it gets messages of this moment, right and changed ones, as the suite
-changes them, and its answers are looked at: the node is the responder of IX at 127.0.0.1, with `cipher: chachapoly`. It needs the package of
-bindings/python. A line for each flag says what the node did; the status is 0.
+A node draws its own ephemeral keys, so the suite's bytes are of no use to it. Here it gets messages of this moment,
+right and changed ones, as the suite changes them, and its answers are looked at: the node is the responder of IX at
+127.0.0.1, with `cipher: chachapoly`. It needs the package of bindings/python. A line for each flag says what the node
+did; the status is 0.
 
-Nebula 1.6.1 does not answer to a cut first message (`MessageCut`), a changed `s` (`ClearKeyChanged`, by its certificate), nor to a transport message that
-is changed, cut, repeated or its own (`TransportChanged`, `TransportCut`, `TransportRepeated`, `TransportReflected`); each time the next right one is answered.
-Of a changed `e` it can't know: the other party refuses its answer. A later transport message may come first. The same first message brings the same answer
-again, and no new keys.
+Nebula 1.6.1 does not answer to a cut first message (`MessageCut`), a changed `s` (`ClearKeyChanged`, by its
+certificate), nor to a transport message that is changed, cut, repeated or its own (`TransportChanged`, `TransportCut`,
+`TransportRepeated`, `TransportReflected`); each time the next right one is answered. Of a changed `e` it can't know:
+the other party refuses its answer. A later transport message may come first. The same first message brings the same
+answer again, and no new keys.
 """
 
 from __future__ import annotations
@@ -59,12 +61,15 @@ def field(name: int, value: int | bytes) -> bytes:
 
 
 def header(kind: int, subtype: int, index: int, counter: int) -> bytes:
-    """The first 16 bytes of a packet, which are the associated data of a transport message; the counter is its nonce."""
+    """The first 16 bytes of a packet, which are the associated data of a transport message; the counter is its
+    nonce."""
     return struct.pack(">BBHIQ", 1 << 4 | kind, subtype, 0, index, counter)
 
 
 def pem(path: str) -> bytes:
-    return base64.b64decode("".join(line for line in Path(path).read_text("ascii").split("\n") if not line.startswith("-")))
+    return base64.b64decode(
+        "".join(line for line in Path(path).read_text("ascii").split("\n") if not line.startswith("-"))
+    )
 
 
 class Peer:
@@ -77,7 +82,9 @@ class Peer:
         self.node.settimeout(WAIT)
         self.node.connect(("127.0.0.1", port))
         self.certificate, Peer.used = certificate, Peer.used + 1
-        self.handshake = Handshake(Config(pattern="IX", key=KeyPair.from_secret(pem(key)), accept_any_key=True), initiator=True)
+        self.handshake = Handshake(
+            Config(pattern="IX", key=KeyPair.from_secret(pem(key)), accept_any_key=True), initiator=True
+        )
         self.first = self.handshake.write(self.payload())
         self.send: CipherState
         self.index = 0
@@ -85,7 +92,10 @@ class Peer:
     def payload(self) -> bytes:
         """The certificate without its public key, which the message has."""
         parts = list(fields(pem(self.certificate)))
-        stripped = b"".join(field(1, b"".join(field(n, v) for n, v in fields(value) if n != 7)) if name == 1 else field(name, value) for name, value in parts)
+        stripped = b"".join(
+            field(1, b"".join(field(n, v) for n, v in fields(value) if n != 7)) if name == 1 else field(name, value)
+            for name, value in parts
+        )
         return field(1, field(1, stripped) + field(2, Peer.used) + field(5, time.time_ns()))
 
     def ask(self, packet: bytes, kind: tuple[int, int] = (TEST, REPLY)) -> bytes | None:
@@ -154,16 +164,21 @@ def transport(words: tuple[int, str, str]) -> Iterator[tuple[str, str]]:
     packet = peer.request()
     answer = peer.ask(packet)
     yield "FundamentalPattern", f"IX, and a test request: {said([answer])}"
-    yield "TransportRepeated", f"the same request again, then a new one: {said([peer.ask(packet), peer.ask(peer.request())])}"
+    answers = [peer.ask(packet), peer.ask(peer.request())]
+    yield "TransportRepeated", f"the same request again, then a new one: {said(answers)}"
     packet = peer.request()
-    yield "TransportChanged", f"the tag changed, then the right one: {said([peer.ask(flipped(packet, len(packet) - 1)), peer.ask(packet)])}"
+    answers = [peer.ask(flipped(packet, len(packet) - 1)), peer.ask(packet)]
+    yield "TransportChanged", f"the tag changed, then the right one: {said(answers)}"
     packet = peer.request()
-    yield "TransportCut", f"no tag, half a tag, then the right one: {said([peer.ask(packet[:16]), peer.ask(packet[:24]), peer.ask(packet)])}"
+    answers = [peer.ask(packet[:16]), peer.ask(packet[:24]), peer.ask(packet)]
+    yield "TransportCut", f"no tag, half a tag, then the right one: {said(answers)}"
     packet = peer.request()
-    yield "TransportByteAppended", f"a byte more, then the right one: {said([peer.ask(packet + bytes(1)), peer.ask(packet)])}"
+    answers = [peer.ask(packet + bytes(1)), peer.ask(packet)]
+    yield "TransportByteAppended", f"a byte more, then the right one: {said(answers)}"
     assert answer
     mirrored = header(TEST, REQUEST, peer.index, peer.send.nonce) + answer[16:]
-    yield "TransportReflected", f"its own message as a request, then a right one: {said([peer.ask(mirrored), peer.ask(peer.request())])}"
+    answers = [peer.ask(mirrored), peer.ask(peer.request())]
+    yield "TransportReflected", f"its own message as a request, then a right one: {said(answers)}"
     one, two = peer.request(), peer.request()
     yield "TransportReordered", f"the second request, then the first: {said([peer.ask(two), peer.ask(one)])}"
     lost = peer.request()

@@ -35,7 +35,8 @@ def pattern_of(setup: dict[str, Any]) -> HandshakePattern:
 
 
 class Party:
-    """One party. What dissononce raises where it refuses: its own exception of a tag, and Python's of values and of the order of calls."""
+    """One party. What dissononce raises where it refuses: its own exception of a tag, and Python's of values and of the
+    order of calls."""
 
     REFUSALS = (DecryptFailedException, ValueError, AssertionError)
 

@@ -9,7 +9,8 @@ from yulimosar import CipherState, Config, Handshake, KeyPair, NoiseError
 
 
 class Party:
-    """One party. `setup` is a group of the suite; its own keys are private ones, `rs` and `re` those of the other party's pre-message."""
+    """One party. `setup` is a group of the suite; its own keys are private ones, `rs` and `re` those of the other
+    party's pre-message."""
 
     REFUSALS = (NoiseError,)  # what your implementation raises where it refuses; anything else is reported as a crash
 

@@ -3,8 +3,9 @@
 
     runner.py PARTY SUITE.json [JUNIT.xml]
 
-PARTY is a module beside this file, as `party_yulimosar`, with a class `Party`: copy that file, and have it call your implementation. The report has a line for
-each flag, and says whether the flag is of a kind of cases or of a mistake; JUNIT.xml gets each test. The status is 0 if no test failed.
+PARTY is a module beside this file, as `party_yulimosar`, with a class `Party`: copy that file, and have it call your
+implementation. The report has a line for each flag, and says whether the flag is of a kind of cases or of a mistake;
+JUNIT.xml gets each test. The status is 0 if no test failed.
 """
 
 from __future__ import annotations
@@ -57,7 +58,9 @@ class Run:
 
     def call(self, party: Any, step: dict) -> bytes | None:
         if step["do"] == "write":
-            return party.write(data_of(step["payload"] if "payload" in step else self.group["messages"][step["message"]]["payload"]))
+            return party.write(
+                data_of(step["payload"] if "payload" in step else self.group["messages"][step["message"]]["payload"])
+            )
         if step["do"] == "read":
             return party.read(self.received(step))
         if step["do"] == "rekey":
@@ -103,7 +106,10 @@ class Run:
                 raise Failed(f"refused at {at}, in place of {step['at']}") from refusal
             return True
         if "refused" in step:
-            raise Failed(f"{step['do']} was accepted, and has to be refused: {step['refused']}" + (f" at {step['at']}" if "at" in step else ""))
+            raise Failed(
+                f"{step['do']} was accepted, and has to be refused: {step['refused']}"
+                + (f" at {step['at']}" if "at" in step else "")
+            )
         self.compare(step, got)
         return True
 
@@ -153,9 +159,18 @@ def text_report(rows: list[tuple[dict, str, str]], notes: dict[str, dict]) -> st
     counts = Counter((flag, what) for test, what, _ in rows for flag in test["flags"])
     flags = dict.fromkeys(flag for test, _, _ in rows for flag in test["flags"])
     lines = [f"{'flag':28} {'kind':7} {'passed':>7} {'failed':>7} {'not run':>7}"]
-    lines += [f"{it:28} {notes[it]['kind']:7} {counts[it, 'passed']:7} {counts[it, 'failed']:7} {counts[it, 'not run']:7}" for it in flags]
-    lines += [f"failed {test['tcId']} {test['pattern']} {','.join(test['flags'])}: {test['comment']}: {why}" for test, what, why in rows if what == "failed"]
-    lines += [f"not run {count}: {why}" for why, count in Counter(why for _, what, why in rows if what == "not run").items()]
+    lines += [
+        f"{it:28} {notes[it]['kind']:7} {counts[it, 'passed']:7} {counts[it, 'failed']:7} {counts[it, 'not run']:7}"
+        for it in flags
+    ]
+    lines += [
+        f"failed {test['tcId']} {test['pattern']} {','.join(test['flags'])}: {test['comment']}: {why}"
+        for test, what, why in rows
+        if what == "failed"
+    ]
+    lines += [
+        f"not run {count}: {why}" for why, count in Counter(why for _, what, why in rows if what == "not run").items()
+    ]
     total = Counter(what for _, what, _ in rows)
     return "\n".join([*lines, f"{total['passed']} passed, {total['failed']} failed, {total['not run']} not run"]) + "\n"
 
@@ -168,11 +183,17 @@ def junit_report(name: str, rows: list[tuple[dict, str, str]]) -> str:
     """JUnit's XML: a test case for each test, whose class is its first flag."""
     lines = []
     for test, what, why in rows:
-        inside = {"passed": "", "failed": f"<failure message={quoteattr(why)}/>", "not run": f"<skipped message={quoteattr(why)}/>"}[what]
+        inside = {
+            "passed": "", "failed": f"<failure message={quoteattr(why)}/>",
+            "not run": f"<skipped message={quoteattr(why)}/>",
+        }[what]
         names = f"classname={quoteattr(test['flags'][0])} name={quoteattr(name_of(test))}"
         lines.append(f"  <testcase {names}>{inside}</testcase>")
     total = Counter(what for _, what, _ in rows)
-    head = f"<testsuite name={quoteattr(name)} tests=\"{len(rows)}\" failures=\"{total['failed']}\" skipped=\"{total['not run']}\">"
+    head = (
+        f"<testsuite name={quoteattr(name)} tests=\"{len(rows)}\" failures=\"{total['failed']}\" "
+        f"skipped=\"{total['not run']}\">"
+    )
     return "\n".join(['<?xml version="1.0" encoding="UTF-8"?>', head, *lines, "</testsuite>"]) + "\n"
 
 
@@ -183,7 +204,11 @@ def main(words: list[str]) -> int:
     kind = importlib.import_module(words[0]).Party
     with open(words[1], encoding="ascii") as file:
         suite = json.load(file)
-    rows = [(test | {"pattern": pattern_name(group)}, *outcome(group, test, kind)) for group in suite["testGroups"] for test in group["tests"]]
+    rows = [
+        (test | {"pattern": pattern_name(group)}, *outcome(group, test, kind))
+        for group in suite["testGroups"]
+        for test in group["tests"]
+    ]
     sys.stdout.write(text_report(rows, suite["notes"]))
     if len(words) == 3:
         with open(words[2], "w", encoding="utf-8") as file:

@@ -2,12 +2,14 @@
 """Writes the vector files of this folder, each with one mistake that implementations of Noise make.
 
     make.py FOLDER              writes the files into FOLDER
-    make.py --log NAME ROLE     prints the log of a party of this role that makes the mistake NAME, in the format of `trace`
+    make.py --log NAME ROLE     prints the log of a party of this role that makes the mistake NAME, in the format of
+                                `trace`
     make.py --right NAME ROLE   prints the log of a party of the same role and keys that makes no mistake
     make.py --says NAME         prints a vector file of the same keys and payloads, in which both parties are right
 
-In each file one party is a `Party` with a mistake, whose frames come by `raw`, and the other is right. The `expect` lines are what the right `Party`
-writes and answers. This is an implementation of its own: it shares nothing with the code of `noise`. It needs python's `cryptography`.
+In each file one party is a `Party` with a mistake, whose frames come by `raw`, and the other is right. The `expect`
+lines are what the right `Party` writes and answers. This is an implementation of its own: it shares nothing with the
+code of `noise`. It needs python's `cryptography`.
 """
 
 from __future__ import annotations
@@ -46,7 +48,8 @@ PATTERNS = {
 
 
 class Mistake(NamedTuple):
-    """A mistake's file: the pattern, who makes the mistake, the refusal by hand, and how many transport messages and after how many a new key."""
+    """A mistake's file: the pattern, who makes the mistake, the refusal by hand, and how many transport messages and
+    after how many a new key."""
 
     pattern: str
     wrong: str
@@ -136,7 +139,9 @@ class Party:
     def write_log(self, token: str, piece: bytes = b"") -> None:
         """A line of the log: the words of `trace`, and `?` for its call and for where the bytes begin."""
         state = f"{self.hash.hex()} {self.chaining_key.hex()} {self.key.hex() or '-'} {self.nonce}"
-        self.log.append(f"trace {self.role} {self.passed or 'start'} {self.step} {token} ? ? {piece.hex() or '-'} {state}")
+        self.log.append(
+            f"trace {self.role} {self.passed or 'start'} {self.step} {token} ? ? {piece.hex() or '-'} {state}"
+        )
         self.step += 1
 
     def mix_hash(self, text: bytes) -> None:
@@ -281,7 +286,8 @@ def frame_of(message: bytes, mistake: str = "") -> str:
 
 
 class Run:
-    """A session between the party with a mistake and the right one: the events of the file and the lines that it expects."""
+    """A session between the party with a mistake and the right one: the events of the file and the lines that it
+    expects."""
 
     def __init__(self, name: str) -> None:
         self.name, self.mistake = name, MISTAKES[name]
@@ -382,7 +388,8 @@ class Run:
 
 
 def logged(name: str, role: str, is_right: bool = False) -> list[str]:
-    """The log of a party of this role, with this mistake or without it, in a handshake with a right party that goes on up to a refusal."""
+    """The log of a party of this role, with this mistake or without it, in a handshake with a right party that goes on
+    up to a refusal."""
     pattern = (MISTAKES | LOGGED)[name].pattern
     parties = {it: Party(it, pattern, name if it == role and not is_right else "") for it in ROLES}
     for number, tokens in enumerate(PATTERNS[pattern]):

@@ -1,6 +1,6 @@
-// How fast a channel over TCP moves bytes beside node:tls with ChaCha20-Poly1305: channel.mjs [ROUNDS] [BYTES OF A WRITE] [MEGABYTES]. A second process
-// reads. Both run in turn; a figure is the median over the rounds. The processor's time holds beside other work, too. It needs the command openssl,
-// which makes the certificate.
+// How fast a channel over TCP moves bytes beside node:tls with ChaCha20-Poly1305: channel.mjs [ROUNDS] [BYTES OF A
+// WRITE] [MEGABYTES]. A second process reads. Both run in turn; a figure is the median over the rounds. The processor's
+// time holds beside other work, too. It needs the command openssl, which makes the certificate.
 import { execFileSync, fork } from 'node:child_process';
 import { once } from 'node:events';
 import { mkdtempSync, readFileSync, rmSync } from 'node:fs';
@@ -59,7 +59,10 @@ const KINDS = {
   },
 };
 
-/** Sends so many writes, and gives megabytes a second, and microseconds of the processor for each write at the sender and at the reader. */
+/**
+ * Sends so many writes, and gives megabytes a second, and microseconds of the processor for each write at the sender
+ * and at the reader.
+ */
 async function sample(kind, port, reader, payload, writes) {
   const connection = await KINDS[kind](port);
   const came = once(reader, 'message');
@@ -83,7 +86,10 @@ function certificate() {
   const room = mkdtempSync(join(tmpdir(), 'speed-'));
   try {
     const [key, cert] = ['key', 'cert'].map((name) => join(room, name));
-    const words = ['req', '-x509', '-newkey', 'ec', '-pkeyopt', 'ec_paramgen_curve:P-256', '-nodes', '-subj', '/CN=localhost', '-days', '2', '-keyout', key, '-out', cert];
+    const words = [
+      'req', '-x509', '-newkey', 'ec', '-pkeyopt', 'ec_paramgen_curve:P-256', '-nodes', '-subj', '/CN=localhost',
+      '-days', '2', '-keyout', key, '-out', cert,
+    ];
     execFileSync('openssl', words, { stdio: 'ignore' });
     return [key, cert].map((name) => readFileSync(name, 'utf8'));
   } finally {

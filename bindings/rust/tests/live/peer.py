@@ -1,4 +1,5 @@
-"""One end over TCP, as examples/live/main.rs says: peer.py PATTERN OWN_SECRET PEER_KEY PSK ADDRESS ORDER SIZE, by dissononce."""
+"""One end over TCP, as examples/live/main.rs says: peer.py PATTERN OWN_SECRET PEER_KEY PSK ADDRESS ORDER SIZE, by
+dissononce."""
 
 import socket
 import struct

@@ -1,11 +1,13 @@
 #!/usr/bin/env python3
-"""Runs the ends of one package against each other and against other implementations, over TCP on 127.0.0.1: run.py WORD=PROGRAM.. -- WORD=PROGRAM.., the
-package's own first. WORD is a name, and PROGRAM a command that takes the words of examples/live/main.rs; its last word may be "async" or "websocket".
+"""Runs the ends of one package against each other and against other implementations, over TCP on 127.0.0.1: run.py
+WORD=PROGRAM.. -- WORD=PROGRAM.., the package's own first. WORD is a name, and PROGRAM a command that takes the words of
+examples/live/main.rs; its last word may be "async" or "websocket".
 
-Each pattern, in both roles, with 1 MB each way at once and both parties closing in each order. Then again with less bytes
-behind a relay that flips, cuts, repeats or drops one byte. What each side reports is compared with the theorem on streams: it has read the first of what
-the other has written; it reports an end only if the other has ended its stream and all of it came, and else a refused message or a cut; and after that it ends nothing.
-NOISE_LIVE=short takes for each pair of programs and pattern one order, another for the next, and fewer places of a fault.
+Each pattern, in both roles, with 1 MB each way at once and both parties closing in each order. Then again with less
+bytes behind a relay that flips, cuts, repeats or drops one byte. What each side reports is compared with the theorem on
+streams: it has read the first of what the other has written; it reports an end only if the other has ended its stream
+and all of it came, and else a refused message or a cut; and after that it ends nothing. NOISE_LIVE=short takes for each
+pair of programs and pattern one order, another for the next, and fewer places of a fault.
 """
 
 import concurrent.futures
@@ -122,7 +124,10 @@ class Report:
 
 def key():
     pair = X25519PrivateKey.generate()
-    return pair.private_bytes(RAW[0], serialization.PrivateFormat.Raw, serialization.NoEncryption()).hex(), pair.public_key().public_bytes(*RAW).hex()
+    return (
+        pair.private_bytes(RAW[0], serialization.PrivateFormat.Raw, serialization.NoEncryption()).hex(),
+        pair.public_key().public_bytes(*RAW).hex(),
+    )
 
 
 def pass_session(programs, pattern, orders, size, directions):
@@ -147,7 +152,8 @@ def pass_session(programs, pattern, orders, size, directions):
 
 
 def compare(reports, orders, size, directions, is_framed):
-    """Compares what the parties tell with the theorem on streams. A WebSocket has bytes that aren't the channel's: a fault there may damage nothing."""
+    """Compares what the parties tell with the theorem on streams. A WebSocket has bytes that aren't the channel's: a
+    fault there may damage nothing."""
     is_damaged = any(direction.is_struck for direction in directions)  # a byte after the end may reset the connection
     for index, own in enumerate(reports):
         other, came = reports[1 - index], directions[1 - index]
