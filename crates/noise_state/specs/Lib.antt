@@ -1,4 +1,5 @@
 pub mod Cipher
+pub mod Symmetric
 pub mod History
 pub mod Ciphertexts
 pub mod Standing
