@@ -1,5 +1,5 @@
-use Rattle.std.proofs.Common.{◌≡◌, [], get_or, length, refl, sym, ap, subst}
-use Rattle.noise_handshake.proofs.Common.{reader_of, StateMatches, keyed, IfOk, OnOk, Token, E, S, token_width, keying_of, keying_after}
+use Rattle.std.proofs.Common.{◌≡◌, ◌∙◌, [], get_or, length, refl, sym, ap, subst}
+use Rattle.noise_handshake.proofs.Common.{reader_of, SymmetricState, mix_key_and_hash, StateMatches, keyed, IfOk, OnOk, Token, E, S, token_width, keying_of, keying_after}
 use Rattle.noise_handshake.proofs.DhTokens.{none_taken}
 use Rattle.noise_handshake.proofs.Psks.{first_psk-read, psk-read, read-as, of_width}
 use Rattle.noise_handshake.proofs.reader.read_token.Goals as goal
@@ -9,7 +9,7 @@ returns-in-Psk-clause-read g c r s =
     psk-read StateMatches c.mix_key_and_hash.new.self
     (reader_of g.K.Keys.agreement c.args.means.now)
     c.args.known.now c.args.psks.now r c.args.placed.token c.args.message.now (get_or c.args.psks.now 0 [])
-    c.in-Psk.is (first_psk-read c.args.psks.now) (c.mix_key_and_hash.ensures.matches r s)
+    c.in-Psk.is (first_psk-read c.args.psks.now) (c.mix_key_and_hash.ensures ∙ ap (λ (z : SymmetricState). mix_key_and_hash z (get_or c.args.psks.now 0 [])) s)
 
 pub returns-in-None-clause-unchanged : goal.returns-in-None-clause-unchanged
 returns-in-None-clause-unchanged g c = refl

@@ -1,4 +1,4 @@
-use Rattle.std.proofs.Common.{◌≡◌, ap, subst, ◌∙◌}
+use Rattle.std.proofs.Common.{◌≡◌, [], ap, subst, ◌∙◌}
 use Rattle.std.specs.Prelude.{Bool, not}
 use Rattle.noise_handshake.proofs.Common.{has_psk, History, StateMatches, keyed}
 use Rattle.noise_names.specs.Names.{name_bytes}
@@ -12,7 +12,7 @@ returns-clause-matches c =
     let b : Bool = not c.is_plain-with_psks.result in
     let psks : b ≡ has_psk p = flips c.is_plain-with_psks.result (has_psk p) c.is_plain-with_psks.ensures in
     let named = c.deref.ensures.0 ∙ c.write-name.ensures.written ∙ ap name_bytes c.name.ensures in
-    let s1 = c.mix_prologue.ensures.mixed _ c.new-state.ensures.matches in
+    let s1 = c.mix_prologue.ensures.mixed (record { name = c.deref.result.now; entries = [] }) c.new-state.ensures in
     let s2 = c.mix_premessage.ensures.mixed _ s1 in
     let s3 = c.mix_premessage-2.ensures.mixed _ s2 in
     subst (λ (r : History). StateMatches c.mix_premessage-2.new.state r)
@@ -28,5 +28,5 @@ returns-clause-key c =
     let psks : b ≡ has_psk p = flips c.is_plain-with_psks.result (has_psk p) c.is_plain-with_psks.ensures in
     start-key p b c.pre-first.result.now c.pre-second.result.now psks c.pre-first.ensures.value c.pre-second.ensures.value
     (keyed c.mix_prologue.new.state) (keyed c.mix_premessage.new.state) (keyed c.mix_premessage-2.new.state)
-    (c.mix_prologue.ensures.key ∙ c.new-state.ensures.key)
+    (c.mix_prologue.ensures.key ∙ ap keyed c.new-state.ensures)
     c.mix_premessage.ensures.key c.mix_premessage-2.ensures.key c.pre-first.ensures.kinds c.pre-second.ensures.kinds
