@@ -1,6 +1,6 @@
 use Rattle.std.proofs.Common.{◌≡◌, ◌<◌, ◌≤◌, ◌^◌, ℕ, ◌+◌, ◌-◌, List, length, take, drop, slice_range, ap, sym, subst, ◌∙◌, arith, length-drop, rules, length-take, take_all, nat_lt, if◌then◌else◌}
 use Rattle.std.proofs.lemmas.Slice.{take-put_mid_below}
-use Rattle.noise_handshake.proofs.Common.{reader_of, SymmetricState, after_ciphertext, ciphertext_now, decrypts-not, nonce_now, take_rest, StateMatches, keyed, History, Ciphertext, and_then, ciphertext, nonce, after_tokens, Token, Reader, BeginsAs, StopsKnowing, tokens_of}
+use Rattle.noise_handshake.proofs.Common.{reader_of, SymmetricState, after_ciphertext, ciphertext_now, decrypts-not, nonce_now, take_rest, StateMatches, keyed, History, Ciphertext, and_then, ciphertext, after_tokens, Token, Reader, BeginsAs, StopsKnowing, tokens_of}
 use borrow.Rule.Slice.PartMut.{put_mid}
 use Rattle.noise_handshake.specs.declared.faults.Cause.TheVariants.{Short, Tag}
 use Rattle.noise_handshake.proofs.Counting.{nonces-most}
@@ -9,9 +9,6 @@ use Rattle.noise_handshake.proofs.Layouts.{length-tokens_of}
 use Rattle.noise_handshake.proofs.Apart.{reads-whole, knows-last}
 use Rattle.noise_handshake.proofs.Steps.{written-at, rest-at}
 use Rattle.noise_handshake.proofs.reader.read_message.Goals as goal
-
-pub read_tokens-requires-clause-placed : goal.read_tokens-requires-clause-placed
-read_tokens-requires-clause-placed g c = (0, omega arith, c.requires.placed)
 
 pub unreachable-requires : goal.unreachable-requires
 unreachable-requires g c = search (rules, nonces-most)
