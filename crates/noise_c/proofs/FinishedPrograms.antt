@@ -8,6 +8,7 @@ use Rattle.noise_names.specs.Tokens.{other, same_role}
 use Rattle.noise_names.specs.Plan.{is_one_way}
 use Rattle.noise_events.specs.declared.window.Window.{Window}
 use Rattle.noise_state.specs.History.{History, cipher_key}
+use Rattle.noise_state.specs.Standing.{key_now}
 use Rattle.noise_handshake.specs.Counterparts.{Counterparts}
 use Rattle.noise_session.specs.Datagrams.{DatagramSenderMatches, DatagramReceiverMatches, datagrams_of}
 use Rattle.noise_session.specs.Transport.{split_key}
@@ -166,7 +167,7 @@ finish-both met p g h t set_up set_up_too keys done done_too =
         some = omega (arith, all, done.some);
         passed = sym here.matches.passed ∙ all;
         passed_too = sym there.matches.passed ∙ done_too.passed p there.pattern;
-        keyed = keyed-as g.last.cipher (cipher_key v.history) done.keyed here.matches.history.key_is;
+        keyed = keyed-as g.last.cipher (cipher_key v.history) done.keyed (ap key_now here.matches.history);
       };
       handed_in = dh_results_in g.last;
       handed_in_too = dh_results_in h.last;

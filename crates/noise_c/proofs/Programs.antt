@@ -7,6 +7,7 @@ use Rattle.noise_names.specs.Tokens.{is_psk, other}
 use Rattle.noise_names.specs.Plan.{is_one_way}
 use Rattle.noise_names.specs.declared.token.Role.TheVariants.{Initiator, Responder}
 use Rattle.noise_state.specs.History.{History, hash}
+use Rattle.noise_state.specs.Standing.{hash_now}
 use Rattle.noise_handshake.specs.Party.{Listens}
 use Rattle.noise_handshake.specs.Counterparts.{Counterparts, StartAsCounterparts}
 use Rattle.noise_handshake.specs.declared.faults.ReadFault.TheVariants as read
@@ -374,9 +375,9 @@ module _ (laws : Laws) (reading : Reading) (showing : Showing)
         next_back = λ m more e ends next after results new code o.
             let n = both.next_back m more e in
             taken reading p g.secrets left.party g.last left.stands m n.0 n.1 ends next after results new code o;
-        hash = λ e. left.stands.keeps.matches.history.hash_is
+        hash = λ e. ap hash_now left.stands.keeps.matches.history
             ∙ ap (λ (z : Party). hash z.history) (sym (level e).there)
-            ∙ sym right.stands.keeps.matches.history.hash_is;
+            ∙ sym (ap hash_now right.stands.keeps.matches.history);
         halves = λ interval s r x y made made_too.
             let c = done-alike p g h m made.done made_too.done in
             let mine = made.stand p (with_dh_results left.party (dh_results_in g.last)) left.stands.keeps in

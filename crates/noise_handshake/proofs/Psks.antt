@@ -1,7 +1,7 @@
 -- Tokens and psks.
 use Rattle.std.proofs.Common.{rules, ◌≡◌, ℕ, List, [], ◌∷◌, ◌++◌, drop, get_or, refl, sym, subst}
 use Rattle.std.specs.Prelude.{is_some}
-use Rattle.noise_handshake.proofs.Common.{Result, MatchResult, IfOk, Token, History, MixKeyAndHash, and_then, cipher_key, Cause, Remote, token_bytes, after_token, Reader, Fits, known_after, first_psk, cause_of, Writer, Gives, Fails}
+use Rattle.noise_handshake.proofs.Common.{Result, MatchResult, Token, History, MixKeyAndHash, and_then, cipher_key, Cause, Remote, token_bytes, after_token, Reader, Fits, known_after, first_psk, cause_of, Fails}
 use Rattle.noise_names.specs.declared.token.Token.TheVariants.{Psk}
 
 pub first_psk-read : (psks : List (List ℕ)) → get_or psks 0 [] ≡ first_psk psks
@@ -30,13 +30,3 @@ pub read-as : {St : Type 0} (matches : St → History → Type 0) (state : St) (
     × (known2 ≡ known_after known u x))
     (λ cause. Fails v known psks r u m × (cause ≡ cause_of (is_some (cipher_key r)) u m))
 read-as matches state v known known2 psks r m result t u e h = search rules
-
-pub of_width : (result : Result ℕ Cause) (n m : ℕ) → n ≡ m → IfOk result (λ k. k ≡ n) → IfOk result (λ k. k ≡ m)
-of_width result n m e h = subst (λ (i : ℕ). IfOk result (λ k. k ≡ i)) e h
-
--- what a token is written as, at the token that it was written as
-pub written-as : {St : Type 0} (matches : St → History → Type 0) (state : St) (w : Writer) (known : Remote) (psks : List (List ℕ)) (r : History)
-    (out : List ℕ) (t u : Token) → u ≡ t
-    → (x : List ℕ) × Gives w known psks t x × (out ≡ token_bytes r t x) × matches state (after_token w.has_psks r t x)
-    → (x : List ℕ) × Gives w known psks u x × (out ≡ token_bytes r u x) × matches state (after_token w.has_psks r u x)
-written-as matches state w known psks r out t u e h = search rules

@@ -1,10 +1,8 @@
--- What a pattern asks of a setup: how many psks, and whether there is a key after a pre-message.
+-- What a pattern asks of a setup: how many psks.
 use Rattle.std.proofs.Common.{rules, ◌≡◌, ℕ, zero, suc, ◌+◌, ◌<◌, ◌≤◌, List, [], ◌∷◌, length, drop, cond, eqb, refl, ap, ◌∙◌, arith}
 use Rattle.std.specs.Prelude.{Bool, true, false}
-use Rattle.noise_handshake.proofs.Common.{◌||◌, ◌&&◌, IsTrue, nat_le, count_by, list_any, nat_tests, and_parts, leb-true, sum_by-append, Token, E, S, Ee, Es, Se, Ss, is_psk, same_token, own_tokens, Plan, IsPattern, HavePsksAt, psk_if, with_psk_tokens, is_pre_message, keyed_after_tokens, psks_of}
+use Rattle.noise_handshake.proofs.Common.{nat_le, count_by, list_any, nat_tests, and_parts, leb-true, sum_by-append, Token, E, S, Ee, Es, Se, Ss, is_psk, own_tokens, Plan, IsPattern, HavePsksAt, psk_if, with_psk_tokens, psks_of}
 use Rattle.noise_names.specs.declared.token.Token.TheVariants.{Psk}
-
--- ---- psks
 
 no_psk_among : (ts : List Token) → count_by is_psk (own_tokens ts) ≡ 0
 no_psk_among [] = refl
@@ -62,26 +60,3 @@ later-take-less (suc n) (ts ∷ ms) = omega (arith, later-take-less n ms)
 -- and no more where some messages have passed
 pub few-left : (p : Plan) (n : ℕ) → IsPattern p → psks_of (drop n p.messages) ≤ 9
 few-left p n h = omega (arith, later-take-less n p.messages, few-psks p h)
-
--- ---- the key after a pre-message
-
-none : (has_psks k : Bool) → (k || (has_psks && false)) ≡ k
-none true true = refl
-none true false = refl
-none false true = refl
-none false false = refl
-
-some : (has_psks k : Bool) → (k || (has_psks && true)) ≡ (has_psks || k)
-some true true = refl
-some true false = refl
-some false true = refl
-some false false = refl
-
--- in a psk pattern an e gives one
-pub pre-keyed : (has_psks k : Bool) (ts : List Token) → IsTrue (is_pre_message ts)
-    → (k || (has_psks && list_any (λ t. same_token t E) ts)) ≡ keyed_after_tokens has_psks k ts
-pre-keyed has_psks k [] h = none has_psks k
-pre-keyed has_psks k (E ∷ []) h = some has_psks k
-pre-keyed has_psks k (S ∷ []) h = none has_psks k
-pre-keyed has_psks k (E ∷ S ∷ []) h = some has_psks k
-pre-keyed has_psks k _ h = cc

@@ -1,7 +1,7 @@
 -- A static key in a message.
 use Rattle.std.proofs.Common.{◌≡◌, ℕ, ◌+◌, ◌<◌, ◌≤◌, List, ◌++◌, length, take, refl, ap, sym, ◌∙◌, arith, rules, length-append}
 use Rattle.std.specs.Prelude.{Bool, true, false, is_some, if◌then◌else◌, nat_lt}
-use Rattle.noise_handshake.proofs.Common.{take-append_seam, History, cipher_key, ciphertext, length-ciphertext, S, StateMatches, keyed, keyed-is, SymmetricState, tag_width, token_width, width_of_key}
+use Rattle.noise_handshake.proofs.Common.{take-append_seam, History, cipher_key, ciphertext, length-ciphertext, S, StateMatches, keyed, SymmetricState, tag_width, token_width, width_of_key}
 use Rattle.noise_handshake.specs.declared.faults.Cause.TheVariants.{Short, Tag}
 
 key_width : (k : Bool) → 32 + tag_width k ≡ (if k then 48 else 32)
@@ -10,7 +10,7 @@ key_width false = refl
 
 -- how wide a static key is, by the state
 pub width-is : (s : SymmetricState) (r : History) (n : ℕ) → StateMatches s r → n ≡ token_width (keyed s) S → n ≡ width_of_key r
-width-is s r n h e = e ∙ ap (λ (k : Bool). 32 + tag_width k) (keyed-is s r h) ∙ key_width (is_some (cipher_key r))
+width-is s r n h e = e ∙ ap (λ (k : Bool). 32 + tag_width k) (ap keyed h) ∙ key_width (is_some (cipher_key r))
 
 wide : (k : Bool) (n : ℕ) → n ≡ 32 → (if k then n + 16 else n) ≡ (if k then 48 else 32)
 wide true n e = omega arith

@@ -1,7 +1,7 @@
 -- The steps of reading, as the code's values have them.
-use Rattle.std.proofs.Common.{rules, ◌≡◌, ℕ, suc, ◌+◌, ◌-◌, ◌<◌, ◌≤◌, List, [], ◌∷◌, ◌++◌, length, take, drop, ap, sym, subst, ◌∙◌, arith, drop-drop, length-take, length-drop, append-nil}
+use Rattle.std.proofs.Common.{rules, ◌≡◌, ℕ, suc, ◌+◌, ◌-◌, ◌<◌, ◌≤◌, List, ◌∷◌, ◌++◌, length, take, drop, ap, sym, subst, ◌∙◌, arith, drop-drop, length-take, length-drop, append-nil}
 use Rattle.std.specs.Prelude.{is_some}
-use Rattle.noise_handshake.proofs.Common.{take-append-le, drop_at, length-take-le, nil_from_length, drop-append_seam, Token, History, cipher_key, Remote, Cause, StateMatches, SymmetricState, token_bytes, after_token, after_tokens, Reader, Fits, BeginsAs, known_after, psks_after, remote_after, cause_of, Fails, StopsKnowing}
+use Rattle.noise_handshake.proofs.Common.{take-append-le, drop_at, length-take-le, nil_from_length, drop-append_seam, Token, History, cipher_key, Remote, Cause, token_bytes, after_token, Reader, Fits, BeginsAs, known_after, psks_after, remote_after, cause_of, Fails, StopsKnowing}
 use borrow.Rule.Slice.PartMut.{put_mid}
 use Rattle.noise_handshake.proofs.Apart.{leads-more, stops-later}
 
@@ -63,9 +63,3 @@ module _ (v : Reader) (known known2 : Remote) (psks secrets2 : List (List ℕ)) 
       let l5 = subst (λ (us : List Token). StopsKnowing v known psks r us m (suc k) cause here) (sym split) l4 in
       let next : suc k ≡ k + 1 = omega arith in
       subst (λ (i : ℕ). StopsKnowing v known psks r tokens m i cause here) next l5
-
--- no tokens
-pub led-none : (v : Reader) (known : Remote) (psks : List (List ℕ)) (r : History) (tokens : List Token) (m : List ℕ) (state : SymmetricState)
-    → tokens ≡ [] → StateMatches state r
-    → (xs : List (List ℕ)) × BeginsAs v known psks r tokens xs m m × StateMatches state (after_tokens v.has_psks r tokens xs) × (known ≡ remote_after known tokens xs)
-led-none v known psks r tokens m state e s = search rules

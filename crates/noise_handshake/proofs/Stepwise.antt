@@ -1,9 +1,8 @@
 -- What a message's tokens ask and leave, reported of its first token and of those after it.
-use Rattle.std.proofs.Common.{rules, ◌≡◌, ℕ, suc, ◌+◌, ◌-◌, ◌^◌, ◌<◌, ◌≤◌, List, [], ◌∷◌, length, take, sym, ap, subst, ◌∙◌, arith}
+use Rattle.std.proofs.Common.{rules, ◌≡◌, ℕ, suc, ◌<◌, ◌≤◌, List, [], ◌∷◌, length, take, sym, ap, subst, ◌∙◌, arith}
 use Rattle.std.specs.Prelude.{Bool}
-use Rattle.noise_handshake.proofs.Common.{and_parts, IsTrue, count_by, Token, E, S, Ee, Es, Se, Ss, is_psk, keyed_after, keyed_after_tokens, token_width, tokens_width, Remote, Writer, Gives, Given, LacksDhResultAt, nonce_after, list_all, psks_after, other_psks}
+use Rattle.noise_handshake.proofs.Common.{and_parts, IsTrue, count_by, Token, E, S, Ee, Es, Se, Ss, is_psk, Remote, Writer, Gives, Given, LacksDhResultAt, list_all, psks_after, other_psks}
 use Rattle.noise_names.specs.declared.token.Token.TheVariants.{Psk}
-use Rattle.noise_handshake.proofs.Counting.{nonce-most}
 use Rattle.noise_handshake.proofs.Later.{one-more}
 
 left-psk : (ts : List Token) (psks : List (List ℕ)) → count_by is_psk (Psk ∷ ts) ≤ length psks → count_by is_psk ts ≤ length (other_psks psks)
@@ -21,36 +20,12 @@ left-after Se ts psks h = h
 left-after Ss ts psks h = h
 
 module _ (tokens ts : List Token) (t : Token) (split : tokens ≡ t ∷ ts) where
-  pub keyed-on : (has_psks key key2 key3 : Bool) → key2 ≡ keyed_after has_psks key t → key3 ≡ keyed_after_tokens has_psks key2 ts
-      → key3 ≡ keyed_after_tokens has_psks key tokens
-  keyed-on has_psks key key2 key3 e f = search
-
-  pub some-token : 0 < length tokens
-  some-token = omega (arith, ap length split)
-
-  pub one-later : (k : ℕ) → k < length ts → k + 1 < length tokens
-  one-later k h = omega (arith, h, ap length split)
-
-  pub nonce-left : (n : ℕ) → n + length tokens < 2 ^ 64 - 1 → n < 2 ^ 64 - 1
-  nonce-left n h = omega (arith, h)
-
   pub psk-due : (n : ℕ) → count_by is_psk tokens ≤ n → t ≡ Psk → 0 < n
   psk-due n h e =
       let at : tokens ≡ Psk ∷ ts = split ∙ ap (λ (u : Token). u ∷ ts) e in
       let due : count_by is_psk (Psk ∷ ts) ≤ n = subst (λ (us : List Token). count_by is_psk us ≤ n) at h in
       let one : count_by is_psk (Psk ∷ ts) ≡ suc (count_by is_psk ts) = one-more ts in
       omega (arith, due, one)
-
-  -- its place in what is counted on the way
-  pub place-fits : (n k : ℕ) → n + length tokens < 2 ^ 64 - 1 → k < length ts → k + 1 < 2 ^ 64
-  place-fits n k h j = omega (arith, h, j, ap length split)
-
-  pub room-first : (has_psks key : Bool) (room : ℕ) → tokens_width has_psks key tokens ≤ room → token_width key t ≤ room
-  room-first has_psks key room h = search rules
-
-  pub room-later : (has_psks key key2 : Bool) (room n : ℕ) → tokens_width has_psks key tokens ≤ room → n ≡ token_width key t → key2 ≡ keyed_after has_psks key t
-      → n + tokens_width has_psks key2 ts ≤ room
-  room-later has_psks key key2 room n h e f = search rules
 
   -- the first is a DH without a result
   pub lacks-first : (w : Writer) (known : Remote) (psks : List (List ℕ)) → ((x : List ℕ) → Gives w known psks t x → ⊥)
@@ -80,11 +55,3 @@ module _ (tokens ts : List Token) (t : Token) (split : tokens ≡ t ∷ ts) wher
   pub psks-later : (psks others : List (List ℕ)) → others ≡ psks_after psks t → count_by is_psk tokens ≤ length psks
       → count_by is_psk ts ≤ length others
   psks-later psks others e h = search (rules, left-after)
-
-  pub nonces-later : (has_psks key : Bool) (n n2 : ℕ) → n2 ≡ nonce_after has_psks key n t → n + length tokens < 2 ^ 64 - 1
-      → n2 + length ts < 2 ^ 64 - 1
-  nonces-later has_psks key n n2 e h = omega (arith, e, nonce-most has_psks key n t, h, ap length split)
-
--- with no tokens
-pub none-after : (n m : ℕ) → n ≤ m → n + 0 ≤ m
-none-after n m h = omega (arith, h)

@@ -7,7 +7,8 @@ ghost use Rattle.noise_names.specs.Tokens.{same_role, same_token};
 ghost use Rattle.noise_names.specs.Overhead.{has_key};
 ghost use Rattle.noise_names.specs.declared.token.Token.TheVariants.{E, S};
 ghost use Rattle.noise_state.specs.Standing.{StateMatches, keyed, nonce_now};
-ghost use Rattle.noise_state.specs.History.{History, MixHash, and_then};
+ghost use Rattle.noise_state.specs.Symmetric.{mix_hash};
+ghost use Rattle.noise_state.specs.History.{History};
 ghost use Rattle.noise_handshake.specs.Party.{with_premessage};
 ghost use Rattle.noise_handshake.specs.Setup.{token_of, psks_of, setup_fault, public_keys, keys_of, lacks_own, start_of};
 ghost use Rattle.noise_handshake.specs.inner.PreMessage.{HasPre};
@@ -98,8 +99,6 @@ pub(crate) fn mix_premessage(
 )
     requires e { list_any (λ t. same_token t (token_of Own.Ephemeral)) tokens.now ≡ true → is_some keys.now.e ≡ true }
     requires s { list_any (λ t. same_token t (token_of Own.Static)) tokens.now ≡ true → is_some keys.now.s ≡ true }
-    ensures key { keyed state.new ≡ keyed state.old
-        || (has_psks && list_any (λ t. same_token t (token_of Own.Ephemeral)) tokens.now) }
     ensures nonce { nonce_now state.new ≤ nonce_now state.old }
     ensures mixed { (r : History) → StateMatches state.old r
         → StateMatches state.new (with_premessage has_psks keys.now tokens.now r) }
@@ -118,10 +117,7 @@ pub(crate) fn mix_premessage(
 
 // Mixes the prologue, an empty one too.
 fn mix_prologue(state: &mut SymmetricState, prologue: &[u8])
-    ensures key { keyed state.new ≡ keyed state.old }
-    ensures nonce { nonce_now state.new ≡ nonce_now state.old }
-    ensures mixed { (r : History) → StateMatches state.old r
-        → StateMatches state.new (and_then r (MixHash prologue.now)) }
+    ensures { state.new ≡ mix_hash state.old prologue.now }
 {
     state.mix_hash(prologue);
 }

@@ -1,8 +1,8 @@
 //! SymmetricState (Noise 5.2): the chaining key, the handshake hash and the cipher state.
 
-ghost use Rattle.std.specs.Prelude.{◌≡◌, ◌≤◌, ◌<◌, ◌-◌, ◌+◌, ◌^◌, ◌++◌, ◌↔◌, ℕ, List, [], length, take, drop, is_some, true, false, IsOk, IsSome, IfOk, IfErr, OnOk, OnErr, Some};
+ghost use Rattle.std.specs.Prelude.{◌≡◌, ◌≤◌, ◌++◌, length};
 ghost use Rattle.sha2.specs.Sha256.{sha256};
-ghost use Rattle.noise_state.specs.History.{History, MixHash, Ciphertext, MixKey, MixKeyAndHash, and_then, ciphertext, ciphertext_under, cipher_key, nonce, hash, start_value, initiator_key, responder_key};
+ghost use Rattle.noise_state.specs.Symmetric.{start_value};
 
 use crate::cipher::{CipherFault, CipherState};
 use noise_kdf::{expand2, expand3};
@@ -43,8 +43,8 @@ pub struct StateParts {
     pub nonce: u64,
 }
 
-/// The state of a handshake's key schedule (Noise 5.2). It matches a history: the protocol name,
-/// and what was mixed and encrypted since.
+/// The state of a handshake's key schedule (Noise 5.2). Each call makes of it what the definition
+/// of the call's name says of the state before.
 ///
 /// It can't be copied, but for the trial of a message (`for_trial`).
 #[derive(Drop)]
@@ -55,14 +55,13 @@ pub struct SymmetricState {
 }
 
 impl SymmetricState {
-    ghost use Rattle.noise_state.specs.Standing.{StateMatches, keyed, key_now, nonce_now, hash_now, state_of};
-    ghost use Rattle.noise_state.specs.Cipher.{key_in, nonce_in, sealed_len, next_nonce, HasNonce, EncryptRefused, DecryptRefused};
+    ghost use Rattle.noise_state.specs.Symmetric.{initialize, mix_hash, mix_key, mix_key_and_hash, EncryptsAndHashes, DecryptsAndHashes, split};
+    ghost use Rattle.noise_state.specs.Standing.{keyed, hash_now, state_of};
+    ghost use Rattle.noise_state.specs.Cipher.{sealed_len};
 
     /// The state of a protocol name, with nothing mixed and no key (InitializeSymmetric).
     pub fn new(name: &[u8]) -> SymmetricState
-        ensures matches { StateMatches result (record { name = name.now; entries = [] }) }
-        ensures key { keyed result ≡ false }
-        ensures nonce { nonce_now result ≡ 0 }
+        ensures { result ≡ initialize name.now }
     {
         let hash = first_hash(name);
         SymmetricState {
@@ -124,10 +123,7 @@ impl SymmetricState {
 
     /// Mixes a key input, as a DH result, into the chaining key, and takes a new key (MixKey).
     pub fn mix_key(&mut self, input: &[u8; 32])
-        ensures matches { (r : History) → StateMatches self.old r
-            → StateMatches self.new (and_then r (MixKey input.now)) }
-        ensures key { keyed self.new ≡ true }
-        ensures nonce { nonce_now self.new ≡ 0 }
+        ensures { self.new ≡ mix_key self.old input.now }
     {
         let (chaining_key, cipher_key) = expand2(&self.chaining_key, input);
         self.chaining_key = chaining_key;
@@ -136,10 +132,7 @@ impl SymmetricState {
 
     /// Mixes a text into the hash (MixHash).
     pub fn mix_hash(&mut self, text: &[u8])
-        ensures matches { (r : History) → StateMatches self.old r
-            → StateMatches self.new (and_then r (MixHash text.now)) }
-        ensures key { keyed self.new ≡ keyed self.old }
-        ensures nonce { nonce_now self.new ≡ nonce_now self.old }
+        ensures { self.new ≡ mix_hash self.old text.now }
     {
         self.hash = hash_of_both(&self.hash, text);
     }
@@ -147,10 +140,7 @@ impl SymmetricState {
     /// Mixes a key input, as a pre-shared key, into the chaining key and the hash, and takes a
     /// new key (MixKeyAndHash).
     pub fn mix_key_and_hash(&mut self, input: &[u8; 32])
-        ensures matches { (r : History) → StateMatches self.old r
-            → StateMatches self.new (and_then r (MixKeyAndHash input.now)) }
-        ensures key { keyed self.new ≡ true }
-        ensures nonce { nonce_now self.new ≡ 0 }
+        ensures { self.new ≡ mix_key_and_hash self.old input.now }
     {
         let (chaining_key, text, key) = expand3(&self.chaining_key, input);
         self.chaining_key = chaining_key;
@@ -167,21 +157,7 @@ impl SymmetricState {
     pub fn encrypt_and_hash(&mut self, buf: &mut [u8], len: usize) -> Result<usize, CipherFault>
         requires { sealed_len (keyed self.old) len ≤ 65535
             → sealed_len (keyed self.old) len ≤ length buf.old }
-        ensures ready { IsOk result ↔ (HasNonce (keyed self.old) (nonce_now self.old)
-            × (sealed_len (keyed self.old) len ≤ 65535)) }
-        ensures refused { IfErr result (λ fault.
-            EncryptRefused (keyed self.old) (nonce_now self.old) len fault) }
-        ensures range { IfOk result (λ n.
-            (n ≡ sealed_len (keyed self.old) len) × (n ≤ length buf.new)) }
-        ensures ok { (r : History) → StateMatches self.old r → IfOk result (λ n.
-            (take n buf.new ≡ ciphertext r (take len buf.old))
-            × StateMatches self.new (and_then r (Ciphertext (ciphertext r (take len buf.old))))) }
-        ensures beyond { IfOk result (λ n. drop n buf.new ≡ drop n buf.old) }
-        ensures unchanged { OnErr result (buf.new ≡ buf.old) }
-        ensures state { OnErr result (self.new ≡ self.old) }
-        ensures key { keyed self.new ≡ keyed self.old }
-        ensures counted { OnOk result (
-            nonce_now self.new ≡ next_nonce (keyed self.old) (nonce_now self.old)) }
+        ensures { EncryptsAndHashes self.old len buf.old result self.new buf.new }
     {
         let sent = self.cipher.encrypt(&self.hash, buf, len)?;
         self.hash = hash_of_both(&self.hash, &buf[..sent]);
@@ -194,23 +170,7 @@ impl SymmetricState {
     ///
     /// At an `Err` nothing has changed.
     pub fn decrypt_and_hash(&mut self, buf: &mut [u8]) -> Result<usize, CipherFault>
-        ensures success { IsOk result ↔ (HasNonce (keyed self.old) (nonce_now self.old)
-            × (length buf.old ≤ 65535) × ((plain : List ℕ)
-            × (buf.old ≡ ciphertext_under (key_now self.old) (nonce_now self.old) (hash_now self.old) plain))) }
-        ensures accepts { (r : History) → StateMatches self.old r → IsOk result ↔ (
-            (nonce r < 2 ^ 64 - 1) × (length buf.old ≤ 65535)
-            × ((plain : List ℕ) × (buf.old ≡ ciphertext r plain))) }
-        ensures refused { IfErr result (λ fault.
-            DecryptRefused (keyed self.old) (nonce_now self.old) (length buf.old) fault) }
-        ensures text { IfOk result (λ n. sealed_len (keyed self.old) n ≡ length buf.old) }
-        ensures ok { (r : History) → StateMatches self.old r → IfOk result (λ n.
-            (buf.old ≡ ciphertext r (take n buf.new)) × StateMatches self.new (and_then r (Ciphertext buf.old))) }
-        ensures beyond { IfOk result (λ n. drop n buf.new ≡ drop n buf.old) }
-        ensures unchanged { OnErr result (buf.new ≡ buf.old) }
-        ensures state { OnErr result (self.new ≡ self.old) }
-        ensures key { keyed self.new ≡ keyed self.old }
-        ensures counted { OnOk result (
-            nonce_now self.new ≡ next_nonce (keyed self.old) (nonce_now self.old)) }
+        ensures { DecryptsAndHashes self.old buf.old result self.new buf.new }
     {
         if let Some(fault) = self.cipher.decrypt_fault(buf.len()) {
             return Err(fault);
@@ -224,16 +184,14 @@ impl SymmetricState {
     /// Whether its cipher state has a key (HasKey, Noise 5.1), as it has once a key input was mixed
     /// (5.2).
     pub fn has_key(&self) -> bool
-        ensures matches { (r : History) → StateMatches self.now r
-            → result ≡ is_some (cipher_key r) }
-        ensures key { result ≡ keyed self.now }
+        ensures { result ≡ keyed self.now }
     {
         self.cipher.has_key()
     }
 
     /// The handshake hash (GetHandshakeHash, Noise 11.2).
     pub fn hash(&self) -> [u8; 32]
-        ensures { (r : History) → StateMatches self.now r → result ≡ hash r }
+        ensures { result ≡ hash_now self.now }
     {
         self.hash
     }
@@ -242,12 +200,7 @@ impl SymmetricState {
     /// a key at nonce 0 (Split). The symmetric state is gone then: a second pair would have the same
     /// keys, and encrypt at the same nonces.
     pub fn split(self) -> (CipherState, CipherState)
-        ensures initiator { (r : History) → StateMatches self r
-            → key_in result.0 ≡ Some (initiator_key r) }
-        ensures responder { (r : History) → StateMatches self r
-            → key_in result.1 ≡ Some (responder_key r) }
-        ensures keys { IsSome (key_in result.0) × IsSome (key_in result.1) }
-        ensures nonces { (nonce_in result.0 ≡ 0) × (nonce_in result.1 ≡ 0) }
+        ensures { result ≡ split self }
     {
         let (initiator, responder) = expand2(&self.chaining_key, &[]);
         (

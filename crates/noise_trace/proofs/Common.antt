@@ -16,6 +16,7 @@ pub use Rattle.noise_names.specs.declared.token.Token.{Token}
 pub use Rattle.noise_names.specs.declared.token.Token.TheVariants.{E, Ee, Es, Psk, S, Se, Ss}
 pub use Rattle.noise_session.specs.Ends.{EndState}
 pub use Rattle.noise_state.specs.History.{Ciphertext, History, MixHash, and_then, cipher_key, ciphertext, rekeyed_times}
+pub use Rattle.noise_state.specs.Symmetric.{after_ciphertext, ciphertext_now, mix_hash}
 pub use Rattle.noise_state.specs.Standing.{StateMatches, keyed, nonce_now}
 pub use Rattle.noise_state.specs.declared.symmetric.SymmetricState.{SymmetricState}
 pub use Rattle.noise_trace.specs.Following.{Followed, Follows}

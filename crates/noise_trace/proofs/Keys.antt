@@ -16,9 +16,10 @@ wide false n e = sym e
 pub width-key : (r : History) (x : List ℕ) (k : Bool) → k ≡ is_some (cipher_key r) → length x ≡ 32 → (if k then 48 else 32) ≡ length (ciphertext r x)
 width-key r x k e h = wide k (length x) h ∙ ap (λ (b : Bool). sealed_len b (length x)) e ∙ sym (length-ciphertext r x)
 
-pub under : (k : Bool) (n : ℕ) → n ≤ sealed_len k n
-under true n = omega arith
-under false n = omega arith
+-- it fits in a message
+pub key-fits : (k : Bool) → sealed_len k 32 ≤ 65535
+key-fits true = omega arith
+key-fits false = omega arith
 
 -- what was opened is the key
 pub opened-is : (r : History) (x old new : List ℕ) (n : ℕ) → length x ≡ 32 → old ≡ ciphertext r x → old ≡ ciphertext r (take n new) → n ≤ length new

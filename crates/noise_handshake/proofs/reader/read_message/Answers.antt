@@ -1,6 +1,6 @@
 use Rattle.std.proofs.Common.{◌≡◌, ◌<◌, ◌≤◌, ◌^◌, ℕ, ◌+◌, ◌-◌, List, length, take, drop, slice_range, ap, sym, subst, ◌∙◌, arith, length-drop, rules, length-take, take_all, nat_lt, if◌then◌else◌}
 use Rattle.std.proofs.lemmas.Slice.{take-put_mid_below}
-use Rattle.noise_handshake.proofs.Common.{reader_of, take_rest, StateMatches, keyed, History, Ciphertext, and_then, ciphertext, nonce, after_tokens, Token, Reader, BeginsAs, StopsKnowing, tokens_of}
+use Rattle.noise_handshake.proofs.Common.{reader_of, SymmetricState, after_ciphertext, ciphertext_now, decrypts-not, nonce_now, take_rest, StateMatches, keyed, History, Ciphertext, and_then, ciphertext, after_tokens, Token, Reader, BeginsAs, StopsKnowing, tokens_of}
 use borrow.Rule.Slice.PartMut.{put_mid}
 use Rattle.noise_handshake.specs.declared.faults.Cause.TheVariants.{Short, Tag}
 use Rattle.noise_handshake.proofs.Counting.{nonces-most}
@@ -9,9 +9,6 @@ use Rattle.noise_handshake.proofs.Layouts.{length-tokens_of}
 use Rattle.noise_handshake.proofs.Apart.{reads-whole, knows-last}
 use Rattle.noise_handshake.proofs.Steps.{written-at, rest-at}
 use Rattle.noise_handshake.proofs.reader.read_message.Goals as goal
-
-pub read_tokens-requires-clause-placed : goal.read_tokens-requires-clause-placed
-read_tokens-requires-clause-placed g c = (0, omega arith, c.requires.placed)
 
 pub unreachable-requires : goal.unreachable-requires
 unreachable-requires g c = search (rules, nonces-most)
@@ -32,14 +29,15 @@ returns-in-Ok-decrypt_and_hash-clause-read g c r s =
     let i1 : BeginsAs v c.args.known.now c.args.psks.now r (tokens_of c.args.placed.now) start.0 m (drop n m) =
     subst (λ (k : ℕ). BeginsAs v c.args.known.now c.args.psks.now r (tokens_of c.args.placed.now) start.0 m (drop k m)) none start.1 in
     let after : History = after_tokens c.args.means.now.has_psks r (tokens_of c.args.placed.now) start.0 in
-    let d = c.in-Ok-decrypt_and_hash.ensures.ok after start.2 in
     let goes : take (length m - n) (drop n m) ≡ drop n m = take_all (length m - n) (drop n m) (omega (arith, length-drop n m)) in
     let q : payload ≡ take len new = written-at m new _ n len (omega (arith, c.in-Ok.ensures.within))
-    (omega (arith, sealed_len-tag (keyed c.read_tokens.new.state) len, c.in-Ok-decrypt_and_hash.ensures.text)) in
-    let e : take (length m - n) (drop n m) ≡ ciphertext after payload = d.0 ∙ ap (ciphertext after) (sym q) in (
+    (omega (arith, sealed_len-tag (keyed c.read_tokens.new.state) len, c.in-Ok-decrypt_and_hash.ensures.2)) in
+    let e : take (length m - n) (drop n m) ≡ ciphertext after payload =
+    c.in-Ok-decrypt_and_hash.ensures.4 ∙ ap (λ (z : SymmetricState). ciphertext_now z (take len new)) start.2 ∙ ap (ciphertext after) (sym q) in (
       start.0,
       reads-whole v c.args.known.now c.args.psks.now r (tokens_of c.args.placed.now) m start.0 (drop n m) payload i1 (sym goes ∙ e),
-      subst (λ (k : List ℕ). StateMatches c.decrypt_and_hash.new.self (and_then after (Ciphertext k))) e d.1,
+      subst (λ (k : List ℕ). StateMatches c.decrypt_and_hash.new.self (and_then after (Ciphertext k))) e
+          (c.in-Ok-decrypt_and_hash.ensures.6 ∙ ap (λ (z : SymmetricState). after_ciphertext z (take (length m - n) (drop n m))) start.2),
       start.3,
     )
 
@@ -56,14 +54,15 @@ returns-in-Err-Short-clause-read g c r s =
     let i1 : BeginsAs v c.args.known.now c.args.psks.now r (tokens_of c.args.placed.now) start.0 m (drop n m) =
     subst (λ (k : ℕ). BeginsAs v c.args.known.now c.args.psks.now r (tokens_of c.args.placed.now) start.0 m (drop k m)) none start.1 in
     let after : History = after_tokens c.args.means.now.has_psks r (tokens_of c.args.placed.now) start.0 in
-    let nonces : nonce after < 2 ^ 64 - 1 = search rules in
+    let nonces : nonce_now c.read_tokens.new.state < 2 ^ 64 - 1 = search (rules, nonces-most) in
     let fits : length (take (length m - n) (drop n m)) ≤ 65535 = omega (arith, length-drop n m, length-take (length m - n) (drop n m)) in
     let goes : take (length m - n) (drop n m) ≡ drop n m = take_all (length m - n) (drop n m) (omega (arith, length-drop n m)) in
     let ts : List Token = tokens_of c.args.placed.now in
     subst (λ (k : ℕ). StopsKnowing v c.args.known.now c.args.psks.now r ts m k c.end_cause.result c.read_tokens.new.known)
     (length-tokens_of c.args.placed.now)
     (knows-last v c.args.known.now c.read_tokens.new.known c.args.psks.now r ts m start.0 (drop n m) c.end_cause.result i1
-    (λ payload e. let reported = (c.in-Err-Short.ensures.accepts after start.2).1 (nonces, fits, (payload, goes ∙ e)) in cc)
+    (λ payload e. decrypts-not c.read_tokens.new.state c.decrypt_and_hash.new.self (take (length m - n) (drop n m)) c.decrypt_and_hash.new.buf
+    c.in-Err-Short.field-0 c.in-Err-Short.ensures (λ _. nonces) fits payload (goes ∙ e ∙ sym (ap (λ (z : SymmetricState). ciphertext_now z payload) start.2)))
     (c.end_cause.ensures ∙ ap (λ (k : ℕ). if nat_lt k 16 then Short else Tag) (sym (length-drop n m))) start.3)
 
 pub returns-in-Err-clause-read : goal.returns-in-Err-clause-read

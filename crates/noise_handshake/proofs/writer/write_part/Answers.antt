@@ -1,6 +1,6 @@
 use Rattle.std.proofs.Common.{◌≡◌, ℕ, ◌+◌, List, length, refl, arith, length-take}
-use Rattle.noise_handshake.proofs.Common.{keyed, nonce_now}
-use Rattle.noise_handshake.proofs.Tags.{sealed_len-tag, not-refused}
+use Rattle.noise_handshake.proofs.Common.{keyed}
+use Rattle.noise_handshake.proofs.Tags.{sealed_len-tag}
 use Rattle.noise_handshake.proofs.Written.{rest-unchanged}
 use Rattle.noise_handshake.proofs.writer.write_part.Goals as goal
 
@@ -11,9 +11,5 @@ returns-clause-beyond c =
     let len : ℕ = c.put-len.result in
     let tag : ℕ = c.tag_width.result in
     let same : length new ≡ len + tag = omega (arith, length-take (len + tag) put, c.tag_width.ensures) in
-    let n : c.in-Ok.width ≡ len + tag = omega (arith, c.in-Ok.ensures.range.0, sealed_len-tag (keyed c.args.state.now) len, c.tag_width.ensures) in
+    let n : c.in-Ok.width ≡ len + tag = omega (arith, c.in-Ok.ensures.1, sealed_len-tag (keyed c.args.state.now) len, c.tag_width.ensures) in
     rest-unchanged c.args.out.now put new len tag (len + tag) c.in-Ok.width refl n same c.put-len.ensures.beyond
-
-pub unreachable-requires : goal.unreachable-requires
-unreachable-requires c = let a = c.in-Err in not-refused (keyed c.args.state.now) (nonce_now c.args.state.now) c.put-len.result c.in-Err.field-0
-    (omega arith) (omega (arith, c.tag_width.ensures)) c.in-Err.ensures.refused

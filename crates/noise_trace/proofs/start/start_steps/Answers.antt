@@ -1,6 +1,6 @@
 use Rattle.std.proofs.Common.{◌≡◌, ℕ, List, [], sym, ap, subst, ◌∙◌}
 use Rattle.std.specs.Prelude.{None}
-use Rattle.noise_trace.proofs.Common.{Bool, not, Token, Initiator, Responder, Plan, has_psk, History, MixHash, and_then, Remote, keys_of, public_keys, setup_fault, with_premessage}
+use Rattle.noise_trace.proofs.Common.{Bool, not, Token, Initiator, Responder, Plan, has_psk, SymmetricState, History, MixHash, and_then, mix_hash, Remote, keys_of, public_keys, setup_fault, with_premessage}
 use Rattle.noise_names.specs.Names.{name_bytes}
 use Rattle.noise_trace.specs.Start.{start_steps}
 use Rattle.noise_trace.specs.inner.PreMessages.{HasKeysFor}
@@ -35,8 +35,8 @@ returns g c n none =
     let kr = has-keys p own known (c.tokens_match.ensures.before p) Responder c.args.role whole remote in
     let r0 : History = record { name = name; entries = [] } in
     let r1 : History = and_then r0 (MixHash prologue) in
-    let s0 = c.new-state.ensures.matches in
-    let s1 = c.mix_hash.ensures.matches r0 s0 in
+    let s0 = c.new-state.ensures in
+    let s1 = c.mix_hash.ensures ∙ ap (λ (z : SymmetricState). mix_hash z prologue) s0 in
     let a = c.mix_keys.ensures.mixed r1 s1
     (subst (λ (z : Remote). HasKeysFor z first) (sym ei) (subst (λ (ts : List Token). HasKeysFor (keys_of Initiator c.args.role ours known) ts) (sym c.pre-first.ensures.value) ki)) in
     let d = c.mix_keys-2.ensures.mixed (with_premessage b initiator first r1) a.0

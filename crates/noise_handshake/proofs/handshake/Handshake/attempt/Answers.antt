@@ -30,7 +30,7 @@ overflow_cast-result g c = omega (arith, length-tokens_of c.deref-2.result.now, 
 pub lay_next-self-inside-requires-clause-key : goal.lay_next-self-inside-requires-clause-key
 lay_next-self-inside-requires-clause-key g c =
     let less = reads-next g.K.Keys.public_of c.self.inside c.self.invariant c.args.self.now c.self.view_is c.requires.due in
-    c.has_key.ensures.key ∙ key-next g.K.Keys.public_of c.self.inside c.self.invariant less c.deref-2.result.now c.deref-2.ensures.0
+    c.has_key.ensures ∙ key-next g.K.Keys.public_of c.self.inside c.self.invariant less c.deref-2.result.now c.deref-2.ensures.0
     c.for_trial-state.result c.read_message.new.state c.for_trial-state.ensures (ap (λ (k : Keying). k.keyed) c.in-Ok.ensures.keying) c.pattern-plan.result.now c.pattern-plan.ensures.value
 
 pub invariant_of-self : goal.invariant_of-self

@@ -52,7 +52,7 @@ pub lay_next-self-inside-requires-clause-key : goal.lay_next-self-inside-require
 lay_next-self-inside-requires-clause-key g c =
     let less = writes-next g.K.Keys.public_of c.self.inside c.self.invariant c.args.self.now c.self.view_is
     (length c.args.payload.now) (sym c.write_fault.ensures.value ∙ c.in_default.is) in
-    c.has_key.ensures.key ∙ key-next g.K.Keys.public_of c.self.inside c.self.invariant less c.deref-2.result.now c.deref-2.ensures.0
+    c.has_key.ensures ∙ key-next g.K.Keys.public_of c.self.inside c.self.invariant less c.deref-2.result.now c.deref-2.ensures.0
     c.for_trial-state.result c.write_message.new.state c.for_trial-state.ensures c.in-Ok.ensures.keyed c.pattern-plan.result.now c.pattern-plan.ensures.value
 
 pub invariant_of-self : goal.invariant_of-self
