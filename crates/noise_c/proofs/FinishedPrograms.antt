@@ -1,8 +1,8 @@
 -- Two programs that have finished: what faces each other, and what the theorem on streams asks.
-use Rattle.std.proofs.Common.{◌≡◌, ℕ, ◌≤◌, List, [], ◌∷◌, length, refl, ap, sym, ◌∙◌, arith}
+use Rattle.std.proofs.Common.{◌≡◌, ℕ, ◌≤◌, List, [], ◌∷◌, length, inl, refl, ap, sym, ◌∙◌, arith}
 use Rattle.std.proofs.lemmas.Option.{same_Some}
 use Rattle.std.specs.Prelude.{true, false, not, ◌&&◌}
-use Rattle.noise_c.proofs.Common.{Bool, Option, Some, None, is_some, if◌then◌else◌, ◌==◌, nat_tests, Plan, Role, Party, after_message, after_own, key_from_c, with_dh_results}
+use Rattle.noise_c.proofs.Common.{Bool, Option, Some, None, is_some, if◌then◌else◌, ◌==◌, nat_tests, Plan, Role, Party, after_message, after_own, key_from_c, with_dh_results, handshake_from_c, IsUsable, KeepsParty, NoiseHandshake}
 use Rattle.noise_names.specs.declared.token.Role.TheVariants.{Initiator, Responder}
 use Rattle.noise_names.specs.Tokens.{other, same_role}
 use Rattle.noise_names.specs.Plan.{is_one_way}
@@ -24,9 +24,12 @@ use Rattle.noise_c.specs.DatagramStructs.{datagram_receiver_from_c, datagram_sen
 use Rattle.noise_c.specs.HalfStructs.{half_from_c}
 use Rattle.noise_c.specs.HandedIn.{dh_results_in}
 use Rattle.noise_c.specs.TwoPrograms.{Passed, Program, HaveTalked, start_by}
-use Rattle.noise_c.specs.FinishedPrograms.{CipherFace, DatagramFace, ProgramsFinish, ProgramsFinishFacing}
+use Rattle.noise_c.specs.FinishedPrograms.{CipherFace, DatagramFace, IsDone, ProgramsFinish, ProgramsFinishFacing}
+use Rattle.noise_c.specs.Finishing.{Finishes}
 use Rattle.noise_c.proofs.Talking.{Laws, Talk, silent, speaks, hears}
-use Rattle.noise_c.proofs.Programs.{Met, done-alike, faced}
+use Rattle.noise_c.proofs.Programs.{IsAtEnd, Met, done-alike, faced}
+use Rattle.noise_c.proofs.Finished.{finish-done}
+use Rattle.noise_c.proofs.Numbers.{other as other-number}
 
 -- ---- what faces each other
 
@@ -139,6 +142,23 @@ not-zero n some = grind (arith, nat_tests)
 keyed-as : (k : NoiseKey) (o : Option (List ℕ)) → 1 ≤ k.present → key_from_c k ≡ o → is_some o ≡ true
 keyed-as k o some e = ap is_some (sym e) ∙ present-is (k.present == 0) k.bytes (not-zero k.present some)
 
+-- a party that hasn't ended is at its end as it began
+kept-going : (v last : Party) (ps : List HandshakeMessage) → Exchanged v ps last → last.ended ≡ v.ended
+kept-going v _ _ (nothing _) = refl
+kept-going v last _ (wrote_one _ _ m more writes rest) = kept-going (after_own v m.carried m.payload) last more rest
+kept-going v last _ (took_one _ _ m more accepts rest) = kept-going (after_message v m.carried m.payload) last more rest
+
+at-end : (k : NoiseHandshake) → IsDone k → IsAtEnd k
+at-end k done p v keeps =
+    sym keeps.matches.passed ∙ done.passed p keeps.pattern ∙ ap (λ (q : Plan). length q.messages) keeps.matches.pattern
+
+finishes : (k : NoiseHandshake) (p : Plan) (v : Party) → IsUsable k → KeepsParty k p v → v.ended ≡ false → IsDone k → Finishes k 0
+finishes k p v usable keeps going done = record {
+  unusable = (other-number 0 23 refl, λ none. absurd (none usable));
+  same = λ u. sym (finish-done (handshake_from_c u.pattern k) (keeps.matches.ended ∙ going) (done.passed u.pattern u.named));
+  codes = inl refl;
+}
+
 pub finish-both : ((p : Plan) (g h : Program) → HaveTalked p g h → Met p g h) → ProgramsFinish
 finish-both met p g h t set_up set_up_too keys done done_too =
     let m = met p g h t in
@@ -173,4 +193,9 @@ finish-both met p g h t set_up set_up_too keys done done_too =
       handed_in_too = dh_results_in h.last;
       stands = here;
       stands_too = there;
+      facing = done-alike p g h m (at-end g.last done) (at-end h.last done_too);
+      finishes = finishes g.last p (with_dh_results v (dh_results_in g.last)) m.left.stands.usable here
+          (kept-going (begun_as p Initiator (start_by g)) v ps.0 ps.1) done;
+      finishes_too = finishes h.last p (with_dh_results w (dh_results_in h.last)) m.right.stands.usable there
+          (kept-going (begun_as p Responder (start_by h)) w qs.0 qs.1) done_too;
     }

@@ -19,6 +19,7 @@ pub mod Ciphering
 pub mod Describing
 pub mod Layouts
 pub mod Received
+mod Streaming
 pub mod Talking
 pub mod Transcribing
 pub mod Programs

@@ -20,7 +20,7 @@ use Rattle.noise_c.specs.HandedIn.{dh_results_in}
 use Rattle.noise_c.specs.HandshakeStructs.{ForParty, Supplies}
 use Rattle.noise_c.specs.HalfStructs.{half_from_c}
 use Rattle.noise_c.specs.Outcomes.{WriteOutcome, ReadOutcome}
-use Rattle.noise_c.specs.Outcomes.WriteOutcome.{written, wants_dh_result as write_wants, wants_psk as write_wants_psk, withheld, no_room, unusable as write_unusable}
+use Rattle.noise_c.specs.Outcomes.WriteOutcome.{written, wants_dh_result as write_wants, wants_psk as write_wants_psk, withheld, no_dh_result as write_fails, no_room, unusable as write_unusable}
 use Rattle.noise_c.specs.Outcomes.ReadOutcome.{accepted, wants_dh_result as read_wants, wants_psk as read_wants_psk, declined, refused, too_long, unusable as read_unusable}
 use Rattle.noise_c.specs.TwoPrograms.{Secrets, Passed, Calls, Program, HasRun, HaveTalked, TwoProgramsAgree, start_by}
 use Rattle.noise_c.specs.TwoPrograms.Calls.{none, wrote, took, answered, set_psk, kept}
@@ -38,6 +38,7 @@ written-of k next payload out after results new _ (written u m r l d f) e = (u, 
 written-of k next payload out after results new _ (write_wants a b c f) e = absurd (omega (arith, e))
 written-of k next payload out after results new _ (write_wants_psk a b c f) e = absurd (omega (arith, e))
 written-of k next payload out after results new _ (withheld code low high a b c f) e = absurd (omega (arith, e, low))
+written-of k next payload out after results new _ (write_fails a b c f) e = absurd (omega (arith, e))
 written-of k next payload out after results new _ (no_room a b c d g) e = absurd (omega (arith, e))
 written-of k next payload out after results new _ (write_unusable a b c d) e = absurd (omega (arith, e))
 

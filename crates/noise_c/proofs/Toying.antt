@@ -13,7 +13,7 @@ use Rattle.noise_handshake.specs.Setup.{has_before}
 use Rattle.noise_handshake.specs.Counterparts.{DhResultsAgree, keys_if, xor_agreement, xor_public}
 use Rattle.noise_c.specs.HandshakeStructs.{IsStarted, Supplies, key_from_c, key_to_c}
 use Rattle.noise_c.specs.Outcomes.{ReadOutcome, WriteOutcome}
-use Rattle.noise_c.specs.Outcomes.WriteOutcome.{written, wants_dh_result as write_wants, wants_psk as write_wants_psk, withheld, no_room, unusable as write_unusable}
+use Rattle.noise_c.specs.Outcomes.WriteOutcome.{written, wants_dh_result as write_wants, wants_psk as write_wants_psk, withheld, no_dh_result as write_fails, no_room, unusable as write_unusable}
 use Rattle.noise_c.specs.Outcomes.ReadOutcome.{accepted, wants_dh_result as read_wants, wants_psk as read_wants_psk, declined, refused, too_long, unusable as read_unusable}
 use Rattle.noise_c.specs.TwoPrograms.{Agree, Calls, HaveTalked, Passed, Program, TwoProgramsAgree, start_by}
 use Rattle.noise_c.specs.TwoPrograms.Calls.{none, wrote, took, answered}
@@ -55,6 +55,7 @@ written-fits k next payload out after results new _ (written u m r l d f) e = l
 written-fits k next payload out after results new _ (write_wants a b c f) e = absurd (omega (arith, e))
 written-fits k next payload out after results new _ (write_wants_psk a b c f) e = absurd (omega (arith, e))
 written-fits k next payload out after results new _ (withheld code low high a b c f) e = absurd (omega (arith, e, low))
+written-fits k next payload out after results new _ (write_fails a b c f) e = absurd (omega (arith, e))
 written-fits k next payload out after results new _ (no_room a b c d g) e = absurd (omega (arith, e))
 written-fits k next payload out after results new _ (write_unusable a b c d) e = absurd (omega (arith, e))
 
@@ -65,6 +66,7 @@ write-wants k next payload out after results new _ (written u m r l d f) e = abs
 write-wants k next payload out after results new _ (write_wants a b c f) e = b
 write-wants k next payload out after results new _ (write_wants_psk a b c f) e = b
 write-wants k next payload out after results new _ (withheld code low high a b c f) e = b
+write-wants k next payload out after results new _ (write_fails a b c f) e = b
 write-wants k next payload out after results new _ (no_room a b c d g) e = d
 write-wants k next payload out after results new _ (write_unusable a b c d) e = c
 

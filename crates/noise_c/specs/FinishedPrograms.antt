@@ -1,28 +1,33 @@
 -- Two programs of one handshake that have finished: their halves and cipher states face each other, and they are as the
 -- theorem on streams asks.
-use Rattle.std.specs.Prelude.{◌≡◌, ◌≤◌, ◌⊎◌, ℕ, ◌==◌, Bool, List, [], length}
+use Rattle.std.specs.Prelude.{◌≡◌, ◌≤◌, ℕ, ◌==◌, Bool, true, List, [], length}
+use Rattle.std.specs.List.{concat}
 use Rattle.noise_names.specs.declared.token.Role.TheVariants.{Initiator, Responder}
 use Rattle.noise_names.specs.Tokens.{other}
 use Rattle.noise_names.specs.Plan.{Plan}
+use Rattle.noise_handshake.specs.Counterparts.{Counterparts}
 use Rattle.noise_handshake.specs.Party.{Party}
 use Rattle.noise_session.specs.Windows.{Recalls}
-use Rattle.noise_session.specs.TransportValue.{transport_of}
+use Rattle.noise_session.specs.TransportValue.{TransportState, transport_of}
 use Rattle.noise_channel.specs.Halves.{ReaderValue}
 use Rattle.noise_channel.specs.Reading.ReaderState.{Listens}
+use Rattle.noise_channel.specs.Streams.{outgoing}
+use Rattle.noise_channel.specs.Writing.{Call, WriterState, WritesAll, bytes_put, has_ended, payloads_taken}
+use Rattle.noise_channel.specs.Writing.WriterState.{Speaks}
 use Rattle.noise_duel.specs.Agreement.{IsSetUp, KeysAgree}
 use Rattle.noise_duel.specs.Messages.{HandshakeMessage, Start}
-use Rattle.noise_channel_agreement.specs.Finished.{ForgedOrTwice, HaveFinished}
-use Rattle.noise_channel_agreement.specs.Receiving.{HandsOut, ReadsToEnd}
+use Rattle.noise_channel_agreement.specs.Finished.{HaveFinished}
+use Rattle.noise_channel_agreement.specs.Receiving.{ReadsToEnd}
 use Rattle.noise_c.specs.declared.structs.NoiseCipher.{NoiseCipher}
 use Rattle.noise_c.specs.declared.structs.NoiseDatagramReceiver.{NoiseDatagramReceiver}
 use Rattle.noise_c.specs.declared.structs.NoiseDatagramSender.{NoiseDatagramSender}
 use Rattle.noise_c.specs.declared.structs.NoiseHandshake.{NoiseHandshake}
 use Rattle.noise_c.specs.declared.structs.NoiseStreamReceiver.{NoiseStreamReceiver}
 use Rattle.noise_c.specs.declared.structs.NoiseStreamSender.{NoiseStreamSender}
-use Rattle.noise_c.specs.declared.codes.numbers.TheConstants.{RECEIVING_CIPHER}
+use Rattle.noise_c.specs.declared.codes.numbers.TheConstants.{OK, RECEIVING_CIPHER}
 use Rattle.noise_c.specs.DatagramStructs.{datagram_receiver_from_c}
 use Rattle.noise_c.specs.DhResults.{DhResults, with_dh_results}
-use Rattle.noise_c.specs.Finishing.{AreCiphersOf, AreDatagramHalvesOf, AreStreamHalvesOf}
+use Rattle.noise_c.specs.Finishing.{AreCiphersOf, AreDatagramHalvesOf, AreStreamHalvesOf, Finishes}
 use Rattle.noise_c.specs.HalfStructs.{party_in}
 use Rattle.noise_c.specs.HandshakeStructs.{ForParty, ForPattern, KeepsParty}
 use Rattle.noise_c.specs.TwoPrograms.{Face, HaveTalked, Program, start_by}
@@ -62,7 +67,8 @@ pub record IsDone (k : NoiseHandshake) : Type 0 where
   pub keyed : 1 ≤ k.cipher.present
 
 -- Two handshakes are those of two parties that have finished, which have all the DH results of their keys from the
--- start; the structs have those that were handed in.
+-- start; the structs have those that were handed in. Each party is what the other takes it for, and finishing either
+-- struct returns OK.
 pub record HaveBothFinished (k l : NoiseHandshake) : Type 0 where
   pub pattern : Plan
   pub left : Start
@@ -76,6 +82,9 @@ pub record HaveBothFinished (k l : NoiseHandshake) : Type 0 where
   pub handed_in_too : DhResults
   pub stands : KeepsParty k pattern (with_dh_results party handed_in)
   pub stands_too : KeepsParty l pattern (with_dh_results party_too handed_in_too)
+  pub facing : Counterparts party party_too
+  pub finishes : Finishes k OK
+  pub finishes_too : Finishes l OK
 
 -- So it is of two programs, both made without a fault, whose keys agree.
 abbrev pub ProgramsFinish : Type 0
@@ -91,17 +100,11 @@ abbrev pub ReadsAfter : NoiseHandshake → ℕ → List ℕ → List ℕ → Lis
 ReadsAfter k interval came before after whole = ForParty k (λ _ v. (r : ReaderValue)
     × ReadsToEnd (transport_of v interval) (Listens 0) came before after r whole)
 
--- What one party wrote, of two that have finished, was handed out to the other, of some bytes that came: a front of it,
--- and all where it is said to be whole; or there is a forgery or a collision (`read_after_finish`).
-pub record HandsOutOfOther (interval : ℕ) (before after : List ℕ) (whole : Bool) : Type 0 where
-  pub pattern : Plan
-  pub left : Start
-  pub right : Start
-  pub messages : List HandshakeMessage
-  pub messages_too : List HandshakeMessage
-  pub party : Party
-  pub party_too : Party
-  pub finished : HaveFinished pattern left right messages messages_too party party_too
-  pub came : List ℕ
-  pub handed : HandsOut (transport_of party interval) came before after whole
-      ⊎ ForgedOrTwice pattern messages messages_too party.history party_too.history
+-- The bytes are all that calls of a writer put out, which took this text, joined, and the end.
+pub record IsStreamOf (v : TransportState) (text bytes : List ℕ) : Type 0 where
+  pub calls : List Call
+  pub state : WriterState
+  pub writes : WritesAll (outgoing v) (Speaks 0) calls state
+  pub put : bytes_put calls ≡ bytes
+  pub taken : concat (payloads_taken calls) ≡ text
+  pub ended : has_ended state ≡ true

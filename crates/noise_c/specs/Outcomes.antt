@@ -1,5 +1,5 @@
 -- What writing and reading a message come to.
-use Rattle.std.specs.Prelude.{◌≡◌, Bool, ℕ, ◌+◌, ◌<◌, ◌≤◌, ◌⊎◌, List, Option, length, take, drop, slice_range, Some}
+use Rattle.std.specs.Prelude.{◌≡◌, Bool, ℕ, ◌+◌, ◌<◌, ◌≤◌, ◌⊎◌, List, Option, length, take, drop, replicate, slice_range, Some}
 use Rattle.noise_names.specs.Plan.{Plan}
 use Rattle.noise_handshake.specs.HandshakeValue.{message_len_of}
 use Rattle.noise_handshake.specs.Late.{WantsPskToRead, WantsPskToWrite}
@@ -26,10 +26,12 @@ pub data WriteOutcome (old : NoiseHandshake) (payload out : List ℕ) (results :
   wants_psk : ReportsRemote results next → new ≡ old → after ≡ out
       → ForParty old (λ _ v. WantsPskToWrite v old.psk_count × (remote_reported next ≡ v.remote.s))
       → WriteOutcome old payload out results new after next WANTED_PSK
-  withheld : (code : ℕ) → NOT_YOUR_TURN ≤ code → code ≤ AGREEMENT → next ≡ results → new ≡ old
-      → ((code ≡ AGREEMENT → ⊥) → after ≡ out)
-      → ForParty old (λ _ v. (code < AGREEMENT) × WasWithheld v (length payload) code)
+  withheld : (code : ℕ) → NOT_YOUR_TURN ≤ code → code ≤ ENDED → next ≡ results → new ≡ old → after ≡ out
+      → ForParty old (λ _ v. WasWithheld v (length payload) code)
       → WriteOutcome old payload out results new after next code
+  -- of a struct that matches no state, which no call leaves: the buffer is zeros
+  no_dh_result : next ≡ results → new ≡ old → after ≡ replicate (length out) 0 → ForParty old (λ _ _. ⊥)
+      → WriteOutcome old payload out results new after next AGREEMENT
   no_room : HasMessageLen old (length payload) (Some next.len) → length out < next.len
       → next ≡ record results { len = next.len } → new ≡ old → after ≡ out
       → WriteOutcome old payload out results new after next ROOM

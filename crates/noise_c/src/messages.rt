@@ -1,6 +1,8 @@
 //! Exports: writing and reading the messages of a handshake.
 
-ghost use Rattle.std.specs.Prelude.{◌≡◌, ◌≤◌, ◌<◌, ◌⊎◌, ◌↔◌, length, true, false};
+ghost use Rattle.std.specs.Prelude.{◌≡◌, ◌≤◌, ◌<◌, ◌⊎◌, ◌↔◌, length, replicate, true, false};
+ghost use Rattle.noise_handshake.specs.HandshakeValue.{IsAgreement};
+ghost use Rattle.noise_c.specs.Codes.{write_code};
 ghost use Rattle.noise_c.specs.HandshakeStructs.{IsUsable, ReportsDhResult, ReportsRemote, ReportsWant};
 ghost use Rattle.noise_c.specs.Outcomes.{AsksToRead, AsksToWrite, ReadOutcome, RefusesRoom, WriteOutcome};
 ghost use Rattle.noise_c.specs.declared.codes.numbers.TheConstants.{ENDED, LENGTH, OK, STRUCT, WANTED, WANTED_PSK};
@@ -10,7 +12,7 @@ use crate::codes::{read_code, some_or, write_code};
 use crate::from_c::{handshake_from_c, store_progress};
 use crate::structs::{NoiseHandshake, NoiseResult};
 use crate::supplied_keys::{key_to_c, own_to_c};
-use noise_handshake::{LateUnread, LateUnwritten, ReadFault, Want};
+use noise_handshake::{LateUnread, LateUnwritten, ReadFault, Want, WriteFault};
 use noise_state::limits::MAX_LEN;
 
 // Reports what is wanted, and returns the number of that.
@@ -35,9 +37,23 @@ fn report_want(want: Want, results: &mut NoiseResult) -> u32
     }
 }
 
+// The number of a fault of writing. Only where a DH result is lacking something may be written by then, and the buffer
+// is set to zeros.
+fn withhold(fault: WriteFault, out: &mut [u8]) -> u32
+    ensures code { result ≡ write_code fault }
+    ensures zeros { IsAgreement fault → out.new ≡ replicate (length out.old) 0 }
+    ensures unchanged { (IsAgreement fault → ⊥) → out.new ≡ out.old }
+{
+    if let WriteFault::Agreement { .. } = fault {
+        out.fill(0);
+    }
+    write_code(fault)
+}
+
 /// Writes a message to the front of `out`, and reports its length. ROOM reports the length that `out` is too short for,
 /// WANTED the DH result that is lacking, and WANTED_PSK the other party's static key where a psk is lacking: hand in
-/// what is wanted, and call again. AGREEMENT can only come of memory that no call has left.
+/// what is wanted, and call again. AGREEMENT can only come of memory that no call has left, and sets `out` to zeros.
+/// After each other number but OK it is as it was.
 #[unsafe(no_mangle)]
 pub extern "C" fn noise_write(
     handshake: &mut NoiseHandshake,
@@ -67,7 +83,7 @@ pub extern "C" fn noise_write(
             OK
         }
         Err(LateUnwritten::Wants(want)) => report_want(want, results),
-        Err(LateUnwritten::Withheld(fault)) => write_code(fault),
+        Err(LateUnwritten::Withheld(fault)) => withhold(fault, out),
     }
 }
 

@@ -139,6 +139,7 @@ fn is_whole(stream: &NoiseStreamReceiver, left: usize) -> bool
 ///
 /// With the other party of the same handshake, `out` gets the first bytes that this one wrote, and all of
 /// them where it's the whole stream; or a message is forged, or a sealed text opens twice, or two hashed texts collide.
+/// Where all came that the other party put out, unaltered, `out` gets all that it wrote.
 pub fn read_after_finish(
     handshake: &mut NoiseHandshake,
     interval: u64,
@@ -158,6 +159,9 @@ pub fn read_after_finish(
         → HaveFinished p a b ps qs v w → KeepsParty handshake.old p (with_dh_results v handed_in) → IfOk result
         (λ whole. HandsOut (transport_of w interval) came.old out.old.items out.new.items whole
         ⊎ ForgedOrTwice p ps qs v.history w.history) }
+    ensures all { Finishes handshake.old OK → (p : Plan) (u : Party) (v : TransportState) → KeepsParty handshake.old p u
+        → outgoing v ≡ incoming (transport_of u interval) → IfOk result
+        (λ whole. HandsOutAll v came.old out.old.items out.new.items whole) }
 {
     finished_agree();
     let mut sender = NO_SENDER;

@@ -1,8 +1,10 @@
 //! Two programs in one function, with keys for tests: after their handshake the one writes a stream, and the other reads
 //! it. So what the theorem on streams asks for can be met. No export calls it, and the static library has none of it.
 
-ghost use Rattle.std.specs.Prelude.{◌≡◌, ◌≤◌, IfOk, IfSome, length, true};
-ghost use Rattle.noise_c.specs.FinishedPrograms.{HandsOutOfOther, HaveBothFinished, IsDone};
+ghost use Rattle.std.specs.Prelude.{◌≡◌, ◌≤◌, ◌++◌, IfOk, IfSome, MatchOption, OnErr, length, take, true};
+ghost use Rattle.noise_session.specs.TransportValue.{transport_of};
+ghost use Rattle.noise_c.specs.FinishedPrograms.{HaveBothFinished, IsDone, IsStreamOf};
+ghost use Rattle.noise_c.specs.HandshakeStructs.{ForParty};
 
 use crate::codes::numbers::OK;
 use crate::patterns::pattern_of_name;
@@ -13,6 +15,7 @@ use crate::streams::{noise_stream_end, noise_stream_write};
 use crate::structs::{NoiseHandshake, NoiseStageResult, NoiseStreamResult};
 use crate::toys::{begin, pass};
 use crate::two_programs::{programs_finish, two_programs_agree};
+use noise_channel::laws::outgoing_is_incoming;
 use noise_handshake::laws::{setup_is_whole, xor_keys_agree};
 use noise_handshake::{Keys, XorKeys, psk_total};
 use std::alloc::AllocError;
@@ -68,7 +71,10 @@ fn write_stream(
     text: &[u8],
     interval: u64,
     buffer: &mut [u8],
-) -> Option<usize> {
+) -> Option<usize>
+    ensures { IfSome result (λ n. (n ≤ length buffer.new)
+        × ForParty handshake.old (λ _ v. IsStreamOf (transport_of v interval) text.now (take n buffer.new))) }
+{
     let mut sender = NO_SENDER;
     let mut receiver = NO_RECEIVER;
     if noise_finish_stream(handshake, interval, &mut sender, &mut receiver) != OK {
@@ -86,15 +92,19 @@ fn write_stream(
         return None;
     }
     let written = results.len;
-    if noise_stream_end(&mut sender, buffer.get_mut(written..)?, &mut results) != OK {
+    if written > buffer.len() {
         return None;
     }
-    written.checked_add(results.len)
+    if noise_stream_end(&mut sender, &mut buffer[written..], &mut results) != OK {
+        return None;
+    }
+    Some(written + results.len)
 }
 
 /// Both programs of the pattern XX, in one function, with keys for tests: after the handshake the initiator writes this
-/// text as a stream and ends it, and the responder appends to `out` what it reads (`read_after_finish`). Returns whether
-/// that is said to be the whole stream; nothing where the buffer was too short, or a key is missing.
+/// text as a stream and ends it, and the responder appends to `out` what it reads (`read_after_finish`): all of the
+/// text. Returns whether that is said to be the whole stream, which it is; nothing where the buffer was too short, or a
+/// key is missing.
 pub fn send_stream(
     initiator: &XorKeys,
     responder: &XorKeys,
@@ -103,17 +113,17 @@ pub fn send_stream(
     buffer: &mut [u8],
     out: &mut Vec<u8>,
 ) -> Result<Option<bool>, AllocError>
-    ensures { IfOk result (λ o. IfSome o (λ whole. HandsOutOfOther interval out.old.items out.new.items whole)) }
+    ensures sent { IfOk result (λ o. MatchOption o (out.new.items ≡ out.old.items)
+        (λ whole. (out.new.items ≡ out.old.items ++ text.now) × (whole ≡ true))) }
+    ensures unchanged { OnErr result (out.new.items ≡ out.old.items) }
 {
+    outgoing_is_incoming();
     let Some((mut a, mut b)) = finish_both(initiator, responder, buffer) else {
         return Ok(None);
     };
     let Some(len) = write_stream(&mut a, text, interval, buffer) else {
         return Ok(None);
     };
-    let Some(came) = buffer.get_mut(..len) else {
-        return Ok(None);
-    };
-    let whole = read_after_finish(&mut b, interval, came, out)?;
+    let whole = read_after_finish(&mut b, interval, &mut buffer[..len], out)?;
     Ok(Some(whole))
 }

@@ -18,7 +18,7 @@ pub use Rattle.noise_names.specs.Tokens.{other, same_role}
 pub use Rattle.noise_names.specs.declared.token.Role.{Role}
 pub use Rattle.noise_names.specs.declared.token.Role.TheVariants.{Initiator, Responder}
 pub use Rattle.noise_state.specs.History.{History, ciphertext_under, hash, rekeyed_times}
-pub use Rattle.noise_session.specs.Datagrams.{AreOnce, AreParties, DatagramReceiverMatches, DatagramReceiverValue, DatagramSenderMatches, DatagramSenderValue, DatagramState, DatagramsMatch, DatagramsValue, IsSealed, Opens, Runs, accepting, datagram, datagram_fault, datagram_receiving_half, datagram_sending_half, nonce_named, unsealed}
+pub use Rattle.noise_session.specs.Datagrams.{AreOnce, AreParties, DatagramReceiverMatches, DatagramReceiverValue, DatagramSenderMatches, DatagramSenderValue, DatagramState, DatagramsMatch, DatagramsValue, IsSealed, Opens, Runs, accepting, datagram, datagram_fault, datagram_receiver_fault, datagram_receiving_half, datagram_sending_half, nonce_named, unsealed}
 pub use Rattle.noise_session.specs.Ends.{EndMatches, EndState, EndValue, EndedMatches, HandshakeMatches, IsReportedBy, OpenMatches, PhaseMatches, ended_session, hash_in, progress_in, progress_of, remote_static_in, session_hash, session_remote_static, transport_in}
 pub use Rattle.noise_session.specs.Frames.{IsPartial, frame, frame_length}
 pub use Rattle.noise_session.specs.HalfCalls.{IsCounted, OpensUnless, ReceiverOpens, SenderSeals, SucceedsUnless, TransportOpens, TransportSeals, one_received, one_sent}
@@ -34,7 +34,7 @@ pub use Rattle.noise_session.specs.Taking.Judges.{accepted, dropped, exhausted}
 pub use Rattle.noise_session.specs.Taking.Takes.{idles, judges, waits}
 pub use Rattle.noise_session.specs.Transport.{last_nonce, split_key, transport_key, transport_message}
 pub use Rattle.noise_session.specs.TransportValue.{ReceiverMatches, SenderMatches, TransportMatches, TransportState, TransportValue, due_message, open_fault, receiving_half, renewed_key, seal_fault, sending_half, transport_of, unopened_fault}
-pub use Rattle.noise_session.specs.Windows.{Recalls, begun_words, bit_of, bitmap_len, ends_at_greatest, is_accepted, is_old, is_ring, top_word, window_fault}
+pub use Rattle.noise_session.specs.Windows.{Recalls, begun_words, bit_of, bitmap_len, ends_at_greatest, is_accepted, is_below, is_marked, is_old, is_ring, ring_fault, top_word, window_fault}
 pub use Rattle.noise_session.specs.declared.faults.OpenFault.{OpenFault}
 pub use Rattle.noise_session.specs.declared.faults.SendFault.{SendFault}
 pub use Rattle.noise_session.specs.declared.phase.Phase.{Phase}

@@ -1,6 +1,6 @@
 -- What the calls of datagrams are, by those of their two halves; and the bytes after a datagram.
-use Rattle.std.proofs.Common.{rules, ◌≡◌, ℕ, ◌+◌, ◌∙◌, List, Bool, Result, Ok, Err, ap}
-use Rattle.noise_session.proofs.Common.{IfOk, OnOk, OnErr, MatchResult, Role, SendFault, DatagramsValue, DatagramSenderValue, DatagramReceiverValue, datagram_sending_half, datagram_receiving_half, DatagramState, DatagramsMatch, DatagramSenderMatches, DatagramReceiverMatches, accepting}
+use Rattle.std.proofs.Common.{rules, ◌≡◌, ℕ, ◌+◌, ◌∙◌, List, Bool, Result, Ok, Err, ap, sym, subst}
+use Rattle.noise_session.proofs.Common.{IfOk, OnOk, OnErr, MatchResult, Role, SendFault, DatagramsValue, DatagramSenderValue, DatagramReceiverValue, datagram_sending_half, datagram_receiving_half, DatagramState, DatagramsMatch, DatagramSenderMatches, DatagramReceiverMatches, Opens, accepting, nonce_named}
 use Rattle.noise_session.specs.declared.datagram_fault.DatagramFault.{DatagramFault}
 use Rattle.noise_session.specs.DatagramCalls.{DatagramSenderSeals, DatagramReceiverOpens, DatagramsSeal, DatagramsOpen}
 
@@ -46,4 +46,15 @@ opened-matches (Err f) d h v m P Q s k = tt
 pub datagrams_open : {T : Type 0} (d u : DatagramsValue) (h next : DatagramReceiverValue) (bytes : List ℕ) (r : Result T DatagramFault)
     (payload_in : T → List ℕ) → d ≡ u → h ≡ datagram_receiving_half d → DatagramReceiverOpens h next bytes r payload_in
     → DatagramsOpen u (after_opening d next) bytes r payload_in
-datagrams_open d u h next bytes r payload_in viewed is o = search rules
+datagrams_open d u h next bytes r payload_in viewed is o =
+    let here : h ≡ datagram_receiving_half u = is ∙ ap datagram_receiving_half viewed in
+    let left : datagram_receiving_half (after_opening d next) ≡ next = search rules in
+    record {
+      half = subst (λ (z : DatagramReceiverValue). DatagramReceiverOpens z (datagram_receiving_half (after_opening d next)) bytes r payload_in) here
+          (subst (λ (z : DatagramReceiverValue). DatagramReceiverOpens h z bytes r payload_in) (sym left) o);
+      others = search rules;
+      unchanged = search rules;
+      matches = λ v m. opened-matches r d next v (nonce_named bytes) (λ x. Opens v bytes (Ok (payload_in x)) (accepting v (nonce_named bytes)))
+          (λ why. Opens v bytes (Err why) v) (subst (λ (z : DatagramsValue). DatagramsMatch z v) (sym viewed) m)
+          (o.opens v (subst (λ (z : DatagramReceiverValue). DatagramReceiverMatches z v) (sym here) m.receiver));
+    }

@@ -1,7 +1,12 @@
 -- What sealing and opening make of the bytes of a datagram, and of a state.
-use Rattle.std.proofs.Common.{rules, ◌≡◌, ◌≢◌, ℕ, ◌+◌, ◌-◌, ◌≤◌, Bool, true, false, List, [], ◌∷◌, ◌++◌, take, Option, Some, None, refl, sym, ◌∙◌, ap, arith}
-use Rattle.std.specs.Prelude.{◌&&◌, if◌then◌else◌}
-use Rattle.noise_session.proofs.Common.{HalfValue, receiver_fault, w64, to_be_bytes, Role, Initiator, same_role, History, ciphertext_under, Ring, split_key, transport_message, last_nonce, width_of, is_old, Recalls, DatagramState, nonce_named, accepting, datagram_fault, DatagramReceiverValue, DatagramReceiverMatches}
+use Rattle.std.proofs.Common.{rules, ◌≡◌, ◌≢◌, ℕ, ◌+◌, ◌-◌, ◌≤◌, Bool, false, List, [], ◌∷◌, ◌++◌, take, Option, Some, None, Ok, Err, refl, sym, ◌∙◌, ap, arith}
+use Rattle.noise_session.proofs.Common.{HalfValue, receiver_fault, w64, to_be_bytes, Role, History, ciphertext_under, Ring, split_key, transport_message, last_nonce, width_of, is_old, Recalls, DatagramState, Opens, nonce_named, accepting, datagram_fault, datagram_receiver_fault, ring_fault, window_fault, other, DatagramReceiverValue, DatagramReceiverMatches}
+use Rattle.noise_session.specs.declared.datagram_fault.DatagramFault.{DatagramFault}
+use Rattle.noise_session.specs.declared.datagram_fault.DatagramFault.TheVariants as fault
+use Rattle.noise_session.specs.Datagrams.{unopened}
+use Rattle.noise_session.specs.Datagrams.Opens.{opened, refused, forged}
+use Rattle.noise_session.specs.DatagramCalls.{IsUnderKey}
+use Rattle.noise_session.proofs.Ringing.{ring-reported}
 
 -- ---- bytes
 pub sealed-front : (p q message : List ℕ) (n m : ℕ) → p ≡ to_be_bytes w64 m → take n q ≡ message → take (8 + n) (p ++ q) ≡ to_be_bytes w64 m ++ message
@@ -20,24 +25,39 @@ pub piece-transport_message : (key : Option (List ℕ)) (n m : ℕ) (r : History
 piece-transport_message key n m r writer payload keyed same = search rules
 
 -- ---- why nothing is opened
--- the first fault that fits is reported, and one that doesn't fit is passed over
-pub first-fault : {X : Type 0} (b : Bool) (x : X) (rest : Option X) → b ≡ true → Some x ≡ (if b then Some x else rest)
-first-fault true x rest e = refl
-first-fault false x rest e = cc
+-- a half has the faults of the state that it matches
+pub fault-reported : (h : DatagramReceiverValue) (v : DatagramState) (bytes : List ℕ) → DatagramReceiverMatches h v
+    → datagram_receiver_fault h bytes ≡ datagram_fault v bytes
+fault-reported h v bytes p =
+    ap (λ (r : Role). unopened r h.one_way (ring_fault h.recent) bytes) p.role
+    ∙ ap (λ (w : Bool). unopened v.role w (ring_fault h.recent) bytes) p.one_way
+    ∙ ap (λ (o : Option DatagramFault). unopened v.role v.one_way (λ _. o) bytes)
+    (ring-reported h.recent v.accepted (nonce_named bytes) p.recent ∙ ap (λ (w : ℕ). window_fault w v.accepted (nonce_named bytes)) p.width)
+
+pub opened-there : (h : DatagramReceiverValue) (v : DatagramState) (bytes payload : List ℕ) → DatagramReceiverMatches h v
+    → datagram_receiver_fault h bytes ≡ None → IsUnderKey h bytes payload → Opens v bytes (Ok payload) (accepting v (nonce_named bytes))
+opened-there h v bytes payload p none is =
+    opened v bytes payload (sym (fault-reported h v bytes p) ∙ none)
+    (is ∙ piece-transport_message h.key (nonce_named bytes) (nonce_named bytes) v.history (other v.role) payload p.key refl)
+
+pub refused-there : (h : DatagramReceiverValue) (v : DatagramState) (bytes : List ℕ) (why : DatagramFault) → DatagramReceiverMatches h v
+    → Some why ≡ datagram_receiver_fault h bytes → Opens v bytes (Err why) v
+refused-there h v bytes why p is = refused v bytes why (sym (is ∙ fault-reported h v bytes p))
+
+pub forged-there : (h : DatagramReceiverValue) (v : DatagramState) (bytes : List ℕ) → DatagramReceiverMatches h v
+    → datagram_receiver_fault h bytes ≡ None → ((payload : List ℕ) → IsUnderKey h bytes payload → ⊥) → Opens v bytes (Err fault.Tag) v
+forged-there h v bytes p none never =
+    forged v bytes (sym (fault-reported h v bytes p) ∙ none) (λ payload is.
+    never payload (is ∙ sym (piece-transport_message h.key (nonce_named bytes) (nonce_named bytes) v.history (other v.role) payload p.key refl)))
 
 -- the half that opens, at the nonce that a datagram names
-pub half-listens : (h : HalfValue) (d : DatagramReceiverValue) (v : DatagramState) (bytes : List ℕ) → h.role ≡ d.role → h.one_way ≡ d.one_way
-    → DatagramReceiverMatches d v → datagram_fault v bytes ≡ None → h.nonce ≢ last_nonce → receiver_fault h ≡ None
-half-listens h d v bytes role one_way p none apart = search rules
+pub half-listens : (h : HalfValue) (d : DatagramReceiverValue) (bytes : List ℕ) → h.role ≡ d.role → h.one_way ≡ d.one_way
+    → datagram_receiver_fault d bytes ≡ None → h.nonce ≢ last_nonce → receiver_fault h ≡ None
+half-listens h d bytes role one_way none apart = search rules
 
 pub young-here : (h : DatagramReceiverValue) (v : DatagramState) (bytes : List ℕ) (n : ℕ) → DatagramReceiverMatches h v → datagram_fault v bytes ≡ None
     → n ≡ nonce_named bytes → is_old (width_of h.recent.window) v.accepted n ≡ false
 young-here h v bytes n p none same = search rules
-
--- whether nothing comes to the party that a state is of
-pub deaf-view : (h : DatagramReceiverValue) (v : DatagramState) (deaf : Bool) → DatagramReceiverMatches h v → deaf ≡ (h.one_way && same_role h.role Initiator)
-    → (v.one_way && same_role v.role Initiator) ≡ deaf
-deaf-view h v deaf p is = sym (is ∙ ap (λ (b : Bool). b && same_role h.role Initiator) p.one_way ∙ ap (λ (r : Role). v.one_way && same_role r Initiator) p.role)
 
 -- ---- states after a call
 pub half-opened : (h : DatagramReceiverValue) (v : DatagramState) (key : Option (List ℕ)) (recent : Ring) (n m : ℕ) → DatagramReceiverMatches h v → key ≡ h.key

@@ -1,8 +1,9 @@
 -- What a ring of words recalls of the accepted nonces.
-use Rattle.std.proofs.Common.{rules, ◌≡◌, ◌≢◌, ℕ, ◌+◌, ◌-◌, ◌*◌, ◌/◌, ◌%◌, ◌^◌, ◌<◌, ◌≤◌, true, false, eqb, leb, List, [], ◌∷◌, length, get_or, set, refl, sym, ◌∙◌, ap, inl, inr, arith, eq-eqb, get_or-set_other}
+use Rattle.std.proofs.Common.{rules, ◌≡◌, ◌≢◌, ℕ, ◌+◌, ◌-◌, ◌*◌, ◌/◌, ◌%◌, ◌^◌, ◌<◌, ◌≤◌, Bool, true, false, eqb, leb, List, [], ◌∷◌, length, get_or, set, refl, sym, ◌∙◌, ap, inl, inr, arith, eq-eqb, get_or-set_other}
 use Rattle.std.proofs.Math.Nat.{mul-le-mul_left}
 use Rattle.std.proofs.lemmas.Nat.Bits.{bit_at-zero, bit_at_set_same, bit_at_set_other}
-use Rattle.noise_session.proofs.Common.{bit_at, w64, bit_or, cases_lt, cases_eq, cases_Bool, or_cases, or_left, or_right, eqb-true, leb-true, le-leb, lt-leb, ne_eqb, false≢true, Ring, width_of, bitmap_len, is_accepted, is_old, bit_of, Recalls}
+use Rattle.noise_session.proofs.Common.{bit_at, w64, bit_or, cases_lt, cases_eq, cases_Bool, or_cases, or_left, or_right, eqb-true, leb-true, le-leb, lt-leb, ne_eqb, false≢true, Ring, width_of, bitmap_len, is_accepted, is_below, is_marked, is_old, bit_of, Recalls, ring_fault, window_fault}
+use Rattle.std.specs.Prelude.{◌&&◌}
 use Rattle.noise_events.specs.declared.window.Window.{Window}
 use Rattle.noise_events.specs.declared.window.Window.TheVariants.{W64, W256, W1024}
 
@@ -43,18 +44,28 @@ touched W64 n g near = omega arith
 touched W256 n g near = omega arith
 touched W1024 n g near = omega arith
 
-pub old-reported : (r : Ring) (accepted : List ℕ) (n : ℕ) → Recalls r accepted → leb (width_of r.window) (r.greatest - n) ≡ is_old (width_of r.window) accepted n
+pub below-reported : (r : Ring) (n : ℕ) → leb (width_of r.window) (r.greatest - n) ≡ is_below r n
+below-reported r n =
+    let some = width-some r.window in
+    elim (cases_lt (r.greatest - n) (width_of r.window)) [
+      | inl near ↦
+          lt-leb (width_of r.window) (r.greatest - n) near ∙ sym (lt-leb (n + width_of r.window) r.greatest (omega arith))
+      | inr far ↦
+          le-leb (width_of r.window) (r.greatest - n) far ∙ sym (le-leb (n + width_of r.window) r.greatest (omega arith))
+    ]
+
+old-reported : (r : Ring) (accepted : List ℕ) (n : ℕ) → Recalls r accepted → is_below r n ≡ is_old (width_of r.window) accepted n
 old-reported r accepted n h =
     let some = width-some r.window in
     elim (cases_Bool (is_old (width_of r.window) accepted n)) [
       | inl old ↦
           let w = old-witness (width_of r.window) accepted n old in
           let most = h.greatest w.0 w.1 in
-          le-leb (width_of r.window) (r.greatest - n) (omega arith) ∙ sym old
+          le-leb (n + width_of r.window) r.greatest (omega arith) ∙ sym old
       | inr not ↦
-          elim (cases_lt (r.greatest - n) (width_of r.window)) [
-            | inl near ↦ lt-leb (width_of r.window) (r.greatest - n) near ∙ sym not
-            | inr far ↦ absurd (false≢true (sym not ∙ old-from (width_of r.window) accepted n r.greatest (h.reached (omega arith)) (omega arith)))
+          elim (cases_lt r.greatest (n + width_of r.window)) [
+            | inl near ↦ lt-leb (n + width_of r.window) r.greatest near ∙ sym not
+            | inr far ↦ absurd (false≢true (sym not ∙ old-from (width_of r.window) accepted n r.greatest (h.reached (omega arith)) far))
           ]
     ]
 
@@ -89,6 +100,25 @@ ready-unchanged r accepted n h not below = record {
 
 beyond : (accepted : List ℕ) (g m : ℕ) → ((k : ℕ) → is_accepted accepted k ≡ true → k ≤ g) → g < m → is_accepted accepted m ≡ false
 beyond accepted g m most more = search rules
+
+marked-reported : (r : Ring) (accepted : List ℕ) (n : ℕ) → Recalls r accepted → is_old (width_of r.window) accepted n ≡ false
+    → is_marked r n ≡ is_accepted accepted n
+marked-reported r accepted n h not = elim (cases_lt r.greatest n) [
+  | inl above ↦
+      ap (λ (b : Bool). b && eqb (bit_of r n) 1) (lt-leb n r.greatest above) ∙ sym (beyond accepted r.greatest n h.greatest above)
+  | inr within ↦
+      ap (λ (b : Bool). b && eqb (bit_of r n) 1) (le-leb n r.greatest within)
+      ∙ h.bits n (omega arith) (near-reported r accepted n h not)
+]
+
+-- the faults of a ring are those of the nonces that it recalls
+pub ring-reported : (r : Ring) (accepted : List ℕ) (n : ℕ) → Recalls r accepted → ring_fault r n ≡ window_fault (width_of r.window) accepted n
+ring-reported r accepted n h =
+    let old = old-reported r accepted n h in
+    elim (cases_Bool (is_old (width_of r.window) accepted n)) [
+      | inl is ↦ rw (old, is) refl
+      | inr not ↦ rw (old, not, marked-reported r accepted n h not) refl
+    ]
 
 module _ (r : Ring) (accepted : List ℕ) (n : ℕ) (words : List ℕ) where
   pub ready-moved : Recalls r accepted → r.greatest < n

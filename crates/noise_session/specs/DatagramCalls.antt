@@ -1,14 +1,16 @@
 -- What the calls of the halves of datagrams say of one datagram (Noise 5.1, 7.4 and 11.4). The calls of the whole say
 -- the same of its halves.
-use Rattle.std.specs.Prelude.{◌≡◌, ◌+◌, ◌≤◌, ◌++◌, ℕ, List, [], length, take, drop, Result, Ok, Err, IfOk, OnOk, OnErr, MatchResult}
+use Rattle.std.specs.Prelude.{◌≡◌, ◌+◌, ◌≤◌, ◌++◌, ℕ, List, [], length, take, drop, Option, Some, None, Result, Ok, Err, IfOk}
+use Rattle.std.specs.Prelude.{OnOk, OnErr, MatchResult}
 use Rattle.std.specs.Int.{w64, to_be_bytes}
 use Rattle.noise_state.specs.History.{ciphertext_under}
 use Rattle.noise_session.specs.declared.faults.SendFault.{SendFault}
 use Rattle.noise_session.specs.declared.datagram_fault.DatagramFault.{DatagramFault}
+use Rattle.noise_session.specs.declared.datagram_fault.DatagramFault.TheVariants as fault
 use Rattle.noise_session.specs.HalfCalls.{SucceedsUnless}
 use Rattle.noise_session.specs.Datagrams.{DatagramsValue, DatagramSenderValue, DatagramReceiverValue, datagram_sending_half, datagram_receiving_half}
 use Rattle.noise_session.specs.Datagrams.{DatagramState, DatagramsMatch, DatagramSenderMatches, DatagramReceiverMatches}
-use Rattle.noise_session.specs.Datagrams.{Opens, datagram, nonce_named, accepting, unsealed}
+use Rattle.noise_session.specs.Datagrams.{Opens, datagram, nonce_named, accepting, unsealed, datagram_receiver_fault}
 
 -- the datagram of the payload, under the half's key and at its nonce
 abbrev pub datagram_under : DatagramSenderValue → List ℕ → List ℕ
@@ -27,9 +29,22 @@ pub record DatagramSenderSeals (h next : DatagramSenderValue) (n : ℕ) (payload
       (λ k. (take k after ≡ datagram v.history v.role v.sent payload)
       × DatagramSenderMatches next (record v { sent = v.sent + 1 }))
 
+-- the fault of a datagram that isn't opened: the first, or a wrong tag where there is none
+abbrev pub declined_for : Option DatagramFault → DatagramFault
+declined_for None = fault.Tag
+declined_for (Some why) = why
+
+-- The bytes after the nonce are the message of the payload, under the half's key and at the nonce that they name.
+abbrev pub IsUnderKey : DatagramReceiverValue → List ℕ → List ℕ → Type 0
+IsUnderKey h bytes payload = drop 8 bytes ≡ ciphertext_under h.key (nonce_named bytes) [] payload
+
 -- A datagram is opened, and its payload is in the result; or it isn't, and the half stays as it is.
 pub record DatagramReceiverOpens {T : Type 0} (h next : DatagramReceiverValue) (bytes : List ℕ)
     (result : Result T DatagramFault) (payload_in : T → List ℕ) : Type 0 where
+  pub fault : MatchResult result (λ _. datagram_receiver_fault h bytes ≡ None)
+      (λ why. why ≡ declined_for (datagram_receiver_fault h bytes))
+  pub opened : MatchResult result (λ r. IsUnderKey h bytes (payload_in r))
+      (λ _. datagram_receiver_fault h bytes ≡ None → (payload : List ℕ) → IsUnderKey h bytes payload → ⊥)
   pub same : next ≡ record h { recent = next.recent }
   pub unchanged : OnErr result (next ≡ h)
   pub opens : (v : DatagramState) → DatagramReceiverMatches h v → MatchResult result

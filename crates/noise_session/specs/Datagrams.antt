@@ -16,7 +16,7 @@ use Rattle.noise_events.specs.declared.window.Window.{Window}
 use Rattle.noise_session.specs.declared.window.Ring.{Ring}
 use Rattle.noise_session.specs.Transport.{split_key, transport_message, last_nonce}
 use Rattle.noise_events.specs.Windows.{width_of}
-use Rattle.noise_session.specs.Windows.{is_accepted, window_fault, Recalls}
+use Rattle.noise_session.specs.Windows.{is_accepted, ring_fault, window_fault, Recalls}
 
 -- Datagram n of a writer: the nonce in 8 bytes, the highest first, and the transport message of that nonce. Its key is
 -- never renewed.
@@ -107,14 +107,22 @@ unsealed role one_way nonce payload =
     else if nat_le last_nonce nonce then Some send.Exhausted
     else None
 
--- why such bytes aren't opened, whatever message they have: the first of these
-abbrev pub datagram_fault : DatagramState → List ℕ → Option DatagramFault
-datagram_fault v bytes =
-    if v.one_way && same_role v.role Initiator then Some fault.OneWay
+-- why a party of this role doesn't open such bytes, whatever message they have, where the window has these faults: the
+-- first of these
+abbrev pub unopened : Role → Bool → (ℕ → Option DatagramFault) → List ℕ → Option DatagramFault
+unopened role one_way window bytes =
+    if one_way && same_role role Initiator then Some fault.OneWay
     else if nat_lt (length bytes) 24 then Some fault.Short
     else if nat_lt 65543 (length bytes) then Some fault.TooLong
     else if nonce_named bytes == last_nonce then Some fault.Reserved
-    else window_fault v.width v.accepted (nonce_named bytes)
+    else window (nonce_named bytes)
+
+abbrev pub datagram_fault : DatagramState → List ℕ → Option DatagramFault
+datagram_fault v = unopened v.role v.one_way (window_fault v.width v.accepted)
+
+-- the same of a half, by its ring
+abbrev pub datagram_receiver_fault : DatagramReceiverValue → List ℕ → Option DatagramFault
+datagram_receiver_fault h = unopened h.role h.one_way (ring_fault h.recent)
 
 -- The message of a datagram is that of the other party with the payload, at the nonce that the datagram names.
 abbrev pub IsSealed : DatagramState → List ℕ → List ℕ → Type 0

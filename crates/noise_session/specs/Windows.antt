@@ -37,6 +37,21 @@ window_fault width accepted nonce =
 abbrev pub bit_of : Ring → ℕ → ℕ
 bit_of r nonce = bit_at (slice_index r.words (nonce / 64 % bitmap_len r.window)) (nonce % 64)
 
+-- whether a ring's greatest nonce is at least the width above this nonce
+abbrev pub is_below : Ring → ℕ → Bool
+is_below r nonce = nat_le (nonce + width_of r.window) r.greatest
+
+-- whether a ring has the bit of this nonce, which isn't old
+abbrev pub is_marked : Ring → ℕ → Bool
+is_marked r nonce = nat_le nonce r.greatest && (bit_of r nonce == 1)
+
+-- why no datagram of this nonce is opened, by the ring alone: the first of these
+abbrev pub ring_fault : Ring → ℕ → Option DatagramFault
+ring_fault r nonce =
+    if is_below r nonce then Some fault.Old
+    else if is_marked r nonce then Some fault.Repeated
+    else None
+
 -- Of the accepted nonces the ring has the greatest, and which there are in its block and in as many blocks below as the
 -- width has.
 pub record Recalls (r : Ring) (accepted : List ℕ) : Type 0 where

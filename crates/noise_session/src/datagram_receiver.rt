@@ -4,7 +4,7 @@ ghost use Rattle.std.specs.Prelude.{◌≡◌, ◌≢◌, ◌≤◌, ◌<◌, �
 ghost use Rattle.noise_events.specs.Windows.{width_of};
 ghost use Rattle.noise_session.specs.Transport.{last_nonce};
 ghost use Rattle.noise_session.specs.Windows.{is_ring};
-ghost use Rattle.noise_session.specs.Datagrams.{DatagramState, DatagramReceiverMatches, nonce_named, datagram_fault};
+ghost use Rattle.noise_session.specs.Datagrams.{nonce_named, datagram_receiver_fault};
 ghost use Rattle.noise_session.specs.DatagramCalls.{DatagramReceiverOpens, OpensAfterNonce};
 ghost use Rattle.noise_session.specs.Parts.{datagram_receiver_in};
 
@@ -94,12 +94,11 @@ impl DatagramReceiver {
 
     // Why such bytes aren't opened, whatever message they have.
     fn refusal(&self, datagram: &[u8]) -> Option<DatagramFault>
+        ensures value { result ≡ datagram_receiver_fault self.now datagram.now }
         ensures bounds { IfNone result ((24 ≤ length datagram.now) × (length datagram.now ≤ 65543)
             × (nonce_named datagram.now ≢ last_nonce)) }
         ensures young { IfNone result
             (self.now.recent.greatest < nonce_named datagram.now + width_of self.now.recent.window) }
-        ensures reported { (v : DatagramState) → DatagramReceiverMatches self.now v
-            → result ≡ datagram_fault v datagram.now }
     {
         if self.receiver.hears_nothing() {
             return Some(DatagramFault::OneWay);

@@ -1,10 +1,10 @@
 //! Which datagrams were accepted before: a ring of bits over their nonces (Noise, 11.4).
 
-ghost use Rattle.std.specs.Prelude.{◌≡◌, ◌≤◌, ◌<◌, ◌+◌, ◌/◌, ◌%◌, ◌*◌, ◌==◌, ℕ, List, [], ◌∷◌, length, drop, min, slice_index, false, true, IfNone, IfSome, is_some};
+ghost use Rattle.std.specs.Prelude.{◌≡◌, ◌≤◌, ◌<◌, ◌+◌, ◌/◌, ◌%◌, ◌*◌, ◌==◌, ℕ, List, [], ◌∷◌, length, drop, min, slice_index, false, true, IfSome, is_some};
 ghost use Rattle.std.specs.List.{list_all};
 ghost use Rattle.noise_events.specs.Windows.{width_of};
 ghost use Rattle.noise_session.specs.Transport.{last_nonce};
-ghost use Rattle.noise_session.specs.Windows.{bitmap_len, is_accepted, is_old, window_fault, Recalls, ends_at_greatest, begun_words, is_ring};
+ghost use Rattle.noise_session.specs.Windows.{bitmap_len, is_below, is_marked, is_old, ring_fault, Recalls, ends_at_greatest, begun_words, is_ring};
 
 use crate::DatagramFault;
 use crate::limits::LAST_NONCE;
@@ -97,9 +97,7 @@ impl Ring {
 
     // Why no datagram of this nonce is opened.
     pub(crate) fn refusal(&self, nonce: u64) -> Option<DatagramFault>
-        ensures young { IfNone result (self.now.greatest < nonce + width_of self.now.window) }
-        ensures reported { (accepted : List ℕ) → Recalls self.now accepted
-            → result ≡ window_fault (width_of self.now.window) accepted nonce }
+        ensures { result ≡ ring_fault self.now nonce }
     {
         if self.is_old(nonce) {
             Some(DatagramFault::Old)
@@ -112,18 +110,14 @@ impl Ring {
 
     // Whether some accepted nonce is at least the width above this one.
     fn is_old(&self, nonce: u64) -> bool
-        ensures young { result ≡ false → self.now.greatest < nonce + width_of self.now.window }
-        ensures reported { (accepted : List ℕ) → Recalls self.now accepted
-            → result ≡ is_old (width_of self.now.window) accepted nonce }
+        ensures { result ≡ is_below self.now nonce }
     {
         self.greatest.saturating_sub(nonce) >= self.window.width()
     }
 
     // Whether this nonce was accepted, which isn't old.
     fn contains(&self, nonce: u64) -> bool
-        ensures { (accepted : List ℕ) → Recalls self.now accepted
-            → is_old (width_of self.now.window) accepted nonce ≡ false
-            → result ≡ is_accepted accepted nonce }
+        ensures { result ≡ is_marked self.now nonce }
     {
         let word = self.words[place(self.window, nonce / WORD_BITS)];
         nonce <= self.greatest && word >> (nonce % WORD_BITS) & 1 == 1

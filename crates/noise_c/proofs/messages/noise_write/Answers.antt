@@ -1,12 +1,16 @@
-use Rattle.std.specs.Prelude.{Ok, Err}
-use Rattle.std.proofs.Common.{◌≡◌, ◌≤◌, ℕ, inl, inr, refl, ap, sym, subst, ◌∙◌, arith, length, take}
+use Rattle.std.specs.Prelude.{Ok, Err, replicate}
+use Rattle.std.proofs.Common.{◌≡◌, ◌≤◌, ℕ, inl, inr, refl, ap, sym, subst, ◌∙◌, arith, List, length, take}
 use Rattle.std.proofs.lemmas.Option.{same_Some}
-use Rattle.noise_c.proofs.Common.{Result, Option, Some, None, MatchOption, false≢true, Plan, Table, Want, HandshakeValue, length_unless, message_len_of, write_fault, LeavesLateUnwritten, IsLateOfTurn, IsLateWant, WantsPskToWrite, Party, write_code, handshake_from_c, text_from_c, IsPatternOf, IsUsable, KeepsParty, ReportsWant}
+use Rattle.noise_c.proofs.Common.{Result, Option, Some, None, MatchOption, false≢true, Plan, Table, Want, HandshakeValue, length_unless, message_len_of, write_fault, LeavesLateUnwritten, IsLateOfTurn, IsLateWant, WantsPskToWrite, Party, write_code, handshake_from_c, text_from_c, IsPatternOf, IsUsable, KeepsParty, NoiseHandshake, NoiseResult, ReportsWant}
 use Rattle.noise_handshake.specs.declared.faults.WriteFault.{WriteFault}
 use Rattle.noise_handshake.specs.declared.late_faults.LateUnwritten.{LateUnwritten}
 use Rattle.noise_handshake.specs.declared.late_faults.Want.TheVariants.{Psk}
 use Rattle.noise_c.proofs.Stored.{psks-left, opened, usable-after, was-written, matches-for, length-for}
-use Rattle.noise_c.specs.Outcomes.WriteOutcome.{written, withheld, no_room, unusable}
+use Rattle.noise_c.specs.Outcomes.WriteOutcome.{written, withheld, no_dh_result, no_room, unusable}
+use Rattle.noise_c.specs.Outcomes.{WriteOutcome}
+use Rattle.noise_c.specs.HandshakeStructs.{ForParty}
+use Rattle.noise_handshake.specs.HandshakeValue.{IsAgreement}
+use Rattle.noise_handshake.specs.Matching.{DoesNotWrite}
 use Rattle.noise_c.proofs.Numbers.{other, not-after, too-long, under, wants-other, withheld-within, withheld-agreement}
 use Rattle.noise_c.proofs.Wanting.{writes-outcome}
 use goal.{in-Some-message_len+else-needed-out, in_default}
@@ -139,6 +143,9 @@ returns-in-Err-Wants c =
           (subst (λ (z : Want). ReportsWant z results code) same t).0;
     }
 
+below : (code : ℕ) → code ≤ 14 → (code ≡ 14 → ⊥) → code ≤ 13
+below code within other = let less = under code 14 within other in omega arith
+
 -- only for want of a DH result something is written
 unchanged-out : (o : Option WriteFault) (u : LateUnwritten) (fault : WriteFault) (Q : Type 0) → u ≡ unwritten.Withheld fault
     → MatchOption o (IsLateOfTurn u) (λ f. (◌≡◌ {A = Result ℕ LateUnwritten} (Err u) (Err (unwritten.Withheld f))) × Q) → (write_code fault ≡ 14 → ⊥) → Q
@@ -149,26 +156,48 @@ unchanged-out None u write.TooLong Q e x differs = absurd (subst IsLateOfTurn e 
 unchanged-out None u (write.Agreement token) Q e x differs = absurd (differs refl)
 unchanged-out (Some f) u fault Q e x differs = x.1
 
+module _ (old : NoiseHandshake) (payload out mid after : List ℕ) (results : NoiseResult) where
+  abbrev Outcome : ℕ → Type 0
+  Outcome code = WriteOutcome old payload out results old after results code
+
+  not-lacking : (fault : WriteFault) (code : ℕ) → code ≡ write_code fault → (IsAgreement fault → ⊥) → ((IsAgreement fault → ⊥) → after ≡ mid)
+      → ((write_code fault ≡ 14 → ⊥) → mid ≡ out) → ForParty old (λ _ v. DoesNotWrite v (length payload) fault) → Outcome code
+  not-lacking fault code is far same kept f =
+      let within : (10 ≤ code) × (code ≤ 14) = withheld-within fault code is in
+      let other : code ≡ 14 → ⊥ = λ e. far (withheld-agreement fault (sym is ∙ e)) in
+      withheld code within.0 (below code within.1 other) refl refl (same far ∙ kept (λ e. other (is ∙ e)))
+      (λ p v k. record { fault = fault; code_is = is; withholds = f p v k })
+
+  withheld-as : (fault : WriteFault) (code : ℕ) → code ≡ write_code fault → length mid ≡ length out
+      → (IsAgreement fault → after ≡ replicate (length mid) 0) → ((IsAgreement fault → ⊥) → after ≡ mid)
+      → ((write_code fault ≡ 14 → ⊥) → mid ≡ out) → ForParty old (λ _ v. DoesNotWrite v (length payload) fault × (IsAgreement fault → ⊥)) → Outcome code
+  withheld-as (write.Agreement token) code is long zeros same kept f =
+      subst Outcome (sym is) (no_dh_result refl refl (zeros tt ∙ ap (λ (n : ℕ). replicate n 0) long) (λ p v k. (f p v k).1 tt))
+  withheld-as write.Ended code is long zeros same kept f = not-lacking write.Ended code is (λ none. none) same kept (λ p v k. (f p v k).0)
+  withheld-as write.Done code is long zeros same kept f = not-lacking write.Done code is (λ none. none) same kept (λ p v k. (f p v k).0)
+  withheld-as write.NotYourTurn code is long zeros same kept f = not-lacking write.NotYourTurn code is (λ none. none) same kept (λ p v k. (f p v k).0)
+  withheld-as write.TooLong code is long zeros same kept f = not-lacking write.TooLong code is (λ none. none) same kept (λ p v k. (f p v k).0)
+
 pub returns-in-Err-Withheld : goal.returns-in-Err-Withheld
 returns-in-Err-Withheld c =
     let old = c.args.handshake.now in
     let h = c.in-Some.value in
     let n : ℕ = length c.args.payload.now in
     let fault = c.in-Err-Withheld.fault in
-    let code : ℕ = c.write_code.result in
-    let is : code ≡ write_code fault = c.write_code.ensures ∙ ap write_code c.in-Err-Withheld.fault-is in
+    let code : ℕ = c.withhold.result in
+    let is : code ≡ write_code fault = c.withhold.ensures.code ∙ ap write_code c.in-Err-Withheld.fault-is in
     let within : (10 ≤ code) × (code ≤ 14) = withheld-within fault code is in
     let leaves : (p : Plan) (v : Party) → KeepsParty old p v → LeavesLateUnwritten v (length h.psks) n (unwritten.Withheld fault) =
     λ p v k. subst (λ (u : LateUnwritten). LeavesLateUnwritten v (length h.psks) n u) c.in-Err-Withheld.field-0-is
     (c.in-Err-Withheld.ensures.writes v k.later (matches-for old h p v c.in-Some.ensures.one c.in-Some.ensures.value k)).0 in
     record {
       unusable = (not-after code 14 23 within.1 refl, λ none. absurd (none (c.in-Some.ensures.usable.0 refl)));
-      outcome = withheld code within.0 within.1 refl refl
+      outcome = withheld-as old c.args.payload.now c.args.out.now c.write_or_ask.new.out c.withhold.new.out c.args.results.now fault code is
+          c.write_or_ask.auto.out (λ lacks. c.withhold.ensures.zeros (subst IsAgreement (sym c.in-Err-Withheld.fault-is) lacks))
+          (λ others. c.withhold.ensures.unchanged (λ lacks. others (subst IsAgreement c.in-Err-Withheld.fault-is lacks)))
           (λ others. unchanged-out (write_fault h n) c.in-Err-Withheld.field-0 fault (c.write_or_ask.new.out ≡ c.args.out.now)
-          c.in-Err-Withheld.field-0-is c.in-Err-Withheld.ensures.fault (λ e. others (is ∙ e)))
-          (λ p v k.
-          let far : code ≡ 14 → ⊥ = λ e. (leaves p v k).1 (withheld-agreement fault (sym is ∙ e)) in
-          (under code 14 within.1 far, record { fault = fault; code_is = is; withholds = (leaves p v k).0 }));
+          c.in-Err-Withheld.field-0-is c.in-Err-Withheld.ensures.fault others)
+          leaves;
       short = λ p named m e more.
           let f : message_len_of h n ≡ Some m = sym (length-for old h p n c.in-Some.ensures.one c.in-Some.ensures.value named) ∙ e in
           too-long m (length c.args.out.now) more (elim c.match-message_len.branch [

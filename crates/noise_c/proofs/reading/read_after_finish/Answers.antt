@@ -44,3 +44,14 @@ pub returns-then-noise_finish_stream-ne-OK-clause-reads : goal.returns-then-nois
 returns-then-noise_finish_stream-ne-OK-clause-reads c done =
     absurd (finishes-once c.args.handshake.now c.noise_finish_stream.result done c.noise_finish_stream.ensures.uses.code_is
     c.if-noise_finish_stream-ne-OK.true)
+
+pub returns-clause-all : goal.returns-clause-all
+returns-clause-all c done p u v keeps same =
+    let i = c.args.interval in
+    let made = c.noise_finish_stream.ensures.made c.if-noise_finish_stream-ne-OK.false in
+    c.read_stream_to_end.ensures.all v (transport_of u i) same (made.reader p u keeps)
+
+pub returns-then-noise_finish_stream-ne-OK-clause-all : goal.returns-then-noise_finish_stream-ne-OK-clause-all
+returns-then-noise_finish_stream-ne-OK-clause-all c done p u v keeps same =
+    absurd (finishes-once c.args.handshake.now c.noise_finish_stream.result done c.noise_finish_stream.ensures.uses.code_is
+    c.if-noise_finish_stream-ne-OK.true)

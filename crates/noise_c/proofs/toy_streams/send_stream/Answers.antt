@@ -1,17 +1,23 @@
+use Rattle.std.proofs.Common.{refl, ap}
+use Rattle.noise_names.specs.Plan.{is_one_way}
+use Rattle.noise_handshake.specs.Party.{Party}
+use Rattle.noise_session.specs.TransportValue.{transport_of}
+use Rattle.noise_c.proofs.Common.{with_dh_results}
+use Rattle.noise_c.proofs.Streaming.{all-sent}
 use Rattle.noise_c.proofs.toy_streams.send_stream.Goals as goal
 
 pub returns : goal.returns
 returns c =
     let f = c.in-Some.ensures in
+    let i = c.args.interval in
+    let v : Party = with_dh_results f.party f.handed_in in
+    let w : Party = with_dh_results f.party_too f.handed_in_too in
+    let there = f.facing.there in
+    let same = (c.outgoing_is_incoming.ensures (transport_of v i) (transport_of w i) (ap (λ (z : Party). z.role) there)
+    (ap (λ (z : Party). z.history) there) refl (ap (λ (z : Party). is_one_way z.pattern) there)).0 in
     record {
-      pattern = f.pattern;
-      left = f.left;
-      right = f.right;
-      messages = f.messages;
-      messages_too = f.messages_too;
-      party = f.party;
-      party_too = f.party_too;
-      finished = f.finished;
-      came = c.in-Some-get_mut.came.now;
-      handed = c.in_ok-whole.ensures.responder f.pattern f.left f.right f.messages f.messages_too f.party f.party_too f.handed_in_too f.finished f.stands_too;
+      sent = all-sent (transport_of v i) c.args.text.now _ c.args.out.now.items c.read_after_finish.new.out.items c.in_ok-whole.whole
+          (c.in-Some-write_stream.ensures.1 f.pattern v f.stands)
+          (c.in_ok-whole.ensures.all f.finishes_too f.pattern w (transport_of v i) f.stands_too same);
+      unchanged = tt;
     }

@@ -1,10 +1,10 @@
-use Rattle.std.proofs.Common.{◌≡◌, ◌≢◌, ◌+◌, ◌-◌, ◌≤◌, ℕ, length, take, drop, Some, None, rules, refl, sym, ◌∙◌, ap, subst, arith}
+use Rattle.std.proofs.Common.{◌≡◌, ◌≢◌, ◌+◌, ◌-◌, ◌≤◌, ℕ, length, take, drop, List, [], None, rules, refl, sym, ◌∙◌, ap, subst, arith}
 use Rattle.std.proofs.lemmas.Slice.{take-put_mid_below}
-use Rattle.noise_session.proofs.Common.{take_rest, put_mid, other, Ring, split_key, transport_message, last_nonce, renewed_key, HalfValue, nonce_named, datagram_fault, accepting, DatagramReceiverValue, DatagramReceiverMatches, datagram_receiver_value}
+use Rattle.noise_session.proofs.Common.{take_rest, put_mid, Ring, ciphertext_under, last_nonce, renewed_key, HalfValue, nonce_named, datagram_fault, datagram_receiver_fault, accepting, DatagramReceiverValue, DatagramReceiverMatches, datagram_receiver_value}
 use Rattle.noise_session.specs.contracts.datagram_receiver.DatagramReceiver.{the_view}
-use Rattle.noise_session.specs.Datagrams.Opens.{opened, refused, forged}
+use Rattle.noise_session.specs.DatagramCalls.{IsUnderKey, declined_for}
 use Rattle.noise_session.proofs.Places.{after-front, rest-after, unwritten}
-use Rattle.noise_session.proofs.DatagramStates.{has-nonce, piece-transport_message, young-here, half-opened, half-listens}
+use Rattle.noise_session.proofs.DatagramStates.{fault-reported, opened-there, refused-there, forged-there, has-nonce, young-here, half-opened, half-listens}
 use Rattle.noise_session.proofs.datagram_receiver.DatagramReceiver.open_within.Goals as goal
 
 -- a message that is opened at a nonce leaves all of the half but its nonce, where the key is never renewed
@@ -12,12 +12,24 @@ key-only : (h set next : HalfValue) (nonce : ℕ) (recent : Ring) → set ≡ re
     → next.key ≡ renewed_key set.interval (set.nonce + 1) set.key → h.interval ≡ 0 → datagram_receiver_value next recent ≡ datagram_receiver_value h recent
 key-only h set next nonce recent is counted renewed never = search rules
 
+-- what is sealed under the half's key at its nonce
+message-here : (set r : HalfValue) (t h : DatagramReceiverValue) (n m : ℕ) (payload : List ℕ) → set ≡ record r { nonce = n } → r.key ≡ t.key → t ≡ h → n ≡ m
+    → ciphertext_under set.key set.nonce [] payload ≡ ciphertext_under h.key m [] payload
+message-here set r t h n m payload is keyed same named =
+    let key = ap (λ (z : HalfValue). z.key) is ∙ keyed ∙ ap (λ (z : DatagramReceiverValue). z.key) same in
+    let nonce = ap (λ (z : HalfValue). z.nonce) is ∙ named in
+    rw (key, nonce) refl
+
 pub returns-in-Some-clause-opens : goal.returns-in-Some-clause-opens
-returns-in-Some-clause-opens c = record {
-  same = refl;
-  unchanged = refl;
-  opens = λ v h. refused v c.args.datagram.now c.in-Some.fault (sym (c.in-Some.ensures.reported v h));
-}
+returns-in-Some-clause-opens c =
+    let is = c.in-Some.ensures.value in
+    record {
+      fault = ap declined_for is;
+      opened = λ none payload there. cc;
+      same = refl;
+      unchanged = refl;
+      opens = λ v h. refused-there c.args.self.now v c.args.datagram.now c.in-Some.fault h is;
+    }
 
 pub returns-in-Ok-clause-place : goal.returns-in-Ok-clause-place
 returns-in-Ok-clause-place c =
@@ -38,30 +50,31 @@ pub returns-in-Ok-clause-opens : goal.returns-in-Ok-clause-opens
 returns-in-Ok-clause-opens c =
     let r = c.self.inside.receiver in
     let o = c.in-Ok.ensures.opens in
+    let h = c.args.self.now in
+    let d = c.args.datagram.now in
     let same = key-only r c.set_nonce.new.self c.open_within.new.self c.nonce_of-nonce.result c.insert.new.self c.set_nonce.ensures o.counted o.renewed
     c.self.invariant.interval in
+    let none : datagram_receiver_fault h d ≡ None = sym c.in_default.ensures.value in
+    let named : c.nonce_of-nonce.result ≡ nonce_named d = c.nonce_of-nonce.ensures in
+    let least : 24 ≤ length d = c.in_default.ensures.bounds.0 in
+    let front = sym (after-front 8 d c.open_within.new.message (omega arith)) in
+    let payload = take c.in-Ok.len (drop 8 (put_mid 8 (length d - 8) d c.open_within.new.message)) in
+    let there : IsUnderKey h d payload =
+    sym (take_rest d 8) ∙ o.opened ∙ message-here c.set_nonce.new.self r (the_view c.self.inside) h c.nonce_of-nonce.result (nonce_named d) _ c.set_nonce.ensures
+    refl c.self.view_is named ∙ ap (λ (m : List ℕ). ciphertext_under h.key (nonce_named d) [] (take c.in-Ok.len m)) front in
     record {
+      fault = none;
+      opened = there;
       same = same ∙ ap (λ (x : DatagramReceiverValue). record x { recent = c.insert.new.self }) c.self.view_is;
       unchanged = tt;
-      opens = λ v h.
-          let d = c.args.datagram.now in
-          let here = subst (λ (h : DatagramReceiverValue). DatagramReceiverMatches h v) (sym c.self.view_is) h in
-          let none : datagram_fault v d ≡ None = cc (c.in_default.ensures.reported v h) in
-          let named : c.nonce_of-nonce.result ≡ nonce_named d = c.nonce_of-nonce.ensures in
-          let keyed : c.set_nonce.new.self.key ≡ Some (split_key v.history (other v.role)) = ap (λ (z : HalfValue). z.key) c.set_nonce.ensures ∙ here.key in
-          let least : 24 ≤ length d = c.in_default.ensures.bounds.0 in
-          let long : 8 ≤ length d = omega arith in
-          let out = put_mid 8 (length d - 8) d c.open_within.new.message in
-          let front : take c.in-Ok.len c.open_within.new.message ≡ take c.in-Ok.len (drop 8 out) =
-          ap (take c.in-Ok.len) (sym (after-front 8 d c.open_within.new.message long)) in
-          let piece = piece-transport_message c.set_nonce.new.self.key c.set_nonce.new.self.nonce (nonce_named d) v.history (other v.role)
-          (take c.in-Ok.len c.open_within.new.message) keyed (ap (λ (z : HalfValue). z.nonce) c.set_nonce.ensures ∙ named) in (
-            opened v d (take c.in-Ok.len (drop 8 out)) none
-                (sym (take_rest d 8) ∙ o.opened ∙ piece ∙ ap (transport_message v.history (other v.role) 0 (nonce_named d)) front),
+      opens = λ v m.
+          let here = subst (λ (h : DatagramReceiverValue). DatagramReceiverMatches h v) (sym c.self.view_is) m in
+          let free : datagram_fault v d ≡ None = sym (fault-reported h v d m) ∙ none in (
+            opened-there h v d payload m none there,
             subst (λ (z : DatagramReceiverValue). DatagramReceiverMatches z (accepting v (nonce_named d))) (sym same)
                 (half-opened (the_view c.self.inside) v r.key c.insert.new.self c.nonce_of-nonce.result (nonce_named d) here refl
                 c.insert.ensures.window named
-                (c.insert.ensures.more v.accepted here.recent (young-here (the_view c.self.inside) v d c.nonce_of-nonce.result here none named))),
+                (c.insert.ensures.more v.accepted here.recent (young-here (the_view c.self.inside) v d c.nonce_of-nonce.result here free named))),
           );
     }
 
@@ -75,23 +88,24 @@ returns-in-Err-clause-place c = record {
 pub returns-in-Err-clause-opens : goal.returns-in-Err-clause-opens
 returns-in-Err-clause-opens c =
     let o = c.in-Err.ensures.opens in
+    let h = c.args.self.now in
+    let d = c.args.datagram.now in
+    let set = c.set_nonce.new.self in
     let same = ap (λ (z : HalfValue). datagram_receiver_value z c.self.inside.recent) (o.unchanged ∙ c.set_nonce.ensures) ∙ c.self.view_is in
+    let none : datagram_receiver_fault h d ≡ None = sym c.in_default.ensures.value in
+    let named = c.nonce_of-nonce.ensures in
+    let apart : set.nonce ≢ last_nonce = λ e. c.in_default.ensures.bounds.2 (sym named ∙ sym (ap (λ (z : HalfValue). z.nonce) c.set_nonce.ensures) ∙ e) in
+    let listens = half-listens set h d (ap (λ (z : HalfValue). z.role) c.set_nonce.ensures ∙ ap (λ (x : DatagramReceiverValue). x.role) c.self.view_is)
+    (ap (λ (z : HalfValue). z.one_way) c.set_nonce.ensures ∙ ap (λ (x : DatagramReceiverValue). x.one_way) c.self.view_is) none apart in
+    let never = λ (payload : List ℕ) (there : IsUnderKey h d payload). o.opened listens payload
+    (take_rest d 8 ∙ there ∙ sym (message-here set c.self.inside.receiver (the_view c.self.inside) h c.nonce_of-nonce.result (nonce_named d) payload c.set_nonce.ensures
+    refl c.self.view_is named)) in
     record {
+      fault = ap declined_for (sym none);
+      opened = λ _. never;
       same = same ∙ ap (λ (x : DatagramReceiverValue). record c.args.self.now { recent = x.recent }) (sym c.self.view_is);
       unchanged = same;
-      opens = λ v h.
-          let d = c.args.datagram.now in
-          let set = c.set_nonce.new.self in
-          let here = subst (λ (h : DatagramReceiverValue). DatagramReceiverMatches h v) (sym c.self.view_is) h in
-          let none : datagram_fault v d ≡ None = cc (c.in_default.ensures.reported v h) in
-          let named : set.nonce ≡ nonce_named d = ap (λ (z : HalfValue). z.nonce) c.set_nonce.ensures ∙ c.nonce_of-nonce.ensures in
-          let keyed : set.key ≡ Some (split_key v.history (other v.role)) = ap (λ (z : HalfValue). z.key) c.set_nonce.ensures ∙ here.key in
-          let apart : set.nonce ≢ last_nonce = λ same. c.in_default.ensures.bounds.2 (sym named ∙ same) in
-          let listens = half-listens set (the_view c.self.inside) v d (ap (λ (z : HalfValue). z.role) c.set_nonce.ensures)
-          (ap (λ (z : HalfValue). z.one_way) c.set_nonce.ensures) here none apart in
-          forged v d none (λ payload is.
-          let piece = sym (piece-transport_message set.key set.nonce (nonce_named d) v.history (other v.role) payload keyed named) in
-          o.opened listens payload (take_rest d 8 ∙ is ∙ piece));
+      opens = λ v m. forged-there h v d m none never;
     }
 
 pub nonce_of-nonce-requires : goal.nonce_of-nonce-requires

@@ -1,8 +1,11 @@
-use Rattle.std.proofs.Common.{arith}
+use Rattle.std.proofs.Common.{eqb, ap, sym}
 use Rattle.std.proofs.lemmas.Nat.Bits.{shr_and_one}
-use Rattle.noise_session.proofs.Ringing.{near-reported}
+use Rattle.std.specs.Prelude.{Bool, ◌&&◌}
+use Rattle.noise_session.proofs.Common.{bit_of, le-leb}
 use Rattle.noise_session.proofs.window.Ring.contains.Goals as goal
 
 pub returns-then-nonce-self : goal.returns-then-nonce-self
-returns-then-nonce-self c accepted h young =
-    rw (c.place.ensures.value, shr_and_one) (h.bits c.args.nonce (omega arith) (near-reported c.args.self.now accepted c.args.nonce h young))
+returns-then-nonce-self c =
+    let r = c.args.self.now in
+    let n = c.args.nonce in
+    rw (c.place.ensures.value, shr_and_one) (sym (ap (λ (b : Bool). b && eqb (bit_of r n) 1) (le-leb n r.greatest c.if-nonce-self.true)))

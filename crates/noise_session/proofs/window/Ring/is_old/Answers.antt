@@ -1,5 +1,5 @@
-use Rattle.noise_session.proofs.Ringing.{old-reported}
+use Rattle.noise_session.proofs.Ringing.{below-reported}
 use Rattle.noise_session.proofs.window.Ring.is_old.Goals as goal
 
-pub returns-clause-reported : goal.returns-clause-reported
-returns-clause-reported c accepted h = rw (c.width.ensures, c.saturating_sub.ensures) (old-reported c.args.self.now accepted c.args.nonce h)
+pub returns : goal.returns
+returns c = rw (c.width.ensures, c.saturating_sub.ensures) (below-reported c.args.self.now c.args.nonce)
