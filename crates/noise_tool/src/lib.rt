@@ -6,6 +6,7 @@ mod datagram_report;
 mod ends;
 mod explanation;
 mod file_facts;
+mod filling;
 mod key_use_lines;
 mod laws;
 mod named_files;

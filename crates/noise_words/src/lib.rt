@@ -9,4 +9,6 @@ mod orders;
 
 pub use command_line::chosen;
 pub use no_command::next_commands;
-pub use orders::{Chosen, Compared, LineFault, Order, Tested, Traced, TracedPart, TracedRole};
+pub use orders::{
+    Chosen, Compared, Filled, LineFault, Order, Tested, Traced, TracedPart, TracedRole,
+};
