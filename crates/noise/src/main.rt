@@ -6,8 +6,8 @@ ghost use Rattle.std.specs.Prelude.{◌≡◌, true, IfErr, None};
 ghost use Rattle.noise_lines.specs.Faults.{status_of};
 
 use noise_tool::{
-    Fault, LineFault, NamedFiles, Order, System, chosen, next_commands, perform, read_file,
-    report_fault,
+    Fault, LineFault, NamedFiles, Order, System, chosen, line_status, next_commands, perform,
+    read_file, report_fault,
 };
 use std::alloc::Global;
 use std::cell::Cell;
@@ -144,12 +144,12 @@ fn ends_with(rt: &HostRuntime, fault: Fault) -> u8 {
 // Help, where it is asked for, is no fault and goes to standard output.
 fn print_line_fault(rt: &HostRuntime, error: &clap::Error) -> u8 {
     let printed = error.print(rt);
-    if error.use_stderr() {
-        let _ = eprint!(rt; "{}", next_commands(error));
-        2
-    } else if printed.is_ok() {
-        0
-    } else {
-        ends_with(rt, Fault::Unwritable)
+    match line_status(error, printed.is_ok()) {
+        0 => 0,
+        3 => ends_with(rt, Fault::Unwritable),
+        status => {
+            let _ = eprint!(rt; "{}", next_commands(error));
+            status
+        }
     }
 }

@@ -1,2 +1,4 @@
 pub mod FileLemmas
+pub mod KeyLineLemmas
 pub mod PushLemmas
+pub mod ValueLemmas

@@ -1,6 +1,6 @@
 //! The pattern that a template is of: that of a protocol name, or that of a text.
 
-ghost use Rattle.std.specs.Prelude.{◌≡◌, IfErr, IfOk};
+ghost use Rattle.std.specs.Prelude.{◌≡◌, [], IfErr, IfOk};
 ghost use Rattle.noise_lines.specs.Output.{IsCheckFault, IsShowFault, NamesPattern};
 ghost use Rattle.noise_names.specs.Plan.{Plan};
 ghost use Rattle.noise_names.specs.Text.{Spells};
@@ -21,19 +21,19 @@ pub fn names_protocol(word: &str) -> bool
 /// The template of the pattern that has this protocol name. The faults are those of `show`, in its order.
 pub fn named_template(alloc: Global, name: &[u8]) -> Result<Vec<u8>, Fault>
     ensures made { IfOk result (λ text. (p : Plan) × NamesPattern name.now p × IsValid p
-        × IsTemplateText p text.items) }
+        × IsTemplateText [] p text.items) }
     ensures fault { IfErr result (λ fault. IsShowFault name.now fault) }
 {
     let valid = named_valid_pattern(name)?;
-    Ok(template(alloc, valid.pattern())?)
+    Ok(template(alloc, valid.pattern(), &[])?)
 }
 
 /// The template of the pattern that the text spells. The faults are those of `check`.
 pub fn spelled_template(alloc: Global, text: &[u8]) -> Result<Vec<u8>, Fault>
     ensures made { IfOk result (λ reported. (p : Plan) × Spells text.now p × IsValid p
-        × IsTemplateText p reported.items) }
+        × IsTemplateText [] p reported.items) }
     ensures fault { IfErr result (λ fault. IsCheckFault text.now fault) }
 {
     let valid = spelled_valid_pattern(text)?;
-    Ok(template(alloc, valid.pattern())?)
+    Ok(template(alloc, valid.pattern(), &[])?)
 }

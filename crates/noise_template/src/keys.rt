@@ -1,12 +1,14 @@
-//! The lines of keys, with placeholders.
+//! The lines of keys, with what is given, and else placeholders.
 
-ghost use Rattle.std.specs.Prelude.{◌≡◌, ◌≤◌, ◌++◌, ◌∷◌, [], IsTrue, OnOk, nat_le};
+ghost use Rattle.std.specs.Prelude.{◌≡◌, ◌≤◌, ◌++◌, ◌∷◌, [], true, IsTrue, OnOk, nat_le};
 ghost use Rattle.std.specs.List.{list_all};
 ghost use Rattle.hex.specs.Hex.{encode_lower};
-ghost use Rattle.noise_vectors.specs.VectorText.{answer_words, key_word, lines_of, own_word, psk_words};
-ghost use Rattle.noise_template.specs.Template.{dh_byte, entries_for, entry, key_byte, template_key, keys_line, keys_text, placeholder, psk_key, psks_text};
+ghost use Rattle.noise_vectors.specs.VectorText.{answer_words, key_word, lines_of, psk_words};
+ghost use Rattle.noise_template.specs.Template.{entries_for, entry, keys_line, keys_text, psk_at, psks_text, template_key};
+ghost use Rattle.noise_template.specs.Values.{AreRight, dh_byte, key_byte, placeholder, placeholder_of, takes_key, value_in};
 
 use crate::needs::mixes;
+use crate::values::{Given, Place, given_for, own_word};
 use noise_handshake::own_keys::{sends, token_of};
 use noise_handshake::tokens::own_at;
 use noise_keys::Own;
@@ -15,25 +17,31 @@ use noise_names::{Pattern, Role, Token};
 use noise_vectors::hex_word;
 use std::alloc::AllocError;
 
-// Appends a line for the psk of each place.
-pub(crate) fn push_psks(places: &[u8], text: &mut Vec<u8>) -> Result<(), AllocError>
-    requires { IsTrue (list_all (λ n. nat_le n 8) places.now) }
-    ensures { OnOk result (text.new.items ≡ text.old.items ++ psks_text places.now) }
+// Appends a line for the psk of each index.
+pub(crate) fn push_psks(
+    places: &[u8],
+    given: &[Given],
+    text: &mut Vec<u8>,
+) -> Result<(), AllocError>
+    requires right { AreRight given.now }
+    requires low { IsTrue (list_all (λ n. nat_le n 8) places.now) }
+    ensures { OnOk result (text.new.items ≡ text.old.items ++ psks_text given.now places.now) }
 {
     let Some((place, later)) = places.split_first() else {
         return Ok(());
     };
-    push_psk(*place, text)?;
-    push_psks(later, text)
+    push_psk(*place, given, text)?;
+    push_psks(later, given, text)
 }
 
 // Appends the line of a psk.
-fn push_psk(place: u8, text: &mut Vec<u8>) -> Result<(), AllocError>
-    requires { place ≤ 8 }
-    ensures { OnOk result (text.new.items ≡ text.old.items ++ (psk_words (psk_key place) ++ 10 ∷ [])) }
+fn push_psk(place: u8, given: &[Given], text: &mut Vec<u8>) -> Result<(), AllocError>
+    requires right { AreRight given.now }
+    requires low { place ≤ 8 }
+    ensures { OnOk result (text.new.items ≡ text.old.items ++ (psk_words (psk_at given.now place) ++ 10 ∷ [])) }
 {
     text.extend_from_slice(b"psk ".as_slice())?;
-    push_key(160 + place, text)?;
+    push_key(Place::Psk(place), 160 + place, given, text)?;
     text.push(b'\n')?;
     Ok(())
 }
@@ -42,36 +50,51 @@ fn push_psk(place: u8, text: &mut Vec<u8>) -> Result<(), AllocError>
 pub(crate) fn push_party(
     pattern: &Pattern,
     role: Role,
+    given: &[Given],
     text: &mut Vec<u8>,
 ) -> Result<(), AllocError>
-    ensures { OnOk result (text.new.items ≡ text.old.items ++ keys_text pattern.now role) }
+    requires { AreRight given.now }
+    ensures { OnOk result (text.new.items ≡ text.old.items ++ keys_text given.now pattern.now role) }
 {
-    push_keys(pattern, role, text)?;
-    push_answer(pattern, role, Token::Ee, text)?;
-    push_answer(pattern, role, Token::Es, text)?;
-    push_answer(pattern, role, Token::Se, text)?;
-    push_answer(pattern, role, Token::Ss, text)
+    push_keys(pattern, role, given, text)?;
+    push_answer(pattern, role, Token::Ee, given, text)?;
+    push_answer(pattern, role, Token::Es, given, text)?;
+    push_answer(pattern, role, Token::Se, given, text)?;
+    push_answer(pattern, role, Token::Ss, given, text)
 }
 
 // Appends the line of a party's keys.
-fn push_keys(pattern: &Pattern, role: Role, text: &mut Vec<u8>) -> Result<(), AllocError>
-    ensures { OnOk result (text.new.items ≡ text.old.items ++ keys_line pattern.now role) }
+fn push_keys(
+    pattern: &Pattern,
+    role: Role,
+    given: &[Given],
+    text: &mut Vec<u8>,
+) -> Result<(), AllocError>
+    requires { AreRight given.now }
+    ensures { OnOk result (text.new.items ≡ text.old.items ++ keys_line given.now pattern.now role) }
 {
     text.extend_from_slice(role_word(role).as_bytes())?;
     text.extend_from_slice(b" table ".as_slice())?;
-    push_own(pattern, role, Own::Ephemeral, text)?;
+    push_own(pattern, role, Own::Ephemeral, given, text)?;
     text.push(b' ')?;
-    push_own(pattern, role, Own::Static, text)?;
+    push_own(pattern, role, Own::Static, given, text)?;
     text.push(b'\n')?;
     Ok(())
 }
 
 // Appends a party's key, or a hyphen where it needs none.
-fn push_own(pattern: &Pattern, role: Role, own: Own, text: &mut Vec<u8>) -> Result<(), AllocError>
-    ensures { OnOk result (text.new.items ≡ text.old.items ++ key_word (template_key pattern.now role own)) }
+fn push_own(
+    pattern: &Pattern,
+    role: Role,
+    own: Own,
+    given: &[Given],
+    text: &mut Vec<u8>,
+) -> Result<(), AllocError>
+    requires { AreRight given.now }
+    ensures { OnOk result (text.new.items ≡ text.old.items ++ key_word (template_key given.now pattern.now role own)) }
 {
     if sends(pattern, role, token_of(own)) {
-        return push_key(key_byte(role, own), text);
+        return push_public(role, own, given, text);
     }
     text.push(b'-')?;
     Ok(())
@@ -82,44 +105,52 @@ fn push_answer(
     pattern: &Pattern,
     role: Role,
     dh: Token,
+    given: &[Given],
     text: &mut Vec<u8>,
 ) -> Result<(), AllocError>
+    requires { AreRight given.now }
     ensures { OnOk result (text.new.items ≡ text.old.items
-        ++ lines_of answer_words (entries_for pattern.now role dh) []) }
+        ++ lines_of answer_words (entries_for given.now pattern.now role dh) []) }
 {
     if mixes(pattern.messages(), dh) {
-        return push_entry(role, dh, text);
+        return push_entry(role, dh, given, text);
     }
     Ok(())
 }
 
 // Appends the line of a DH result.
-fn push_entry(role: Role, dh: Token, text: &mut Vec<u8>) -> Result<(), AllocError>
-    ensures { OnOk result (text.new.items ≡ text.old.items ++ (answer_words (entry role dh) ++ 10 ∷ [])) }
+fn push_entry(role: Role, dh: Token, given: &[Given], text: &mut Vec<u8>) -> Result<(), AllocError>
+    requires { AreRight given.now }
+    ensures { OnOk result (text.new.items ≡ text.old.items ++ (answer_words (entry given.now role dh) ++ 10 ∷ [])) }
 {
     text.extend_from_slice(b"answer ".as_slice())?;
     text.extend_from_slice(own_word(own_at(role, dh)).as_bytes())?;
     text.push(b' ')?;
-    push_key(key_byte(role.other(), own_at(role.other(), dh)), text)?;
+    push_public(role.other(), own_at(role.other(), dh), given, text)?;
     text.push(b' ')?;
-    push_key(dh_byte(dh), text)?;
+    push_key(Place::Dh(dh), dh_byte(dh), given, text)?;
     text.push(b'\n')?;
     Ok(())
 }
 
-// Appends a placeholder.
-fn push_key(byte: u8, text: &mut Vec<u8>) -> Result<(), AllocError>
-    ensures { OnOk result (text.new.items ≡ text.old.items ++ encode_lower (placeholder byte)) }
+// Appends a party's public key.
+fn push_public(role: Role, own: Own, given: &[Given], text: &mut Vec<u8>) -> Result<(), AllocError>
+    requires { AreRight given.now }
+    ensures { OnOk result (text.new.items ≡ text.old.items ++ encode_lower (value_in given.now (Place.Key role own))) }
 {
-    hex_word(&[byte; 32], text)
+    push_key(Place::Key(role, own), key_byte(role, own), given, text)
 }
 
-fn own_word(own: Own) -> &'static str
-    ensures { result.now ≡ own_word own }
+// Appends what is given for a key, a DH result or a psk, or else its placeholder of this byte.
+fn push_key(place: Place, byte: u8, given: &[Given], text: &mut Vec<u8>) -> Result<(), AllocError>
+    requires key { takes_key place ≡ true }
+    requires byte { placeholder_of place ≡ placeholder byte }
+    requires right { AreRight given.now }
+    ensures { OnOk result (text.new.items ≡ text.old.items ++ encode_lower (value_in given.now place)) }
 {
-    match own {
-        Own::Ephemeral => "e",
-        Own::Static => "s",
+    match given_for(place, given) {
+        Some(value) => hex_word(value, text),
+        None => hex_word(&[byte; 32], text),
     }
 }
 

@@ -1,5 +1,5 @@
 -- What a command does on the bytes that were read, it does on those that are known of its file.
-use Rattle.std.proofs.Common.{◌≡◌, ◌∙◌, refl, sym, ap, subst, ◌⊎◌, inl, inr, ◌<◌, ◌≤◌, ℕ, List, length, Option, Some, None, string_bytes}
+use Rattle.std.proofs.Common.{◌≡◌, ◌∙◌, refl, subst, ◌⊎◌, inl, inr, ◌≤◌, ℕ, List, Option, Some, None, string_bytes}
 use Rattle.std.specs.Prelude.{⊤, Bool, true, false, IfOk, IsTrue, Result, Ok, Err, Vec, if◌then◌else◌}
 use Rattle.noise_tool.proofs.Common.{Global, IfErr, IfSome, MatchBool, status_of, IsDone, IsFault, IsOfLines, LeavesOther, ReadsShort, ReportsRule, TooLong, Unreadable, Fault}
 use Rattle.noise_tool.proofs.PerformingLemmas.{reported-fault}

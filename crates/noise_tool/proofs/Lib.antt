@@ -18,6 +18,7 @@ pub mod TraceLineLemmas
 pub mod ReceivedLemmas
 pub mod EventLemmas
 pub mod ExplainLemmas
+pub mod FillingLemmas
 pub mod VectorExplainLemmas
 pub mod SelectionLemmas
 pub mod FollowLemmas

@@ -41,7 +41,7 @@ template-prefix word bytes known a b old new e (inr (text, h, grown)) =
 
 -- the template of the pattern that a file spells
 pub spelled-template : (word : List ℕ) (known : Option (List ℕ)) (t items reported : List ℕ) → names_protocol word ≡ false → t ≡ items
-    → IfSome known (λ bytes. items ≡ bytes) → (p : Plan) × Spells t p × IsValid p × IsTemplateText p reported → HasTemplated word known (Some []) (Some reported)
+    → IfSome known (λ bytes. items ≡ bytes) → (p : Plan) × Spells t p × IsValid p × IsTemplateText [] p reported → HasTemplated word known (Some []) (Some reported)
 spelled-template word known t items reported e same h (p, spells, valid, is) =
     subst (λ (b : Bool). MatchBool b ((q : Plan) × NamesPattern word q × HasTemplate q (Some []) (Some reported))
     (IfSome known (λ bytes. (q : Plan) × Spells bytes q × HasTemplate q (Some []) (Some reported)))) (sym e) (by known h)

@@ -10,13 +10,16 @@ use Rattle.noise_names.specs.declared.token.Token.{Token}
 use Rattle.noise_names.specs.declared.token.Token.TheVariants.{E, S, Ee, Es, Se, Ss, Psk}
 use Rattle.noise_keys.specs.declared.keys.Own.TheVariants.{Ephemeral, Static}
 use Rattle.noise_vectors.specs.declared.file_keys.FileKeys.TheVariants.{Table}
-use Rattle.noise_template.specs.Template.{IsTemplate, key_byte, placeholder, psk_key}
+use Rattle.noise_template.specs.Template.{IsTemplate, psk_at}
+use Rattle.noise_template.specs.Values.{value_in}
+use Rattle.noise_template.specs.declared.values.Given.{Given}
+use Rattle.noise_template.specs.declared.values.Place.TheVariants.{Key}
 use Rattle.noise_template.specs.Template as template
 
 -- ---- the pattern
 
-pub pattern-of : (p : Plan) (file : VectorFile) → IsPattern p → IsTemplate p file → IsFilePattern file.block file.protocol p
-pattern-of p file h t = search rules
+pub pattern-of : (g : List Given) (p : Plan) (file : VectorFile) → IsPattern p → IsTemplate g p file → IsFilePattern file.block file.protocol p
+pattern-of g p file h t = search rules
 
 -- ---- a psk for each place
 
@@ -142,13 +145,13 @@ none-above count (n ∷ ns) h =
     let no : bit (leb (1 + count) n) ≡ 0 = ap bit (above-all count n low) in
     omega (arith, no, from-cons (1 + count) n ns, none-above count ns (second (nat_le n count) (list_all (λ m. nat_le m count) ns) h))
 
-psk-count : (p : Plan) → IsPattern p → length (map psk_key p.places) ≡ psks_of p.messages
-psk-count p h =
+psk-count : (g : List Given) (p : Plan) → IsPattern p → length (map (psk_at g) p.places) ≡ psks_of p.messages
+psk-count g p h =
     let some : 1 ≤ length p.messages = leb-true 1 (length p.messages) (first (nat_le 1 (length p.messages)) (nat_le (length p.messages) 8) h.count) in
     let up : IsTrue (rises p.places) = first (rises p.places) _ h.places in
     omega (
       arith,
-      length-map p.places psk_key,
+      length-map p.places (psk_at g),
       from-zero p.places,
       all-psks p.places p.messages some up h.psks.tokens,
       none-above (length p.messages) p.places h.psks.in_range,
@@ -175,22 +178,23 @@ none-unexpected true true key = refl
 none-unexpected true false key = refl
 none-unexpected false b key = refl
 
-keys-are : (p : Plan) (file : VectorFile) → IsTemplate p file → (role : Role) → keys_of_role file role ≡ Table (template.template_keys p role)
-keys-are p file t Initiator = t.initiator
-keys-are p file t Responder = t.responder
+keys-are : (g : List Given) (p : Plan) (file : VectorFile) → IsTemplate g p file → (role : Role)
+    → keys_of_role file role ≡ Table (template.template_keys g p role)
+keys-are g p file t Initiator = t.initiator
+keys-are g p file t Responder = t.responder
 
-whole-setup : (p : Plan) → BeforeMatches p → (role : Role) (n : ℕ) → n ≡ psks_of p.messages
-    → setup_fault p role (public_of (Table (template.template_keys p role)))
-    (shown_before p (other role) (public_of (Table (template.template_keys p (other role))))) n ≡ None
-whole-setup p matches role n count =
-    let e = own-there (is_among role E (places_of p)) (placeholder (key_byte role Ephemeral)) in
-    let s = own-there (is_among role S (places_of p)) (placeholder (key_byte role Static)) in
-    let re = remote-there (has_before p (other role) E) (is_among (other role) E (places_of p)) (placeholder (key_byte (other role) Ephemeral)) (matches (other role) E) in
-    let rs = remote-there (has_before p (other role) S) (is_among (other role) S (places_of p)) (placeholder (key_byte (other role) Static)) (matches (other role) S) in
-    let ue = none-unexpected (has_before p (other role) E) (is_among (other role) E (places_of p)) (placeholder (key_byte (other role) Ephemeral)) in
-    let us = none-unexpected (has_before p (other role) S) (is_among (other role) S (places_of p)) (placeholder (key_byte (other role) Static)) in
+whole-setup : (g : List Given) (p : Plan) → BeforeMatches p → (role : Role) (n : ℕ) → n ≡ psks_of p.messages
+    → setup_fault p role (public_of (Table (template.template_keys g p role)))
+    (shown_before p (other role) (public_of (Table (template.template_keys g p (other role))))) n ≡ None
+whole-setup g p matches role n count =
+    let e = own-there (is_among role E (places_of p)) (value_in g (Key role Ephemeral)) in
+    let s = own-there (is_among role S (places_of p)) (value_in g (Key role Static)) in
+    let re = remote-there (has_before p (other role) E) (is_among (other role) E (places_of p)) (value_in g (Key (other role) Ephemeral)) (matches (other role) E) in
+    let rs = remote-there (has_before p (other role) S) (is_among (other role) S (places_of p)) (value_in g (Key (other role) Static)) (matches (other role) S) in
+    let ue = none-unexpected (has_before p (other role) E) (is_among (other role) E (places_of p)) (value_in g (Key (other role) Ephemeral)) in
+    let us = none-unexpected (has_before p (other role) S) (is_among (other role) S (places_of p)) (value_in g (Key (other role) Static)) in
     let same : eqb n (psks_of p.messages) ≡ true = grind (arith, nat_tests) in
     simp (e, s, re, rs, ue, us, same)
 
-pub no-setup-fault : (p : Plan) (file : VectorFile) → IsPattern p → BeforeMatches p → IsTemplate p file → (role : Role) → setup_of file p role ≡ None
-no-setup-fault p file h matches t role = search (rules, keys-are, whole-setup, psk-count)
+pub no-setup-fault : (g : List Given) (p : Plan) (file : VectorFile) → IsPattern p → BeforeMatches p → IsTemplate g p file → (role : Role) → setup_of file p role ≡ None
+no-setup-fault g p file h matches t role = search (rules, keys-are, whole-setup, psk-count)

@@ -1,5 +1,5 @@
 -- Lines of a key schedule, made word by word.
-use Rattle.std.proofs.Common.{◌≡◌, ◌∙◌, refl, sym, ap, ℕ, ◌+◌, List, [], ◌∷◌, ◌++◌, append_assoc}
+use Rattle.std.proofs.Common.{◌≡◌, ◌∙◌, refl, sym, ap, ℕ, List, [], ◌∷◌, ◌++◌, append_assoc}
 use Rattle.noise_tool.proofs.Common.{line_of}
 
 -- words more

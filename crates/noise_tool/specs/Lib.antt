@@ -2,6 +2,7 @@ pub mod Comparing
 pub mod Conversion
 pub mod Ends
 pub mod Explaining
+pub mod Filling
 pub mod Selection
 pub mod KeyUseLines
 pub mod OnePattern

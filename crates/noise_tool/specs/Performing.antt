@@ -30,8 +30,9 @@ use Rattle.noise_tool.specs.declared.run.Outcome.{Outcome}
 use Rattle.noise_words.specs.declared.orders.Chosen.{Chosen}
 use Rattle.noise_words.specs.declared.orders.Chosen.TheVariants.{List as Listing, Show, Check, Template, Talk, Replay, Convert, Trace}
 use Rattle.noise_words.specs.declared.orders.Order.{Order}
-use Rattle.noise_words.specs.declared.orders.Order.TheVariants.{Command, Compare, Explain, Test}
+use Rattle.noise_words.specs.declared.orders.Order.TheVariants.{Command, Compare, Explain, Fill, Test}
 use Rattle.noise_words.specs.declared.orders.Compared.{Compared}
+use Rattle.noise_words.specs.declared.orders.Filled.{Filled}
 use Rattle.noise_words.specs.declared.orders.Tested.{Tested}
 use Rattle.noise_vectors.specs.declared.faults.VectorFault.{VectorFault}
 use Rattle.noise_vectors.specs.declared.vector.AllowedEvents.{AllowedEvents}
@@ -270,6 +271,7 @@ IfCommand (Command chosen) P = P chosen
 IfCommand (Test asked) P = ⊤
 IfCommand (Explain files) P = ⊤
 IfCommand (Compare names) P = ⊤
+IfCommand (Fill names) P = ⊤
 
 -- of `test`
 abbrev pub IfTest : Order → (Tested → Type 0) → Type 0
@@ -277,6 +279,7 @@ IfTest (Command chosen) P = ⊤
 IfTest (Test asked) P = P asked
 IfTest (Explain files) P = ⊤
 IfTest (Compare names) P = ⊤
+IfTest (Fill names) P = ⊤
 
 -- of `explain`, with the names of its files
 abbrev pub IfExplain : Order → (List (List ℕ) → Type 0) → Type 0
@@ -284,6 +287,7 @@ IfExplain (Command chosen) P = ⊤
 IfExplain (Test asked) P = ⊤
 IfExplain (Explain files) P = P (map string_bytes files.items)
 IfExplain (Compare names) P = ⊤
+IfExplain (Fill names) P = ⊤
 
 -- of `compare`
 abbrev pub IfCompare : Order → (Compared → Type 0) → Type 0
@@ -291,6 +295,15 @@ IfCompare (Command chosen) P = ⊤
 IfCompare (Test asked) P = ⊤
 IfCompare (Explain files) P = ⊤
 IfCompare (Compare names) P = P names
+IfCompare (Fill names) P = ⊤
+
+-- of `template` with a file of values
+abbrev pub IfFill : Order → (Filled → Type 0) → Type 0
+IfFill (Command chosen) P = ⊤
+IfFill (Test asked) P = ⊤
+IfFill (Explain files) P = ⊤
+IfFill (Compare names) P = ⊤
+IfFill (Fill names) P = P names
 
 -- At status 2 the output is as it was. `explain` alone prints there, and `test` has no such status.
 abbrev pub LeavesAtTwo : {O : Type 0} → Order → O → O → Type 0

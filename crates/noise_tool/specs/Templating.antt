@@ -1,5 +1,5 @@
 -- What `template` has done: of a protocol name, or of the pattern that a file spells.
-use Rattle.std.specs.Prelude.{⊤, ◌≡◌, ◌⊎◌, ◌<◌, ◌≤◌, ℕ, List, Option, IfSome, MatchBool, length}
+use Rattle.std.specs.Prelude.{⊤, ◌≡◌, ◌⊎◌, ◌<◌, ◌≤◌, ℕ, List, [], Option, IfSome, MatchBool, length}
 use Rattle.std.specs.Io.KnownBytes.{Appends}
 use Rattle.noise_names.specs.Plan.{Plan}
 use Rattle.noise_names.specs.Text.{Spells}
@@ -13,7 +13,7 @@ use Rattle.noise_template.specs.Template.{IsTemplateText, names_protocol}
 pub record HasTemplate (p : Plan) (before after : Option (List ℕ)) : Type 0 where
   pub valid : IsValid p
   pub text : List ℕ
-  pub is : IsTemplateText p text
+  pub is : IsTemplateText [] p text
   pub printed : Appends before after text
 
 -- the word is a protocol name of the pattern, or else the file spells it

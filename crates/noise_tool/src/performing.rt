@@ -8,9 +8,10 @@ ghost use Rattle.noise_vectors.specs.VectorFile.{IsVectorFile};
 ghost use Rattle.noise_vectors.specs.VectorText.{file_text};
 ghost use Rattle.noise_vectors.specs.declared.vector.AllowedEvents.TheVariants.{VersionOne};
 ghost use Rattle.noise_vectors.specs.declared.vector.Version.TheVariants.{One};
-ghost use Rattle.noise_tool.specs.Performing.{Converts, HasConverted, IsDone, IsFault, IsNotMet, IsOfLines, IsPlain, IsReadVector, IsRunFault, IsStopped, IsTooLongConverted, IsUnlike, IfCommand, IfCompare, IfExplain, IfTest, IsShortFile, IsKnownAs, IsLongFile, IsUnreadFile, LeavesAtTwo, LeavesFile, OfAsked, ReadsShort, RunsFile, UnlessTwo, file_of, takes_pattern};
+ghost use Rattle.noise_tool.specs.Performing.{Converts, HasConverted, IsDone, IsFault, IsNotMet, IsOfLines, IsPlain, IsReadVector, IsRunFault, IsStopped, IsTooLongConverted, IsUnlike, IfCommand, IfCompare, IfExplain, IfFill, IfTest, IsShortFile, IsKnownAs, IsLongFile, IsUnreadFile, LeavesAtTwo, LeavesFile, OfAsked, ReadsShort, RunsFile, UnlessTwo, file_of, takes_pattern};
 ghost use Rattle.noise_tool.specs.Comparing.{ComparesFiles, ComparesPrefix, IsNotCompared, IsRefusedTwice, NamesInputTwice, StopsComparing};
 ghost use Rattle.noise_tool.specs.Explaining.{ExplainsFiles, ExplainsPrefix, StopsExplaining};
+ghost use Rattle.noise_tool.specs.Filling.{FillsFiles, FillsPrefix, IsFillRefused, StopsFilling};
 ghost use Rattle.noise_tool.specs.Templating.{HasTemplated, IsTemplateFault, LeavesPattern, ReadsShortPattern};
 ghost use Rattle.noise_tool.specs.Testing.{EndsTest, TestsFiles, TestsPrefix};
 ghost use Rattle.noise_tool.specs.Prefixes.{PrintsConvertedPrefix, PrintsPrefix, PrintsRunPrefix};
@@ -24,6 +25,7 @@ ghost use Rattle.noise_tool.specs.PatternNames.{HasShown, IsShownFault, NamesTex
 
 use crate::comparison::compare_log;
 use crate::explanation::explain_files;
+use crate::filling::fill_template;
 use crate::laws::conversions_meet_themselves;
 use crate::pattern_names::{pattern_text, show_word};
 use crate::run::{Outcome, replay};
@@ -38,10 +40,10 @@ use noise_words::{Chosen, Order};
 use std::alloc::Global;
 use std::io::{Read, Write};
 
-/// Does what the words of the command line ask for, and gives the exit status: `test`, `explain` or `compare`, or a
-/// command on at most one file, as `perform_command` does it on the bytes of the file that the words name. `list` and
-/// `show` read no file, nor does `template` of a protocol name. Where the file of `check` or `template` can't be read
-/// and its name is that of a pattern, the command is done on this pattern's text.
+/// Does what the words of the command line ask for, and gives the exit status: `test`, `explain`, `compare` or
+/// `template` with a file of values, or a command on at most one file, as `perform_command` does it on the bytes of the
+/// file that the words name. `list` and `show` read no file, nor does `template` of a protocol name. Where the file of
+/// `check` or `template` can't be read and its name is that of a pattern, the command is done on this pattern's text.
 pub fn perform<F: FilesByName, O: Write, E: Write>(
     alloc: Global,
     order: &Order,
@@ -68,7 +70,7 @@ pub fn perform<F: FilesByName, O: Write, E: Write>(
     ensures unwritten { result ≡ 2 → LeavesAtTwo order.now out.old out.new }
     ensures quiet { result ≡ 0 → err.new ≡ err.old }
 
-    // Of `test`, `explain` and `compare`.
+    // Of `test`, `explain`, `compare` and `template` with a file of values.
     ensures tested { IfTest order.now (λ asked. (result ≡ 3) ⊎ TestsFiles asked (F.bytes_at files.now)
         (F.unreadable files.now) (O.contents out.old) (O.contents out.new) err.old err.new result) }
     ensures test_outside { result ≡ 3 → IfTest order.now (λ asked. (fault : Fault) × EndsTest fault
@@ -94,12 +96,23 @@ pub fn perform<F: FilesByName, O: Write, E: Write>(
         (F.bytes_at files.now (string_bytes names.file)) (O.contents out.old) (O.contents out.new)) }
     ensures compare_outside { result ≡ 3 → IfCompare order.now (λ names. StopsComparing names
         (F.unreadable files.now) (E.contents err.old) (E.contents err.new)) }
+    ensures filled { result ≡ 0 → IfFill order.now (λ names. FillsFiles names (F.bytes_at files.now)
+        (F.unreadable files.now) (O.contents out.old) (O.contents out.new)) }
+    ensures fill_fault { 1 ≤ result → IfFill order.now (λ names. (result ≡ 3)
+        ⊎ IsFillRefused names (F.bytes_at files.now) (F.unreadable files.now) (O.contents out.old)
+        (O.contents out.new) (E.contents err.old) (E.contents err.new) result) }
+    ensures fill_outside { result ≡ 3 → IfFill order.now (λ names. StopsFilling names (F.unreadable files.now)
+        (E.contents err.old) (E.contents err.new)) }
+    ensures fill_prefix { IfFill order.now (λ names. (out.new ≡ out.old)
+        ⊎ FillsPrefix names (F.bytes_at files.now) (F.unreadable files.now) (O.contents out.old)
+        (O.contents out.new)) }
 {
     match order {
         Order::Command(chosen) => perform_named(alloc, chosen, files, out, err),
         Order::Test(asked) => test(alloc, &asked.files, asked.traces, files, out, err),
         Order::Explain(names) => explain_files(alloc, names, files, out, err),
         Order::Compare(names) => compare_log(alloc, names, files, out, err),
+        Order::Fill(names) => fill_template(alloc, names, files, out, err),
     }
 }
 

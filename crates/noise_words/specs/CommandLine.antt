@@ -8,7 +8,8 @@ use Rattle.noise_words.specs.declared.orders.Chosen.{Chosen}
 use Rattle.noise_words.specs.declared.orders.Chosen.TheVariants as chosen
 use Rattle.noise_words.specs.declared.orders.Order.{Order}
 use Rattle.noise_words.specs.declared.orders.Compared.{Compared}
-use Rattle.noise_words.specs.declared.orders.Order.TheVariants.{Command, Compare, Explain, Test}
+use Rattle.noise_words.specs.declared.orders.Filled.{Filled}
+use Rattle.noise_words.specs.declared.orders.Order.TheVariants.{Command, Compare, Explain, Fill, Test}
 use Rattle.noise_words.specs.declared.orders.Tested.{Tested}
 use Rattle.noise_words.specs.declared.orders.Traced.{Traced}
 use Rattle.noise_words.specs.declared.orders.TracedPart.{TracedPart}
@@ -26,13 +27,14 @@ use Rattle.clap.specs.Faults.{fault_of}
 abbrev pub Choice : Type 0
 Choice = Text × List Text
 
--- The values that a command wants, by these names: none, one, two, at least one beside these flags, or one beside
--- these options and flags.
+-- The values that a command wants, by these names: none, one, two, one and a second that may be left out, at least
+-- one beside these flags, or one beside these options and flags.
 pub data Wants : Type 0 where
   Nothing : Wants
   One : Text → Wants
   Several : Text → List Text → Wants
   Two : Text → Text → Wants
+  OneOrTwo : Text → Text → Wants
   OneWith : Text → List Choice → List Text → Wants
 
 -- the flag of `test`
@@ -55,6 +57,9 @@ heading_flag = codes "heading"
 abbrev pub trace : Text × Wants
 trace = (codes "trace", OneWith (codes "FILE") (part_choice ∷ role_choice ∷ []) (heading_flag ∷ []))
 
+abbrev pub template : Text × Wants
+template = (codes "template", OneOrTwo (codes "NAME|FILE") (codes "KEYS"))
+
 abbrev pub compare : Text × Wants
 compare = (codes "compare", Two (codes "LOG") (codes "FILE"))
 
@@ -65,7 +70,7 @@ commands =
     ∷ (codes "show", One (codes "NAME"))
     ∷ (codes "check", One (codes "FILE"))
     ∷ (codes "explain", Several (codes "FILE") [])
-    ∷ (codes "template", One (codes "NAME|FILE"))
+    ∷ template
     ∷ (codes "talk", One (codes "FILE"))
     ∷ (codes "replay", One (codes "FILE"))
     ∷ (codes "convert", One (codes "FILE"))
@@ -94,6 +99,7 @@ abbrev pub rules_for : Wants → List Rule
 rules_for Nothing = []
 rules_for (One value) = wanted value ∷ []
 rules_for (Two first second) = wanted first ∷ wanted second ∷ []
+rules_for (OneOrTwo first second) = wanted first ∷ new_rule second ∷ []
 rules_for (Several value flags) = several value ∷ map flag flags
 rules_for (OneWith value choices flags) = wanted value ∷ (map optional choices ++ map flag flags)
 
@@ -154,11 +160,15 @@ named_explain files = (codes "explain", map string_bytes files.items, [])
 abbrev pub named_compare : Compared → Named
 named_compare compared = (codes "compare", string_bytes compared.log ∷ string_bytes compared.file ∷ [], [])
 
+abbrev pub named_fill : Filled → Named
+named_fill filled = (codes "template", string_bytes filled.pattern ∷ string_bytes filled.keys ∷ [], [])
+
 abbrev pub order_of : Order → Named
 order_of (Command c) = words_of c
 order_of (Test tested) = named_test tested
 order_of (Explain files) = named_explain files
 order_of (Compare compared) = named_compare compared
+order_of (Fill filled) = named_fill filled
 
 -- what is chosen of these values, where it is left out or is one of them
 abbrev pub chosen_of : List Text → Option Text → Option (Option Text)
@@ -183,12 +193,19 @@ flag_of (Some text) = if bytes_eq (codes "true") text then Some (codes "true") e
 abbrev pub flag_in : List Row → Text → Option Text
 flag_in rows name = flag_of (first_of name rows)
 
+-- a value, and a second one where it is given
+abbrev pub with_second : Text → Option Text → List Text
+with_second first None = first ∷ []
+with_second first (Some second) = first ∷ second ∷ []
+
 -- the order for a command, where its matches have the values that it wants
 abbrev pub order_with : List Row → Text × Wants → Option Named
 order_with rows (name, Nothing) = Some (name, [], [])
 order_with rows (name, One value) = option_map (λ text. (name, text ∷ [], [])) (first_of value rows)
 order_with rows (name, Two first second) =
     option_and_then (λ one. option_map (λ two. (name, one ∷ two ∷ [], [])) (first_of second rows)) (first_of first rows)
+order_with rows (name, OneOrTwo first second) =
+    option_map (λ one. (name, with_second one (first_of second rows), [])) (first_of first rows)
 order_with rows (name, Several value flags) =
     option_map (λ texts. (name, texts, map (flag_in rows) flags)) (all_of value rows)
 order_with rows (name, OneWith value choices flags) =

@@ -1,13 +1,13 @@
-//! The options of `trace`, whose values are checked here, the flags of `trace` and `test`, and the files of `explain`
-//! and `compare`.
+//! The options of `trace`, whose values are checked here, the flags of `trace` and `test`, and the files of `explain`,
+//! `compare` and `template`.
 
 ghost use Rattle.std.specs.Prelude.{◌≡◌, IfOk, codes, option_map};
 ghost use Rattle.clap.specs.Words.{found_of, rows_of};
-ghost use Rattle.noise_words.specs.CommandLine.{choice_in, flag_in, flag_text, named_compare, named_explain, named_test, named_trace, part_choice, part_text, role_choice, role_text, stated_by};
+ghost use Rattle.noise_words.specs.CommandLine.{choice_in, flag_in, flag_text, named_compare, named_explain, named_test, named_trace, order_of, part_choice, part_text, role_choice, role_text, stated_by};
 
 use crate::command_line::{value, values};
 use crate::help::{HEADING, ONLY, ROLE, TRACES};
-use crate::orders::{Compared, Tested, Traced, TracedPart, TracedRole};
+use crate::orders::{Chosen, Compared, Filled, Order, Tested, Traced, TracedPart, TracedRole};
 use clap::ArgMatches;
 use std::alloc::{AllocError, Global};
 
@@ -66,6 +66,19 @@ pub fn compared(alloc: Global, found: &ArgMatches<'_>) -> Result<Option<Compared
     match value(alloc, found, "FILE")? {
         Some(file) => Ok(Some(Compared { log, file })),
         None => Ok(None),
+    }
+}
+
+/// The order for `template`, where its matches have a pattern: with the values of a file, where they have one.
+pub fn templated(alloc: Global, found: &ArgMatches<'_>) -> Result<Option<Order>, AllocError>
+    ensures { IfOk result (λ o. option_map order_of o ≡ stated_by (codes "template") (rows_of (found_of found.now))) }
+{
+    let Some(pattern) = value(alloc, found, "NAME|FILE")? else {
+        return Ok(None);
+    };
+    match value(alloc, found, "KEYS")? {
+        Some(keys) => Ok(Some(Order::Fill(Filled { pattern, keys }))),
+        None => Ok(Some(Order::Command(Chosen::Template(pattern)))),
     }
 }
 

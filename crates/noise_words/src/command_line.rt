@@ -1,14 +1,15 @@
 //! What the words of the command line ask for.
 
 ghost use Rattle.std.specs.Prelude.{◌≡◌, ◌≢◌, ◌⊎◌, ◌∷◌, [], IfOk, IfErr, Some, None, codes, fold, true, false, map, option_map, string_bytes};
-ghost use Rattle.clap.specs.Simple.{with_subcommand};
+ghost use Rattle.clap.specs.Simple.{new_rule, with_subcommand};
 ghost use Rattle.clap.specs.Words.{all_of, app_of, first_of, found_of, kind_of, rows_of, rule_of, shape_of, subcommand_rows_of};
 ghost use Rattle.clap.specs.declared.builder.command.Command.TheViews.{out-Command};
-ghost use Rattle.noise_words.specs.CommandLine.{Nothing, asked, compare, flag, noise, optional, order_of, rules_for, stated_by, stated_in, subcommand, test, trace, wanted, wanted_by, words_of};
+ghost use Rattle.noise_words.specs.CommandLine.{Nothing, asked, compare, flag, noise, optional, order_of, rules_for, stated_by, stated_in, subcommand, template, test, trace, wanted, wanted_by, words_of};
 
-use crate::choices::{compared, explained, tested, traced, wrong_choice};
+use crate::choices::{compared, explained, templated, tested, traced, wrong_choice};
 use crate::help::{
-    COMPARE, Flag, HEADING, ONLY, ROLE, Subcommand, TEST, TRACE, TRACES, ValueOption, WITH_VALUE,
+    COMPARE, Flag, HEADING, OF_PATTERNS, OF_VECTORS, ONLY, ROLE, Subcommand, TEMPLATE, TEST, TRACE,
+    TRACES, ValueOption,
 };
 use crate::orders::{Chosen, LineFault, Order};
 use clap::error::ErrorKind;
@@ -62,8 +63,33 @@ fn unstated(
 fn command<'a>(alloc: Global) -> Result<Command<'a>, AllocError>
     ensures { IfOk result (λ c. app_of c ≡ noise) }
 {
-    let whole = adding(alloc, with_list(alloc)?, &WITH_VALUE)?;
+    let whole = adding(alloc, with_list(alloc)?, &OF_PATTERNS)?;
+    let whole = adding(alloc, with_template(alloc, whole)?, &OF_VECTORS)?;
     with_compare(alloc, with_trace(alloc, with_test(alloc, whole)?)?)
+}
+
+// With the subcommand that has a second value that may be left out, too.
+fn with_template<'a>(alloc: Global, whole: Command<'a>) -> Result<Command<'a>, AllocError>
+    ensures { IfOk result (λ c. app_of c ≡ with_subcommand (app_of whole.entry) (subcommand template)) }
+{
+    whole.subcommand(with_keys(alloc)?)
+}
+
+// The subcommand that has a second value that may be left out.
+fn with_keys<'a>(alloc: Global) -> Result<Command<'a>, AllocError>
+    ensures shape { IfOk result (λ c. shape_of c ≡ subcommand template) }
+    ensures local { IfOk result (λ c. (out-Command c).has_globals ≡ false) }
+{
+    let whole = with_value(alloc, &TEMPLATE)?;
+    whole.arg(keys_value(alloc))
+}
+
+// Its second value.
+fn keys_value<'a>(alloc: Global) -> Arg<'a>
+    ensures rule { rule_of result ≡ new_rule (codes "KEYS") }
+    ensures local { result.global ≡ false }
+{
+    Arg::new(alloc, "KEYS").help("A file with values for the placeholders, a line NAME = HEX each")
 }
 
 // With the subcommand that has a flag, too.
@@ -227,6 +253,9 @@ fn order(alloc: Global, matches: &ArgMatches<'_>) -> Result<Option<Order>, Alloc
     if name == "compare" {
         return Ok(compared(alloc, found)?.map(Order::Compare));
     }
+    if name == "template" {
+        return templated(alloc, found);
+    }
     match command_order(alloc, name, found)? {
         Some(command) => Ok(Some(Order::Command(command))),
         None => Ok(None),
@@ -240,13 +269,12 @@ fn command_order(
     found: &ArgMatches<'_>,
 ) -> Result<Option<Chosen>, AllocError>
     ensures { (name.now ≡ codes "test" → ⊥) → (name.now ≡ codes "explain" → ⊥) → (name.now ≡ codes "compare" → ⊥)
-        → IfOk result (λ c. option_map words_of c ≡ stated_by name.now (rows_of (found_of found.now))) }
+        → (name.now ≡ codes "template" → ⊥) → IfOk result (λ c. option_map words_of c ≡ stated_by name.now (rows_of (found_of found.now))) }
 {
     match name {
         "list" => Ok(Some(Chosen::List)),
         "show" => Ok(value(alloc, found, "NAME")?.map(Chosen::Show)),
         "check" => Ok(value(alloc, found, "FILE")?.map(Chosen::Check)),
-        "template" => Ok(value(alloc, found, "NAME|FILE")?.map(Chosen::Template)),
         "talk" => Ok(value(alloc, found, "FILE")?.map(Chosen::Talk)),
         "replay" => Ok(value(alloc, found, "FILE")?.map(Chosen::Replay)),
         "convert" => Ok(value(alloc, found, "FILE")?.map(Chosen::Convert)),

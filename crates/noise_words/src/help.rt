@@ -17,18 +17,19 @@ pub struct Subcommand<'a> {
     pub example: &'a str,
 }
 
-// What the placeholders of a template stand for.
+// What the placeholders of a template stand for, and the lines of a file with values for them.
 const TEMPLATE_HELP: &str = "\
-Replace the digits of each placeholder wherever they stand:
-  e1e1..  the initiator's ephemeral public key    5151..  its static public key
-  e2e2..  the responder's ephemeral public key    5252..  its static public key
-  eeee..  the result of DH at ee, e5e5.. at es, 5e5e.. at se, 5555.. at ss
-  a0a0..  the pre-shared key of psk0, a1a1.. of psk1, up to a8a8.. of psk8
+Replace the digits of each placeholder wherever they stand, or give KEYS, a file with a line for each:
+  e1e1..  initiator e = HEX, its ephemeral public key    5151..  initiator s = HEX, its static one
+  e2e2..  responder e = HEX                              5252..  responder s = HEX
+  eeee..  dh ee = HEX, the result of DH at ee; e5e5.. dh es, 5e5e.. dh se, 5555.. dh ss
+  a0a0..  psk 0 = HEX, the pre-shared key of psk0; a1a1.. psk 1, up to a8a8.. psk 8
+  -       prologue = HEX; and payload 1 = HEX of message 1, and so on
 
 Example: noise template XXpsk3";
 
-/// The subcommands that have a value.
-pub const WITH_VALUE: [Subcommand<'static>; 7] = [
+/// The subcommands that have a pattern.
+pub const OF_PATTERNS: [Subcommand<'static>; 3] = [
     Subcommand {
         name: "show",
         value: "NAME",
@@ -53,14 +54,10 @@ pub const WITH_VALUE: [Subcommand<'static>; 7] = [
         meaning: "Files with the text of a pattern, vector files, and pattern names, as XX",
         example: "Example: noise explain examples/patterns/broken.pattern",
     },
-    Subcommand {
-        name: "template",
-        value: "NAME|FILE",
-        several: false,
-        about: "Print a vector file with the lines that a pattern needs, and a placeholder for each key",
-        meaning: "A protocol name, a file with the text of a pattern, or a pattern name, as XXpsk3",
-        example: TEMPLATE_HELP,
-    },
+];
+
+/// The subcommands that have the name of a vector file.
+pub const OF_VECTORS: [Subcommand<'static>; 3] = [
     Subcommand {
         name: "talk",
         value: "FILE",
@@ -86,6 +83,16 @@ pub const WITH_VALUE: [Subcommand<'static>; 7] = [
         example: "Example: noise convert examples/vectors/first-message.vector",
     },
 ];
+
+/// The subcommand that has a second value, which may be left out: the first.
+pub const TEMPLATE: Subcommand<'static> = Subcommand {
+    name: "template",
+    value: "NAME|FILE",
+    several: false,
+    about: "Print a vector file with the lines that a pattern needs, and a placeholder for each key",
+    meaning: "A protocol name, a file with the text of a pattern, or a pattern name, as XXpsk3",
+    example: TEMPLATE_HELP,
+};
 
 /// The subcommand that has several values and a flag.
 pub const TEST: Subcommand<'static> = Subcommand {

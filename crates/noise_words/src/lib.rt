@@ -8,5 +8,7 @@ mod no_command;
 mod orders;
 
 pub use command_line::chosen;
-pub use no_command::next_commands;
-pub use orders::{Chosen, Compared, LineFault, Order, Tested, Traced, TracedPart, TracedRole};
+pub use no_command::{line_status, next_commands};
+pub use orders::{
+    Chosen, Compared, Filled, LineFault, Order, Tested, Traced, TracedPart, TracedRole,
+};

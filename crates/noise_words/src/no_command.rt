@@ -2,7 +2,7 @@
 
 ghost use Rattle.std.specs.Prelude.{◌≡◌};
 ghost use Rattle.clap.specs.Words.{kind_of};
-ghost use Rattle.noise_words.specs.NextCommands.{next_commands};
+ghost use Rattle.noise_words.specs.NextCommands.{line_status, next_commands};
 
 use clap::error::ErrorKind;
 
@@ -20,5 +20,16 @@ pub fn next_commands(error: &clap::Error) -> &'static str
     match error.kind() {
         ErrorKind::MissingSubcommand | ErrorKind::InvalidSubcommand => FIRST_COMMANDS,
         _ => "",
+    }
+}
+
+/// The exit status where the words of a command line are no command: 0 where they ask for help or the version, and this
+/// was printed; 3 where it couldn't be printed; and else 2.
+pub fn line_status(error: &clap::Error, printed: bool) -> u8
+    ensures { result ≡ line_status (kind_of error.now) printed }
+{
+    match error.kind() {
+        ErrorKind::DisplayHelp | ErrorKind::DisplayVersion => { if printed { 0 } else { 3 } }
+        _ => 2,
     }
 }

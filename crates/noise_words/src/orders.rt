@@ -54,6 +54,15 @@ pub struct Compared {
     pub file: String,
 }
 
+/// What is filled in.
+#[derive(Drop, PartialEq, Eq)]
+pub struct Filled {
+    /// The protocol name, or the name of the file with the pattern.
+    pub pattern: String,
+    /// The name of the file with the values.
+    pub keys: String,
+}
+
 /// A command on at most one file, with its value.
 #[derive(Drop, PartialEq, Eq)]
 pub enum Chosen {
@@ -88,6 +97,8 @@ pub enum Order {
     Explain(Vec<String>),
     /// Compare a key schedule that was logged with that of a vector file.
     Compare(Compared),
+    /// Print the vector file of `Template` with the values of a file in the place of its placeholders.
+    Fill(Filled),
 }
 
 /// Why the words of a command line are no command.

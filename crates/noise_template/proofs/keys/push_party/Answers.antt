@@ -11,8 +11,9 @@ pub returns : goal.returns
 returns c =
     let p = c.args.pattern.now in
     let role = c.args.role in
+    let g = c.args.given.now in
     on_ok_weaker c.push_answer-4.result
-    (party-pushed (role_word role ++ (codes " table " ++ key_words (template_key p role Ephemeral) (template_key p role Static)))
-    (entries_for p role Ee) (entries_for p role Es) (entries_for p role Se) (entries_for p role Ss) _ _ _ _ _ _
+    (party-pushed (role_word role ++ (codes " table " ++ key_words (template_key g p role Ephemeral) (template_key g p role Static)))
+    (entries_for g p role Ee) (entries_for g p role Es) (entries_for g p role Se) (entries_for g p role Ss) _ _ _ _ _ _
     c.in_ok-push_keys.ensures c.in_ok-push_answer.ensures c.in_ok-push_answer-2.ensures c.in_ok-push_answer-3.ensures)
     c.push_answer-4.ensures

@@ -9,7 +9,8 @@ returns c =
     let p = c.args.pattern.now in
     let first : c.as_slice.result.now ≡ codes "vector 1\nprotocol " = search rules in
     let name : c.deref.result.now ≡ name_bytes (name_of p) = c.deref.ensures.0 ∙ c.write.ensures.written ∙ ap name_bytes c.name.ensures in
-    let last : c.as_slice-2.result.now ≡ codes "prologue -\ninterval 0\n" = search rules in
-    on-ok c.extend_from_slice-3.result _ _ _ _ c.extend_from_slice-3.ensures.items
-    (head-pushed p _ _ _ _ _ _ _ _ _ first name last c.in_ok-extend_from_slice.ensures.items c.in_ok-extend_from_slice-2.ensures.items
-    c.in_ok-push.ensures.items c.in_ok-push_block.ensures)
+    let prologue : c.as_slice-2.result.now ≡ codes "prologue " = search rules in
+    let last : c.as_slice-3.result.now ≡ codes "\ninterval 0\n" = search rules in
+    on-ok c.extend_from_slice-4.result _ _ _ _ c.extend_from_slice-4.ensures.items
+    (head-pushed c.args.given.now p _ _ _ _ _ _ _ _ _ _ _ _ first name prologue last c.in_ok-extend_from_slice.ensures.items c.in_ok-extend_from_slice-2.ensures.items
+    c.in_ok-push.ensures.items c.in_ok-push_block.ensures c.in_ok-extend_from_slice-3.ensures.items c.in_ok-push_bytes.ensures)

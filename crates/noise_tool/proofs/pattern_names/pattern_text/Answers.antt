@@ -1,4 +1,3 @@
-use Rattle.std.proofs.Common.{◌∙◌}
 use Rattle.noise_tool.proofs.PatternNameLemmas.{none-named}
 use Rattle.noise_tool.specs.PatternNames.{whole_name}
 use Rattle.noise_tool.proofs.pattern_names.pattern_text.Goals as goal

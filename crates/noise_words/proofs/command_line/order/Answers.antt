@@ -13,7 +13,8 @@ returns-in-Some-2 c =
     let other : c.in-Some.name.now ≢ codes "test" = search rules in
     let explain : c.in-Some.name.now ≢ codes "explain" = search rules in
     let compare : c.in-Some.name.now ≢ codes "compare" = search rules in
-    ap (option_map words_of) (sym c.in-Some-2.is) ∙ c.in_ok-command.ensures other explain compare
+    let template : c.in-Some.name.now ≢ codes "template" = search rules in
+    ap (option_map words_of) (sym c.in-Some-2.is) ∙ c.in_ok-command.ensures other explain compare template
     ∙ sym (stated_in-found (subcommand_rows_of m) c.in-Some.name.now rows (c.in-Some.ensures.name ∙ subcommand_name_of-rows m) c.in-Some.ensures.rows)
 
 pub returns-in-None : goal.returns-in-None
@@ -23,5 +24,6 @@ returns-in-None c =
     let other : c.in-Some.name.now ≢ codes "test" = search rules in
     let explain : c.in-Some.name.now ≢ codes "explain" = search rules in
     let compare : c.in-Some.name.now ≢ codes "compare" = search rules in
-    ap (option_map words_of) (sym c.in-None.is) ∙ c.in_ok-command.ensures other explain compare
+    let template : c.in-Some.name.now ≢ codes "template" = search rules in
+    ap (option_map words_of) (sym c.in-None.is) ∙ c.in_ok-command.ensures other explain compare template
     ∙ sym (stated_in-found (subcommand_rows_of m) c.in-Some.name.now rows (c.in-Some.ensures.name ∙ subcommand_name_of-rows m) c.in-Some.ensures.rows)
