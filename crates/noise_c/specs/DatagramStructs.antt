@@ -1,10 +1,11 @@
 -- What the struct of a half of datagrams matches.
-use Rattle.std.specs.Prelude.{◌≡◌, ◌≢◌, ◌↔◌, ◌⊎◌, ◌<◌, ℕ, List, length, take, drop, slice_range, true, false, ◌==◌, ◌+◌, nat_lt, not, ◌||◌, ◌&&◌, Bool, Some, Ok, Err, if◌then◌else◌}
+use Rattle.std.specs.Prelude.{◌≡◌, ◌≢◌, ◌↔◌, ◌⊎◌, ◌<◌, ℕ, List, length, take, drop, slice_range, true, false, ◌==◌, ◌+◌, nat_lt, not, ◌||◌, ◌&&◌, Bool, Option, Some, MatchOption, option_map, Ok, Err, if◌then◌else◌}
 use Rattle.noise_events.specs.declared.window.Window.{Window}
 use Rattle.noise_events.specs.declared.window.Window.TheVariants.{W64, W256, W1024}
 use Rattle.noise_session.specs.declared.datagram_fault.DatagramFault.{DatagramFault}
-use Rattle.noise_session.specs.Datagrams.{DatagramState, Opens, accepting, datagram, nonce_named, unsealed}
+use Rattle.noise_session.specs.Datagrams.{DatagramState, Opens, accepting, datagram, datagram_receiver_fault, nonce_named, unsealed}
 use Rattle.noise_session.specs.Datagrams.{DatagramSenderValue, DatagramReceiverValue, DatagramSenderMatches, DatagramReceiverMatches}
+use Rattle.noise_session.specs.DatagramCalls.{IsUnderKey}
 use Rattle.noise_session.specs.Windows.{is_ring}
 use Rattle.noise_c.specs.declared.structs.NoiseDatagramSender.{NoiseDatagramSender}
 use Rattle.noise_c.specs.declared.structs.NoiseDatagramReceiver.{NoiseDatagramReceiver}
@@ -71,6 +72,16 @@ pub record SealsInto (n : ℕ) (payload : List ℕ) (old new : NoiseDatagramSend
   pub unchanged : OK < code → (new ≡ old) × (after ≡ out) × (next ≡ results)
   pub codes : IsSealCode code
 
+-- the number of a datagram that isn't looked into
+abbrev pub datagram_open_refusal : NoiseDatagramReceiver → List ℕ → Option ℕ
+datagram_open_refusal k bytes =
+    if not (is_datagram_receiver k) then Some 23
+    else option_map datagram_code (datagram_receiver_fault (datagram_receiver_from_c k) bytes)
+
+-- The bytes after the nonce are the message of the payload, under the struct's key and at the nonce that they name.
+abbrev pub IsSealedFor : NoiseDatagramReceiver → List ℕ → List ℕ → Type 0
+IsSealedFor k bytes payload = IsUnderKey (datagram_receiver_from_c k) bytes payload
+
 -- the datagram is opened, and has this payload
 abbrev pub OpensDatagram : NoiseDatagramReceiver → NoiseDatagramReceiver → List ℕ → List ℕ → Type 0
 OpensDatagram old new bytes payload = (v : DatagramState) → DatagramReceiverMatches (datagram_receiver_from_c old) v
@@ -91,7 +102,11 @@ IsDatagramCode n = (n ≡ OK) ⊎ (n ≡ TOO_LONG) ⊎ (n ≡ SHORT) ⊎ (n ≡ 
 pub record OpensDatagramInPlace (old new : NoiseDatagramReceiver) (bytes after : List ℕ)
     (results next : NoiseResult) (code : ℕ) : Type 0 where
   pub unusable : code ≡ STRUCT ↔ is_datagram_receiver old ≡ false
+  pub code_is : MatchOption (datagram_open_refusal old bytes)
+      ((code ≡ OK) ⊎ ((code ≡ TAG) × ((payload : List ℕ) → IsSealedFor old bytes payload → ⊥)))
+      (λ refusal. code ≡ refusal)
   pub place : code ≡ OK → (next ≡ record results { from = 8; len = next.len }) × (next.len + 24 ≡ length after)
+  pub opened : code ≡ OK → IsSealedFor old bytes (slice_range after next.from (next.from + next.len))
   pub opens : code ≡ OK → OpensDatagram old new bytes (slice_range after next.from (next.from + next.len))
   pub declined : OK < code → code ≢ STRUCT → DeclinesDatagram old bytes code
   pub beyond : code ≡ OK → IsAround bytes after 8 (8 + next.len)

@@ -59,7 +59,6 @@ pub extern "C" fn noise_datagram_seal_in_place(
 /// Opens a datagram in place: its payload is from the ninth byte on. ONE_WAY, SHORT, TOO_LONG, RESERVED (the nonce that
 /// no message has: Noise, 5.1), OLD, REPEATED and TAG are looked for in this order.
 #[unsafe(no_mangle)]
-#[tactic(auto, using(crate::proofs::Opening::datagram_declined))]
 pub extern "C" fn noise_datagram_open(
     half: &mut NoiseDatagramReceiver,
     datagram: &mut [u8],

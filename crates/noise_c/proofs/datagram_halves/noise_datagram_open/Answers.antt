@@ -1,13 +1,21 @@
-use Rattle.std.proofs.Common.{◌≡◌, ℕ, List, inl, inr, refl, ap, sym, subst, ◌∙◌}
-use Rattle.std.specs.Prelude.{Ok}
-use Rattle.noise_c.proofs.Common.{false≢true, Opens, accepting, nonce_named, DatagramReceiverValue, DatagramReceiverMatches, datagram_receiver_from_c}
+use Rattle.std.proofs.Common.{◌≡◌, ◌⊎◌, ◌+◌, ℕ, List, take, drop, inl, inr, refl, ap, sym, subst, ◌∙◌}
+use Rattle.std.specs.Prelude.{Ok, option_map, slice_range}
+use Rattle.noise_c.proofs.Common.{Option, MatchOption, is_datagram_receiver, false≢true, Opens, accepting, nonce_named, DatagramReceiverValue, DatagramReceiverMatches, datagram_receiver_from_c}
 use Rattle.noise_c.proofs.Numbers.{other, above}
-use Rattle.noise_c.proofs.Opening.{from-ninth}
+use Rattle.noise_c.proofs.Opening.{accepted-is, datagram_declined, from-ninth, known-refusal, unknown-refusal}
+use Rattle.noise_session.specs.Datagrams.{datagram_receiver_fault}
+use Rattle.noise_session.specs.DatagramCalls.{IsUnderKey}
+use Rattle.noise_c.specs.DatagramStructs.{IsSealedFor}
+use Rattle.noise_c.specs.TransportCodes.{datagram_code}
 use Rattle.noise_c.proofs.datagram_halves.noise_datagram_open.Goals as goal
 
 pub returns-in-None : goal.returns-in-None
 returns-in-None c = record {
   unusable = (λ _. sym c.in-None.ensures.known, λ _. refl);
+  code_is = unknown-refusal (is_datagram_receiver c.args.half.now) _
+      (λ (o : Option ℕ). MatchOption o ((◌≡◌ {A = ℕ} 23 0) ⊎ ((◌≡◌ {A = ℕ} 23 16) × ((payload : List ℕ) → IsSealedFor c.args.half.now c.args.datagram.now payload → ⊥))) (λ refusal. 23 ≡ refusal))
+      (sym c.in-None.ensures.known) refl;
+  opened = other 23 0 refl;
   place = other 23 0 refl;
   opens = other 23 0 refl;
   declined = λ _ differs. absurd (differs refl);
@@ -32,7 +40,16 @@ returns c =
     let new = c.datagram_receiver_to_c.result in
     record {
       unusable = (other 0 23 refl, λ none. absurd (false≢true (sym none ∙ sym c.in-Some.ensures.known)));
+      code_is = known-refusal (is_datagram_receiver old) (option_map datagram_code (datagram_receiver_fault (datagram_receiver_from_c old) bytes))
+          (λ (o : Option ℕ). MatchOption o ((◌≡◌ {A = ℕ} 0 0) ⊎ ((◌≡◌ {A = ℕ} 0 16) × ((payload : List ℕ) → IsSealedFor old bytes payload → ⊥))) (λ refusal. 0 ≡ refusal))
+          (sym c.in-Some.ensures.known)
+          (subst (λ (z : DatagramReceiverValue). MatchOption (option_map datagram_code (datagram_receiver_fault z bytes))
+          ((◌≡◌ {A = ℕ} 0 0) ⊎ ((◌≡◌ {A = ℕ} 0 16) × ((payload : List ℕ) → IsSealedFor old bytes payload → ⊥))) (λ refusal. 0 ≡ refusal)) c.in-Some.ensures.same
+          (accepted-is (datagram_receiver_fault c.in-Some.value bytes) ((payload : List ℕ) → IsSealedFor old bytes payload → ⊥)
+          c.in-Ok.ensures.opens.fault));
       place = λ _. (refl, c.in-Ok.ensures.place.len);
+      opened = λ _. subst (λ (z : DatagramReceiverValue). IsUnderKey z bytes (slice_range c.open_within.new.datagram 8 (8 + c.in-Ok.value))) c.in-Some.ensures.same
+          (subst (λ (payload : List ℕ). IsUnderKey c.in-Some.value bytes payload) (from-ninth c.open_within.new.datagram c.in-Ok.value) c.in-Ok.ensures.opens.opened);
       opens = λ _ v s.
           let r = c.in-Ok.ensures.opens.opens v (subst (λ (z : DatagramReceiverValue). DatagramReceiverMatches z v) (sym c.in-Some.ensures.same) s) in (
             subst (λ (payload : List ℕ). Opens v bytes (Ok payload) (accepting v (nonce_named bytes))) (from-ninth c.open_within.new.datagram c.in-Ok.value) r.0,
@@ -46,3 +63,9 @@ returns c =
       unchanged = above 1 0 refl;
       codes = inl refl;
     }
+
+pub returns-in-Err : goal.returns-in-Err
+returns-in-Err c =
+    datagram_declined c.args.half.now c.args.half.now c.args.datagram.now c.open_within.new.datagram c.args.results.now c.args.results.now
+    c.datagram_code.result c.in-Some.value c.open_within.new.self c.in-Err.fault (λ n. take n (drop 8 c.open_within.new.datagram)) c.in-Err.ensures.opens
+    c.in-Err.ensures.place c.datagram_code.ensures c.in-Some.ensures.same (sym c.in-Some.ensures.known) refl refl
