@@ -1,12 +1,15 @@
 #!/usr/bin/env python3
-"""Fills templates: filled.py PROGRAM NAME..: for each NAME, as `noise template` takes it, a file on standard input gives
-each value that the template has a place for. What is printed has to be the template with each placeholder replaced, and
-a run of it has to meet the lines that `noise convert` makes it expect."""
+"""Fills templates: filled.py PROGRAM NAME..: for each NAME, as `noise template` takes it, a file on standard input
+gives each value that the template has a place for. What is printed has to be the template with each placeholder
+replaced, and a run of it has to meet the lines that `noise convert` makes it expect."""
 
 import subprocess
 import sys
 
-BYTES = {"initiator e": "e1", "initiator s": "51", "responder e": "e2", "responder s": "52", "dh ee": "ee", "dh es": "e5", "dh se": "5e", "dh ss": "55"}
+BYTES = {
+    "initiator e": "e1", "initiator s": "51", "responder e": "e2", "responder s": "52",
+    "dh ee": "ee", "dh es": "e5", "dh se": "5e", "dh ss": "55",
+}
 BYTES |= {f"psk {index}": f"a{index}" for index in range(9)}
 
 
