@@ -1,4 +1,4 @@
-"""An implementation of its own (revision 34: 25519, ChaChaPoly, SHA256), both parties of which can make one of 54
+"""An implementation of its own (revision 34: 25519, ChaChaPoly, SHA256), both parties of which can make one of 64
 mistakes, and the log that DEBUGGING.md asks for.
 
 It shares nothing with the code of `noise`. A mistake is a name; "" is none. It needs python's `cryptography`.
@@ -161,6 +161,7 @@ class Party:
         name = f"Noise_{session.pattern}_25519_ChaChaPoly_SHA256".encode()
         self.h = self.first_hash(name)
         self.ck = bytes(32) if mistake == "chaining-key-of-zeros" else self.h
+        self.hash_before = self.h
         self.cipher = Cipher(mistake)
         self.say("start", "name")
         if mistake == "pre-message-before-prologue":
@@ -210,6 +211,8 @@ class Party:
 
     def mix_prologue(self) -> None:
         prologue = self.session.prologue
+        if self.mistake == "prologue-as-digits":
+            prologue = prologue.hex().encode()
         if self.mistake != "prologue-left-out" and not (self.mistake == "empty-prologue-left-out" and not prologue):
             self.mix_hash(prologue)
         self.say("start", "prologue")
@@ -219,7 +222,9 @@ class Party:
             key: Key = getattr(self.session.keys[role], token)
             if role != self.role:
                 self.remote[token] = key.public
-            if self.mistake != "pre-message-left-out":
+            if self.mistake == "pre-message-of-own-key":
+                self.mix_hash(self.own.s.public)
+            elif self.mistake != "pre-message-left-out":
                 self.mix_hash(key.public)
             if token == "e" and bool(self.session.places) != (self.mistake == "pre-message-mixed-wrongly"):
                 self.mix_key(key.public)
@@ -261,6 +266,7 @@ class Party:
         return b"" if self.mistake == "no-associated-data" else self.h
 
     def encrypt_and_hash(self, text: bytes, is_payload: bool) -> bytes:
+        self.hash_before = self.h
         if self.mistake == "hashed-before-encryption":
             self.mix_hash(text)
             return self.cipher.encrypt(self.h, text)
@@ -270,6 +276,7 @@ class Party:
         return sealed
 
     def decrypt_and_hash(self, sealed: bytes, is_payload: bool) -> bytes:
+        self.hash_before = self.h
         if self.mistake == "hashed-before-decryption":
             self.mix_hash(sealed)
             return self.cipher.decrypt(self.h, sealed)
@@ -300,8 +307,12 @@ class Party:
             self.mix_key(public)
 
     def write(self, payload: bytes) -> bytes:
-        out, part = b"", str(self.done + 1)
-        for token in self.messages[self.done]:
+        out, part, late = b"", str(self.done + 1), b""
+        tokens = self.begin()
+        if self.mistake == "payload-before-static" and "s" in tokens and self.cipher.key:
+            late = self.encrypt_and_hash(payload, True)
+            self.say(part, "payload", late)
+        for token in tokens:
             data = b""
             if token == "e":
                 data = self.own.e.public
@@ -312,10 +323,21 @@ class Party:
                 self.mix_token(token)
             out += data
             self.say(part, token, data)
+        if late:
+            return out + late
         data = self.encrypt_and_hash(payload, True)
         self.say(part, "payload", data)
-        self.done += 1
         return out + data
+
+    def begin(self) -> list[str]:
+        """The tokens of the next message, without those that a mistake forgets."""
+        tokens = self.messages[self.done]
+        self.done += 1
+        if self.mistake == "nonce-zero-each-message":
+            self.cipher.n = 0
+        if self.mistake.startswith("es-forgotten"):
+            return [token for token in tokens if token != "es"]
+        return tokens
 
     def write_static(self) -> bytes:
         public = self.own.s.public
@@ -327,7 +349,7 @@ class Party:
 
     def read(self, message: bytes) -> bytes:
         part = str(self.done + 1)
-        for token in self.messages[self.done]:
+        for token in self.begin():
             data = b""
             if token in ("e", "s"):
                 length = 32 if token == "e" else self.static_length()
@@ -340,7 +362,6 @@ class Party:
             self.say(part, token, data)
         payload = self.decrypt_and_hash(message, True)
         self.say(part, "payload", message)
-        self.done += 1
         return payload
 
     def static_length(self) -> int:
@@ -360,7 +381,12 @@ class Party:
 
     def split(self) -> None:
         data = {"split-of-hash": self.h, "split-of-zeros": bytes(32)}.get(self.mistake, b"")
-        first, second, _ = hkdf(self.ck, data, self.mistake)
+        if self.mistake == "split-inputs-exchanged":
+            first, second, _ = hkdf(b"", self.ck, "")
+        else:
+            first, second, _ = hkdf(self.ck, data, self.mistake)
+        if self.mistake == "open-earlier-hash":
+            self.h = self.hash_before
         mine, theirs = Cipher(self.mistake, first), Cipher(self.mistake, second)
         if self.mistake == "transport-from-one":
             mine.n = theirs.n = 1
@@ -370,7 +396,8 @@ class Party:
         if self.mistake == "transport-keys-exchanged":
             mine, theirs = theirs, mine
         self.sends, self.receives = (mine, theirs) if self.is_initiator else (theirs, mine)
-        self.counts = {"sent": 0, "opened": 0}
+        late = -1 if self.mistake == "rekey-one-later" else 0
+        self.counts = {"sent": late, "opened": late}
 
     def say_transport(self, name: str, key: bytes | None, n: int) -> None:
         self.log.append(f"trace {self.role} transport ? {name} ? ? - - - {key.hex() if key else '-'} {n}")
@@ -397,7 +424,9 @@ class Party:
     def after(self, name: str, cipher: Cipher, key: bytes | None, n: int) -> None:
         self.say_transport(name, key, n)
         self.counts[name] += 1
-        if self.session.interval and self.counts[name] % self.session.interval == 0:
+        if self.mistake == "one-counter":
+            self.sends.n = self.receives.n = cipher.n
+        if self.session.interval and self.counts[name] and self.counts[name] % self.session.interval == 0:
             cipher.rekey()
             self.say_transport("renewed", cipher.key, cipher.n)
 

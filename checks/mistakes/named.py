@@ -1,13 +1,14 @@
 #!/usr/bin/env python3
-"""Puts 54 mistakes into an implementation of its own (mistaken.py), and looks for each with `noise compare` and the log
+"""Puts 64 mistakes into an implementation of its own (mistaken.py), and looks for each with `noise compare` and the log
 that DEBUGGING.md asks for.
 
     named.py PROGRAM [SEED]
 
 A mistake, the role that makes it, and the pattern are drawn; 20 of the logs have a second, harmless difference. What is
 printed has to name the mistake: by the words that stand beside it here, worked out by hand. A mistake of frames alone
-is named by `noise test`. At least 50 have to be named, and no other mistake may be said to be the one. It writes what
-failed, and a last line with the counts.
+is named by `noise test`. At least 61 have to be named, and no other mistake may be said to be the one. In the log of a
+right party bytes are put beside each step that has none, and other words in place of right ones: no mistake may be
+named of it. It writes what failed, and a last line with the counts.
 """
 
 from __future__ import annotations
@@ -17,13 +18,15 @@ import random
 import subprocess
 import sys
 import tempfile
-from collections.abc import Callable
+from collections.abc import Callable, Iterator
 from typing import NamedTuple
 
 from mistaken import PATTERNS, Event, Key, Keys, Session, digest, run
 
 BOTH = ("initiator", "responder", "both")
-NONE = "none of the mistakes that are tried gives your values:"
+NONE = "none of the mistakes that are tried gives your values"
+BYTES = "only your log's bytes differ: this step has none, so log -"
+FORM = "what your log has here is right"
 SAID = ("the mistake that gives your values:", "each of these mistakes gives your values:")
 
 
@@ -92,6 +95,16 @@ CASES = {
     "length-mixed": Case("NN XX IK", "a MixHash of its own takes a length"),
     "length-mixed-4-little": Case("NN XX IK", "a MixHash of its own takes a length", prologue=b"abc"),
     "pre-message-mixed-wrongly": Case("EPH EPHpsk0", "MixKey of e is "),
+    "es-forgotten": Case("XX", "are left out, or come later", ("responder", "both")),
+    "es-forgotten-in-clear": Case("IK", "are left out, or come later", ("initiator", "both")),
+    "payload-before-static": Case("XX", "are left out, or come later", ("initiator", "both")),
+    "nonce-zero-each-message": Case("XX XXpsk3", "n is 0 here"),
+    "pre-message-of-own-key": Case("IK X", "MixHash takes another public key of the file", ("initiator",)),
+    "prologue-as-digits": Case("NN XX IK", "MixHash takes the hex digits as text", prologue=b"abc"),
+    "open-earlier-hash": Case("NN XX IK", "h is that of an earlier step"),
+    "split-inputs-exchanged": Case("NN XX", "Split's HKDF has its inputs exchanged"),
+    "rekey-one-later": Case("NN XX", "Rekey hasn't come yet"),
+    "one-counter": Case("NN XX", "each direction has its own n"),
 }
 
 # Differences of a log that change nothing.
@@ -193,7 +206,58 @@ def verdict(printed: str, words: str) -> str:
     the one, or else `missing`."""
     if words in printed and NONE not in printed:
         return "named"
-    return "misleading" if SAID[0] in printed or "refused what is right" in printed else "missing"
+    return "misleading" if SAID[0] in printed or "if your end refused this message" in printed else "missing"
+
+
+def other_forms(words: list[str]) -> Iterator[tuple[int, str, str]]:
+    """What a right line of a key schedule may have in place of one of its words: the place, the word, and what has to
+    be said of it. The last is a message that is dropped, with its bytes."""
+    part, token, some = words[2], words[4], "ab" * 32
+    if token not in ("payload", "s") and words[7] == "-":
+        yield 7, some, BYTES
+    for place in (8, 9):
+        if part == "transport":
+            yield place, some, FORM
+        elif part == "open":
+            yield place, "-", FORM
+    if token == "opened":
+        yield 4, "dropped", "your end refused a right message with the right key and n"
+
+
+def right_faults(program: str, pattern: str, seed: int, room: pathlib.Path) -> tuple[int, list[str]]:
+    """Of the log of two right parties, each line in each other form: how many, and of which a mistake is named."""
+    session, count = session_of(pattern, b"abc", seed), 0
+    faults: list[str] = []
+    events, log = run(session, {"initiator": "", "responder": ""}, lambda n: b"payload %d" % (n + 1), 3)
+    log_path, file_path = room / "right.log", room / "right.vector"
+    file_path.write_text(vector(program, session, events))
+    for number, line in enumerate(log):
+        for place, word, said in other_forms(line.split()):
+            words = line.split()
+            words[place] = word
+            if word == "dropped":
+                words[7] = "ab" * 16
+            log_path.write_text("".join(it + "\n" for it in [*log[:number], " ".join(words), *log[number + 1 :]]))
+            files = [str(log_path), str(file_path)]
+            ran = subprocess.run([program, "compare", *files], stdout=subprocess.PIPE, text=True, check=False)
+            count += 1
+            if said not in ran.stdout or any(it in ran.stdout for it in (*SAID, NONE)):
+                faults.append(f"mistakes: misleading: {pattern}, a right log with {' '.join(words)}:\n{ran.stdout}")
+    return count, faults
+
+
+def check_right(program: str, seed: int) -> bool:
+    """Whether no mistake is named of right logs in other forms."""
+    count = 0
+    faults: list[str] = []
+    with tempfile.TemporaryDirectory() as folder:
+        for pattern in ("XXpsk3", "IK", "NNpsk0"):
+            more, found = right_faults(program, pattern, seed, pathlib.Path(folder))
+            count, faults = count + more, faults + found
+    for fault in faults:
+        print(fault, file=sys.stderr)
+    print(f"mistakes: {count} right lines in another form, {len(faults)} of which are said to be mistakes")
+    return not faults
 
 
 def main(words: list[str]) -> int:
@@ -230,7 +294,8 @@ def main(words: list[str]) -> int:
         f"mistakes: of {len(CASES)} mistakes {counts['named']} named, {counts['misleading']} misleading, "
         f"{counts['missing']} not named; seed {seed}"
     )
-    return 0 if counts["named"] >= 50 and not counts["misleading"] else 1
+    right = check_right(program, seed)
+    return 0 if counts["named"] >= 61 and not counts["misleading"] and right else 1
 
 
 if __name__ == "__main__":

@@ -1,5 +1,5 @@
 -- The values that the words of a line stand for.
-use Rattle.std.specs.Prelude.{◌≡◌, ℕ, ◌+◌, ◌-◌, ◌*◌, ◌==◌, ◌&&◌, Bool, List, [], Option, Some, None, Result, Ok, Err, Vec, codes, fold, if◌then◌else◌, length, nat_le, option_map, replicate, unwrap_or}
+use Rattle.std.specs.Prelude.{◌≡◌, ℕ, ◌+◌, ◌-◌, ◌*◌, ◌==◌, ◌&&◌, ◌||◌, Bool, true, false, not, List, [], Option, Some, None, Result, Ok, Err, Vec, codes, fold, if◌then◌else◌, length, nat_le, option_map, replicate, unwrap_or}
 use Rattle.std.specs.Global.{Global}
 use Rattle.std.specs.Str.{bytes_eq}
 use Rattle.hex.specs.Hex.{decode_of, decode_sized}
@@ -39,19 +39,12 @@ word_number word = if length word == 0 then None else fold add_digit (Some 0) wo
 abbrev pub logged_word : List ℕ → Option (List ℕ)
 logged_word word = if bytes_eq word (codes "?") then None else Some (word_bytes word)
 
--- nor is `-` where each line of a handshake has a value: a line of the transport has none
-abbrev pub logged_if_any : List ℕ → Option (List ℕ)
-logged_if_any word = if bytes_eq word (codes "-") then None else logged_word word
+-- nor is `-` where each line of a handshake has a value; where the right word is `-` there is none, and any is passed over
+abbrev pub logged_if_any : List ℕ → List ℕ → Option (List ℕ)
+logged_if_any right word = if bytes_eq right (codes "-") || bytes_eq word (codes "-") then None else logged_word word
 
 abbrev pub items_of : Option (Vec ℕ Global) → Option (List ℕ)
 items_of value = option_map (λ v. v.items) value
-
-pub record AreLogged (line : Line) (logged : Logged) : Type 0 where
-  pub bytes : items_of logged.bytes ≡ logged_word (word_at (words_in line) 7)
-  pub hash : items_of logged.hash ≡ logged_if_any (word_at (words_in line) 8)
-  pub chaining_key : items_of logged.chaining_key ≡ logged_if_any (word_at (words_in line) 9)
-  pub key : items_of logged.key ≡ logged_word (word_at (words_in line) 10)
-  pub nonce : logged.nonce ≡ word_number (word_at (words_in line) 11)
 
 -- ---- a right line
 
@@ -69,8 +62,9 @@ state_in line = record {
 
 abbrev pub start_kind : List ℕ → Kind
 start_kind name = if bytes_eq name (codes "name") then kind.Name
+    else (if bytes_eq name (codes "prologue") then kind.Prologue
     else (if bytes_eq name (codes "initiator-e") then kind.Ephemeral
-    else (if bytes_eq name (codes "responder-e") then kind.Ephemeral else kind.Data))
+    else (if bytes_eq name (codes "responder-e") then kind.Ephemeral else kind.Data)))
 
 abbrev pub transport_kind : List ℕ → Kind
 transport_kind name = if bytes_eq name (codes "renewed") then kind.Renewal else kind.Transport
@@ -94,3 +88,24 @@ kind_by part name = if bytes_eq part (codes "start") then start_kind name
 
 abbrev pub kind_in : Line → Kind
 kind_in line = kind_by (word_at (words_in line) 2) (word_at (words_in line) 4)
+
+-- ---- the values of a logged line, at the step of a right one
+
+abbrev pub is_text : Kind → Bool
+is_text kind.Text = true
+is_text other = false
+
+-- a step with bytes in its message: an empty payload is one too
+abbrev pub has_bytes : Line → Bool
+has_bytes expected = is_text (kind_in expected) || not (bytes_eq (word_at (words_in expected) 7) (codes "-"))
+
+-- where a step has no bytes, any are passed over
+abbrev pub logged_bytes : Line → List ℕ → Option (List ℕ)
+logged_bytes expected word = if has_bytes expected then logged_word word else None
+
+pub record AreLogged (line expected : Line) (logged : Logged) : Type 0 where
+  pub bytes : items_of logged.bytes ≡ logged_bytes expected (word_at (words_in line) 7)
+  pub hash : items_of logged.hash ≡ logged_if_any (word_at (words_in expected) 8) (word_at (words_in line) 8)
+  pub chaining_key : items_of logged.chaining_key ≡ logged_if_any (word_at (words_in expected) 9) (word_at (words_in line) 9)
+  pub key : items_of logged.key ≡ logged_word (word_at (words_in line) 10)
+  pub nonce : logged.nonce ≡ word_number (word_at (words_in line) 11)

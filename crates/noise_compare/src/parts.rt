@@ -96,6 +96,7 @@ impl Parts {
             text: &self.text,
             name: &facts.name,
             secret: self.secret,
+            publics: &facts.publics,
             secrets: if self.kind == Kind::Secret {
                 &facts.psks
             } else {

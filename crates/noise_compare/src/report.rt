@@ -126,8 +126,9 @@ fn push_values(logged: &Line<'_>, right: &Line<'_>, text: &mut Vec<u8>) -> Resul
     Ok(())
 }
 
+/// Appends a value of a line that differs, right and logged.
 #[tactic(auto, unfolding(crate::specs::Report::value_text))]
-fn push_value(
+pub(crate) fn push_value(
     name: &str,
     place: usize,
     logged: &Line<'_>,

@@ -3,14 +3,14 @@
 ghost use Rattle.std.specs.Prelude.{◌<◌, IfOk, length};
 ghost use Rattle.noise_compare.specs.Advice.{IsAdvice};
 
-use crate::advice::{push_found, push_refusing};
+use crate::advice::{push_advice, push_bytes, push_refusing};
 use crate::facts::Facts;
 use crate::line::Line;
 use crate::parts::Parts;
-use crate::report::{push_line, push_place};
+use crate::report::{push_line, push_place, push_value};
 use crate::steps::is_line;
 use crate::values::values_in;
-use noise_mistakes::{Kind, Logged, refusing_mistakes};
+use noise_mistakes::{Kind, Logged, is_right, refusing_mistakes};
 use std::alloc::{AllocError, Global};
 
 /// What is said of the line `logged` of the log, at this index, whose place the line `expected` has, with other values.
@@ -28,8 +28,9 @@ pub(crate) fn of_values(
     let agreed = last_that_agrees(log, right, index, expected);
     let mut text = lacking(alloc, right, agreed, expected)?;
     let parts = Parts::of(alloc, facts, right, expected, agreed)?;
-    let values = values_in(alloc, logged)?;
-    push_found(alloc, &parts.situation(facts), &values, &mut text)?;
+    let values = values_in(alloc, logged, expected)?;
+    let at = parts.situation(facts);
+    push_advice(alloc, &at, &values, logged, expected, &mut text)?;
     Ok(text)
 }
 
@@ -137,7 +138,7 @@ fn next_of_role<'a, 'b>(
     let mut passed = before.is_none();
     for line in right {
         if line.word(1) == logged.word(1) {
-            if passed {
+            if passed && !is_renewal_before(line, logged) {
                 next = Some(line);
                 passed = false;
             }
@@ -151,6 +152,11 @@ fn next_of_role<'a, 'b>(
     next
 }
 
+// A Rekey isn't what is due for a message that is dropped.
+fn is_renewal_before(line: &Line<'_>, logged: &Line<'_>) -> bool {
+    logged.word(4) == b"dropped".as_slice() && line.word(4) == b"renewed".as_slice()
+}
+
 // A transport message is dropped that is right: the key or the nonce is another, or else the tag is made in another way.
 fn push_dropped(
     alloc: Global,
@@ -160,22 +166,30 @@ fn push_dropped(
     next: &Line<'_>,
     text: &mut Vec<u8>,
 ) -> Result<(), AllocError> {
-    if next.has_values(logged) {
+    push_value("key", 10, logged, next, text)?;
+    push_value("nonce", 11, logged, next, text)?;
+    let parts = Parts::of(alloc, facts, right, next, None)?;
+    let values = values_in(alloc, logged, next)?;
+    let at = parts.situation(facts);
+    if is_right(&at, &values) {
+        push_bytes(logged, next, text)?;
+        return push_sealed_otherwise(next, text);
+    }
+    push_advice(alloc, &at, &values, logged, next, text)
+}
+
+fn push_sealed_otherwise(next: &Line<'_>, text: &mut Vec<u8>) -> Result<(), AllocError> {
+    push_line(
+        "your end refused a right message with the right key and n: its associated data isn't empty (5)",
+        text,
+    )?;
+    if next.word(11) != b"0".as_slice() {
         push_line(
-            "your end refused a right message with the right key and n: its associated data isn't empty (5)",
-            text,
-        )?;
-        if next.word(11) == b"0".as_slice() {
-            return Ok(());
-        }
-        return push_line(
             "or its nonce isn't 4 zero bytes and 8 little-endian ones (12.3)",
             text,
-        );
+        )?;
     }
-    let parts = Parts::of(alloc, facts, right, next, None)?;
-    let values = values_in(alloc, logged)?;
-    push_found(alloc, &parts.situation(facts), &values, text)
+    push_line("or the AEAD itself: try RFC 8439, 2.8.2", text)
 }
 
 // The mistakes with which a party refuses the bytes of this step.

@@ -2,7 +2,7 @@
 
 ghost use Rattle.std.specs.Prelude.{◌≡◌, IfOk};
 ghost use Rattle.noise_compare.specs.Lines.{word_at, words_in};
-ghost use Rattle.noise_compare.specs.Values.{AreLogged, add_digit, agreement_or_text, items_of, kind_by, kind_in, logged_if_any, logged_word, start_kind, state_in, token_kind, transport_kind, word_array, word_bytes, word_key, word_number};
+ghost use Rattle.noise_compare.specs.Values.{AreLogged, add_digit, agreement_or_text, has_bytes, is_text, items_of, kind_by, kind_in, logged_bytes, logged_if_any, logged_word, start_kind, state_in, token_kind, transport_kind, word_array, word_bytes, word_key, word_number};
 
 use crate::line::Line;
 use hex::FromHexError;
@@ -44,15 +44,43 @@ fn logged_in(alloc: Global, word: &[u8]) -> Result<Option<Vec<u8>>, AllocError>
     Ok(Some(bytes))
 }
 
-// Likewise of a hash or a chaining key: a line of the transport has none.
-fn logged_if_any(alloc: Global, word: &[u8]) -> Result<Option<Vec<u8>>, AllocError>
-    ensures { IfOk result (λ value. items_of value ≡ logged_if_any word.now) }
+// Likewise of a hash or a chaining key, where this is the right one: a line of the transport has none.
+fn logged_if_any(alloc: Global, right: &[u8], word: &[u8]) -> Result<Option<Vec<u8>>, AllocError>
+    ensures { IfOk result (λ value. items_of value ≡ logged_if_any right.now word.now) }
 {
-    if word == b"-".as_slice() {
+    if right == b"-".as_slice() || word == b"-".as_slice() {
         Ok(None)
     } else {
         logged_in(alloc, word)
     }
+}
+
+// Likewise of bytes, where the step of the right line has some.
+fn logged_bytes(
+    alloc: Global,
+    expected: &Line<'_>,
+    word: &[u8],
+) -> Result<Option<Vec<u8>>, AllocError>
+    ensures { IfOk result (λ value. items_of value ≡ logged_bytes expected.now word.now) }
+{
+    if has_bytes(expected) {
+        logged_in(alloc, word)
+    } else {
+        Ok(None)
+    }
+}
+
+/// Whether the step of a right line has bytes in its message.
+pub(crate) fn has_bytes(expected: &Line<'_>) -> bool
+    ensures { result ≡ has_bytes expected.now }
+{
+    is_text(kind_in(expected)) || expected.word(7) != b"-".as_slice()
+}
+
+fn is_text(kind: Kind) -> bool
+    ensures { result ≡ is_text kind }
+{
+    matches!(kind, Kind::Text)
 }
 
 fn number_in(word: &[u8]) -> Option<u64>
@@ -111,13 +139,17 @@ pub(crate) fn key_in(word: &[u8]) -> Option<[u8; 32]>
     }
 }
 
-/// The values of a logged line.
-pub(crate) fn values_in(alloc: Global, line: &Line<'_>) -> Result<Logged, AllocError>
-    ensures { IfOk result (λ logged. AreLogged line.now logged) }
+/// The values of a logged line, at the step of this right one.
+pub(crate) fn values_in(
+    alloc: Global,
+    line: &Line<'_>,
+    expected: &Line<'_>,
+) -> Result<Logged, AllocError>
+    ensures { IfOk result (λ logged. AreLogged line.now expected.now logged) }
 {
-    let bytes = logged_in(alloc, line.word(7))?;
-    let hash = logged_if_any(alloc, line.word(8))?;
-    let chaining_key = logged_if_any(alloc, line.word(9))?;
+    let bytes = logged_bytes(alloc, expected, line.word(7))?;
+    let hash = logged_if_any(alloc, expected.word(8), line.word(8))?;
+    let chaining_key = logged_if_any(alloc, expected.word(9), line.word(9))?;
     let key = logged_in(alloc, line.word(10))?;
     Ok(Logged {
         bytes,
@@ -154,6 +186,8 @@ fn of_start(name: &[u8]) -> Kind
 {
     if name == b"name".as_slice() {
         Kind::Name
+    } else if name == b"prologue".as_slice() {
+        Kind::Prologue
     } else if name == b"initiator-e".as_slice() || name == b"responder-e".as_slice() {
         Kind::Ephemeral
     } else {

@@ -5,6 +5,7 @@ use Rattle.std.specs.List.{filter}
 use Rattle.noise_mistakes.specs.Keys.{key_explains}
 use Rattle.noise_mistakes.specs.Mixing.{hash_explains, name_explains}
 use Rattle.noise_mistakes.specs.Secrets.{secret_explains}
+use Rattle.noise_mistakes.specs.States.{fits}
 use Rattle.noise_mistakes.specs.Texts.{text_explains}
 use Rattle.noise_mistakes.specs.declared.state.Kind.{Kind}
 use Rattle.noise_mistakes.specs.declared.state.Kind.TheVariants as kind
@@ -33,7 +34,11 @@ name_mistakes = Name name.Hashed ∷ Name name.Padded ∷ Name name.LowerCase �
 
 abbrev pub data_mistakes : List Mistake
 data_mistakes = Hash hash.LeftOut ∷ Hash hash.LengthInFront ∷ Hash hash.LengthMixed ∷ Hash hash.DataFirst
-    ∷ Hash hash.StepsLeftOut ∷ []
+    ∷ Hash hash.OtherKey ∷ Hash hash.StepsLeftOut ∷ []
+
+abbrev pub prologue_mistakes : List Mistake
+prologue_mistakes = Hash hash.LeftOut ∷ Hash hash.LengthInFront ∷ Hash hash.LengthMixed ∷ Hash hash.DataFirst
+    ∷ Hash hash.HexDigits ∷ Hash hash.StepsLeftOut ∷ []
 
 abbrev pub ephemeral_mistakes : List Mistake
 ephemeral_mistakes = Hash hash.LeftOut ∷ Hash hash.LengthInFront ∷ Hash hash.LengthMixed ∷ Hash hash.DataFirst
@@ -53,22 +58,24 @@ psk_mistakes = Secret secret.InputsExchanged ∷ Secret secret.OutputsExchanged 
 
 abbrev pub text_mistakes : List Mistake
 text_mistakes = Text text.Clear ∷ Text text.TagLeftOff ∷ Text text.TagAdded ∷ Text text.TagInFront ∷ Text text.BigEndian
-    ∷ Text text.FirstBytes ∷ Text text.BigEndianFirstBytes ∷ Text text.NonceFromOne ∷ Text text.NoAssociatedData
-    ∷ Text text.ChainingKeyAsData ∷ Text text.EarlierHash ∷ Text text.TextHashedBefore ∷ Text text.HashLeftOut
+    ∷ Text text.FirstBytes ∷ Text text.BigEndianFirstBytes ∷ Text text.NonceFromOne ∷ Text text.NonceOfZero
+    ∷ Text text.NoAssociatedData ∷ Text text.ChainingKeyAsData ∷ Text text.EarlierHash ∷ Text text.TextHashedBefore ∷ Text text.HashLeftOut
     ∷ Text text.TextHashed ∷ Text text.TagNotHashed ∷ Text text.LengthHashed ∷ Text text.LengthMixed ∷ Text text.NonceKept ∷ Text text.NonceRaised ∷ Text text.StepsLeftOut ∷ []
 
 abbrev pub opening_mistakes : List Mistake
-opening_mistakes = Key key.Exchanged ∷ Key key.SplitOfHash ∷ Key key.SplitOfZeros ∷ Key key.NonceFromOne ∷ []
+opening_mistakes = Key key.Exchanged ∷ Key key.SplitOfHash ∷ Key key.SplitOfZeros ∷ Key key.SplitInputs
+    ∷ Key key.NonceFromOne ∷ Key key.EarlierHash ∷ []
 
 abbrev pub renewal_mistakes : List Mistake
 renewal_mistakes = Key key.NonceSetBack ∷ Key key.RekeyLeftOut ∷ Key key.RekeyByNonce ∷ Key key.RekeyByZero
     ∷ Key key.RekeyByOnes ∷ Key key.RekeyLastBytes ∷ Key key.Exchanged ∷ []
 
 abbrev pub transport_mistakes : List Mistake
-transport_mistakes = Key key.Exchanged ∷ Key key.NonceSetBack ∷ Key key.NonceFromOne ∷ []
+transport_mistakes = Key key.Exchanged ∷ Key key.RekeyLater ∷ Key key.NonceSetBack ∷ Key key.NonceRaised ∷ []
 
 unfoldable pub mistakes_of : Kind → List Mistake
 mistakes_of kind.Name = name_mistakes
+mistakes_of kind.Prologue = prologue_mistakes
 mistakes_of kind.Data = data_mistakes
 mistakes_of kind.Ephemeral = ephemeral_mistakes
 mistakes_of kind.Agreement = agreement_mistakes
@@ -93,15 +100,24 @@ is_of_steps mistake = false
 abbrev pub tried_mistakes : Situation → List Mistake
 tried_mistakes at = filter (λ mistake. lacks_steps at || not (is_of_steps mistake)) (mistakes_of at.kind)
 
--- those of them that give what was logged, in the same order
+-- what was logged is right, as far as it was logged
+abbrev pub is_right : Situation → Logged → Bool
+is_right at logged = fits logged at.bytes.now at.right
+
+-- the mistake gives what was logged, and that isn't right
+abbrev pub gives : Mistake → Situation → Logged → Bool
+gives mistake at logged = not (is_right at logged) && explains mistake at logged
+
+-- those of them that give what was logged, in the same order: none where that is right
 abbrev pub found_mistakes : Situation → Logged → List Mistake
-found_mistakes at logged = filter (λ mistake. explains mistake at logged) (tried_mistakes at)
+found_mistakes at logged = filter (λ mistake. gives mistake at logged) (tried_mistakes at)
 
 -- ---- what a party that refuses right bytes may have wrong
 
 abbrev pub refusal_mistakes : List Mistake
 refusal_mistakes = Text text.NoAssociatedData ∷ Text text.ChainingKeyAsData ∷ Text text.EarlierHash ∷ Text text.LaterHash
-    ∷ Text text.TagInFront ∷ Text text.BigEndian ∷ Text text.FirstBytes ∷ Text text.BigEndianFirstBytes ∷ []
+    ∷ Text text.TagInFront ∷ Text text.BigEndian ∷ Text text.FirstBytes ∷ Text text.BigEndianFirstBytes
+    ∷ Text text.NonceOfZero ∷ []
 
 -- those that don't give these values, so that a party with them refuses a right tag
 abbrev pub refusing_mistakes : Situation → Logged → List Mistake

@@ -1,6 +1,5 @@
 -- The values that mistakes of MixKey and MixKeyAndHash give.
 use Rattle.std.specs.Prelude.{ℕ, Bool, true, false, List, [], ◌∷◌, ◌++◌, Some, count_by, map, nat_lt, reverse, bit_xor, if◌then◌else◌}
-use Rattle.std.specs.Str.{bytes_eq}
 use Rattle.sha2.specs.Sha256.{sha256}
 use Rattle.noise_kdf.specs.Hkdf.{first_output, hmac_of, second_output, third_output}
 use Rattle.noise_mistakes.specs.Mixing.{with_hash}

@@ -30,6 +30,9 @@ hash_sentence hash.DataFirst = codes "MixHash takes the bytes before h: h comes 
 hash_sentence hash.KeyLeftOut =
     codes "MixKey of e is left out: with a psk it follows MixHash at each e, written, read or of a pre-message (9.2)"
 hash_sentence hash.KeyMixed = codes "MixKey of e is called: only a pattern with a psk has it (9.2)"
+hash_sentence hash.OtherKey =
+    codes "MixHash takes another public key of the file: at responder-s both parties hash the responder's (5.3)"
+hash_sentence hash.HexDigits = codes "MixHash takes the hex digits as text: it takes the bytes"
 hash_sentence hash.StepsLeftOut = codes "the steps for which your log has no line here are left out, or come later"
 
 unfoldable pub secret_sentence : SecretMistake → List ℕ
@@ -66,6 +69,8 @@ text_sentence text.FirstBytes =
 text_sentence text.BigEndianFirstBytes =
     codes "the nonce is big-endian, in the first 8 bytes: 4 zero bytes come first, then 8 little-endian ones (12.3)"
 text_sentence text.NonceFromOne = codes "n is one too great: a new key sets it to 0 (5.1, 5.2)"
+text_sentence text.NonceOfZero =
+    codes "n is 0 here: only a new key sets it to 0; both parties' texts and all messages raise the same n (5.1, 5.2)"
 text_sentence text.NoAssociatedData = codes "there is no associated data: it is h before this text (5.2)"
 text_sentence text.ChainingKeyAsData = codes "the associated data is ck: it is h before this text (5.2)"
 text_sentence text.EarlierHash =
@@ -90,11 +95,18 @@ text_sentence text.StepsLeftOut = codes "the steps for which your log has no lin
 unfoldable pub key_sentence : KeyMistake → List ℕ
 key_sentence key.SplitOfHash = codes "Split's HKDF takes ck and h: it takes ck and no bytes (5.2)"
 key_sentence key.SplitOfZeros = codes "Split's HKDF takes ck and 32 zero bytes: it takes ck and no bytes (5.2)"
+key_sentence key.SplitInputs =
+    codes "Split's HKDF has its inputs exchanged: ck is the key of its first HMAC (4.3)"
 key_sentence key.Exchanged =
     codes "it is another key of the transport: Split's first is for what the initiator sends (5.2)"
 key_sentence key.NonceFromOne =
     codes "n is one too great: Split's keys begin with 0, and each message raises n by 1 (5.1, 5.2)"
+key_sentence key.EarlierHash = codes "h is that of an earlier step: it is h after the last payload (5.2)"
+key_sentence key.NonceRaised =
+    codes "n is one too great: each direction has its own n, from 0, and only its own messages raise it; or your log has n after the message (5.1, 5.2)"
 key_sentence key.NonceSetBack = codes "n is set to 0: Rekey keeps n (11.3)"
+key_sentence key.RekeyLater =
+    codes "Rekey hasn't come yet: it follows each interval-th message of its direction (11.3)"
 key_sentence key.RekeyLeftOut = codes "Rekey is left out at this interval"
 key_sentence key.RekeyByNonce = codes "Rekey's nonce is n: it is 2^64 - 1 (4.2)"
 key_sentence key.RekeyByZero = codes "Rekey's nonce is 0: it is 2^64 - 1 (4.2)"

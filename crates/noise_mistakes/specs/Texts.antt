@@ -1,20 +1,16 @@
 -- The values that mistakes of `s` and of a payload give.
-use Rattle.std.specs.Prelude.{ℕ, ◌+◌, ◌-◌, Bool, List, [], ◌∷◌, ◌++◌, Option, Some, None, count_by, drop, length, nat_lt, replicate, take, if◌then◌else◌}
+use Rattle.std.specs.Prelude.{ℕ, ◌+◌, ◌-◌, ◌||◌, Bool, List, [], ◌∷◌, ◌++◌, Option, Some, None, count_by, drop, length, nat_lt, replicate, take, if◌then◌else◌}
 use Rattle.std.specs.Int.{w64, to_be_bytes, to_le_bytes}
 use Rattle.sha2.specs.Sha256.{sha256}
 use Rattle.noise_aead.specs.Sealing.{nonce_of, sealed}
-use Rattle.noise_mistakes.specs.Mixing.{length_in_front_explains, length_mixed_explains, redone, with_hash}
+use Rattle.noise_mistakes.specs.Mixing.{hashed, length_in_front_explains, length_mixed_explains, redone, with_hash}
 use Rattle.noise_mistakes.specs.Secrets.{with_nonce}
 use Rattle.noise_mistakes.specs.States.{fits}
 use Rattle.noise_mistakes.specs.declared.state.State.{State}
 use Rattle.noise_mistakes.specs.declared.state.Situation.{Situation}
 use Rattle.noise_mistakes.specs.declared.state.Logged.{Logged}
 use Rattle.noise_mistakes.specs.declared.mistake.TextMistake.{TextMistake}
-use Rattle.noise_mistakes.specs.declared.mistake.TextMistake.TheVariants.{Clear, TagLeftOff, TagAdded, TagInFront, BigEndian, FirstBytes, BigEndianFirstBytes, NonceFromOne, NoAssociatedData, ChainingKeyAsData, EarlierHash, LaterHash, TextHashedBefore, HashLeftOut, TextHashed, TagNotHashed, LengthHashed, LengthMixed, NonceKept, NonceRaised, StepsLeftOut}
-
--- the right state, with the hash of these bytes
-abbrev pub hashed : Situation → List ℕ → State
-hashed at bytes = with_hash at.right (sha256 (at.before.hash ++ bytes))
+use Rattle.noise_mistakes.specs.declared.mistake.TextMistake.TheVariants.{Clear, TagLeftOff, TagAdded, TagInFront, BigEndian, FirstBytes, BigEndianFirstBytes, NonceFromOne, NonceOfZero, NoAssociatedData, ChainingKeyAsData, EarlierHash, LaterHash, TextHashedBefore, HashLeftOut, TextHashed, TagNotHashed, LengthHashed, LengthMixed, NonceKept, NonceRaised, StepsLeftOut}
 
 -- a text under this key, if there is one
 abbrev pub sealed_under : Option (List ℕ) → List ℕ → List ℕ → List ℕ → List ℕ
@@ -50,7 +46,34 @@ big_endian_first_bytes n = to_be_bytes w64 n ++ 0 ∷ 0 ∷ 0 ∷ 0 ∷ []
 abbrev pub one_more : ℕ → ℕ
 one_more n = if nat_lt n 0xffff_ffff_ffff_ffff then n + 1 else n
 
+-- the nonce after a text: raised, if there is a key
+abbrev pub raised : Option (List ℕ) → ℕ → ℕ
+raised None n = n
+raised (Some key) n = one_more n
+
 -- ---- what the mistakes give
+
+-- these bytes, and MixHash of them, with a nonce that goes on from where it was or from 0, are what was logged
+abbrev pub zero_fits : Situation → Logged → List ℕ → Bool
+zero_fits at logged bytes = bytes_fit at logged bytes
+    || fits logged bytes (with_nonce (hashed at bytes) (raised at.before.key 0))
+
+-- the text under nonce 0
+abbrev pub sealed_by_zero : Situation → List ℕ
+sealed_by_zero at = sealed_under at.before.key (nonce_of 0) at.before.hash at.text.now
+
+-- the text after the last line that agrees, without the steps since
+abbrev pub sealed_without_steps : Situation → List ℕ
+sealed_without_steps at = sealed_under at.agreed.key (nonce_of at.agreed.nonce) at.agreed.hash at.text.now
+
+abbrev pub state_without_steps : Situation → List ℕ → State
+state_without_steps at bytes = with_nonce (with_hash at.agreed (sha256 (at.agreed.hash ++ bytes)))
+    (raised at.agreed.key at.agreed.nonce)
+
+-- The steps since are left out. A party without a key that reads takes the right bytes in the clear.
+abbrev pub without_steps_explains : Situation → Logged → Bool
+without_steps_explains at logged = fits logged (sealed_without_steps at) (state_without_steps at (sealed_without_steps at))
+    || fits logged at.bytes.now (redone at)
 
 -- the hash before some step, as associated data, gives what was logged
 abbrev pub earlier_hash_explains : Situation → Logged → Bool
@@ -78,6 +101,7 @@ text_explains BigEndian at logged = nonce_fits_text at logged (big_endian at.bef
 text_explains FirstBytes at logged = nonce_fits_text at logged (first_bytes at.before.nonce)
 text_explains BigEndianFirstBytes at logged = nonce_fits_text at logged (big_endian_first_bytes at.before.nonce)
 text_explains NonceFromOne at logged = nonce_fits_text at logged (nonce_of (one_more at.before.nonce))
+text_explains NonceOfZero at logged = zero_fits at logged (sealed_by_zero at)
 text_explains NoAssociatedData at logged = ad_fits_text at logged []
 text_explains ChainingKeyAsData at logged = ad_fits_text at logged at.before.chaining_key
 text_explains EarlierHash at logged = earlier_hash_explains at logged
@@ -90,4 +114,4 @@ text_explains LengthHashed at logged = length_in_front_explains at logged
 text_explains LengthMixed at logged = length_mixed_explains at logged
 text_explains NonceKept at logged = fits logged at.bytes.now (with_nonce at.right at.before.nonce)
 text_explains NonceRaised at logged = fits logged at.bytes.now (with_nonce at.right (one_more at.right.nonce))
-text_explains StepsLeftOut at logged = fits logged at.bytes.now (redone at)
+text_explains StepsLeftOut at logged = without_steps_explains at logged

@@ -1,7 +1,7 @@
 //! The mistakes that give what was logged.
 
 ghost use Rattle.std.specs.Prelude.{◌≡◌, IfOk};
-ghost use Rattle.noise_mistakes.specs.Finding.{explains, found_mistakes, is_of_steps, lacks_steps, mistakes_of, refusal_mistakes, refusing_mistakes, tried_mistakes};
+ghost use Rattle.noise_mistakes.specs.Finding.{explains, found_mistakes, gives, is_of_steps, is_right, lacks_steps, mistakes_of, refusal_mistakes, refusing_mistakes, tried_mistakes};
 
 use crate::keys::key_explains;
 use crate::mistake::{HashMistake, KeyMistake, Mistake, NameMistake, SecretMistake, TextMistake};
@@ -11,7 +11,8 @@ use crate::state::{Kind, Logged, Situation};
 use crate::texts::text_explains;
 use std::alloc::{AllocError, Global};
 
-/// The mistakes that give what was logged, of those that are tried at a step of its kind, in their order.
+/// The mistakes that give what was logged, of those that are tried at a step of its kind, in their order: none where
+/// that is right.
 pub fn mistakes(
     alloc: Global,
     at: &Situation<'_>,
@@ -22,11 +23,33 @@ pub fn mistakes(
     let tried = tried_mistakes(alloc, at)?;
     let mut found = Vec::new(alloc);
     for mistake in &tried {
-        if explains(alloc, *mistake, at, logged)? {
+        if gives(alloc, *mistake, at, logged)? {
             found.push(*mistake)?;
         }
     }
     Ok(found)
+}
+
+/// Whether what was logged is right, as far as it was logged.
+pub fn is_right(at: &Situation<'_>, logged: &Logged) -> bool
+    ensures { result ≡ is_right at.now logged.now }
+{
+    logged.fits(at.bytes, &at.right)
+}
+
+// Whether a mistake gives what was logged, and that isn't right.
+fn gives(
+    alloc: Global,
+    mistake: Mistake,
+    at: &Situation<'_>,
+    logged: &Logged,
+) -> Result<bool, AllocError>
+    ensures { IfOk result (λ b. b ≡ gives mistake at.now logged.now) }
+{
+    if is_right(at, logged) {
+        return Ok(false);
+    }
+    explains(alloc, mistake, at, logged)
 }
 
 /// The mistakes that are tried at a step, in their order.
@@ -92,7 +115,7 @@ fn explains(
 {
     match mistake {
         Mistake::Name(mistake) => name_explains(alloc, mistake, at, logged),
-        Mistake::Hash(mistake) => Ok(hash_explains(mistake, at, logged)),
+        Mistake::Hash(mistake) => hash_explains(alloc, mistake, at, logged),
         Mistake::Secret(mistake) => Ok(secret_explains(mistake, at, logged)),
         Mistake::Text(mistake) => text_explains(alloc, mistake, at, logged),
         Mistake::Key(mistake) => key_explains(alloc, mistake, at, logged),
@@ -106,6 +129,7 @@ pub fn mistakes_of(kind: Kind) -> &'static [Mistake]
 {
     match kind {
         Kind::Name => &NAME,
+        Kind::Prologue => &PROLOGUE,
         Kind::Data => &DATA,
         Kind::Ephemeral => &EPHEMERAL,
         Kind::Agreement => &AGREEMENT,
@@ -124,11 +148,21 @@ static NAME: [Mistake; 4] = [
     Mistake::Name(NameMistake::ChainingKeyOfZeros),
 ];
 
-static DATA: [Mistake; 5] = [
+static PROLOGUE: [Mistake; 6] = [
     Mistake::Hash(HashMistake::LeftOut),
     Mistake::Hash(HashMistake::LengthInFront),
     Mistake::Hash(HashMistake::LengthMixed),
     Mistake::Hash(HashMistake::DataFirst),
+    Mistake::Hash(HashMistake::HexDigits),
+    Mistake::Hash(HashMistake::StepsLeftOut),
+];
+
+static DATA: [Mistake; 6] = [
+    Mistake::Hash(HashMistake::LeftOut),
+    Mistake::Hash(HashMistake::LengthInFront),
+    Mistake::Hash(HashMistake::LengthMixed),
+    Mistake::Hash(HashMistake::DataFirst),
+    Mistake::Hash(HashMistake::OtherKey),
     Mistake::Hash(HashMistake::StepsLeftOut),
 ];
 
@@ -175,7 +209,7 @@ static PSK: [Mistake; 14] = [
     Mistake::Secret(SecretMistake::StepsLeftOut),
 ];
 
-static TEXT: [Mistake; 20] = [
+static TEXT: [Mistake; 21] = [
     Mistake::Text(TextMistake::Clear),
     Mistake::Text(TextMistake::TagLeftOff),
     Mistake::Text(TextMistake::TagAdded),
@@ -184,6 +218,7 @@ static TEXT: [Mistake; 20] = [
     Mistake::Text(TextMistake::FirstBytes),
     Mistake::Text(TextMistake::BigEndianFirstBytes),
     Mistake::Text(TextMistake::NonceFromOne),
+    Mistake::Text(TextMistake::NonceOfZero),
     Mistake::Text(TextMistake::NoAssociatedData),
     Mistake::Text(TextMistake::ChainingKeyAsData),
     Mistake::Text(TextMistake::EarlierHash),
@@ -198,11 +233,13 @@ static TEXT: [Mistake; 20] = [
     Mistake::Text(TextMistake::StepsLeftOut),
 ];
 
-static OPENING: [Mistake; 4] = [
+static OPENING: [Mistake; 6] = [
     Mistake::Key(KeyMistake::Exchanged),
     Mistake::Key(KeyMistake::SplitOfHash),
     Mistake::Key(KeyMistake::SplitOfZeros),
+    Mistake::Key(KeyMistake::SplitInputs),
     Mistake::Key(KeyMistake::NonceFromOne),
+    Mistake::Key(KeyMistake::EarlierHash),
 ];
 
 static RENEWAL: [Mistake; 7] = [
@@ -215,10 +252,11 @@ static RENEWAL: [Mistake; 7] = [
     Mistake::Key(KeyMistake::Exchanged),
 ];
 
-static TRANSPORT: [Mistake; 3] = [
+static TRANSPORT: [Mistake; 4] = [
     Mistake::Key(KeyMistake::Exchanged),
+    Mistake::Key(KeyMistake::RekeyLater),
     Mistake::Key(KeyMistake::NonceSetBack),
-    Mistake::Key(KeyMistake::NonceFromOne),
+    Mistake::Key(KeyMistake::NonceRaised),
 ];
 
 fn refusals() -> &'static [Mistake]
@@ -227,7 +265,7 @@ fn refusals() -> &'static [Mistake]
     &REFUSAL
 }
 
-static REFUSAL: [Mistake; 8] = [
+static REFUSAL: [Mistake; 9] = [
     Mistake::Text(TextMistake::NoAssociatedData),
     Mistake::Text(TextMistake::ChainingKeyAsData),
     Mistake::Text(TextMistake::EarlierHash),
@@ -236,4 +274,5 @@ static REFUSAL: [Mistake; 8] = [
     Mistake::Text(TextMistake::BigEndian),
     Mistake::Text(TextMistake::FirstBytes),
     Mistake::Text(TextMistake::BigEndianFirstBytes),
+    Mistake::Text(TextMistake::NonceOfZero),
 ];

@@ -1,10 +1,12 @@
 //! Mistakes of Split and of Rekey.
 
-ghost use Rattle.std.specs.Prelude.{◌≡◌, [], IfOk, drop, replicate};
+ghost use Rattle.std.specs.Prelude.{◌≡◌, [], IfOk, Some, drop, replicate};
 ghost use Rattle.noise_aead.specs.Sealing.{nonce_of};
-ghost use Rattle.noise_mistakes.specs.Keys.{fits_with_key, key_explains, other_key_explains, rekey_explains, rekeyed_by, split_explains};
+ghost use Rattle.noise_mistakes.specs.Texts.{sealed_under};
+ghost use Rattle.noise_mistakes.specs.Keys.{earlier_hash_fits, fits_with_key, is_key, key_before_explains, key_before_fits, key_explains, left_out_explains, other_key_explains, other_key_fits, precedes, rekey_explains, rekeyed_by, renewed_from, split_explains};
 
 use crate::mistake::KeyMistake;
+use crate::mixing::with_hash;
 use crate::secrets::with_nonce;
 use crate::state::{Logged, Situation, has, nonce_fits};
 use crate::texts::{one_more, sealed_under};
@@ -23,14 +25,26 @@ pub(crate) fn key_explains(
     ensures { IfOk result (λ b. b ≡ key_explains mistake at.now logged.now) }
 {
     match mistake {
-        KeyMistake::SplitOfHash => Ok(split_explains(at, logged, &at.right.hash)),
-        KeyMistake::SplitOfZeros => Ok(split_explains(at, logged, &[0; 32])),
-        KeyMistake::Exchanged => Ok(other_key_explains(at, logged)),
+        KeyMistake::SplitOfHash => {
+            Ok(split_explains(at, logged, &at.right.chaining_key, &at.right.hash))
+        }
+        KeyMistake::SplitOfZeros => {
+            Ok(split_explains(at, logged, &at.right.chaining_key, &[0; 32]))
+        }
+        KeyMistake::SplitInputs => {
+            Ok(split_explains(at, logged, &[0; 32], &at.right.chaining_key))
+        }
+        KeyMistake::Exchanged => other_key_explains(alloc, at, logged),
         KeyMistake::NonceFromOne => {
             Ok(logged.fits(at.bytes, &with_nonce(&at.right, one_more(at.right.nonce))))
         }
+        KeyMistake::EarlierHash => Ok(earlier_hash_fits(at, logged)),
+        KeyMistake::NonceRaised => {
+            Ok(logged.fits(at.bytes, &with_nonce(&at.right, one_more(at.right.nonce))))
+        }
         KeyMistake::NonceSetBack => Ok(logged.fits(at.bytes, &with_nonce(&at.right, 0))),
-        KeyMistake::RekeyLeftOut => Ok(logged.fits(at.bytes, &at.before)),
+        KeyMistake::RekeyLater => key_before_explains(alloc, at, logged),
+        KeyMistake::RekeyLeftOut => left_out_explains(alloc, at, logged),
         KeyMistake::RekeyByNonce => rekey_by_nonce(alloc, at, logged),
         KeyMistake::RekeyByZero => rekey_explains(alloc, at, logged, &[0; 12]),
         KeyMistake::RekeyByOnes => rekey_explains(alloc, at, logged, &[255; 12]),
@@ -41,28 +55,128 @@ pub(crate) fn key_explains(
 fn fits_with_key(at: &Situation<'_>, logged: &Logged, key: &[u8]) -> bool
     ensures { result ≡ fits_with_key at.now logged.now key.now }
 {
-    has(&logged.hash, &at.right.hash)
+    has(&logged.bytes, at.bytes)
+        && has(&logged.hash, &at.right.hash)
         && has(&logged.chaining_key, &at.right.chaining_key)
         && has(&logged.key, key)
         && nonce_fits(&logged.nonce, at.right.nonce)
 }
 
-// Whether Split gives the logged values where HKDF takes this input.
-fn split_explains(at: &Situation<'_>, logged: &Logged, input: &[u8]) -> bool
-    ensures { result ≡ split_explains at.now logged.now input.now }
+// Whether Split gives the logged values where HKDF takes this key and this input.
+fn split_explains(at: &Situation<'_>, logged: &Logged, key: &[u8; 32], input: &[u8]) -> bool
+    ensures { result ≡ split_explains at.now logged.now key.now input.now }
 {
-    let (first, second) = expand2(&at.right.chaining_key, input);
+    let (first, second) = expand2(key, input);
     fits_with_key(at, logged, &first) || fits_with_key(at, logged, &second)
 }
 
-fn other_key_explains(at: &Situation<'_>, logged: &Logged) -> bool
-    ensures { result ≡ other_key_explains at.now logged.now }
+// Whether another key of the transport gives them, but for the one before Rekey.
+fn other_key_explains(
+    alloc: Global,
+    at: &Situation<'_>,
+    logged: &Logged,
+) -> Result<bool, AllocError>
+    ensures { IfOk result (λ b. b ≡ other_key_explains at.now logged.now) }
+{
+    let mut found = false;
+    for key in at.keys {
+        if other_key_fits(alloc, at, logged, key)? {
+            found = true;
+        }
+    }
+    Ok(found)
+}
+
+fn other_key_fits(
+    alloc: Global,
+    at: &Situation<'_>,
+    logged: &Logged,
+    key: &[u8; 32],
+) -> Result<bool, AllocError>
+    ensures { IfOk result (λ b. b ≡ other_key_fits at.now logged.now key.now) }
+{
+    let precedes = precedes(alloc, at, key)?;
+    Ok(fits_with_key(at, logged, key) && !precedes)
+}
+
+fn key_before_explains(
+    alloc: Global,
+    at: &Situation<'_>,
+    logged: &Logged,
+) -> Result<bool, AllocError>
+    ensures { IfOk result (λ b. b ≡ key_before_explains at.now logged.now) }
+{
+    let mut found = false;
+    for key in at.keys {
+        if key_before_fits(alloc, at, logged, key)? {
+            found = true;
+        }
+    }
+    Ok(found)
+}
+
+fn key_before_fits(
+    alloc: Global,
+    at: &Situation<'_>,
+    logged: &Logged,
+    key: &[u8; 32],
+) -> Result<bool, AllocError>
+    ensures { IfOk result (λ b. b ≡ key_before_fits at.now logged.now key.now) }
+{
+    let precedes = precedes(alloc, at, key)?;
+    Ok(fits_with_key(at, logged, key) && precedes)
+}
+
+// Whether the right key is the one after Rekey of this one.
+fn precedes(alloc: Global, at: &Situation<'_>, key: &[u8; 32]) -> Result<bool, AllocError>
+    ensures { IfOk result (λ b. b ≡ precedes at.now key.now) }
+{
+    let renewed = renewed_from(alloc, key)?;
+    Ok(is_key(&at.right.key, &renewed))
+}
+
+fn is_key(key: &Option<[u8; 32]>, other: &[u8]) -> bool
+    ensures { result ≡ is_key key.now other.now }
+{
+    match key {
+        None => false,
+        Some(key) => key.as_slice() == other,
+    }
+}
+
+fn renewed_from(alloc: Global, key: &[u8; 32]) -> Result<Vec<u8>, AllocError>
+    ensures { IfOk result (λ v. v.items ≡ renewed_from key.now) }
+{
+    let mut bytes = sealed_last(alloc, &Some(*key))?;
+    bytes.truncate(32);
+    Ok(bytes)
+}
+
+// 32 zeros under a key, with Rekey's nonce.
+fn sealed_last(alloc: Global, key: &Option<[u8; 32]>) -> Result<Vec<u8>, AllocError>
+    ensures { IfOk result (λ v. v.items ≡ sealed_under key.now (nonce_of 0xffff_ffff_ffff_ffff) [] (replicate 32 0)) }
+{
+    let last = nonce(u64::MAX);
+    sealed_under(alloc, key, &last, &[], &[0; 32])
+}
+
+fn earlier_hash_fits(at: &Situation<'_>, logged: &Logged) -> bool
+    ensures { result ≡ earlier_hash_fits at.now logged.now }
 {
     0 < at
-        .keys
+        .hashes
         .iter()
-        .filter(|key| fits_with_key(at, logged, *key))
+        .filter(|hash| logged.fits(at.bytes, &with_hash(&at.right, **hash)))
         .count()
+}
+
+fn left_out_explains(alloc: Global, at: &Situation<'_>, logged: &Logged) -> Result<bool, AllocError>
+    ensures { IfOk result (λ b. b ≡ left_out_explains at.now logged.now) }
+{
+    if logged.fits(at.bytes, &at.before) {
+        return Ok(true);
+    }
+    key_before_explains(alloc, at, logged)
 }
 
 fn rekey_by_nonce(alloc: Global, at: &Situation<'_>, logged: &Logged) -> Result<bool, AllocError>

@@ -13,7 +13,7 @@ mod sentences;
 mod state;
 mod texts;
 
-pub use finding::{mistakes, mistakes_of, refusing_mistakes, tried_mistakes};
+pub use finding::{is_right, mistakes, mistakes_of, refusing_mistakes, tried_mistakes};
 pub use mistake::{HashMistake, KeyMistake, Mistake, NameMistake, SecretMistake, TextMistake};
 pub use sentences::sentence;
 pub use state::{Kind, Logged, Situation, State};

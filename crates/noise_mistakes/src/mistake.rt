@@ -28,6 +28,10 @@ pub enum HashMistake {
     KeyLeftOut,
     /// At `e`, of a pre-message too: MixKey is called where the pattern has no psk.
     KeyMixed,
+    /// At a static key of a pre-message: MixHash takes another public key of the file.
+    OtherKey,
+    /// At the prologue: MixHash takes its hex digits as text.
+    HexDigits,
     /// The steps before it since the last line that agrees are left out.
     StepsLeftOut,
 }
@@ -86,6 +90,8 @@ pub enum TextMistake {
     BigEndianFirstBytes,
     /// The nonce is one greater.
     NonceFromOne,
+    /// The nonce is 0.
+    NonceOfZero,
     /// There is no associated data.
     NoAssociatedData,
     /// The associated data is the chaining key.
@@ -121,12 +127,20 @@ pub enum KeyMistake {
     SplitOfHash,
     /// Split's HKDF takes 32 zero bytes, and not no bytes.
     SplitOfZeros,
+    /// Split's HKDF takes no bytes as its key, and the chaining key as its input.
+    SplitInputs,
     /// It is another key of the transport.
     Exchanged,
-    /// The nonce is one greater.
+    /// After Split: the nonce is one greater.
     NonceFromOne,
+    /// After Split: the hash is that before an earlier step.
+    EarlierHash,
+    /// At a transport message: the nonce is one greater.
+    NonceRaised,
     /// Rekey sets the nonce to 0.
     NonceSetBack,
+    /// At a transport message: the key is that before Rekey.
+    RekeyLater,
     /// Rekey is left out.
     RekeyLeftOut,
     /// Rekey's nonce is that of the next message.

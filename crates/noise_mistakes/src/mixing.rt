@@ -3,7 +3,7 @@
 ghost use Rattle.std.specs.Prelude.{◌≡◌, ◌≤◌, ◌-◌, ◌++◌, Some, IfOk, length, map, replicate, take};
 ghost use Rattle.sha2.specs.Sha256.{sha256};
 ghost use Rattle.noise_mistakes.specs.States.{fits};
-ghost use Rattle.noise_mistakes.specs.Mixing.{hash_explains, hash_state, length_in_front, length_in_front_explains, length_mixed, length_mixed_explains, lower, name_explains, padded, redone, start_fits, started, with_hash, with_key};
+ghost use Rattle.noise_mistakes.specs.Mixing.{digits_explain, hash_explains, hash_state, hashed, length_in_front, length_in_front_explains, length_mixed, length_mixed_explains, lower, name_explains, other_public_explains, padded, redone, start_fits, started, with_hash, with_key};
 
 use crate::mistake::{HashMistake, NameMistake};
 use crate::state::{Logged, Situation, State, has, key_fits, nonce_fits};
@@ -24,30 +24,29 @@ pub(crate) fn name_explains(
     match mistake {
         NameMistake::Hashed => {
             let hash: [u8; 32] = Sha256::digest(at.name);
-            Ok(start_fits(logged, &at.right, &hash, &hash))
+            Ok(start_fits(at, logged, &hash, &hash))
         }
         NameMistake::Padded => {
             let hash = padded(alloc, at.name)?;
-            Ok(start_fits(logged, &at.right, &hash, &hash))
+            Ok(start_fits(at, logged, &hash, &hash))
         }
         NameMistake::LowerCase => {
             let name = lower_case(alloc, at.name)?;
             let hash = started(alloc, &name)?;
-            Ok(start_fits(logged, &at.right, &hash, &hash))
+            Ok(start_fits(at, logged, &hash, &hash))
         }
-        NameMistake::ChainingKeyOfZeros => {
-            Ok(start_fits(logged, &at.right, &at.right.hash, &[0; 32]))
-        }
+        NameMistake::ChainingKeyOfZeros => { Ok(start_fits(at, logged, &at.right.hash, &[0; 32])) }
     }
 }
 
-fn start_fits(logged: &Logged, right: &State, hash: &[u8], chaining_key: &[u8]) -> bool
-    ensures { result ≡ start_fits logged.now right.now hash.now chaining_key.now }
+fn start_fits(at: &Situation<'_>, logged: &Logged, hash: &[u8], chaining_key: &[u8]) -> bool
+    ensures { result ≡ start_fits at.now logged.now hash.now chaining_key.now }
 {
-    has(&logged.hash, hash)
+    has(&logged.bytes, at.bytes)
+        && has(&logged.hash, hash)
         && has(&logged.chaining_key, chaining_key)
-        && key_fits(&logged.key, &right.key)
-        && nonce_fits(&logged.nonce, right.nonce)
+        && key_fits(&logged.key, &at.right.key)
+        && nonce_fits(&logged.nonce, at.right.nonce)
 }
 
 // 32 bytes: cut, or with zeros after them.
@@ -83,14 +82,45 @@ fn lower(b: u8) -> u8
 
 /// Whether a mistake at a step that calls MixHash gives the logged values.
 #[tactic(auto, unfolding(crate::specs::Mixing::hash_explains))]
-pub(crate) fn hash_explains(mistake: HashMistake, at: &Situation<'_>, logged: &Logged) -> bool
-    ensures { result ≡ hash_explains mistake at.now logged.now }
+pub(crate) fn hash_explains(
+    alloc: Global,
+    mistake: HashMistake,
+    at: &Situation<'_>,
+    logged: &Logged,
+) -> Result<bool, AllocError>
+    ensures { IfOk result (λ b. b ≡ hash_explains mistake at.now logged.now) }
 {
     match mistake {
-        HashMistake::LengthInFront => length_in_front_explains(at, logged),
-        HashMistake::LengthMixed => length_mixed_explains(at, logged),
-        _ => logged.fits(at.bytes, &hash_state(mistake, at)),
+        HashMistake::LengthInFront => Ok(length_in_front_explains(at, logged)),
+        HashMistake::LengthMixed => Ok(length_mixed_explains(at, logged)),
+        HashMistake::OtherKey => Ok(other_public_explains(at, logged)),
+        HashMistake::HexDigits => digits_explain(alloc, at, logged),
+        _ => Ok(logged.fits(at.bytes, &hash_state(mistake, at))),
     }
+}
+
+fn other_public_explains(at: &Situation<'_>, logged: &Logged) -> bool
+    ensures { result ≡ other_public_explains at.now logged.now }
+{
+    0 < at
+        .publics
+        .iter()
+        .filter(|key| logged.fits(at.bytes, &hashed(at, *key)))
+        .count()
+}
+
+fn digits_explain(alloc: Global, at: &Situation<'_>, logged: &Logged) -> Result<bool, AllocError>
+    ensures { IfOk result (λ b. b ≡ digits_explain at.now logged.now) }
+{
+    let digits = hex::encode(alloc, at.data)?;
+    Ok(logged.fits(at.bytes, &hashed(at, digits.as_bytes())))
+}
+
+/// The right state, with the hash of these bytes.
+pub(crate) fn hashed(at: &Situation<'_>, bytes: &[u8]) -> State
+    ensures { result ≡ hashed at.now bytes.now }
+{
+    with_hash(&at.right, mixed(&at.before.hash, bytes))
 }
 
 #[tactic(auto, unfolding(crate::specs::Mixing::hash_state))]
@@ -100,6 +130,7 @@ fn hash_state(mistake: HashMistake, at: &Situation<'_>) -> State
     match mistake {
         HashMistake::LeftOut => with_hash(&at.right, at.before.hash),
         HashMistake::LengthInFront | HashMistake::LengthMixed => at.right,
+        HashMistake::OtherKey | HashMistake::HexDigits => at.right,
         HashMistake::DataFirst => with_hash(&at.right, mixed(at.data, &at.before.hash)),
         HashMistake::KeyLeftOut => with_hash(&at.before, at.right.hash),
         HashMistake::KeyMixed => with_key(&at.right, &at.before.chaining_key, at.data),

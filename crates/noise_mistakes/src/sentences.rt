@@ -52,6 +52,10 @@ fn hash_sentence(mistake: HashMistake) -> &'static str
             "MixKey of e is left out: with a psk it follows MixHash at each e, written, read or of a pre-message (9.2)"
         }
         HashMistake::KeyMixed => "MixKey of e is called: only a pattern with a psk has it (9.2)",
+        HashMistake::OtherKey => {
+            "MixHash takes another public key of the file: at responder-s both parties hash the responder's (5.3)"
+        }
+        HashMistake::HexDigits => "MixHash takes the hex digits as text: it takes the bytes",
         HashMistake::StepsLeftOut => {
             "the steps for which your log has no line here are left out, or come later"
         }
@@ -126,6 +130,9 @@ fn text_sentence(mistake: TextMistake) -> &'static str
             "the nonce is big-endian, in the first 8 bytes: 4 zero bytes come first, then 8 little-endian ones (12.3)"
         }
         TextMistake::NonceFromOne => "n is one too great: a new key sets it to 0 (5.1, 5.2)",
+        TextMistake::NonceOfZero => {
+            "n is 0 here: only a new key sets it to 0; both parties' texts and all messages raise the same n (5.1, 5.2)"
+        }
         TextMistake::NoAssociatedData => {
             "there is no associated data: it is h before this text (5.2)"
         }
@@ -176,13 +183,26 @@ fn key_sentence(mistake: KeyMistake) -> &'static str
         KeyMistake::SplitOfZeros => {
             "Split's HKDF takes ck and 32 zero bytes: it takes ck and no bytes (5.2)"
         }
+        KeyMistake::SplitInputs => {
+            "Split's HKDF has its inputs exchanged: ck is the key of its first HMAC (4.3)"
+        }
         KeyMistake::Exchanged => {
             "it is another key of the transport: Split's first is for what the initiator sends (5.2)"
         }
         KeyMistake::NonceFromOne => {
             "n is one too great: Split's keys begin with 0, and each message raises n by 1 (5.1, 5.2)"
         }
+        KeyMistake::EarlierHash => {
+            "h is that of an earlier step: it is h after the last payload (5.2)"
+        }
+        KeyMistake::NonceRaised => {
+            "n is one too great: each direction has its own n, from 0, and only its own messages raise it; \
+                or your log has n after the message (5.1, 5.2)"
+        }
         KeyMistake::NonceSetBack => "n is set to 0: Rekey keeps n (11.3)",
+        KeyMistake::RekeyLater => {
+            "Rekey hasn't come yet: it follows each interval-th message of its direction (11.3)"
+        }
         KeyMistake::RekeyLeftOut => "Rekey is left out at this interval",
         KeyMistake::RekeyByNonce => "Rekey's nonce is n: it is 2^64 - 1 (4.2)",
         KeyMistake::RekeyByZero => "Rekey's nonce is 0: it is 2^64 - 1 (4.2)",

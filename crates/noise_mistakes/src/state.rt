@@ -18,7 +18,9 @@ pub struct State {
 pub enum Kind {
     /// The start with the protocol name.
     Name,
-    /// The prologue, or a key of a pre-message: MixHash.
+    /// The prologue: MixHash.
+    Prologue,
+    /// A static key of a pre-message: MixHash.
     Data,
     /// The token `e`.
     Ephemeral,
@@ -56,6 +58,8 @@ pub struct Situation<'a> {
     pub name: &'a [u8],
     /// The DH result or the psk that the step takes, and zeros at any other step.
     pub secret: [u8; 32],
+    /// The public keys of both parties.
+    pub publics: &'a [[u8; 32]],
     /// All DH results, or all psks, of the run.
     pub secrets: &'a [[u8; 32]],
     /// The hashes before the step.

@@ -3,12 +3,14 @@
 ghost use Rattle.std.specs.Prelude.{◌≡◌, ◌≤◌, ◌++◌, ◌-◌, ◌+◌, [], IfOk, drop, length, replicate, take};
 ghost use Rattle.sha2.specs.Sha256.{sha256};
 ghost use Rattle.noise_aead.specs.Sealing.{nonce_of, sealed};
-ghost use Rattle.noise_mistakes.specs.Mixing.{with_hash};
+ghost use Rattle.noise_mistakes.specs.Mixing.{hashed, with_hash};
 ghost use Rattle.noise_mistakes.specs.States.{fits};
-ghost use Rattle.noise_mistakes.specs.Texts.{ad_fits_text, big_endian, big_endian_first_bytes, bytes_fit, earlier_hash_explains, first_bytes, hashed, hashed_before, nonce_fits_text, one_more, sealed_under, sealed_with, tag_first, text_explains, without_tag};
+ghost use Rattle.noise_mistakes.specs.Texts.{ad_fits_text, big_endian, big_endian_first_bytes, bytes_fit, earlier_hash_explains, first_bytes, hashed_before, nonce_fits_text, one_more, raised, sealed_by_zero, sealed_under, sealed_with, sealed_without_steps, state_without_steps, tag_first, text_explains, without_steps_explains, without_tag, zero_fits};
 
 use crate::mistake::TextMistake;
-use crate::mixing::{length_in_front_explains, length_mixed_explains, mixed, redone, with_hash};
+use crate::mixing::{
+    hashed, length_in_front_explains, length_mixed_explains, mixed, redone, with_hash,
+};
 use crate::secrets::with_nonce;
 use crate::state::{Logged, Situation, State};
 use byteorder::{BigEndian, ByteOrder, LittleEndian};
@@ -37,6 +39,7 @@ pub(crate) fn text_explains(
             nonce_fits_text(alloc, at, logged, &big_endian_first_bytes(n))
         }
         TextMistake::NonceFromOne => next_nonce_explains(alloc, at, logged),
+        TextMistake::NonceOfZero => zero_nonce_explains(alloc, at, logged),
         TextMistake::NoAssociatedData => ad_fits_text(alloc, at, logged, &[]),
         TextMistake::ChainingKeyAsData => {
             ad_fits_text(alloc, at, logged, &at.before.chaining_key)
@@ -55,7 +58,7 @@ pub(crate) fn text_explains(
         TextMistake::NonceRaised => {
             Ok(logged.fits(at.bytes, &with_nonce(&at.right, one_more(at.right.nonce))))
         }
-        TextMistake::StepsLeftOut => Ok(logged.fits(at.bytes, &redone(at))),
+        TextMistake::StepsLeftOut => without_steps_explains(alloc, at, logged),
     }
 }
 
@@ -108,6 +111,71 @@ fn next_nonce_explains(
 {
     let next = nonce(one_more(at.before.nonce));
     nonce_fits_text(alloc, at, logged, &next)
+}
+
+fn zero_nonce_explains(
+    alloc: Global,
+    at: &Situation<'_>,
+    logged: &Logged,
+) -> Result<bool, AllocError>
+    ensures { IfOk result (λ b. b ≡ zero_fits at.now logged.now (sealed_by_zero at.now)) }
+{
+    let bytes = sealed_by_zero(alloc, at)?;
+    Ok(zero_fits(at, logged, &bytes))
+}
+
+fn sealed_by_zero(alloc: Global, at: &Situation<'_>) -> Result<Vec<u8>, AllocError>
+    ensures { IfOk result (λ v. v.items ≡ sealed_by_zero at.now) }
+{
+    let zero = nonce(0);
+    sealed_under(alloc, &at.before.key, &zero, &at.before.hash, at.text)
+}
+
+fn zero_fits(at: &Situation<'_>, logged: &Logged, bytes: &[u8]) -> bool
+    ensures { result ≡ zero_fits at.now logged.now bytes.now }
+{
+    bytes_fit(at, logged, bytes)
+        || logged.fits(
+            bytes,
+            &with_nonce(&hashed(at, bytes), raised(&at.before.key, 0)),
+        )
+}
+
+// Whether the text and its state, without the steps since the last line that agrees, are what was logged.
+fn without_steps_explains(
+    alloc: Global,
+    at: &Situation<'_>,
+    logged: &Logged,
+) -> Result<bool, AllocError>
+    ensures { IfOk result (λ b. b ≡ without_steps_explains at.now logged.now) }
+{
+    let bytes = sealed_without_steps(alloc, at)?;
+    let sealed = logged.fits(&bytes, &state_without_steps(at, &bytes));
+    Ok(sealed || logged.fits(at.bytes, &redone(at)))
+}
+
+fn sealed_without_steps(alloc: Global, at: &Situation<'_>) -> Result<Vec<u8>, AllocError>
+    ensures { IfOk result (λ v. v.items ≡ sealed_without_steps at.now) }
+{
+    let due = nonce(at.agreed.nonce);
+    sealed_under(alloc, &at.agreed.key, &due, &at.agreed.hash, at.text)
+}
+
+fn state_without_steps(at: &Situation<'_>, bytes: &[u8]) -> State
+    ensures { result ≡ state_without_steps at.now bytes.now }
+{
+    let hashed = with_hash(&at.agreed, mixed(&at.agreed.hash, bytes));
+    with_nonce(&hashed, raised(&at.agreed.key, at.agreed.nonce))
+}
+
+// The nonce after a text: raised, if there is a key.
+fn raised(key: &Option<[u8; 32]>, n: u64) -> u64
+    ensures { result ≡ raised key.now n }
+{
+    match key {
+        None => n,
+        Some(_) => one_more(n),
+    }
 }
 
 fn hashed_before(alloc: Global, at: &Situation<'_>, logged: &Logged) -> Result<bool, AllocError>
@@ -179,12 +247,6 @@ fn bytes_fit(at: &Situation<'_>, logged: &Logged, bytes: &[u8]) -> bool
     ensures { result ≡ bytes_fit at.now logged.now bytes.now }
 {
     logged.fits(bytes, &hashed(at, bytes))
-}
-
-fn hashed(at: &Situation<'_>, bytes: &[u8]) -> State
-    ensures { result ≡ hashed at.now bytes.now }
-{
-    with_hash(&at.right, mixed(&at.before.hash, bytes))
 }
 
 fn without_tag(bytes: &[u8]) -> &[u8]
