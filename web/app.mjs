@@ -16,7 +16,13 @@ const READ = {
   window: ({ value }) => Number(value),
   ownPsks: ({ checked }) => checked,
 };
-const page = { setup: link.read(location.hash, STARTED), plan: undefined, run: undefined, isStale: false, shape: undefined };
+const page = {
+  setup: link.read(location.hash, STARTED),
+  plan: undefined,
+  run: undefined,
+  isStale: false,
+  shape: undefined,
+};
 let addressing;
 /** The state of the history's entry that is shown. */
 let entry;
@@ -25,11 +31,24 @@ let editor;
 let late;
 
 async function loadLate() {
-  const names = ['./control.mjs', './take.mjs', './mends.mjs', './vectorfile.mjs', './schedule.mjs', './runs.mjs', './undo.mjs', './opening.mjs'];
+  const names = [
+    './control.mjs',
+    './take.mjs',
+    './mends.mjs',
+    './vectorfile.mjs',
+    './schedule.mjs',
+    './runs.mjs',
+    './undo.mjs',
+    './opening.mjs',
+  ];
   const modules = await Promise.all(names.map((name) => import(name)));
   const all = Object.assign({}, ...modules);
   const undo = new all.Undo(page.setup, restore);
-  all.wireOpening({ take: takeIn, follow: (fragment) => { location.hash = fragment; }, notice: (says) => notice([says]) });
+  all.wireOpening({
+    take: takeIn,
+    follow: (fragment) => { location.hash = fragment; },
+    notice: (says) => notice([says]),
+  });
   return { ...all, undo, control: new all.Control(page, acted, takeBack), take: new all.Take(page) };
 }
 
@@ -37,7 +56,10 @@ async function loadLate() {
 function notice(sentences, hasRun) {
   const toRun = Object.assign(element('a', '', 'See the run'), { href: '#run' });
   const text = sentences.filter(Boolean).join(' ');
-  at('notice').replaceChildren(text, ...(hasRun ? ['This link has a run, which is done again with new keys. ', toRun] : []));
+  at('notice').replaceChildren(
+    text,
+    ...(hasRun ? ['This link has a run, which is done again with new keys. ', toRun] : []),
+  );
   if (text) speak(text);
 }
 
@@ -75,7 +97,10 @@ function keepAddress() {
   if (late) addressing = setTimeout(keepNow, 250);
 }
 
-/** Keeps the address as it is for Back, and goes on under one of its own, which has the new set-up as soon as it is there. */
+/**
+ * Keeps the address as it is for Back, and goes on under one of its own, which has the new set-up as soon as it is
+ * there.
+ */
 function leave() {
   if (!late) return;
   clearTimeout(addressing);
@@ -133,16 +158,26 @@ function takeIn(setup, says) {
   notice([says]);
 }
 
-/** The steps of an address's run that can be done, or of the run that this tab kept. What else the address has and can't be taken is said. */
+/**
+ * The steps of an address's run that can be done, or of the run that this tab kept. What else the address has and can't
+ * be taken is said.
+ */
 function stepsOf(fragment, state, isFirst = false) {
   const { steps, fault } = link.readRun(fragment);
-  const kept = steps.length || fault ? [] : link.readRun(`#run=${late?.keptRun(state, link.write(page.setup)) ?? ''}`).steps;
+  const kept =
+    steps.length || fault ? [] : link.readRun(`#run=${late?.keptRun(state, link.write(page.setup)) ?? ''}`).steps;
   const isIdle = steps.length > 0 && !page.plan;
-  notice([link.faultOf(fragment), fault, isIdle && 'The run of this link is left out: its pattern isn’t valid.'], isFirst && steps.length > 0 && !isIdle);
+  notice(
+    [link.faultOf(fragment), fault, isIdle && 'The run of this link is left out: its pattern isn’t valid.'],
+    isFirst && steps.length > 0 && !isIdle,
+  );
   return isIdle || !page.plan ? [] : [...steps, ...kept];
 }
 
-/** Takes the set-up of the page's address, and its run. Where the address has another place of the page, the set-up stays. */
+/**
+ * Takes the set-up of the page's address, and its run. Where the address has another place of the page, the set-up
+ * stays.
+ */
 async function follow({ state }) {
   const isKept = late && entry && page.run && !page.isStale;
   if (isKept) late.kept(entry, link.write(page.setup), link.written(page.run.steps));    // what was done a moment ago
@@ -185,7 +220,8 @@ const full = () => notice([`This design isn’t kept: this browser has ${MOST} o
 
 try {
   const shaping = import('./shape.mjs');
-  notice([], isOpened() && link.readRun(location.hash).steps.length > 0);    // before anything is drawn, so that nothing moves
+  // before anything is drawn, so that nothing moves
+  notice([], isOpened() && link.readRun(location.hash).steps.length > 0);
   await load();
   showInputs();
   wire();
@@ -202,7 +238,8 @@ try {
   const steps = stepsOf(location.hash, history.state, isOpened());
   if (steps.length) await late.control.repeat(steps);
   keepAddress();
-  // What the checks and a curious reader of the console may look at; the vector file and the key schedule of a run have its secrets, but no private keys.
+  // What the checks and a curious reader of the console may look at; the vector file and the key schedule of a run have
+  // its secrets, but no private keys.
   globalThis.noisePage = {
     get vectorFile() { return page.run && late.vectorFile(page.run).text; },
     get lines() { return page.run?.lines; },
@@ -213,6 +250,9 @@ try {
 } catch (error) {
   document.body.classList.remove('loading');
   at('verdict').className = 'bad';
-  at('verdict').replaceChildren(element('p', 'title', 'The library couldn’t be loaded.'), element('p', '', error.message));
+  at('verdict').replaceChildren(
+    element('p', 'title', 'The library couldn’t be loaded.'),
+    element('p', '', error.message),
+  );
   speak(at('verdict').textContent);
 }

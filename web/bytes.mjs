@@ -14,7 +14,8 @@ export const joined = (...parts) => {
   return whole;
 };
 /** A text with what can't be seen, or turns the text around it, as escapes. */
-export const visible = (text) => text.replace(/[\p{C}\u2028\u2029]/gu, (it) => `\\u{${it.codePointAt(0).toString(16)}}`);
+export const visible = (text) =>
+  text.replace(/[\p{C}\u2028\u2029]/gu, (it) => `\\u{${it.codePointAt(0).toString(16)}}`);
 /** A payload as text if it is one, and else in hex; a long one by its first part and its length. */
 export const shown = (bytes) => {
   if (bytes.length === 0) return 'empty';

@@ -1,5 +1,6 @@
-// The bytes of a message by piece. A byte that is pressed by pointer or finger is only looked at, and a button beside it changes its lowest bit; Enter and
-// the space bar change the byte that has the focus. One byte is reached by Tab, the others by the arrow keys.
+// The bytes of a message by piece. A byte that is pressed by pointer or finger is only looked at, and a button beside
+// it changes its lowest bit; Enter and the space bar change the byte that has the focus. One byte is reached by Tab,
+// the others by the arrow keys.
 import { button, element, enable } from './element.mjs';
 import { hex } from './bytes.mjs';
 
@@ -7,7 +8,8 @@ const MOST = 128;
 const HEAD = 48;
 const TAIL = 16;
 export const TITLES = {
-  e: 'ephemeral key', s: 'static key, clear', sealed: 'static key, encrypted', tag: 'tag', payload: 'payload, clear', nonce: 'nonce', text: 'payload, encrypted',
+  e: 'ephemeral key', s: 'static key, clear', sealed: 'static key, encrypted', tag: 'tag', payload: 'payload, clear',
+  nonce: 'nonce', text: 'payload, encrypted',
 };
 const HINT = 'Point at a byte, or press it, to see what it is.';
 
@@ -19,7 +21,10 @@ export function piecesOf(run, { number, message, isDatagram }) {
   }
   const { pieces, length } = run.plan.messages[number];
   const kindOf = ({ kind, sealed }) => (sealed && { s: 'sealed', payload: 'text' }[kind]) || kind;
-  return pieces.map((piece) => ({ length: piece.kind === 'payload' ? message.length - length : piece.length, kind: kindOf(piece) })).filter((piece) => piece.length > 0);
+  return pieces.map((piece) => ({
+    length: piece.kind === 'payload' ? message.length - length : piece.length,
+    kind: kindOf(piece),
+  })).filter((piece) => piece.length > 0);
 }
 
 /** A piece for each byte, with the places of the piece's first and last byte. */
@@ -108,7 +113,8 @@ export function bytesView(run, item, name, changed) {
     moveTo(box, made);
     say(looked);
     enable(change, true);
-    change.textContent = `${item.flips.has(looked) ? 'Change byte' : 'Change the lowest bit of byte'} ${looked}${item.flips.has(looked) ? ' back' : ''}`;
+    change.textContent = `${item.flips.has(looked) ? 'Change byte' : 'Change the lowest bit of byte'} `
+      + `${looked}${item.flips.has(looked) ? ' back' : ''}`;
   };
   const flip = (at) => {
     if (!item.flips.delete(at)) item.flips.add(at);

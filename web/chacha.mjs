@@ -1,4 +1,5 @@
-// Rekey of the standard (4.2) for ChaChaPoly: WebCrypto has no ChaCha20. For the key schedule alone; the library makes its own.
+// Rekey of the standard (4.2) for ChaChaPoly: WebCrypto has no ChaCha20. For the key schedule alone; the library makes
+// its own.
 
 const rotated = (word, by) => (word << by) | (word >>> (32 - by));
 
@@ -9,7 +10,10 @@ function quarter(x, a, b, c, d) {
   x[c] += x[d]; x[b] = rotated(x[b] ^ x[c], 7);
 }
 
-/** The next key: the first 32 bytes of what ChaCha20 (RFC 8439) encrypts 32 zeros to, with counter 1 and the nonce 2^64 - 1. */
+/**
+ * The next key: the first 32 bytes of what ChaCha20 (RFC 8439) encrypts 32 zeros to, with counter 1 and the nonce 2^64
+ * - 1.
+ */
 export function rekeyed(key) {
   const given = new Uint32Array(16);
   given.set([0x61707865, 0x3320646e, 0x79622d32, 0x6b206574]);

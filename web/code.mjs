@@ -1,5 +1,5 @@
-// The set-up as a program in each language: both parties of the pattern, in one process. The programs compile and run as they are, and checks/web/run
-// does so.
+// The set-up as a program in each language: both parties of the pattern, in one process. The programs compile and run
+// as they are, and checks/web/run does so.
 import { FUNDAMENTAL } from './patterns.mjs';
 import { c } from './programs/c.mjs';
 import { go } from './programs/go.mjs';
@@ -7,10 +7,19 @@ import { javascript } from './programs/javascript.mjs';
 import { python } from './programs/python.mjs';
 import { rust } from './programs/rust.mjs';
 
-const MADE = { C: [c, '.c'], Go: [go, '.go'], Rust: [rust, '.rs'], JavaScript: [javascript, '.mjs'], Python: [python, '.py'] };
+const MADE = {
+  C: [c, '.c'],
+  Go: [go, '.go'],
+  Rust: [rust, '.rs'],
+  JavaScript: [javascript, '.mjs'],
+  Python: [python, '.py'],
+};
 export const LANGUAGES = Object.keys(MADE);
 
-/** What the programs need to know of a pattern and its set-up. `knows` says whose static key is in the other party's set-up. */
+/**
+ * What the programs need to know of a pattern and its set-up. `knows` says whose static key is in the other party's
+ * set-up.
+ */
 function factsOf(plan, { text, prologue, interval, mode, window }) {
   const { section, base, before, psks, oneWay } = plan;
   return {

@@ -22,14 +22,20 @@ export class Control {
   #page;
   #shown;
   #log = new Log(at('log'), at('earlier'), (entry) => this.#pick(entry));
-  #current = new Current({ box: at('current'), title: at('current-h'), acts: at('current-acts'), body: at('current-body') }, {
-    act: (work) => this.#act(work), whyNot: () => this.#whyNot(), looked: () => this.#draw(),
-  });
+  #current = new Current(
+    { box: at('current'), title: at('current-h'), acts: at('current-acts'), body: at('current-body') },
+    {
+      act: (work) => this.#act(work), whyNot: () => this.#whyNot(), looked: () => this.#draw(),
+    },
+  );
   #written = 0;
   #shownRun;
   #acting = Promise.resolve();
 
-  /** `page` has `setup`, `plan`, `run` and `isStale`. `shown()` is called after each thing done, and `back()` takes the run's set-up again. */
+  /**
+   * `page` has `setup`, `plan`, `run` and `isStale`. `shown()` is called after each thing done, and `back()` takes the
+   * run's set-up again.
+   */
   constructor(page, shown, back) {
     this.#page = page;
     this.#shown = shown;
@@ -38,14 +44,17 @@ export class Control {
 
   #wire(back) {
     const page = this.#page;
-    const onPress = (it, work) => it.addEventListener('click', () => { if (it.getAttribute('aria-disabled') !== 'true') work(); });
+    const onPress = (it, work) =>
+      it.addEventListener('click', () => { if (it.getAttribute('aria-disabled') !== 'true') work(); });
     const onAct = (it, work) => onPress(it, () => this.#act(work));
     onPress(at('start'), () => this.begin());
     onPress(at('step'), () => this.#next());
     onPress(at('back'), () => { back(); at('step').focus(); });
     onAct(at('all'), () => page.run.passAll(payload));
     onAct(at('close'), () => page.run.close());
-    for (const it of document.querySelectorAll('[data-write]')) onAct(it, () => page.run.write(it.dataset.write, payload()));
+    for (const it of document.querySelectorAll('[data-write]')) {
+      onAct(it, () => page.run.write(it.dataset.write, payload()));
+    }
     for (const it of document.querySelectorAll('[data-end]')) onAct(it, () => page.run.write(it.dataset.end));
     at('payload').addEventListener('keydown', ({ key }) => {
       const role = key === 'Enter' ? page.run?.next : undefined;
@@ -77,7 +86,9 @@ export class Control {
     }
     const isStream = isLive && setup.mode === 'stream';
     at('ends').hidden = !isStream || !run.isOpen;
-    for (const it of document.querySelectorAll('[data-end]')) enable(it, isStream && !run.silenceOf(it.dataset.end), silence(it.dataset.end));
+    for (const it of document.querySelectorAll('[data-end]')) {
+      enable(it, isStream && !run.silenceOf(it.dataset.end), silence(it.dataset.end));
+    }
     enable(at('close'), isStream && run.isOpen && !run.isClosed, 'The connection is closed.');
     at('write').hidden = !run;
     at('keys').hidden = !run;
@@ -102,7 +113,9 @@ export class Control {
     const { run, isStale } = this.#page;
     const { step, role, item } = nextStep(run, isStale);
     if (step === 'begin') return this.begin();
-    return this.#act(() => (step === 'write' ? run.write(role, payload()) : run.deliver(role, item.n, sorted(item.flips))));
+    return this.#act(() =>
+      (step === 'write' ? run.write(role, payload()) : run.deliver(role, item.n, sorted(item.flips))),
+    );
   }
 
   show() {
@@ -122,7 +135,10 @@ export class Control {
 
   /** Says what has come of a call: the newest entries. */
   #announce(entries) {
-    say(entries.map((entry) => `${entry.at}. ${sentenceOf(this.#page.run, entry)}`).join(' '), entries.some(({ kind }) => ['refused', 'unwritten'].includes(kind)));
+    say(
+      entries.map((entry) => `${entry.at}. ${sentenceOf(this.#page.run, entry)}`).join(' '),
+      entries.some(({ kind }) => ['refused', 'unwritten'].includes(kind)),
+    );
   }
 
   async #actNow(work, isNew) {
@@ -151,7 +167,11 @@ export class Control {
   async #start() {
     const { setup, plan, run: old } = this.#page;
     const given = { ...setup };
-    const run = await Run.start({ ...given, prologue: encode(given.prologue), isOwn: !FUNDAMENTAL.includes(plan.base) });
+    const run = await Run.start({
+      ...given,
+      prologue: encode(given.prologue),
+      isOwn: !FUNDAMENTAL.includes(plan.base),
+    });
     old?.dispose();
     Object.assign(this.#page, { run: Object.assign(run, { given }), isStale: keyOf(given) !== keyOf(setup) });
     showKeys(at('key-list'), run);
@@ -180,6 +200,7 @@ export class Control {
     if (done === undefined) return;
     const what = done < steps.length ? `Of the run ${done} of ${steps.length} steps were done` : 'The run was done';
     const { length } = page.run.log;
-    at('said').textContent = `${what} again with new keys: ${length} ${length === 1 ? 'entry' : 'entries'}. ${at('said').textContent}`;
+    at('said').textContent =
+      `${what} again with new keys: ${length} ${length === 1 ? 'entry' : 'entries'}. ${at('said').textContent}`;
   }
 }

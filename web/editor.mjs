@@ -1,5 +1,5 @@
-// The text of the pattern: it is checked at each change, its faults are marked, and a click sets psk places or mends a fault. What the page changes in it the
-// browser's own undo takes back.
+// The text of the pattern: it is checked at each change, its faults are marked, and a click sets psk places or mends a
+// fault. What the page changes in it the browser's own undo takes back.
 import { checkPattern } from '../bindings/js/check.mjs';
 import { button, element, speak } from './element.mjs';
 import { warningsOf } from './facts.mjs';
@@ -64,9 +64,17 @@ const paragraph = (cls, ...words) => element('p', cls, ...words);
 /** What is said of a valid pattern. */
 function validParts({ messages }, plan, warnings) {
   const lengths = plan.messages.map(({ length }) => length);
-  const says = messages === 1 ? `Without its payload the message has ${lengths[0]} bytes.` : `Without payloads the messages have ${lengths.join(', ')} bytes.`;
-  const title = `Valid: ${messages} ${messages === 1 ? 'message' : 'messages'}${warnings.length ? ', with a warning' : ''}. `;
-  return [paragraph('title', title), ...warnings.map((it) => paragraph('warns', `Warning: ${it} `)), paragraph('mend', says)];
+  const says =
+    messages === 1
+      ? `Without its payload the message has ${lengths[0]} bytes.`
+      : `Without payloads the messages have ${lengths.join(', ')} bytes.`;
+  const title =
+    `Valid: ${messages} ${messages === 1 ? 'message' : 'messages'}${warnings.length ? ', with a warning' : ''}. `;
+  return [
+    paragraph('title', title),
+    ...warnings.map((it) => paragraph('warns', `Warning: ${it} `)),
+    paragraph('mend', says),
+  ];
 }
 
 /** The title of a fault; a rule's number is a link to the rule, and there is one to its section of the standard. */
@@ -80,7 +88,12 @@ function titleOf({ title, rule, section, where }) {
 function faultParts([first, ...others]) {
   const more = others.map((it) => element('li', '', ...titleOf(it), it.says));
   const list = more.length ? [element('ul', 'more', ...more)] : [];
-  return [paragraph('title', ...titleOf(first)), paragraph('', `${first.says} `), paragraph('mend', `${first.mend} `), ...list];
+  return [
+    paragraph('title', ...titleOf(first)),
+    paragraph('', `${first.says} `),
+    paragraph('mend', `${first.mend} `),
+    ...list,
+  ];
 }
 
 export class Editor {
@@ -99,8 +112,8 @@ export class Editor {
   #isReplacing = false;
 
   /**
-   * `changed(text, plan, isTyped)` is called after each change; `leaves()` before the page puts another pattern in the place of this one; `under(place)` with the token
-   * that the caret is in; and `full()` where a design can't be kept.
+   * `changed(text, plan, isTyped)` is called after each change; `leaves()` before the page puts another pattern in the
+   * place of this one; `under(place)` with the token that the caret is in; and `full()` where a design can't be kept.
    */
   constructor({ changed, leaves, under, full }) {
     Object.assign(this, { changed, leaves, full, mendsOf: () => [] });
@@ -128,9 +141,14 @@ export class Editor {
       this.#places.append(element('label', '', box, String(place)));
     }
     this.#text.addEventListener('input', () => this.judge());
-    this.#text.addEventListener('scroll', () => { this.#marks.scrollTop = this.#text.scrollTop; this.#marks.scrollLeft = this.#text.scrollLeft; });
+    this.#text.addEventListener('scroll', () => {
+      this.#marks.scrollTop = this.#text.scrollTop;
+      this.#marks.scrollLeft = this.#text.scrollLeft;
+    });
     this.#text.addEventListener('change', () => this.remember());
-    document.addEventListener('selectionchange', () => { if (document.activeElement === this.#text) under(this.#place()); });
+    document.addEventListener('selectionchange', () => {
+      if (document.activeElement === this.#text) under(this.#place());
+    });
     document.getElementById('copy-own').addEventListener('click', () => this.#copy());
     document.getElementById('forget').addEventListener('click', () => {
       own.forget(this.text);
@@ -159,7 +177,8 @@ export class Editor {
   remember() {
     const { text } = this;
     if (standardOf(text) || text.trim() === '') return;
-    const former = this.#former !== undefined && own.nameOf(this.#former) === own.nameOf(text) ? this.#former : undefined;
+    const former =
+      this.#former !== undefined && own.nameOf(this.#former) === own.nameOf(text) ? this.#former : undefined;
     if (own.remember(text, former)) this.#former = text;
     else if (text.length <= own.LONGEST) this.full();
   }
@@ -176,12 +195,18 @@ export class Editor {
     this.judge();
   }
 
-  /** The list of patterns has one's own first. It stays as it is while it has the focus, since the arrow keys go through it. */
+  /**
+   * The list of patterns has one's own first. It stays as it is while it has the focus, since the arrow keys go through
+   * it.
+   */
   #fillPick() {
     const { text } = this;
     const isStandard = standardOf(text) !== '';
     this.#chosen = { text, isOther: false };
-    const mine = own.all().filter((it) => it.text !== text).map(({ id, label }) => new Option(`your ${label}`, `own ${id}`));
+    const mine = own
+      .all()
+      .filter((it) => it.text !== text)
+      .map(({ id, label }) => new Option(`your ${label}`, `own ${id}`));
     this.#mine.replaceChildren(...(isStandard ? [] : [new Option('this pattern', 'this')]), ...mine);
   }
 
@@ -233,7 +258,9 @@ export class Editor {
     const { text } = this;
     const verdict = checkPattern(text);
     const plan = verdict.valid ? layout(text) : undefined;
-    const faults = verdict.valid ? [] : faultsOf(text, verdict).slice(0, MOST_FAULTS).map((fault) => explain(text, fault));
+    const faults = verdict.valid
+      ? []
+      : faultsOf(text, verdict).slice(0, MOST_FAULTS).map((fault) => explain(text, fault));
     this.#verdictOf = verdict;
     this.#mark(text, faults.map(({ span }) => span));
     this.#tell(verdict, plan, faults);
@@ -278,7 +305,9 @@ export class Editor {
     this.#pick.value = base || 'this';
     if (!base && text !== this.#chosen.text) this.#pick.value = `own ${text}`;
     if (this.#pick.selectedIndex >= 0) return this.#setPlaces(text);
-    if (![...this.#mine.children].some(({ value }) => value === 'this')) this.#mine.prepend(new Option('this pattern', 'this'));
+    if (![...this.#mine.children].some(({ value }) => value === 'this')) {
+      this.#mine.prepend(new Option('this pattern', 'this'));
+    }
     this.#chosen.text = text;
     this.#pick.value = 'this';
     return this.#setPlaces(text);

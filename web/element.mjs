@@ -24,7 +24,10 @@ export function enable(it, isEnabled, why = '') {
 let speaking;
 let spoken = '';
 
-/** Says something to those who don't see the page: once, after so many milliseconds, and not what was said last. Only the newest of several is said. */
+/**
+ * Says something to those who don't see the page: once, after so many milliseconds, and not what was said last. Only
+ * the newest of several is said.
+ */
 export function speak(text, after = 0) {
   clearTimeout(speaking);
   speaking = setTimeout(() => {

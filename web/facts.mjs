@@ -1,6 +1,7 @@
-// What a pattern's tokens show: which private keys are enough for each key, who can have written each message, and whether a recording of it is accepted
-// again. `rowsOf` decides, and SENTENCES has the words; `noise explain` says the same in the same words, and checks/web compares the two. Nothing here is
-// graded. A pattern is data: `messages`, each with `from`, `tokens` and `pieces` (of which `kind` and `sealed` count), `before` with the tokens of both
+// What a pattern's tokens show: which private keys are enough for each key, who can have written each message, and
+// whether a recording of it is accepted again. `rowsOf` decides, and SENTENCES has the words; `noise explain` says the
+// same in the same words, and checks/web compares the two. Nothing here is graded. A pattern is data: `messages`, each
+// with `from`, `tokens` and `pieces` (of which `kind` and `sealed` count), `before` with the tokens of both
 // pre-messages, and `oneWay`. There is no DOM here.
 
 const OTHER = { initiator: 'responder', responder: 'initiator' };
@@ -39,14 +40,16 @@ export const MEANING = [
   '“Or” parts ways of which each is enough. Where an s comes in a message, the application has to compare it.',
 ];
 export const UNJUDGED = [
-  'These are facts of tokens. Not judged: how well payloads are authenticated and kept secret, and how well identities are hidden.',
+  'These are facts of tokens. Not judged: how well payloads are authenticated and kept secret, '
+    + 'and how well identities are hidden.',
   'Sections 7.7 and 7.8 of the standard grade the fundamental patterns; Noise Explorer grades and analyses one’s own.',
 ];
 
 const filled = (text, values) => text.replace(/\{(\w+)\}/g, (_, name) => values[name] ?? '');
 
 /** Whether these private keys are enough for every DH: a DH needs one of its two. */
-const areEnough = (dhs, keys) => dhs.every((dh) => keys.includes(`initiator ${dh[0]}`) || keys.includes(`responder ${dh[1]}`));
+const areEnough = (dhs, keys) =>
+  dhs.every((dh) => keys.includes(`initiator ${dh[0]}`) || keys.includes(`responder ${dh[1]}`));
 
 /** The smallest sets of private keys, out of these, that are enough for all the DHs. */
 export function waysOf(dhs, keys = KEYS) {
@@ -58,7 +61,9 @@ export function waysOf(dhs, keys = KEYS) {
 /** One such set in words. */
 function wayWords(way) {
   if (way.length === 2 && way[0].at(-1) === way[1].at(-1)) return `both parties’ ${way[0].at(-1)}`;
-  const of = ROLES.map((role) => [role, way.filter((key) => key.startsWith(role)).map((key) => key.at(-1))]).filter(([, own]) => own.length);
+  const of = ROLES.map((role) => [role, way.filter((key) => key.startsWith(role)).map((key) => key.at(-1))]).filter(
+    ([, own]) => own.length,
+  );
   return of.map(([role, own]) => `the ${role}’s ${own.join(' and ')}`).join(' and ');
 }
 
@@ -67,13 +72,24 @@ const capital = (text) => text[0].toUpperCase() + text.slice(1);
 const isMixed = (token) => token === 'psk' || DHS.includes(token);
 
 /** What is mixed in by these tokens: the DHs, and how many psks. */
-const mixedOf = (tokens) => ({ dhs: DHS.filter((dh) => tokens.includes(dh)), psks: tokens.filter((token) => token === 'psk').length });
+const mixedOf = (tokens) => ({
+  dhs: DHS.filter((dh) => tokens.includes(dh)),
+  psks: tokens.filter((token) => token === 'psk').length,
+});
 export const mixedWords = ({ dhs, psks }) => [...dhs, ...(psks ? [pskWord(psks)] : [])].join(', ') || 'nothing';
 
-/** What a party could do that takes the place of the one to read: which of the keys it chooses itself are enough, or undefined. */
+/**
+ * What a party could do that takes the place of the one to read: which of the keys it chooses itself are enough, or
+ * undefined.
+ */
 function ownPart({ before, messages }, role, until, dhs) {
-  const sent = ['e', 's'].filter((own) => !before[role].includes(own) && messages.slice(0, until).some(({ from, tokens }) => from === role && tokens.includes(own)));
-  return [['e'], ['e', 's']].find((own) => own.every((key) => sent.includes(key)) && areEnough(dhs, own.map((key) => `${role} ${key}`)));
+  const sent = ['e', 's'].filter((own) =>
+    !before[role].includes(own)
+    && messages.slice(0, until).some(({ from, tokens }) => from === role && tokens.includes(own)),
+  );
+  return [['e'], ['e', 's']].find((own) =>
+    own.every((key) => sent.includes(key)) && areEnough(dhs, own.map((key) => `${role} ${key}`)),
+  );
 }
 
 /** The row of one key: of an encrypted s, an encrypted payload or the transport. */
@@ -81,10 +97,16 @@ function keyRow(plan, { name, to, until, isTransport }, tokens) {
   const mixed = mixedOf(tokens);
   const { dhs, psks } = mixed;
   const row = { name, of: 'key', mixed };
-  if (dhs.length === 0) return psks ? { ...row, fact: 'psk', values: { psks: pskWord(psks) } } : { ...row, fact: 'everybody', warns: true };
+  if (dhs.length === 0) {
+    return psks ? { ...row, fact: 'psk', values: { psks: pskWord(psks) } } : { ...row, fact: 'everybody', warns: true };
+  }
   const ways = waysOf(dhs);    // each DH has two ways, so there are at least two
   const part = isTransport ? undefined : ownPart(plan, to, until, dhs);
-  const own = part && { role: to, keys: part.map((key) => `an ${key}`).join(' and '), psk: psks ? ` and the ${pskWord(psks)}` : '' };
+  const own = part && {
+    role: to,
+    keys: part.map((key) => `an ${key}`).join(' and '),
+    psk: psks ? ` and the ${pskWord(psks)}` : '',
+  };
   return { ...row, fact: 'key', ways, values: { ways: waysWords(ways), psk: inEachCase(psks) }, part: own };
 }
 
@@ -96,7 +118,11 @@ function keyRows(plan) {
     const add = (kind, label) => {
       const place = { name: `Message ${n + 1}, ${label}`, to: OTHER[from], until: n + 1 };
       const isSealed = pieces.find((piece) => piece.kind === kind).sealed;
-      found.push(isSealed ? keyRow(plan, { ...place, until: n }, tokens) : { name: place.name, of: 'key', mixed: mixedOf(tokens), fact: 'seen' });
+      found.push(
+        isSealed
+          ? keyRow(plan, { ...place, until: n }, tokens)
+          : { name: place.name, of: 'key', mixed: mixedOf(tokens), fact: 'seen' },
+      );
     };
     for (const token of own) {
       if (token === 's') add('s', 's');
@@ -113,7 +139,9 @@ function writerOf({ before, messages }, from, until, tokens, isTagged) {
   if (!isTagged) return { fact: 'untagged' };
   const { dhs, psks } = mixedOf(tokens);
   if (dhs.length + psks === 0) return { fact: 'openWriter' };
-  const choosesE = !before[from].includes('e') && messages.slice(0, until).some((message) => message.from === from && message.tokens.includes('e'));
+  const choosesE =
+    !before[from].includes('e')
+    && messages.slice(0, until).some((message) => message.from === from && message.tokens.includes('e'));
   const rest = choosesE ? dhs.filter((dh) => !areEnough([dh], [`${from} e`])) : dhs;
   if (rest.length === 0) return { fact: psks ? 'pskWriter' : 'anyone', values: { psks: pskWord(psks) } };
   const ways = waysOf(rest, KEYS.filter((key) => !choosesE || key !== `${from} e`));
@@ -123,7 +151,9 @@ function writerOf({ before, messages }, from, until, tokens, isTagged) {
 /** Whether a recording is accepted again: not if it has a tag, and the reader has put in an e before. */
 function againOf({ before, messages }, to, until, isTagged) {
   if (!isTagged) return { fact: 'bare' };
-  const isNew = before[to].includes('e') || messages.slice(0, until).some(({ from, tokens }) => from === to && tokens.includes('e'));
+  const isNew =
+    before[to].includes('e')
+    || messages.slice(0, until).some(({ from, tokens }) => from === to && tokens.includes('e'));
   return { fact: isNew ? 'isNew' : 'again', values: { role: to } };
 }
 
@@ -132,7 +162,8 @@ function messageRows(plan) {
   const { messages, oneWay } = plan;
   const tokens = [];
   const row = (name, from, until, isTagged) => ({
-    name, of: 'message', from, writer: writerOf(plan, from, until, tokens, isTagged), again: againOf(plan, OTHER[from], until, isTagged),
+    name, of: 'message', from, writer: writerOf(plan, from, until, tokens, isTagged),
+    again: againOf(plan, OTHER[from], until, isTagged),
   });
   const rows = messages.map(({ from, tokens: own, pieces }, n) => {
     tokens.push(...own);
@@ -146,7 +177,8 @@ function messageRows(plan) {
 export const rowsOf = (plan) => ({ keys: keyRows(plan), messages: messageRows(plan) });
 
 /** A fact in words: of a row of the keys. */
-export const keyWords = ({ fact, values, part }) => filled(SENTENCES[fact], values ?? {}) + (part ? filled(SENTENCES.part, part) : '');
+export const keyWords = ({ fact, values, part }) =>
+  filled(SENTENCES[fact], values ?? {}) + (part ? filled(SENTENCES.part, part) : '');
 export const writerWords = ({ writer }) => filled(SENTENCES[writer.fact], writer.values ?? {});
 export const againWords = ({ again }) => filled(SENTENCES[again.fact], again.values ?? {});
 
@@ -158,8 +190,12 @@ export const againSentence = (row) => capital(againWords(row));
 /** Of each static key that is named, and that no DH mixes. */
 export function unmixedOf({ messages, before }) {
   const unmixed = ROLES.filter((role) => {
-    const isNamed = before[role].includes('s') || messages.some(({ from, tokens }) => from === role && tokens.includes('s'));
-    return isNamed && !messages.some(({ tokens }) => tokens.some((token) => DHS.includes(token) && token[ROLES.indexOf(role)] === 's'));
+    const isNamed =
+      before[role].includes('s') || messages.some(({ from, tokens }) => from === role && tokens.includes('s'));
+    return isNamed
+      && !messages.some(({ tokens }) =>
+        tokens.some((token) => DHS.includes(token) && token[ROLES.indexOf(role)] === 's'),
+      );
   });
   return unmixed.map((role) => filled(WARNINGS.unmixed, { role }));
 }

@@ -24,19 +24,41 @@ const PARTS = { TABLE: 'table', THEAD: 'rowgroup', TBODY: 'rowgroup', TR: 'row',
 
 /** A table that stays one for a screen reader where its rows are shown as blocks. */
 function table(title, heads, rows) {
-  const made = element('table', 'facts', element('caption', '', title), headed(...heads), element('tbody', '', ...rows));
-  for (const it of [made, ...made.querySelectorAll('thead, tbody, tr, th, td')]) it.setAttribute('role', PARTS[it.tagName] ?? (it.scope === 'row' ? 'rowheader' : 'columnheader'));
+  const made = element(
+    'table',
+    'facts',
+    element('caption', '', title),
+    headed(...heads),
+    element('tbody', '', ...rows),
+  );
+  for (const it of [made, ...made.querySelectorAll('thead, tbody, tr, th, td')]) {
+    it.setAttribute('role', PARTS[it.tagName] ?? (it.scope === 'row' ? 'rowheader' : 'columnheader'));
+  }
   return made;
 }
 
 /** The facts in a box: a table of the keys, and one of the messages. */
 export function showFacts(box, plan) {
   const { keys, messages } = rowsOf(plan);
-  const keyRows = keys.map((row) => element('tr', row.warns ? 'warns' : '', rowHead(row.name), cell('td', mixedWords(row.mixed)), cell('td', keySentence(row))));
-  const messageRows = messages.map((row) => element('tr', '', rowHead(row.name), cell('td', writerSentence(row)), cell('td', againSentence(row))));
+  const keyRows = keys.map((row) =>
+    element(
+      'tr',
+      row.warns ? 'warns' : '',
+      rowHead(row.name),
+      cell('td', mixedWords(row.mixed)),
+      cell('td', keySentence(row)),
+    ),
+  );
+  const messageRows = messages.map((row) =>
+    element('tr', '', rowHead(row.name), cell('td', writerSentence(row)), cell('td', againSentence(row))),
+  );
   box.replaceChildren(
     table('Private keys that are enough to compute each key', ['Key of', 'Mixed in', 'Enough'], keyRows),
-    table('Who can have written a message, and what becomes of a recording of it', ['Message', 'Written by', 'Sent again'], messageRows),
+    table(
+      'Who can have written a message, and what becomes of a recording of it',
+      ['Message', 'Written by', 'Sent again'],
+      messageRows,
+    ),
     element('p', 'hint', MEANING.join(' ')), element('p', 'hint', UNJUDGED.join(' ')),
   );
 }
@@ -45,29 +67,50 @@ export function showFacts(box, plan) {
 function comparedOf(text) {
   const plan = layout(text);
   const { keys, messages } = rowsOf(plan);
-  const known = ['initiator', 'responder'].filter((role) => plan.before[role].length).map((role) => `the ${role}’s ${plan.before[role].join(', ')}`);
+  const known = ['initiator', 'responder'].filter((role) => plan.before[role].length).map(
+    (role) => `the ${role}’s ${plan.before[role].join(', ')}`,
+  );
   return [
     ['Known before', known.join('; ') || 'nothing'],
-    ...plan.messages.map(({ from, tokens, length }, n) => [`Message ${n + 1}`, `${from === 'initiator' ? '→' : '←'} ${tokens.join(', ')} (${length} bytes)`]),
+    ...plan.messages.map(({ from, tokens, length }, n) => [
+      `Message ${n + 1}`,
+      `${from === 'initiator' ? '→' : '←'} ${tokens.join(', ')} (${length} bytes)`,
+    ]),
     ...keys.map((row) => [row.name, `${mixedWords(row.mixed)}. ${keySentence(row)}`]),
-    ...messages.flatMap((row) => [[`${row.name}: written by`, writerSentence(row)], [`${row.name}: sent again`, againSentence(row)]]),
+    ...messages.flatMap((row) => [
+      [`${row.name}: written by`, writerSentence(row)],
+      [`${row.name}: sent again`, againSentence(row)],
+    ]),
   ];
 }
 
 /** The rows of two patterns that differ: `[name, left, right]`, in the order of the first. */
 export function differencesOf(textA, textB) {
   const [a, b] = [comparedOf(textA), comparedOf(textB)].map((rows) => new Map(rows));
-  const all = [...a.keys(), ...[...b.keys()].filter((name) => !a.has(name))].map((name) => [name, a.get(name) ?? 'none', b.get(name) ?? 'none']);
+  const all = [...a.keys(), ...[...b.keys()].filter((name) => !a.has(name))].map((name) => [
+    name,
+    a.get(name) ?? 'none',
+    b.get(name) ?? 'none',
+  ]);
   return all.filter(([, left, right]) => left !== right);
 }
 
 function showBeside(box, [nameA, textA], [nameB, textB]) {
   const rows = differencesOf(textA, textB);
   const count = rows.length === 1 ? 'differ in one row' : `differ in ${rows.length} rows`;
-  const says = element('p', '', rows.length ? `${nameA} and ${nameB} ${count}, and are alike in the others.` : `${nameA} and ${nameB} are alike in all rows.`);
+  const says = element(
+    'p',
+    '',
+    rows.length
+      ? `${nameA} and ${nameB} ${count}, and are alike in the others.`
+      : `${nameA} and ${nameB} are alike in all rows.`,
+  );
   if (!rows.length) return box.replaceChildren(says);
   const made = rows.map(([name, left, right]) => element('tr', '', rowHead(name), cell('td', left), cell('td', right)));
-  return box.replaceChildren(says, element('table', 'beside', headed('What differs', nameA, nameB), element('tbody', '', ...made)));
+  return box.replaceChildren(
+    says,
+    element('table', 'beside', headed('What differs', nameA, nameB), element('tbody', '', ...made)),
+  );
 }
 
 const headingOf = (text) => text.split('\n')[0].replace(/:$/, '');
@@ -93,8 +136,15 @@ export class Beside {
   /** What can be chosen: one's own patterns that are valid, then those of the standard. */
   #fill() {
     const { value } = this.#list;
-    const mine = own.all().filter(({ text }) => checkPattern(text).valid).map(({ id, label }) => new Option(`your ${label}`, `own ${id}`));
-    this.#list.replaceChildren(new Option('nothing', ''), ...mine, ...[...FUNDAMENTAL, ...DEFERRED].map((base) => new Option(base)));
+    const mine = own
+      .all()
+      .filter(({ text }) => checkPattern(text).valid)
+      .map(({ id, label }) => new Option(`your ${label}`, `own ${id}`));
+    this.#list.replaceChildren(
+      new Option('nothing', ''),
+      ...mine,
+      ...[...FUNDAMENTAL, ...DEFERRED].map((base) => new Option(base)),
+    );
     this.#list.value = value;
   }
 

@@ -1,17 +1,31 @@
-// What a refusal means, in a sentence, and how to correct it. The proved check says that a text is refused, and which rule is broken where. It also gives
-// the line and the kind of a malformed text, but no contract covers these two. The place in that line is this page's own reading.
+// What a refusal means, in a sentence, and how to correct it. The proved check says that a text is refused, and which
+// rule is broken where. It also gives the line and the kind of a malformed text, but no contract covers these two. The
+// place in that line is this page's own reading.
 import { visible } from './bytes.mjs';
 import { linesOf } from './plan.mjs';
 
 /** For each rule a sentence, and how to mend it. Words in braces are filled in by `brokenRule`. */
 export const RULES = Object.freeze({
-  1: ['{token} needs the {owner}’s {key}, which is neither sent before this place nor named above “...”.', 'Let the {owner} send {key} earlier, or name it above “...”.'],
-  later: ['{token} needs the {owner}’s {key}, which is neither sent before this place nor named above “...”.', 'Let the {owner} send {key} earlier, or mix {token} after it.'],
+  1: [
+    '{token} needs the {owner}’s {key}, which is neither sent before this place nor named above “...”.',
+    'Let the {owner} send {key} earlier, or name it above “...”.',
+  ],
+  later: [
+    '{token} needs the {owner}’s {key}, which is neither sent before this place nor named above “...”.',
+    'Let the {owner} send {key} earlier, or mix {token} after it.',
+  ],
   2: ['The {sender} has sent {token} already.', 'Leave the second one out.'],
   above: ['The {sender}’s {token} is named above “...” already.', 'Keep the one that is meant.'],
   3: ['{token} is mixed in already, and adds nothing the second time.', 'Leave the second one out.'],
-  4: ['The {sender} encrypts here, {after} is mixed in, and {missing} isn’t: what it encrypts could depend on no fresh key of its own.', '{mend}'],
-  5: ['The {sender} encrypts here after psk, and has sent no e: the same key and nonce could come again.', 'Let the {sender} send e before it.'],
+  4: [
+    'The {sender} encrypts here, {after} is mixed in, and {missing} isn’t: '
+      + 'what it encrypts could depend on no fresh key of its own.',
+    '{mend}',
+  ],
+  5: [
+    'The {sender} encrypts here after psk, and has sent no e: the same key and nonce could come again.',
+    'Let the {sender} send e before it.',
+  ],
 });
 /** How to mend rule 4. */
 const MIXES = Object.freeze({
@@ -19,10 +33,20 @@ const MIXES = Object.freeze({
   first: ['Mix {dh} in message {message}.'],
   after: ['Mix {dh} in message {message}, after {after}.'],
 });
-/** The same for each kind of malformed line, by its code in include/noise.h: a sentence, and how to mend it. All these are also those of `noise explain`. */
+/**
+ * The same for each kind of malformed line, by its code in include/noise.h: a sentence, and how to mend it. All these
+ * are also those of `noise explain`.
+ */
 export const FORMS = Object.freeze({
-  30: ['The first line has to be a name of 1 to 8 upper-case letters and digits, then psk modifiers such as psk0 or psk0+psk2, then a colon.', 'For example: MINE:'],
-  31: ['The line has to begin with two spaces, an arrow (-> or <-) and one space.', 'For example: two spaces, then “-> e”.'],
+  30: [
+    'The first line has to be a name of 1 to 8 upper-case letters and digits, '
+      + 'then psk modifiers such as psk0 or psk0+psk2, then a colon.',
+    'For example: MINE:',
+  ],
+  31: [
+    'The line has to begin with two spaces, an arrow (-> or <-) and one space.',
+    'For example: two spaces, then “-> e”.',
+  ],
   32: ['This isn’t a token.', 'The tokens are e, s, ee, es, se, ss and psk, with a comma and a space between two.'],
   33: ['Above “...” a line has e, s or “e, s”, the initiator’s first, and “...” comes once, after them.',
     'Write one line for each party, the initiator’s first, and messages below “...”.'],
@@ -36,12 +60,19 @@ export const FORMS = Object.freeze({
 /** What stands in the place of an entry of FORMS where the line shows more. */
 const CLOSER = Object.freeze({
   empty: ['The line is empty.', 'Leave it out.'],
-  dots: ['A key that is known before the first message stands above a line of two spaces and “...”, and that line is missing.', 'Put “...” below the lines of such keys.'],
+  dots: [
+    'A key that is known before the first message stands above a line of two spaces and “...”, '
+      + 'and that line is missing.',
+    'Put “...” below the lines of such keys.',
+  ],
   space: ['A space is at the end of the line.', 'Take it out.'],
   arrow: ['The arrow is written as two characters: -> or <-.', 'Write it so.'],
   comment: ['The library takes no comments.', 'Take them out.'],
   none: ['A token has to stand here, and none does.', 'Write one, for example e, or take the comma before it out.'],
-  beyond: ['The heading has an index of a psk that is greater than the number of messages.', 'Write the index that is meant, or add messages.'],
+  beyond: [
+    'The heading has an index of a psk that is greater than the number of messages.',
+    'Write the index that is meant, or add messages.',
+  ],
   ninth: ['A pattern has at most 8 messages, and this is one more.', 'Put its tokens into earlier messages.'],
   alone: ['A message has from 1 to 8 tokens besides psk, and this one has none.', 'Add one, for example e.'],
 });
@@ -53,11 +84,16 @@ export const OTHER = Object.freeze({ initiator: 'responder', responder: 'initiat
 /** The number of the line with the first message. */
 export const firstOf = (lines) => lines.findIndex(({ line }) => line === '  ...') + 1 || 1;
 
-/** Whether line 2 has keys of the responder that are known before, whose “...” was forgotten: that line, or undefined. A line that could be a message stays one. */
+/**
+ * Whether line 2 has keys of the responder that are known before, whose “...” was forgotten: that line, or undefined. A
+ * line that could be a message stays one.
+ */
 export function forgottenDots(lines, n) {
   if (n !== 1 || lines.some(({ line }) => line === '  ...')) return undefined;
   const { role, tokens } = lines[1];
-  return role === 'responder' && tokens !== undefined && ['s', 'e,s'].includes(tokens.map(({ name }) => name).join()) ? 1 : undefined;
+  return role === 'responder' && tokens !== undefined && ['s', 'e,s'].includes(tokens.map(({ name }) => name).join())
+    ? 1
+    : undefined;
 }
 
 /** The place of a line in the text. */
@@ -74,12 +110,17 @@ function spanInLine(lines, n, code) {
   if (/\s$/.test(line) && line.trim() !== '') return span(lines, n, line.trimEnd().length);
   if (code === 32) return token(wrongToken(tokens));
   if (code === 34) return span(lines, n, 2, 4);
-  if (code === 35) return n === 0 ? span(lines, n, line.indexOf('psk')) : token(tokens?.find(({ name }) => name === 'psk'));
+  if (code === 35) {
+    return n === 0 ? span(lines, n, line.indexOf('psk')) : token(tokens?.find(({ name }) => name === 'psk'));
+  }
   if (code === 36) return span(lines, n, 0, /^[A-Z0-9]*/.exec(line)[0].length);
   return span(lines, n);
 }
 
-/** The place of a broken rule: the token, or for a payload the message's last token, or for the transport the last message's. */
+/**
+ * The place of a broken rule: the token, or for a payload the message's last token, or for the transport the last
+ * message's.
+ */
 function spanOfRule(lines, { message, token }) {
   const n = Math.min(firstOf(lines) + message - 1, lines.length - 1);
   const { tokens } = lines[n];
@@ -90,19 +131,33 @@ function spanOfRule(lines, { message, token }) {
 function placeOf(lines, { message, token }) {
   const line = lines[firstOf(lines) + message - 1];
   if (!line) return `the first transport message of the ${token === 0 ? 'initiator' : 'responder'}`;
-  return token < line.tokens.length ? `message ${message}, token ${line.tokens[token].name}` : `the payload of message ${message}`;
+  return token < line.tokens.length
+    ? `message ${message}, token ${line.tokens[token].name}`
+    : `the payload of message ${message}`;
 }
 
-/** Where a party's key is first known: the line and the place of its token, that of what is known before the first message, or undefined. */
+/**
+ * Where a party's key is first known: the line and the place of its token, that of what is known before the first
+ * message, or undefined.
+ */
 function keyPlace(lines, owner, key) {
-  const n = lines.findIndex(({ role, tokens }, at) => at > 0 && role === owner && tokens?.some(({ name }) => name === key));
+  const n = lines.findIndex(({ role, tokens }, at) =>
+    at > 0 && role === owner && tokens?.some(({ name }) => name === key),
+  );
   if (n < 0) return undefined;
-  return n < firstOf(lines) ? { n: firstOf(lines), at: -1 } : { n, at: lines[n].tokens.findIndex(({ name }) => name === key) };
+  return n < firstOf(lines)
+    ? { n: firstOf(lines), at: -1 }
+    : { n, at: lines[n].tokens.findIndex(({ name }) => name === key) };
 }
 
-/** The place after which a DH can be mixed: that of the later one of its two keys. Or `lacks`, the party whose key of the two is nowhere. */
+/**
+ * The place after which a DH can be mixed: that of the later one of its two keys. Or `lacks`, the party whose key of
+ * the two is nowhere.
+ */
 export function mixPlace(lines, dh) {
-  const places = ['initiator', 'responder'].map((owner, i) => keyPlace(lines, owner, dh[i]) ?? { lacks: owner, key: dh[i] });
+  const places = ['initiator', 'responder'].map((owner, i) =>
+    keyPlace(lines, owner, dh[i]) ?? { lacks: owner, key: dh[i] },
+  );
   return places.find(({ lacks }) => lacks) ?? places.sort((a, b) => a.n - b.n || a.at - b.at)[1];
 }
 
@@ -112,7 +167,9 @@ function mixWords(lines, dh) {
   const { n, at, lacks, key } = mixPlace(lines, dh);
   if (lacks) return filled(MIXES.lacks[0], { lacks, key, dh });
   const message = n - firstOf(lines) + 1;
-  return at < 0 ? filled(MIXES.first[0], { dh, message }) : filled(MIXES.after[0], { dh, message, after: lines[n].tokens[at].name });
+  return at < 0
+    ? filled(MIXES.first[0], { dh, message })
+    : filled(MIXES.after[0], { dh, message, after: lines[n].tokens[at].name });
 }
 
 /** What a broken rule is about, by name: the words that are filled in. */
@@ -121,7 +178,10 @@ export function brokenRule(lines, { rule, message, token }) {
   const sender = line ? line.role : ['initiator', 'responder'][token];
   const name = line?.tokens[token]?.name;
   if (rule === 1) {
-    const earlier = lines.slice(1, firstOf(lines) + message - 1).map(({ role, tokens = [] }) => ({ role, names: tokens.map((it) => it.name) }));
+    const earlier = lines.slice(1, firstOf(lines) + message - 1).map(({ role, tokens = [] }) => ({
+      role,
+      names: tokens.map((it) => it.name),
+    }));
     earlier.push({ role: sender, names: line.tokens.slice(0, token).map((it) => it.name) });
     const has = (role, key) => earlier.some((it) => it.role === role && it.names.includes(key));
     const owner = has('initiator', name[0]) ? 'responder' : 'initiator';
@@ -130,7 +190,9 @@ export function brokenRule(lines, { rule, message, token }) {
   }
   if (rule === 2) return { token: name, sender, isAbove: keyPlace(lines, sender, name).at < 0 };
   if (rule !== 4) return { token: name, sender };
-  const names = lines.slice(firstOf(lines), firstOf(lines) + message).flatMap(({ tokens }, n) => tokens.slice(0, n === message - 1 ? token : undefined).map((it) => it.name));
+  const names = lines.slice(firstOf(lines), firstOf(lines) + message).flatMap(({ tokens }, n) =>
+    tokens.slice(0, n === message - 1 ? token : undefined).map((it) => it.name),
+  );
   const needs = sender === 'initiator' ? [['se', 'ee'], ['ss', 'es']] : [['es', 'ee'], ['ss', 'se']];
   const [after, missing] = needs.find(([dh, first]) => names.includes(dh) && !names.includes(first)) ?? needs[0];
   return { token: name, sender, after, missing, mend: mixWords(lines, missing) };
@@ -139,7 +201,8 @@ export function brokenRule(lines, { rule, message, token }) {
 /** What a line of too many tokens, or of none, or a line too many says. */
 function limitOf(lines, n) {
   if (n >= firstOf(lines) + MOST) return CLOSER.ninth;
-  return lines[n].tokens?.every(({ name }) => name === 'psk') ? CLOSER.alone : FORMS[37];    // of a text that is too long line 1 is told
+  // of a text that is too long line 1 is told
+  return lines[n].tokens?.every(({ name }) => name === 'psk') ? CLOSER.alone : FORMS[37];
 }
 
 function closerOf(lines, n, code) {
@@ -155,7 +218,10 @@ function closerOf(lines, n, code) {
 }
 
 /** Which section of the standard a rule follows, and where that is. */
-const SECTIONS = { 7.3: 'https://noiseprotocol.org/noise.html#handshake-pattern-validity', 9.3: 'https://noiseprotocol.org/noise.html#validity-rule' };
+const SECTIONS = {
+  7.3: 'https://noiseprotocol.org/noise.html#handshake-pattern-validity',
+  9.3: 'https://noiseprotocol.org/noise.html#validity-rule',
+};
 const sectionOf = (rule) => (rule === 5 ? '9.3' : '7.3');
 
 /** The token that isn't one, between quotes. */
@@ -165,16 +231,26 @@ function whatIs(line, [from, to]) {
 }
 
 /**
- * What a fault says: a title, a sentence, how to correct it, and its place in the text as two offsets. Of a broken rule the title comes in two parts, with the
- * rule's number between them, and `section` is that of the standard.
+ * What a fault says: a title, a sentence, how to correct it, and its place in the text as two offsets. Of a broken rule
+ * the title comes in two parts, with the rule's number between them, and `section` is that of the standard.
  */
 export function explain(text, fault) {
   const lines = linesOf(text);
   if (fault.rule) {
     const values = brokenRule(lines, fault);
-    const [says, mend] = RULES[(values.isAbove && 'above') || (values.isLater && 'later') || fault.rule].map((it) => filled(it, values));
+    const [says, mend] = RULES[(values.isAbove && 'above') || (values.isLater && 'later') || fault.rule].map((it) =>
+      filled(it, values),
+    );
     const [number, where] = [sectionOf(fault.rule), ` is broken at ${placeOf(lines, fault)}`];
-    return { title: `Rule ${fault.rule}${where}`, where, rule: fault.rule, section: { number, url: SECTIONS[number] }, says, mend, span: spanOfRule(lines, fault) };
+    return {
+      title: `Rule ${fault.rule}${where}`,
+      where,
+      rule: fault.rule,
+      section: { number, url: SECTIONS[number] },
+      says,
+      mend,
+      span: spanOfRule(lines, fault),
+    };
   }
   const n = Math.min(fault.line, lines.length) - 1;
   const [says, mend] = closerOf(lines, n, fault.code);

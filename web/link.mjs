@@ -43,7 +43,11 @@ function readStep(text) {
   const [step, role] = [STEPS[parts[1]], { i: 'initiator', r: 'responder' }[parts[2]]];
   const words = parts[3].split('.').slice(1);
   if ((step === 'close') === Boolean(role)) return undefined;
-  if (step === 'write') return words.length < 2 && /^(?:[0-9a-f]{2})*$/.test(words.join()) ? { step, role, payload: unhex(words.join()) } : undefined;
+  if (step === 'write') {
+    return words.length < 2 && /^(?:[0-9a-f]{2})*$/.test(words.join())
+      ? { step, role, payload: unhex(words.join()) }
+      : undefined;
+  }
   if (!words.every((it) => /^\d{1,5}$/.test(it))) return undefined;
   const numbers = words.map(Number);
   if (step === 'deliver' && numbers.length) return { step, role, n: numbers[0], flips: numbers.slice(1) };
@@ -73,7 +77,9 @@ export function faultOf(fragment) {
 export function read(fragment, setup) {
   const words = wordsOf(fragment);
   const right = {};
-  for (const [name, isRight] of Object.entries(IS_RIGHT)) if (words.has(name) && isRight(words.get(name))) right[name] = words.get(name);
+  for (const [name, isRight] of Object.entries(IS_RIGHT)) {
+    if (words.has(name) && isRight(words.get(name))) right[name] = words.get(name);
+  }
   return {
     text: right.pattern ?? setup.text,
     prologue: right.prologue ?? setup.prologue,
@@ -106,7 +112,9 @@ export function write({ text, prologue, interval, mode, window, ownPsks, beside 
 
 /** Why no link can have a set-up and these steps, or ''. */
 export function whyNot(setup, steps = []) {
-  if (setup.text.length > MOST_TEXT || setup.prologue.length > MOST_TEXT) return `a link has at most ${MOST_TEXT} characters of a pattern, and as many of a prologue`;
+  if (setup.text.length > MOST_TEXT || setup.prologue.length > MOST_TEXT) {
+    return `a link has at most ${MOST_TEXT} characters of a pattern, and as many of a prologue`;
+  }
   if (steps.length > MOST_STEPS) return `this run has ${steps.length} steps, and a link can have ${MOST_STEPS}`;
   const { length } = write(setup, steps);
   return length > MOST ? `it would have ${length} characters, and a link can have ${MOST}` : '';

@@ -1,5 +1,5 @@
-// Corrections of a refused text that the page offers. Each is a whole text, and is offered only if the proved check takes it, or finds its next fault
-// further on. There is no DOM here.
+// Corrections of a refused text that the page offers. Each is a whole text, and is offered only if the proved check
+// takes it, or finds its next fault further on. There is no DOM here.
 import { checkPattern } from '../bindings/js/check.mjs';
 import { brokenRule, firstOf, forgottenDots, mixPlace } from './faults.mjs';
 import { freeName } from './own.mjs';
@@ -64,30 +64,47 @@ function placed(lines) {
   return places.some(Number.isNaN) ? undefined : `${base}${places.map((it) => `psk${it}`).join('+')}:`;
 }
 
-/** The text with each psk at the nearest place that one can have, and a heading that says so; undefined if two would have one place. */
+/**
+ * The text with each psk at the nearest place that one can have, and a heading that says so; undefined if two would
+ * have one place.
+ */
 function moved(lines) {
   const [base] = /^[A-Z0-9]*/.exec(lines[0].line);
   const first = firstOf(lines);
-  const places = lines.slice(first).flatMap((line, n) => namesOf(line).flatMap((name, at) => (name !== 'psk' ? [] : [n === 0 && at === 0 ? 0 : n + 1])));
+  const places = lines.slice(first).flatMap((line, n) =>
+    namesOf(line).flatMap((name, at) => (name !== 'psk' ? [] : [n === 0 && at === 0 ? 0 : n + 1])),
+  );
   if (!base || new Set(places).size < places.length) return undefined;
   const heading = `${base}${places.map((it) => `psk${it}`).join('+')}:`;
   return textOf(lines.map((line, n) => {
     if (n === 0) return heading;
     if (n < first) return line.line;
     const names = namesOf(line).filter((name) => name !== 'psk');
-    return bodyOf([...(n === first && places.includes(0) ? ['psk'] : []), ...names, ...(places.includes(n - first + 1) ? ['psk'] : [])], line.role);
+    return bodyOf(
+      [
+        ...(n === first && places.includes(0) ? ['psk'] : []),
+        ...names,
+        ...(places.includes(n - first + 1) ? ['psk'] : []),
+      ],
+      line.role,
+    );
   }));
 }
 
 const FORM_MENDS = {
   30: (lines) => (lines[0].tokens ? [['Put a heading above it', `${freeName()}:\n${textOf(plain(lines))}`]] : []),
-  33: (lines, n) => (n === 2 && lines[2].role === 'initiator' && lines[1].role === 'responder'
-    ? [['Put the initiator’s line first', textOf([lines[0].line, lines[2].line, lines[1].line, ...plain(lines).slice(3)])]] : []),
+  33: (lines, n) => {
+    if (n !== 2 || lines[2].role !== 'initiator' || lines[1].role !== 'responder') return [];
+    const text = textOf([lines[0].line, lines[2].line, lines[1].line, ...plain(lines).slice(3)]);
+    return [['Put the initiator’s line first', text]];
+  },
   34: (lines, n) => {
     const dots = forgottenDots(lines, n);
     const turned = { '->': '<-', '<-': '->' }[lines[n].line.slice(2, 4)];
     return [
-      ...(dots === undefined ? [] : [[`This key is known before: put “...” below line ${dots + 1}`, withLine(lines, dots + 1, '  ...')]]),
+      ...(dots === undefined
+        ? []
+        : [[`This key is known before: put “...” below line ${dots + 1}`, withLine(lines, dots + 1, '  ...')]]),
       ['Turn the arrow around', changedLine(lines, n, `  ${turned}${lines[n].line.slice(4)}`)],
     ];
   },
@@ -107,19 +124,33 @@ function named(lines, owner, key) {
   const known = { initiator: [], responder: [] };
   for (const line of lines.slice(1, Math.max(dots, 1))) known[line.role] = namesOf(line);
   known[owner] = ['e', 's'].filter((it) => it === key || known[owner].includes(it));
-  const above = ['initiator', 'responder'].filter((role) => known[role].length).map((role) => bodyOf(known[role], role));
+  const above = ['initiator', 'responder'].filter((role) => known[role].length).map((role) =>
+    bodyOf(known[role], role),
+  );
   return textOf([lines[0].line, ...above, '  ...', ...plain(lines).slice(firstOf(lines))]);
 }
 
 /** Has a party send a key: in this message before the token, or as the last of its earlier ones. */
 function sending(lines, n, token, owner, key) {
   if (lines[n]?.role === owner) return spliced(lines, n, token, 0, key);
-  const earlier = lines.map(({ role }, at) => (role === owner && at >= firstOf(lines) && at < n ? at : -1)).filter((at) => at >= 0).at(-1);
+  const earlier = lines
+    .map(({ role }, at) => (role === owner && at >= firstOf(lines) && at < n ? at : -1))
+    .filter((at) => at >= 0)
+    .at(-1);
   if (earlier === undefined) return undefined;
-  return spliced(lines, earlier, key === 'e' ? 0 : lines[earlier].tokens.filter(({ name }) => name !== 'psk').length, 0, key);
+  return spliced(
+    lines,
+    earlier,
+    key === 'e' ? 0 : lines[earlier].tokens.filter(({ name }) => name !== 'psk').length,
+    0,
+    key,
+  );
 }
 
-/** The text with a DH mixed where both its keys are known first; if one is sent nowhere, it is sent in its party's last message up to line N. */
+/**
+ * The text with a DH mixed where both its keys are known first; if one is sent nowhere, it is sent in its party's last
+ * message up to line N.
+ */
 function mixed(lines, dh, n) {
   const { n: line, at, lacks, key } = mixPlace(lines, dh);
   if (!lacks) return spliced(lines, line, at + 1, 0, dh);
@@ -132,7 +163,8 @@ function ruleMends(lines, verdict) {
   const n = firstOf(lines) + message - 1;
   const { owner, key, sender, missing, mend, isLater } = brokenRule(lines, verdict);
   if (rule === 1) {
-    const above = isLater ? [] : [[`Name the ${owner}’s ${key} above “...”`, named(lines, owner, key)]];    // a key that comes in a message stays in one
+    // a key that comes in a message stays in one
+    const above = isLater ? [] : [[`Name the ${owner}’s ${key} above “...”`, named(lines, owner, key)]];
     return [[`Let the ${owner} send ${key} before`, sending(lines, n, token, owner, key)], ...above];
   }
   if (rule === 2 || rule === 3) {
@@ -140,7 +172,11 @@ function ruleMends(lines, verdict) {
     if (names.length > 1) return [[`Leave the second ${names[token]} out`, spliced(lines, n, token, 1)]];
     return n === lines.length - 1 ? [[`Leave message ${message} out`, textOf(plain(lines).slice(0, -1))]] : [];
   }
-  if (rule === 5) return [[`Let the ${sender} send e before`, sending(lines, n, lines[n]?.tokens[0].name === 'psk' ? 1 : 0, sender, 'e')]];
+  if (rule === 5) {
+    return [
+      [`Let the ${sender} send e before`, sending(lines, n, lines[n]?.tokens[0].name === 'psk' ? 1 : 0, sender, 'e')],
+    ];
+  }
   return [[mend.replace(/\.$/, ''), mixed(lines, missing, n)]];
 }
 
@@ -153,7 +189,8 @@ function reach(verdict) {
   return verdict.rule ? 1e6 + verdict.message * 100 + verdict.token : verdict.line * 100 + KINDS.indexOf(verdict.code);
 }
 
-const pskCount = (text) => linesOf(text).slice(1).flatMap(({ tokens = [] }) => tokens).filter(({ name }) => name === 'psk').length;
+const pskCount = (text) =>
+  linesOf(text).slice(1).flatMap(({ tokens = [] }) => tokens).filter(({ name }) => name === 'psk').length;
 /** Whether a candidate keeps the secrets of a text. */
 const keepsPsks = (text, candidate) => pskCount(candidate) >= pskCount(text);
 
@@ -162,8 +199,18 @@ export function mendsOf(text, verdict) {
   const lines = linesOf(text);
   const tidyText = tidy(text);
   const found = tidyText === text ? [] : [[tidied(text), tidyText]];
-  if (verdict.rule) found.push(...ruleMends(lines, verdict));
-  else if (tidyText === text) found.push(...(FORM_MENDS[verdict.code]?.(lines, Math.min(verdict.line, lines.length) - 1) ?? []));
-  const isBetter = (candidate) => candidate !== undefined && candidate !== text && keepsPsks(text, candidate) && reach(checkPattern(candidate)) > reach(verdict);
-  return found.filter(([, candidate]) => isBetter(candidate)).slice(0, 2).map(([label, candidate]) => ({ label, text: candidate }));
+  if (verdict.rule) {
+    found.push(...ruleMends(lines, verdict));
+  } else if (tidyText === text) {
+    found.push(...(FORM_MENDS[verdict.code]?.(lines, Math.min(verdict.line, lines.length) - 1) ?? []));
+  }
+  const isBetter = (candidate) =>
+    candidate !== undefined
+    && candidate !== text
+    && keepsPsks(text, candidate)
+    && reach(checkPattern(candidate)) > reach(verdict);
+  return found
+    .filter(([, candidate]) => isBetter(candidate))
+    .slice(0, 2)
+    .map(([label, candidate]) => ({ label, text: candidate }));
 }

@@ -1,5 +1,5 @@
-// Keeps the page for use without a network, as a service worker: what was loaded once is there again when the server isn't. With a network all comes from
-// the server, and its parts past this worker, which would delay them.
+// Keeps the page for use without a network, as a service worker: what was loaded once is there again when the server
+// isn't. With a network all comes from the server, and its parts past this worker, which would delay them.
 const KEPT = 'noise-page';
 const PAGES = ['./', 'rules.html', 'format.html', 'mistakes.html', 'style.css'];
 
@@ -22,7 +22,8 @@ async function keepAll() {
     if (!answer.ok) throw new Error(`${url}: ${answer.status}`);
     await cache.put(url, answer.clone());
     if (!/\.mjs$/.test(url) && !/\/(\w+\.html)?$/.test(url)) return;
-    const names = [...(await answer.text()).matchAll(/(?:from |import\(|href=|src=|\[|, )['"]((?:\.{1,2}\/)*[\w./-]+\.(?:mjs|html|css|wasm))['"]/g)];
+    const named = /(?:from |import\(|href=|src=|[[,]\s+|\[)['"]((?:\.{1,2}\/)*[\w./-]+\.(?:mjs|html|css|wasm))['"]/g;
+    const names = [...(await answer.text()).matchAll(named)];
     await Promise.all(names.map(([, name]) => keep(new URL(name, url).href).catch(() => {})));
   };
   await Promise.all(PAGES.map((page) => keep(new URL(page, location).href)));
@@ -56,7 +57,9 @@ async function pageFor(event) {
 }
 
 self.addEventListener('install', (event) => event.waitUntil(keepAll().then(() => self.skipWaiting())));
-self.addEventListener('activate', (event) => event.waitUntil(Promise.all([self.clients.claim(), self.registration.navigationPreload?.enable()])));
+self.addEventListener('activate', (event) =>
+  event.waitUntil(Promise.all([self.clients.claim(), self.registration.navigationPreload?.enable()])),
+);
 self.addEventListener('fetch', (event) => {
   const { request } = event;
   if (request.method !== 'GET' || new URL(request.url).origin !== location.origin) return;

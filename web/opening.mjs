@@ -4,7 +4,9 @@ import { MOST, intake } from './intake.mjs';
 const at = (id) => document.getElementById(id);
 const isField = (it) => it.matches?.('input, textarea');
 
-/** `take(setup, says)` takes a set-up, `follow(fragment)` that of a link, and `notice(says)` tells what can't be taken. */
+/**
+ * `take(setup, says)` takes a set-up, `follow(fragment)` that of a link, and `notice(says)` tells what can't be taken.
+ */
 export function wireOpening({ take, follow, notice }) {
   const bring = (text, isWhole) => {
     const found = intake(text);

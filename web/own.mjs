@@ -1,5 +1,6 @@
-// The user's own patterns, the newest first. The browser keeps them for this page alone; where it keeps nothing, they last as long as the page. None is left
-// out for another: two with one name are both kept, and what is over the most is said.
+// The user's own patterns, the newest first. The browser keeps them for this page alone; where it keeps nothing, they
+// last as long as the page. None is left out for another: two with one name are both kept, and what is over the most is
+// said.
 import { visible } from './bytes.mjs';
 
 const PLACE = 'noise-patterns';
@@ -50,7 +51,10 @@ export function freeName() {
   }
 }
 
-/** Keeps a text as the newest, in the place of the one that it was made of by typing, if that is named. Whether it is kept. */
+/**
+ * Keeps a text as the newest, in the place of the one that it was made of by typing, if that is named. Whether it is
+ * kept.
+ */
 export function remember(text, former) {
   read();
   if (text.trim() === '' || !isText(text)) return false;

@@ -20,9 +20,24 @@ export class Asked {
 }
 
 export class Party {
-  /** What it has written, by the number of the message; and of a stream the bytes that came and aren't read, and how it stands. */
+  /**
+   * What it has written, by the number of the message; and of a stream the bytes that came and aren't read, and how it
+   * stands.
+   */
   constructor(role, keys, psks, mode) {
-    Object.assign(this, { role, keys, psks, mode, written: [], datagrams: [], opened: new Set(), ended: false, sent: 0, taken: 0, payloads: 0 });
+    Object.assign(this, {
+      role,
+      keys,
+      psks,
+      mode,
+      written: [],
+      datagrams: [],
+      opened: new Set(),
+      ended: false,
+      sent: 0,
+      taken: 0,
+      payloads: 0,
+    });
     Object.assign(this, { held: new Uint8Array(0), hasEnded: false, sawEnd: false, isBroken: false });
   }
 

@@ -1,5 +1,5 @@
-// The texts of the 38 patterns of the standard, and the names of protocols. checks/web compares them with the library: a text of a fundamental name that
-// differs from the library's is refused.
+// The texts of the 38 patterns of the standard, and the names of protocols. checks/web compares them with the library:
+// a text of a fundamental name that differs from the library's is refused.
 
 const K = { '': [], i: ['  -> s'], r: ['  <- s'], b: ['  -> s', '  <- s'] };
 
@@ -23,7 +23,10 @@ const TABLE = {
 export const FUNDAMENTAL = Object.freeze(Object.keys(TABLE).slice(0, 15));
 export const DEFERRED = Object.freeze(Object.keys(TABLE).slice(15));
 
-/** The text of a pattern of the standard, with psk tokens at these places: 0 is before the first message, N at the end of message N. */
+/**
+ * The text of a pattern of the standard, with psk tokens at these places: 0 is before the first message, N at the end
+ * of message N.
+ */
 export function textOf(base, places = []) {
   const [known, ...messages] = TABLE[base].split('|');
   for (const place of places) {
@@ -31,7 +34,12 @@ export function textOf(base, places = []) {
     else messages[place - 1] += ', psk';
   }
   const heading = `${base}${places.map((place) => `psk${place}`).join('+')}:`;
-  const lines = [heading, ...K[known], ...(known ? ['  ...'] : []), ...messages.map((tokens, n) => `  ${n % 2 ? '<-' : '->'} ${tokens}`)];
+  const lines = [
+    heading,
+    ...K[known],
+    ...(known ? ['  ...'] : []),
+    ...messages.map((tokens, n) => `  ${n % 2 ? '<-' : '->'} ${tokens}`),
+  ];
   return lines.map((line) => `${line}\n`).join('');
 }
 

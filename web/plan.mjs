@@ -1,11 +1,15 @@
-// What the page asks of a pattern text: its lines, split without a check; and of a valid text the tokens and pieces of its messages, as the package for
-// JavaScript gives them, with what each party knows of the other's keys and has mixed in.
+// What the page asks of a pattern text: its lines, split without a check; and of a valid text the tokens and pieces of
+// its messages, as the package for JavaScript gives them, with what each party knows of the other's keys and has mixed
+// in.
 import { layout as layoutOf } from '../bindings/js/layout.mjs';
 
 const ROLES = { '->': 'initiator', '<-': 'responder' };
 const TAG = 16;
 
-/** The lines of a text, split without a check: of each its words as they stand, and of a message its sender and its tokens with their places. */
+/**
+ * The lines of a text, split without a check: of each its words as they stand, and of a message its sender and its
+ * tokens with their places.
+ */
 export function linesOf(text) {
   return text.replace(/\n$/, '').split('\n').map((line) => {
     const parts = /^( {2}(->|<-) )(.*)$/.exec(line);
@@ -40,16 +44,26 @@ function knownAfter(known, from, tokens) {
 }
 
 /**
- * A valid text: `section` is its heading without the colon, `base` that without psk places, `before` the tokens of both pre-messages, `static` says which
- * party has a static key, and `messages` has for each who sends it, its tokens, its pieces and its length with an empty payload.
+ * A valid text: `section` is its heading without the colon, `base` that without psk places, `before` the tokens of both
+ * pre-messages, `static` says which party has a static key, and `messages` has for each who sends it, its tokens, its
+ * pieces and its length with an empty payload.
  */
 export function layout(text) {
   const { before, psks, oneWay, static: isStatic, messages } = layoutOf(text);
   const section = text.split('\n')[0].replace(/:$/, '');
-  const known = { initiator: before.responder.map((name) => `responder's ${name}`), responder: before.initiator.map((name) => `initiator's ${name}`) };
+  const known = {
+    initiator: before.responder.map((name) => `responder's ${name}`),
+    responder: before.initiator.map((name) => `initiator's ${name}`),
+  };
   const atFirst = { initiator: [...known.initiator], responder: [...known.responder] };
   return {
     section, base: /^[A-Z0-9]*/.exec(section)[0], psks, before, atFirst, static: isStatic, oneWay,
-    messages: messages.map(({ from, tokens, pieces, length }) => ({ from, tokens, pieces: partsOf(pieces), length, known: knownAfter(known, from, tokens) })),
+    messages: messages.map(({ from, tokens, pieces, length }) => ({
+      from,
+      tokens,
+      pieces: partsOf(pieces),
+      length,
+      known: knownAfter(known, from, tokens),
+    })),
   };
 }

@@ -11,7 +11,10 @@ function stateOf(item) {
 }
 
 /** The messages that a party has written after its handshake, in order. */
-const laterOf = (run, role) => (run.setup.mode === 'datagrams' ? run[role].datagrams : run[role].written.filter(({ number }) => number === undefined));
+const laterOf = (run, role) =>
+  (run.setup.mode === 'datagrams'
+    ? run[role].datagrams
+    : run[role].written.filter(({ number }) => number === undefined));
 
 /** What the picture shows of a run; `item` is the message that is shown at its place. */
 export function seenOf(run, item) {
@@ -31,12 +34,15 @@ export function seenOf(run, item) {
   return { messages, transport, isDatagrams };
 }
 
-const changed = ({ flips }) => (flips.size === 0 ? '' : ` with ${flips.size === 1 ? `byte ${[...flips][0]}` : `${flips.size} bytes`} changed`);
+const changed = ({ flips }) =>
+  (flips.size === 0 ? '' : ` with ${flips.size === 1 ? `byte ${[...flips][0]}` : `${flips.size} bytes`} changed`);
 
 /** The oldest message after the handshake that hasn't come, if it can come now. */
 function waiting(run) {
   if (!run.isOpen || run.isClosed) return undefined;
-  const all = ROLES.flatMap((role) => laterOf(run, role).filter(({ comings }) => comings.length === 0).map((item) => ({ to: OTHER[role], item })));
+  const all = ROLES.flatMap((role) =>
+    laterOf(run, role).filter(({ comings }) => comings.length === 0).map((item) => ({ to: OTHER[role], item })),
+  );
   return all.find(({ to }) => !run[to].isBroken && !run[to].sawEnd);
 }
 
@@ -53,12 +59,23 @@ export function nextStep(run, isStale) {
   if (!run) return { step: 'begin', label: 'Draw keys and begin' };
   if (isStale) return { step: 'begin', label: 'Begin again with this set-up' };
   const { pending, next } = run;
-  if (pending) return { step: 'deliver', role: pending.to, item: pending.item, label: `Deliver message ${pending.item.number + 1} to the ${pending.to}${changed(pending.item)}` };
-  if (next) return { step: 'write', role: next, label: `Write message ${run[next].handshake.stage.passed + 1} as the ${next}` };
+  if (pending) {
+    return {
+      step: 'deliver',
+      role: pending.to,
+      item: pending.item,
+      label: `Deliver message ${pending.item.number + 1} to the ${pending.to}${changed(pending.item)}`,
+    };
+  }
+  if (next) {
+    return { step: 'write', role: next, label: `Write message ${run[next].handshake.stage.passed + 1} as the ${next}` };
+  }
   const late = waiting(run);
   if (late) {
     const { item, to } = late;
-    const name = item.isDatagram ? `datagram ${item.n}` : item.isEnd ? `the end of the ${OTHER[to]}’s stream` : `transport message ${item.transport}`;
+    const name = item.isDatagram
+      ? `datagram ${item.n}`
+      : item.isEnd ? `the end of the ${OTHER[to]}’s stream` : `transport message ${item.transport}`;
     return { step: 'deliver', role: to, item, label: `Deliver ${name} to the ${to}${changed(item)}` };
   }
   const writer = nextWriter(run);
@@ -69,6 +86,11 @@ export function nextStep(run, isStale) {
 /** Whose turn it is, in a sentence; '' once both are open. */
 export function turnOf(run) {
   const { pending, next, plan } = run;
-  if (pending) return `Message ${pending.item.number + 1} of ${plan.messages.length} is on its way, and the ${pending.to} waits for it.`;
-  return next ? `It is the ${next}’s turn to write message ${run[next].handshake.stage.passed + 1} of ${plan.messages.length}.` : '';
+  if (pending) {
+    return `Message ${pending.item.number + 1} of ${plan.messages.length} is on its way, `
+      + `and the ${pending.to} waits for it.`;
+  }
+  return next
+    ? `It is the ${next}’s turn to write message ${run[next].handshake.stage.passed + 1} of ${plan.messages.length}.`
+    : '';
 }

@@ -1,5 +1,5 @@
-// All faults of a text that reading can see. The first is the library's; the others are this page's own reading of the format and of the five rules, and
-// checks/web compares its first with the library's. There is no DOM here.
+// All faults of a text that reading can see. The first is the library's; the others are this page's own reading of the
+// format and of the five rules, and checks/web compares its first with the library's. There is no DOM here.
 import { MOST, WORDS, firstOf } from './faults.mjs';
 import { linesOf } from './plan.mjs';
 
@@ -31,7 +31,9 @@ function formFaults(lines) {
   const may = { known: [...ROLES], turn: ['initiator'] };
   lines.slice(1).forEach((line, at) => {
     const n = at + 1;
-    if (line.line === '  ...') return n === first - 1 ? undefined : found.push({ line: n + 1, code: n < first ? 33 : 31 });
+    if (line.line === '  ...') {
+      return n === first - 1 ? undefined : found.push({ line: n + 1, code: n < first ? 33 : 31 });
+    }
     const isKnown = n < first - 1;
     let code = formOf(line, isKnown);
     const turns = isKnown ? may.known : may.turn;
@@ -63,14 +65,18 @@ class Reading {
   }
 
   encrypts(role, place) {
-    for (const [dh, first] of NEEDS[role]) if (this.mixed.has(dh) && !this.mixed.has(first)) this.fault(`4 ${role} ${first}`, { rule: 4, ...place });
+    for (const [dh, first] of NEEDS[role]) {
+      if (this.mixed.has(dh) && !this.mixed.has(first)) this.fault(`4 ${role} ${first}`, { rule: 4, ...place });
+    }
     if (this.mixed.has('psk') && !this.known.has(`${role} e`)) this.fault(`5 ${role}`, { rule: 5, ...place });
   }
 
   token(role, name, place) {
     if (name === 'psk') this.mixed.add('psk');
     else if (DHS.includes(name)) {
-      if (ROLES.some((owner, n) => !this.known.has(`${owner} ${name[n]}`))) this.fault(`1 ${place.message} ${place.token}`, { rule: 1, ...place });
+      if (ROLES.some((owner, n) => !this.known.has(`${owner} ${name[n]}`))) {
+        this.fault(`1 ${place.message} ${place.token}`, { rule: 1, ...place });
+      }
       if (this.mixed.has(name)) this.fault(`3 ${place.message} ${place.token}`, { rule: 3, ...place });
       this.mixed.add(name);
     } else {
@@ -84,7 +90,9 @@ class Reading {
 function ruleFaults(lines) {
   const first = firstOf(lines);
   const reading = new Reading();
-  for (const { role, tokens } of lines.slice(1, Math.max(first - 1, 1))) for (const { name } of tokens) reading.known.add(`${role} ${name}`);
+  for (const { role, tokens } of lines.slice(1, Math.max(first - 1, 1))) {
+    for (const { name } of tokens) reading.known.add(`${role} ${name}`);
+  }
   const messages = lines.slice(first);
   messages.forEach(({ role, tokens }, n) => {
     tokens.forEach(({ name }, token) => reading.token(role, name, { message: n + 1, token }));
@@ -95,13 +103,19 @@ function ruleFaults(lines) {
   return reading.found;
 }
 
-const keyOf = ({ line, code, rule, message, token }) => (rule ? `rule ${rule} ${message} ${token}` : `line ${line} ${code}`);
+const keyOf = ({ line, code, rule, message, token }) =>
+  (rule ? `rule ${rule} ${message} ${token}` : `line ${line} ${code}`);
 
-/** What this page's reading finds: the malformed lines; and if all lines can be read as messages in turn, the broken rules. */
+/**
+ * What this page's reading finds: the malformed lines; and if all lines can be read as messages in turn, the broken
+ * rules.
+ */
 export function readingOf(text) {
   const lines = linesOf(text);
   const forms = formFaults(lines);
-  const isReadable = lines.slice(1).every(({ line, tokens }) => tokens?.every(({ name }) => WORDS.has(name)) || line === '  ...');
+  const isReadable = lines.slice(1).every(({ line, tokens }) =>
+    tokens?.every(({ name }) => WORDS.has(name)) || line === '  ...',
+  );
   const inTurn = forms.every(({ code }) => code === 30) && lines.length > firstOf(lines);
   return [...forms, ...(isReadable && inTurn ? ruleFaults(lines) : [])];
 }
@@ -109,5 +123,8 @@ export function readingOf(text) {
 /** All faults of a refused text, the library's first. */
 export function faultsOf(text, verdict) {
   const key = keyOf(verdict);
-  return [verdict, ...readingOf(text).filter((fault) => keyOf(fault) !== key && !(fault.line && fault.line === verdict.line))];
+  return [
+    verdict,
+    ...readingOf(text).filter((fault) => keyOf(fault) !== key && !(fault.line && fault.line === verdict.line)),
+  ];
 }

@@ -1,4 +1,5 @@
-// A run of a pattern: two parties with real keys in one page, the messages between them, and what has come of each. No DOM here.
+// A run of a pattern: two parties with real keys in one page, the messages between them, and what has come of each. No
+// DOM here.
 import { Handshake } from '../bindings/js/handshake.mjs';
 import { KeyPair } from '../bindings/js/keys.mjs';
 import { frame, hex, hexOrDash } from './bytes.mjs';
@@ -7,7 +8,18 @@ import { layout } from './plan.mjs';
 import { frameOf, linesOf, rawOf, reports, silence, take } from './streams.mjs';
 
 /** The words of the command for the codes of include/noise.h. */
-export const WORDS = { 10: 'not-your-turn', 11: 'too-long', 13: 'ended', 15: 'short', 16: 'tag', 17: 'exhausted', 22: 'one-way', 26: 'reserved', 27: 'old', 28: 'repeated' };
+export const WORDS = {
+  10: 'not-your-turn',
+  11: 'too-long',
+  13: 'ended',
+  15: 'short',
+  16: 'tag',
+  17: 'exhausted',
+  22: 'one-way',
+  26: 'reserved',
+  27: 'old',
+  28: 'repeated',
+};
 
 /** The places of a message's changed bytes, in order. */
 export const sorted = (flips) => [...flips].sort((a, b) => a - b);
@@ -17,8 +29,8 @@ export class NotNow extends Error {}
 
 export class Run {
   /**
-   * Draws keys, and makes both parties. `setup` has text, prologue (bytes), interval, mode ('transport', 'stream' or 'datagrams'), window, and whether the
-   * responder gets psks of its own.
+   * Draws keys, and makes both parties. `setup` has text, prologue (bytes), interval, mode ('transport', 'stream' or
+   * 'datagrams'), window, and whether the responder gets psks of its own.
    */
   static async start(setup) {
     const plan = layout(setup.text);
@@ -79,15 +91,25 @@ export class Run {
   #finish(party) {
     const { interval, window, mode } = this.setup;
     if (party.sealer || !party.handshake.stage.done) return;
-    if (mode === 'datagrams') party.sealer = party.handshake.finishDatagrams({ window });
-    else party.sealer = mode === 'stream' ? party.handshake.finishStream({ interval }) : party.handshake.finish({ interval });
+    if (mode === 'datagrams') {
+      party.sealer = party.handshake.finishDatagrams({ window });
+    } else {
+      party.sealer =
+        mode === 'stream' ? party.handshake.finishStream({ interval }) : party.handshake.finish({ interval });
+    }
     if (mode !== 'datagrams' || !this.isOpen) return;
     this.events.push(`datagrams ${window}`);
     this.lines.push(`datagrams ${window}`);
   }
 
   #note(role, kind, more = {}) {
-    const entry = { role, kind, at: this.log.length + 1, hash: { initiator: this.initiator.hash, responder: this.responder.hash }, ...more };
+    const entry = {
+      role,
+      kind,
+      at: this.log.length + 1,
+      hash: { initiator: this.initiator.hash, responder: this.responder.hash },
+      ...more,
+    };
     this.log.push(entry);
     return entry;
   }
@@ -100,7 +122,10 @@ export class Run {
     const item = { ...about, message, transport, n: kept.length, flips: new Set(), comings: [] };
     kept.push(item);
     party.sent += about.number === undefined ? 1 : 0;
-    this.lines.push(`${about.isDatagram ? 'sealed' : 'wrote'} ${party.role} ${item.n} ${hex(about.isDatagram ? message : frame(message))}`);
+    this.lines.push(
+      `${about.isDatagram ? 'sealed' : 'wrote'} ${party.role} ${item.n} `
+        + `${hex(about.isDatagram ? message : frame(message))}`,
+    );
     return item;
   }
 
@@ -115,7 +140,9 @@ export class Run {
     const why = this.silenceOf(role);
     if (why && party.sealer) throw new NotNow(`The ${role} can’t write: ${why}.`);
     if (payload === undefined && !party.isIn('stream')) throw new NotNow(`The ${role} has no stream to end.`);
-    if (payload?.length === 0 && party.isIn('stream')) throw new NotNow('A stream has no empty payload: nothing was written.');
+    if (payload?.length === 0 && party.isIn('stream')) {
+      throw new NotNow('A stream has no empty payload: nothing was written.');
+    }
     const isDatagram = party.isIn('datagrams');
     const isEnd = payload === undefined;
     this.steps.push(isEnd ? { step: 'end', role } : { step: 'write', role, payload });
@@ -123,7 +150,9 @@ export class Run {
     try {
       const number = party.sealer ? undefined : party.handshake.stage.passed;
       const whole = await this.#make(party, payload);
-      if (number !== undefined && whole.length !== this.plan.messages[number].length + payload.length) throw new Error('the picture has another length than the message');
+      if (number !== undefined && whole.length !== this.plan.messages[number].length + payload.length) {
+        throw new Error('the picture has another length than the message');
+      }
       const item = this.#keep(party, whole, { number, payload, isDatagram, isEnd });
       this.#finish(party);
       return this.#note(role, 'wrote', { ...item, item });
@@ -143,7 +172,17 @@ export class Run {
     if (this.isClosed) throw new NotNow('The connection is closed.');
     this.steps.push({ step: 'deliver', role, n, flips: [...flips] });
     const due = this[role].sealer && !item.isDatagram ? this[role].taken + 1 : undefined;
-    const about = { n, item, number: item.number, transport: item.transport, due, isDatagram: item.isDatagram, isEnd: item.isEnd, flips: [...flips], bytes };
+    const about = {
+      n,
+      item,
+      number: item.number,
+      transport: item.transport,
+      due,
+      isDatagram: item.isDatagram,
+      isEnd: item.isEnd,
+      flips: [...flips],
+      bytes,
+    };
     return this[role].isIn('stream') ? this.#take(role, frame(bytes), about) : this.#read(role, bytes, about);
   }
 
@@ -184,7 +223,9 @@ export class Run {
     const { n, isDatagram, flips } = about;
     const [plain, other] = isDatagram ? ['open', 'foreign'] : ['deliver', 'raw'];
     const end = isDatagram ? '' : ' -';
-    this.events.push(flips.length ? `${other} ${role} ${hex(isDatagram ? bytes : frame(bytes))}` : `${plain} ${role} ${n}${end}`);
+    this.events.push(
+      flips.length ? `${other} ${role} ${hex(isDatagram ? bytes : frame(bytes))}` : `${plain} ${role} ${n}${end}`,
+    );
     if (party.ended) {
       this.lines.push(`left ${role} ended ${bytes.length + 2}`);
       return this.#outcome(role, 'refused', { ...about, code: 13 });
@@ -206,10 +247,13 @@ export class Run {
     const { role } = party;
     const { token } = error;
     const code = numberOf(error);
-    if (about.isDatagram) this.lines.push(`rejected ${role} ${WORDS[code]}`);
-    else if (code === 10 || code === 22) this.lines.push(`left ${role} ${code === 10 ? 'your-turn' : 'silent'} ${about.length}`);
-    else if (party.sealer) this.lines.push(`dropped ${role} ${WORDS[code]}`);
-    else {
+    if (about.isDatagram) {
+      this.lines.push(`rejected ${role} ${WORDS[code]}`);
+    } else if (code === 10 || code === 22) {
+      this.lines.push(`left ${role} ${code === 10 ? 'your-turn' : 'silent'} ${about.length}`);
+    } else if (party.sealer) {
+      this.lines.push(`dropped ${role} ${WORDS[code]}`);
+    } else {
       this.lines.push(`refused ${role} ${token} ${WORDS[code]}`);
       party.ended = true;
     }
@@ -221,14 +265,24 @@ export class Run {
     const item = this.#written(role, n);
     if (this.isClosed || !this[role].isIn('stream')) throw new NotNow('There is no stream to cut.');
     this.steps.push({ step: 'cut', role, n, count });
-    const about = { n, item, transport: item.transport, number: item.number, isEnd: item.isEnd, flips: [], bytes: item.message };
+    const about = {
+      n,
+      item,
+      transport: item.transport,
+      number: item.number,
+      isEnd: item.isEnd,
+      flips: [],
+      bytes: item.message,
+    };
     if (count > 0) this.#take(role, frame(item.message).subarray(0, count), about);
     return this.#closed();
   }
 
   /** The connection ends. */
   async close() {
-    if (this.isClosed || !this.isOpen || this.setup.mode !== 'stream') throw new NotNow('There is no open stream to close.');
+    if (this.isClosed || !this.isOpen || this.setup.mode !== 'stream') {
+      throw new NotNow('There is no open stream to close.');
+    }
     this.steps.push({ step: 'close' });
     return this.#closed();
   }

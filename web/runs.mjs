@@ -1,5 +1,5 @@
-// The runs of this tab, so that a reload and Back bring them: in the tab's own storage, which ends with it and which no browser syncs. An entry of the history
-// has only the number of its run.
+// The runs of this tab, so that a reload and Back bring them: in the tab's own storage, which ends with it and which no
+// browser syncs. An entry of the history has only the number of its run.
 const PLACE = 'noise-run-';
 const MOST = 200e3;
 let next = Date.now();

@@ -1,4 +1,5 @@
-// The run as it is shown: a line for each entry with its outcome, and one message with its bytes and the buttons that deliver it.
+// The run as it is shown: a line for each entry with its outcome, and one message with its bytes and the buttons that
+// deliver it.
 import { hex, shown } from './bytes.mjs';
 import { bytesView } from './bytesview.mjs';
 import { button, copier, element, enable } from './element.mjs';
@@ -31,8 +32,16 @@ function scheduleDetails(run, linesOf, what, title) {
       const lines = linesOf(await scheduleOf(run));
       if (made.childElementCount > 1) return;
       if (!lines.length) return made.append(element('p', '', 'No step of the key schedule belongs to it.'));
-      made.append(scheduleList(lines), copier(`the key schedule of ${what}`, () => lines.map((line) => `${line}\n`).join(''), 'Copy as log'),
-        element('p', 'hint', 'Secrets of this run, as noise trace prints them. This page works them out, and compares h with the library’s after each message.'));
+      made.append(
+        scheduleList(lines),
+        copier(`the key schedule of ${what}`, () => lines.map((line) => `${line}\n`).join(''), 'Copy as log'),
+        element(
+          'p',
+          'hint',
+          'Secrets of this run, as noise trace prints them. This page works them out, '
+            + 'and compares h with the library’s after each message.',
+        ),
+      );
     } catch (error) {
       made.append(element('p', 'bad', `This page can’t work it out: ${error.message}.`));
     }
@@ -72,7 +81,8 @@ function deliverRow(run, entry, { act, whyNot }) {
     allow(row, whyNot());
     const { size } = item.flips;
     const [at] = item.flips;
-    deliver.textContent = size === 0 ? `Deliver to the ${to}` : `Deliver with ${size === 1 ? `byte ${at}` : `${size} bytes`} changed`;
+    deliver.textContent =
+      size === 0 ? `Deliver to the ${to}` : `Deliver with ${size === 1 ? `byte ${at}` : `${size} bytes`} changed`;
   };
   show();
   return { row, show };
@@ -90,7 +100,10 @@ const headOf = (entry) => {
   return `${name}${entry.number === undefined ? '' : `, from the ${entry.role}`}: ${entry.item.message.length} bytes`;
 };
 
-/** The message that is shown: what delivers it, its bytes, and what came of it. It stays in its place until another one is written or chosen. */
+/**
+ * The message that is shown: what delivers it, its bytes, and what came of it. It stays in its place until another one
+ * is written or chosen.
+ */
 export class Current {
   #parts;
   #hands;
@@ -99,7 +112,10 @@ export class Current {
   #shown = 0;
   #row;
 
-  /** `parts` are elements: `box`, `title`, `acts` and `body`. `hands` has `act(work)`, `whyNot()` and `looked()`, which is called after another message is shown. */
+  /**
+   * `parts` are elements: `box`, `title`, `acts` and `body`. `hands` has `act(work)`, `whyNot()` and `looked()`, which
+   * is called after another message is shown.
+   */
   constructor(parts, hands) {
     this.#parts = parts;
     this.#hands = hands;
@@ -123,9 +139,20 @@ export class Current {
     this.#row = show;
     acts.append(row);
     const flipped = () => { show(); this.#hands.looked(); };
-    body.append(bytesView(run, entry.item, messageName(entry), flipped), element('div', 'hashes'), element('div', 'schedule-lists'));
+    body.append(
+      bytesView(run, entry.item, messageName(entry), flipped),
+      element('div', 'hashes'),
+      element('div', 'schedule-lists'),
+    );
     if (!(entry.payload?.length > 48)) return;
-    body.append(element('p', 'payload', `payload: ${shown(entry.payload)} `, copier(`the payload of ${messageName(entry)} in hex`, () => hex(entry.payload))));
+    body.append(
+      element(
+        'p',
+        'payload',
+        `payload: ${shown(entry.payload)} `,
+        copier(`the payload of ${messageName(entry)} in hex`, () => hex(entry.payload)),
+      ),
+    );
   }
 
   /** After each thing done: a message that was written since is shown; of the one that is, what came of it. */
@@ -140,7 +167,13 @@ export class Current {
     const hash = entries.at(-1).number === undefined ? undefined : hashLine(entries.at(-1).hash);
     this.#parts.body.querySelector('.hashes').replaceChildren(...(hash ? [hash] : []));
     if (!this.#entry.isDatagram) {
-      const details = (entry) => scheduleDetails(run, (all) => all.entries.get(entry), messageName(entry), `Key schedule of ${entry.at}: the ${entry.role}`);
+      const details = (entry) =>
+        scheduleDetails(
+          run,
+          (all) => all.entries.get(entry),
+          messageName(entry),
+          `Key schedule of ${entry.at}: the ${entry.role}`,
+        );
       const added = entries.slice(this.#shown).map(details);
       this.#parts.body.querySelector('.schedule-lists').append(...added);
     }
@@ -152,7 +185,14 @@ function entryItem(run, entry, pick) {
   const isRefused = ['refused', 'unwritten'].includes(entry.kind);
   const li = element('li', isRefused ? 'refused' : entry.kind);
   const fate = element('span', 'fate');
-  const line = element('p', '', element('span', 'chip', CHIPS[entry.kind]), ' ', element('span', 'who', `${entry.at}. ${sentenceOf(run, entry)} `), fate);
+  const line = element(
+    'p',
+    '',
+    element('span', 'chip', CHIPS[entry.kind]),
+    ' ',
+    element('span', 'who', `${entry.at}. ${sentenceOf(run, entry)} `),
+    fate,
+  );
   if (entry.kind === 'wrote') {
     const made = button('Show', () => pick(entry), 'copy show');
     made.setAttribute('aria-label', `Show ${messageName(entry)}`);
@@ -204,7 +244,9 @@ export class Log {
   #limit() {
     const { length } = this.#shown;
     const isShort = this.isWhole || length <= SHOWN;
-    [...this.#list.children].forEach((li, n) => { li.hidden = !isShort && n >= SHOWN && !li.contains(document.activeElement); });
+    [...this.#list.children].forEach((li, n) => {
+      li.hidden = !isShort && n >= SHOWN && !li.contains(document.activeElement);
+    });
     this.#more.hidden = isShort;
     this.#more.textContent = `Show ${length - SHOWN} earlier ${length - SHOWN === 1 ? 'entry' : 'entries'}`;
   }
@@ -212,16 +254,37 @@ export class Log {
 
 /** The keys of a run: public ones, and the pre-shared secrets; and the start of its key schedule. */
 export function showKeys(box, run) {
-  const row = (name, bytes) => element('p', 'key', element('span', '', `${name} `), element('code', '', hex(bytes)), ' ', copier(name, () => hex(bytes)));
-  const publicOf = (role) => ['e', 's'].filter((own) => run[role].keys[own]).map((own) => row(`${named(role)}’s ${own}, public`, run[role].keys[own].publicKey));
+  const row = (name, bytes) =>
+    element(
+      'p',
+      'key',
+      element('span', '', `${name} `),
+      element('code', '', hex(bytes)),
+      ' ',
+      copier(name, () => hex(bytes)),
+    );
+  const publicOf = (role) =>
+    ['e', 's'].filter((own) => run[role].keys[own]).map((own) =>
+      row(`${named(role)}’s ${own}, public`, run[role].keys[own].publicKey),
+    );
   const secretsOf = (role, name) => run[role].psks.map((psk, n) => row(`${name} ${n + 1}, a secret of this run`, psk));
-  const secrets = run.hasOwnPsks ? ROLES.flatMap((role) => secretsOf(role, `${named(role)}’s psk`)) : secretsOf('initiator', 'psk');
+  const secrets = run.hasOwnPsks
+    ? ROLES.flatMap((role) => secretsOf(role, `${named(role)}’s psk`))
+    : secretsOf('initiator', 'psk');
   const linesOf = ({ start }) => start.filter((line) => line.startsWith('trace initiator '));
-  const schedule = scheduleDetails(run, linesOf, 'the start', 'Key schedule before message 1, the same at both parties');
+  const schedule = scheduleDetails(
+    run,
+    linesOf,
+    'the start',
+    'Key schedule before message 1, the same at both parties',
+  );
   box.replaceChildren(...ROLES.flatMap(publicOf), ...secrets, schedule);
 }
 
-/** Draws the window of datagrams that a party keeps: the nonces up to the greatest one that it has opened. This is the page's own account. */
+/**
+ * Draws the window of datagrams that a party keeps: the nonces up to the greatest one that it has opened. This is the
+ * page's own account.
+ */
 export function showWindows(box, run) {
   box.replaceChildren();
   if (!run?.isOpen || run.setup.mode !== 'datagrams') return;
@@ -231,11 +294,14 @@ export function showWindows(box, run) {
     const top = opened.size ? Math.max(...opened) : -1;
     const first = Math.max(0, top - window + 1);
     const grid = element('div', 'window');
-    for (let n = first; n < first + window; n += 1) grid.append(element('i', n === top ? 'top' : opened.has(n) ? 'opened' : ''));
+    for (let n = first; n < first + window; n += 1) {
+      grid.append(element('i', n === top ? 'top' : opened.has(n) ? 'opened' : ''));
+    }
     const count = [...opened].filter((n) => n >= first).length;
     const label = top < 0
       ? `The ${role} has opened no datagram; its window has ${window} nonces.`
-      : `The ${role}’s window: nonces ${first} to ${top}, of which ${count} ${count === 1 ? 'is' : 'are'} opened; older ones are refused.`;
+      : `The ${role}’s window: nonces ${first} to ${top}, of which ${count} ${count === 1 ? 'is' : 'are'} `
+        + 'opened; older ones are refused.';
     grid.setAttribute('aria-hidden', 'true');
     box.append(element('div', '', element('p', '', label), grid));
   }

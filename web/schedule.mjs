@@ -1,6 +1,7 @@
-// The key schedule of a run, in the lines of `noise trace` (docs/FILES.md). The library gives no chaining key and no cipher key, so this is the page's own
-// working out of sections 4 and 5 of the standard from the DH results, by WebCrypto: its hash is compared with the library's after each message, and
-// checks/web compares all of it with another program. These lines are secrets of the run. No DOM here.
+// The key schedule of a run, in the lines of `noise trace` (docs/FILES.md). The library gives no chaining key and no
+// cipher key, so this is the page's own working out of sections 4 and 5 of the standard from the DH results, by
+// WebCrypto: its hash is compared with the library's after each message, and checks/web compares all of it with another
+// program. These lines are secrets of the run. No DOM here.
 import { encode, hex, hexOrDash, joined } from './bytes.mjs';
 import { rekeyed } from './chacha.mjs';
 import { OTHER, ROLES } from './party.mjs';
@@ -19,7 +20,9 @@ async function hmac(key, ...parts) {
 async function hkdf(chainingKey, input, count) {
   const key = await hmac(chainingKey, input);
   const outputs = [];
-  for (let n = 1; n <= count; n += 1) outputs.push(await hmac(key, outputs.at(-1) ?? new Uint8Array(0), Uint8Array.of(n)));
+  for (let n = 1; n <= count; n += 1) {
+    outputs.push(await hmac(key, outputs.at(-1) ?? new Uint8Array(0), Uint8Array.of(n)));
+  }
   return outputs;
 }
 
@@ -69,7 +72,15 @@ class Symmetric {
 class Schedule {
   static async of(run, role) {
     const { section, before } = run.plan;
-    const made = Object.assign(new Schedule(), { run, role, remote: {}, psk: 0, lines: [], keys: undefined, nonces: { initiator: 0, responder: 0 } });
+    const made = Object.assign(new Schedule(), {
+      run,
+      role,
+      remote: {},
+      psk: 0,
+      lines: [],
+      keys: undefined,
+      nonces: { initiator: 0, responder: 0 },
+    });
     made.state = await Symmetric.named(`Noise_${section}_25519_ChaChaPoly_SHA256`);
     made.#start('name', 'InitializeSymmetric');
     await made.state.mixHash(run.setup.prologue);
@@ -117,17 +128,25 @@ class Schedule {
     return ['MixKey', 0];
   }
 
-  /** The lines of a handshake message that this party has written or read. Of a refused one they are those before the token that was refused. */
+  /**
+   * The lines of a handshake message that this party has written or read. Of a refused one they are those before the
+   * token that was refused.
+   */
   async handshake({ kind, number, message, bytes = message, token: last }) {
     const isOwn = kind === 'wrote';
     const { tokens } = this.run.plan.messages[number];
     const [state, remote, lines] = [this.state.copy(), { ...this.remote }, []];
     let at = 0;
     const add = (n, name, call, length) => {
-      lines.push(`trace ${this.role} ${number + FIRST} ${n} ${name} ${call} ${at} ${hexOrDash(bytes.subarray(at, at + length))} ${state.words}`);
+      lines.push(
+        `trace ${this.role} ${number + FIRST} ${n} ${name} ${call} ${at} `
+          + `${hexOrDash(bytes.subarray(at, at + length))} ${state.words}`,
+      );
       at += length;
     };
-    for (const [n, token] of tokens.slice(0, last).entries()) add(n, token, ...await this.#token(state, token, bytes.subarray(at), isOwn, remote));
+    for (const [n, token] of tokens.slice(0, last).entries()) {
+      add(n, token, ...await this.#token(state, token, bytes.subarray(at), isOwn, remote));
+    }
     if (last !== undefined) return lines;
     await state.passText(bytes.subarray(at));
     add(tokens.length, 'payload', isOwn ? 'EncryptAndHash' : 'DecryptAndHash', bytes.length - at);
@@ -139,7 +158,9 @@ class Schedule {
     const { h, ck } = this.state;
     const [initiator, responder] = await hkdf(ck, new Uint8Array(0), 2);
     this.keys = { initiator, responder };
-    return ROLES.map((role, n) => `trace ${this.role} open ${n} ${role} Split - - ${hex(h)} ${hex(ck)} ${hex(this.keys[role])} 0`);
+    return ROLES.map(
+      (role, n) => `trace ${this.role} open ${n} ${role} Split - - ${hex(h)} ${hex(ck)} ${hex(this.keys[role])} 0`,
+    );
   }
 
   get datagrams() {
@@ -149,7 +170,8 @@ class Schedule {
   /** The lines of a transport message, in the direction of whoever wrote it. */
   transport({ kind, role }) {
     const writer = kind === 'wrote' ? role : OTHER[role];
-    const line = (name, call) => `trace ${this.role} transport - ${name} ${call} - - - - ${hex(this.keys[writer])} ${this.nonces[writer]}`;
+    const line = (name, call) => `trace ${this.role} transport - ${name} ${call} - - - - `
+      + `${hex(this.keys[writer])} ${this.nonces[writer]}`;
     if (kind === 'refused') return [line('dropped', 'DecryptWithAd')];
     const lines = [kind === 'wrote' ? line('sent', 'EncryptWithAd') : line('opened', 'DecryptWithAd')];
     this.nonces[writer] += 1;
@@ -167,10 +189,14 @@ async function linesOf(schedules, run, entry) {
   const { role, kind, number, isDatagram, code, token } = entry;
   const schedule = schedules[role];
   if (!schedule || isDatagram) return [];
-  if (number === undefined) return isOpened(entry) || (kind === 'refused' && [15, 16].includes(code)) ? schedule.transport(entry) : [];
+  if (number === undefined) {
+    return isOpened(entry) || (kind === 'refused' && [15, 16].includes(code)) ? schedule.transport(entry) : [];
+  }
   if (!isOpened(entry) && token === undefined) return [];
   const lines = await schedule.handshake(entry);
-  if (isOpened(entry) && hex(schedule.state.h) !== hex(entry.hash[role])) throw new Error('the hash that the page works out isn’t the library’s');
+  if (isOpened(entry) && hex(schedule.state.h) !== hex(entry.hash[role])) {
+    throw new Error('the hash that the page works out isn’t the library’s');
+  }
   const isDone = run.setup.mode === 'datagrams' && ROLES.every((it) => schedules[it].keys) && isOpened(entry);
   return isDone ? [...lines, ...ROLES.flatMap((it) => schedules[it].datagrams)] : lines;
 }

@@ -1,4 +1,5 @@
-// What has happened in a run, in sentences: message and token by name, then the cause, in the order of the command. No DOM here.
+// What has happened in a run, in sentences: message and token by name, then the cause, in the order of the command. No
+// DOM here.
 import { shown } from './bytes.mjs';
 import { CAUSES } from './faults.mjs';
 import { OTHER, ROLES } from './party.mjs';
@@ -14,7 +15,8 @@ export function messageName({ role, kind, n, number, transport, isDatagram, isEn
   return isOfSubject ? `its ${name}` : `${name} of the ${writer}`;
 }
 
-const list = (numbers) => (numbers.length > 4 ? `${numbers.slice(0, 4).join(', ')} and ${numbers.length - 4} more` : numbers.join(', '));
+const list = (numbers) =>
+  (numbers.length > 4 ? `${numbers.slice(0, 4).join(', ')} and ${numbers.length - 4} more` : numbers.join(', '));
 
 function changedWords(flips = []) {
   if (flips.length === 0) return '';
@@ -29,7 +31,8 @@ function tokenName(run, { number, token }) {
 }
 
 /** Said where another transport message than the next one came. */
-const dueWords = ({ transport, due }) => (transport !== undefined && due !== undefined && transport !== due ? ` Transport message ${due} was due.` : '');
+const dueWords = ({ transport, due }) =>
+  (transport !== undefined && due !== undefined && transport !== due ? ` Transport message ${due} was due.` : '');
 
 /** Whether a psk is mixed in before this place of a message. */
 function isPskMixed({ plan }, { number, token }) {
@@ -38,7 +41,8 @@ function isPskMixed({ plan }, { number, token }) {
 }
 
 /** Said of a refused message of parties with different psks. */
-const psksWords = (run, entry) => (run.hasOwnPsks && entry.token !== undefined && isPskMixed(run, entry) ? ' The parties’ psks differ.' : '');
+const psksWords = (run, entry) =>
+  (run.hasOwnPsks && entry.token !== undefined && isPskMixed(run, entry) ? ' The parties’ psks differ.' : '');
 
 /** What a refusal leaves. */
 function leaves(run, { role, token, code }) {
@@ -50,23 +54,32 @@ function leaves(run, { role, token, code }) {
 const WHAT = {
   wrote: (run, entry) => {
     const { role, message, payload, isEnd } = entry;
-    return `${named(role)} wrote ${messageName(entry, true)}: ${message.length} bytes${isEnd ? '' : `, payload ${shown(payload)}`}.`;
+    return `${named(role)} wrote ${messageName(entry, true)}: `
+      + `${message.length} bytes${isEnd ? '' : `, payload ${shown(payload)}`}.`;
   },
-  unwritten: (run, { role, code }) => `${named(role)} wrote nothing: ${CAUSES[code] ?? `code ${code}`}. It goes on as before.`,
-  accepted: (run, entry) => `${named(entry.role)} accepted ${messageName(entry)}: payload ${shown(entry.payload)}.${changedWords(entry.flips)}`,
-  refused: (run, entry) => `${named(entry.role)} refused ${messageName(entry)}${tokenName(run, entry)}: ${CAUSES[entry.code] ?? `code ${entry.code}`}.`
-    + `${changedWords(entry.flips)}${dueWords(entry)}${psksWords(run, entry)}${leaves(run, entry)}`,
+  unwritten: (run, { role, code }) => `${named(role)} wrote nothing: `
+    + `${CAUSES[code] ?? `code ${code}`}. It goes on as before.`,
+  accepted: (run, entry) => `${named(entry.role)} accepted ${messageName(entry)}: `
+    + `payload ${shown(entry.payload)}.${changedWords(entry.flips)}`,
+  refused: (run, entry) =>
+    `${named(entry.role)} refused ${messageName(entry)}${tokenName(run, entry)}: `
+      + `${CAUSES[entry.code] ?? `code ${entry.code}`}.`
+      + `${changedWords(entry.flips)}${dueWords(entry)}${psksWords(run, entry)}${leaves(run, entry)}`,
   ended: (run, entry) => `${named(entry.role)} accepted ${messageName(entry)}: all of it has come.`,
-  waits: (run, entry) => `${named(entry.role)} has ${entry.wanted} bytes of ${messageName(entry)}, and waits for the rest.`,
-  unread: (run, entry) => `${named(entry.role)} didn’t read ${messageName(entry)}: ${run[entry.role].isBroken ? 'its stream is broken' : 'the stream had ended'}.`,
-  closed: (run, { reports }) => `The connection has ended. ${ROLES.map((role) => `The ${role} reports ${reports[role]}`).join('. ')}.`,
+  waits: (run, entry) => `${named(entry.role)} has ${entry.wanted} bytes of `
+    + `${messageName(entry)}, and waits for the rest.`,
+  unread: (run, entry) => `${named(entry.role)} didn’t read ${messageName(entry)}: `
+    + `${run[entry.role].isBroken ? 'its stream is broken' : 'the stream had ended'}.`,
+  closed: (run, { reports }) => 'The connection has ended. '
+    + `${ROLES.map((role) => `The ${role} reports ${reports[role]}`).join('. ')}.`,
 };
 
 export const sentenceOf = (run, entry) => WHAT[entry.kind](run, entry);
 
 /** The word for what an entry is. */
 export const CHIPS = {
-  wrote: 'written', unwritten: 'refused', accepted: 'delivered', refused: 'refused', ended: 'delivered', waits: 'unfinished', unread: 'not read', closed: 'closed',
+  wrote: 'written', unwritten: 'refused', accepted: 'delivered', refused: 'refused', ended: 'delivered',
+  waits: 'unfinished', unread: 'not read', closed: 'closed',
 };
 
 /** What has become of a written message. */
@@ -75,7 +88,11 @@ export function fateOf({ comings }) {
   const good = comings.filter((kind) => ['accepted', 'ended'].includes(kind)).length;
   const refused = comings.filter((kind) => kind === 'refused').length;
   const times = (count) => (count > 1 ? ` ${count} times` : '');
-  return [good && `delivered${times(good)}`, refused && `refused${times(refused)}`, !good && !refused && 'not read'].filter(Boolean).join(', ');
+  return [
+    good && `delivered${times(good)}`,
+    refused && `refused${times(refused)}`,
+    !good && !refused && 'not read',
+  ].filter(Boolean).join(', ');
 }
 
 /** Where both parties stand: whose turn it is, and after the handshake what each has sent. */
@@ -87,7 +104,10 @@ export function stateOf(run, turn) {
     const party = run[role];
     if (party.ended) return `the ${role}’s handshake has ended: begin again with new keys`;
     if (party.isBroken) return `the ${role}’s stream is broken`;
-    if (party.sealer) return `the ${role} ${party.hasEnded ? 'has ended its stream' : 'is open'} (sent ${party.sent}, accepted ${party.taken})`;
+    if (party.sealer) {
+      return `the ${role} ${party.hasEnded ? 'has ended its stream' : 'is open'} (sent `
+        + `${party.sent}, accepted ${party.taken})`;
+    }
     return `the ${role} has passed ${party.handshake.stage.passed} of ${run.plan.messages.length}`;
   };
   return `${named(of('initiator'))}; ${of('responder')}.`;

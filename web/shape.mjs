@@ -16,7 +16,10 @@ export class Shape {
   #seen;
   #under;
 
-  /** `page` has `setup` and `plan`. `chosen(name)` is called with the name of the pattern of the standard that was chosen to be beside, or ''. */
+  /**
+   * `page` has `setup` and `plan`. `chosen(name)` is called with the name of the pattern of the standard that was
+   * chosen to be beside, or ''.
+   */
   constructor(page, chosen) {
     const sheet = new CSSStyleSheet();
     sheet.replaceSync(STYLE);
@@ -38,7 +41,9 @@ export class Shape {
     at('picture').classList.toggle('old', !plan);
     if (plan) at('shape-of').textContent = plan.section;
     at('shape-old').hidden = Boolean(plan);
-    at('shape-old').textContent = at('shape-of').textContent ? OLD : 'The text isn’t a valid pattern, and has no picture.';
+    at('shape-old').textContent = at('shape-of').textContent
+      ? OLD
+      : 'The text isn’t a valid pattern, and has no picture.';
     if (plan) at('picture').innerHTML = picture(plan, this.#width, this.#page.isStale ? undefined : this.#seen, unit());
     this.#mark();
   }
@@ -55,8 +60,13 @@ export class Shape {
     const message = plan?.messages[this.#under?.message];
     const pieces = message?.pieces.filter(({ token }) => token === this.#under.token) ?? [];
     if (!pieces.length) return at('caret').replaceChildren(CARET);
-    for (const it of at('picture').querySelectorAll(`[data-piece="${this.#under.message}.${this.#under.token}"]`)) it.classList.add('under');
-    const from = message.pieces.slice(0, message.pieces.indexOf(pieces[0])).reduce((sum, { length }) => sum + length, 0);
+    for (const it of at('picture').querySelectorAll(`[data-piece="${this.#under.message}.${this.#under.token}"]`)) {
+      it.classList.add('under');
+    }
+    const from = message.pieces.slice(0, message.pieces.indexOf(pieces[0])).reduce(
+      (sum, { length }) => sum + length,
+      0,
+    );
     const length = pieces.reduce((sum, piece) => sum + piece.length, 0);
     const where = length ? `bytes ${from} to ${from + length - 1}` : 'no bytes';
     const says = ` in message ${this.#under.message + 1}: ${pieces.map(pieceName).join('; ')} (${where})`;
@@ -70,7 +80,10 @@ export class Shape {
     this.#mark();
   }
 
-  /** After each change of the pattern: while it isn't valid, the last valid picture stays, and its title says so; its facts are left out. */
+  /**
+   * After each change of the pattern: while it isn't valid, the last valid picture stays, and its title says so; its
+   * facts are left out.
+   */
   show() {
     const { plan, setup } = this.#page;
     this.#draw();

@@ -1,5 +1,5 @@
-// Streams with an end between the parties of a run, by the calls of bindings/js/stream.mjs: what each side reports comes from them. What a party does
-// after a refusal is the page's: it sends nothing more, no end either. No DOM here.
+// Streams with an end between the parties of a run, by the calls of bindings/js/stream.mjs: what each side reports
+// comes from them. What a party does after a refusal is the page's: it sends nothing more, no end either. No DOM here.
 import { hex, hexOrDash, joined } from './bytes.mjs';
 import { OTHER, ROLES, numberOf } from './party.mjs';
 
@@ -60,16 +60,23 @@ export function reportOf(run, role) {
   const count = `${party.payloads} ${party.payloads === 1 ? 'payload' : 'payloads'}`;
   if (run.plan.oneWay && role === 'initiator') return 'nothing comes to it in a one-way pattern';
   if (party.isBroken) return `the refusal, after ${count}`;
-  if (!party.sealer.isCut(party.held.length)) return `the end of the ${OTHER[role]}’s stream, after all of it: ${count}`;
+  if (!party.sealer.isCut(party.held.length)) {
+    return `the end of the ${OTHER[role]}’s stream, after all of it: ${count}`;
+  }
   const more = party.held.length ? ` and ${party.held.length} bytes of an unfinished message` : '';
   return `a cut: the connection has ended before the ${OTHER[role]}’s stream did, after ${count}${more}`;
 }
 
-/** The lines that `noise replay` prints of what came, for the vector file: it has payloads in the place of streams, and an end is one of no bytes. */
+/**
+ * The lines that `noise replay` prints of what came, for the vector file: it has payloads in the place of streams, and
+ * an end is one of no bytes.
+ */
 export function linesOf(role, outcomes) {
   return outcomes.map(({ payload, code, wanted }) => {
     if (code !== undefined) return `dropped ${role} ${{ 15: 'short', 16: 'tag' }[code]}`;
-    return wanted !== undefined ? `held ${role} ${wanted}` : `payload ${role} ${hexOrDash(payload ?? new Uint8Array(0))}`;
+    return wanted !== undefined
+      ? `held ${role} ${wanted}`
+      : `payload ${role} ${hexOrDash(payload ?? new Uint8Array(0))}`;
   });
 }
 

@@ -25,7 +25,10 @@ function save(name, type, text) {
   say(`The browser saves ${name}.`);
 }
 
-/** Copies a text, and says so below the buttons; where the browser doesn't let it, the text is shown to be copied by hand. */
+/**
+ * Copies a text, and says so below the buttons; where the browser doesn't let it, the text is shown to be copied by
+ * hand.
+ */
 async function copy(text, what, more = '') {
   try {
     await navigator.clipboard.writeText(text);
@@ -51,7 +54,8 @@ export class Take {
   /** `page` has `setup`, `plan`, `run` and `text`. */
   constructor(page) {
     this.#page = page;
-    const wire = (id, work) => at(id).addEventListener('click', () => { if (at(id).getAttribute('aria-disabled') !== 'true') work(); });
+    const wire = (id, work) =>
+      at(id).addEventListener('click', () => { if (at(id).getAttribute('aria-disabled') !== 'true') work(); });
     wire('save-vector', () => { const { name, text } = vectorFile(page.run); save(name, 'text/plain', text); });
     wire('save-pattern', () => save(`${page.plan?.base ?? 'mine'}.pattern`, 'text/plain', page.setup.text));
     wire('save-picture', () => save(`${page.plan.base}.svg`, 'image/svg+xml', pictureFile(page.plan)));
@@ -59,7 +63,9 @@ export class Take {
     wire('copy-link', () => this.#copyLink([], 'A link to this set-up'));
     wire('copy-run', () => this.#copyLink(page.run.steps, 'A link to this run'));
     wire('copy-explorer', () => copy(forExplorer(page.plan, page.setup.text), 'The pattern for Noise Explorer'));
-    wire('copy-log', async () => copy((await scheduleOf(page.run)).whole.map((line) => `${line}\n`).join(''), 'The key schedule'));
+    wire('copy-log', async () =>
+      copy((await scheduleOf(page.run)).whole.map((line) => `${line}\n`).join(''), 'The key schedule'),
+    );
     for (const name of LANGUAGES) at('languages').append(button(name, () => { this.#language = name; this.show(); }));
     at('program-row').append(copier('the program', () => this.#program().text));
   }
@@ -67,7 +73,9 @@ export class Take {
   /** Copies the page's own address, wherever it is served, with a set-up and a run's steps. */
   async #copyLink(steps, what) {
     const why = link.whyNot(this.#page.setup, steps);
-    if (why) return say(`No link is copied: ${why}. Save ${steps.length ? 'the run as a vector file' : 'the pattern'}.`);
+    if (why) {
+      return say(`No link is copied: ${why}. Save ${steps.length ? 'the run as a vector file' : 'the pattern'}.`);
+    }
     const here = link.isLocal(location) ? ' It opens only on this computer, which serves this page.' : '';
     return copy(location.href.split('#')[0] + link.write(this.#page.setup, steps), what, here);
   }
@@ -79,10 +87,14 @@ export class Take {
 
   show() {
     const { plan, run } = this.#page;
-    for (const made of at('languages').children) made.setAttribute('aria-pressed', String(made.textContent === this.#language));
+    for (const made of at('languages').children) {
+      made.setAttribute('aria-pressed', String(made.textContent === this.#language));
+    }
     const none = run ? 'The run belongs to another set-up.' : 'No keys are drawn yet.';
     const isLive = run && !this.#page.isStale;
-    for (const id of ['save-program', 'save-picture', 'copy-explorer']) enable(at(id), plan, 'The pattern isn’t valid.');
+    for (const id of ['save-program', 'save-picture', 'copy-explorer']) {
+      enable(at(id), plan, 'The pattern isn’t valid.');
+    }
     for (const id of ['copy-run', 'copy-log']) enable(at(id), isLive, none);
     enable(at('save-vector'), isLive && !run.hasOwnPsks, isLive ? at('no-vector').textContent : none);
     at('no-vector').hidden = !isLive || !run.hasOwnPsks;

@@ -1,8 +1,16 @@
-// Undo and redo over the whole set-up: the text, the prologue, the mode and the rest. What is typed without a pause is one step.
+// Undo and redo over the whole set-up: the text, the prologue, the mode and the rest. What is typed without a pause is
+// one step.
 const PAUSE = 1000;
 const MOST = 100;
 const at = (id) => document.getElementById(id);
-const wordsOf = ({ text, prologue, interval, mode, window, ownPsks }) => ({ text, prologue, interval, mode, window, ownPsks });
+const wordsOf = ({ text, prologue, interval, mode, window, ownPsks }) => ({
+  text,
+  prologue,
+  interval,
+  mode,
+  window,
+  ownPsks,
+});
 
 export class Undo {
   #past = [];

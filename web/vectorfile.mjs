@@ -1,5 +1,5 @@
-// The vector file of a run, version 2, with the lines that `noise replay` prints. It has no streams: their frames are those of the transport, and an end is
-// the message of an empty payload.
+// The vector file of a run, version 2, with the lines that `noise replay` prints. It has no streams: their frames are
+// those of the transport, and an end is the message of an empty payload.
 import { hex, hexOrDash } from './bytes.mjs';
 import { ROLES } from './party.mjs';
 
@@ -15,7 +15,8 @@ function stateLine(run, role) {
 
 function keysOf(run, role) {
   const { e, s } = run[role].keys;
-  const answersOf = (asked) => [...asked?.answers ?? []].map(([remote, answer]) => `answer ${asked.own} ${remote} ${hex(answer)}`);
+  const answersOf = (asked) =>
+    [...asked?.answers ?? []].map(([remote, answer]) => `answer ${asked.own} ${remote} ${hex(answer)}`);
   return [`${role} table ${hex(e.publicKey)} ${s ? hex(s.publicKey) : '-'}`, ...answersOf(e), ...answersOf(s)];
 }
 

@@ -1,15 +1,19 @@
-// The bytes that calls are given: a Uint8Array, as a Buffer of Node is one. A text, an array or an array of wider numbers is refused: it would be taken
-// as no bytes, or as others.
+// The bytes that calls are given: a Uint8Array, as a Buffer of Node is one. A text, an array or an array of wider
+// numbers is refused: it would be taken as no bytes, or as others.
 
 /** Whether a value is a Uint8Array, also one of another realm, as of a frame or of a test runner. */
 function isBytes(value) {
-  return ArrayBuffer.isView(value) && (value instanceof Uint8Array || Object.prototype.toString.call(value) === '[object Uint8Array]');
+  return ArrayBuffer.isView(value)
+    && (value instanceof Uint8Array || Object.prototype.toString.call(value) === '[object Uint8Array]');
 }
 
 /** The value itself, where it is a Uint8Array, of this length if one is named. */
 export function bytesOf(value, what, length) {
   if (!isBytes(value)) {
-    const ofText = length === undefined ? ': encode a text by new TextEncoder().encode(text)' : ` of ${length} bytes: fromHex decodes hex digits`;
+    const ofText =
+      length === undefined
+        ? ': encode a text by new TextEncoder().encode(text)'
+        : ` of ${length} bytes: fromHex decodes hex digits`;
     throw new TypeError(`${what} has to be a Uint8Array${typeof value === 'string' ? ofText : ''}`);
   }
   if (length !== undefined && value.length !== length) throw new TypeError(`${what} has to have ${length} bytes`);
@@ -22,7 +26,8 @@ export function copyOf(value, what, length) {
 }
 
 /**
- * Whether two keys, or other bytes, are the same: a Buffer and a Uint8Array too. The time doesn't depend on where they differ.
+ * Whether two keys, or other bytes, are the same: a Buffer and a Uint8Array too. The time doesn't depend on where
+ * they differ.
  * @param {Uint8Array} one
  * @param {Uint8Array} other
  * @returns {boolean}
@@ -49,6 +54,8 @@ export function hex(bytes) {
  * @returns {Uint8Array}
  */
 export function fromHex(digits) {
-  if (typeof digits !== 'string' || !/^(?:[0-9a-f]{2})*$/iu.test(digits)) throw new TypeError('hex digits have to be a text of two digits for each byte, and of nothing else');
+  if (typeof digits !== 'string' || !/^(?:[0-9a-f]{2})*$/iu.test(digits)) {
+    throw new TypeError('hex digits have to be a text of two digits for each byte, and of nothing else');
+  }
   return Uint8Array.from({ length: digits.length / 2 }, (_, n) => parseInt(digits.slice(2 * n, 2 * n + 2), 16));
 }

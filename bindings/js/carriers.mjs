@@ -1,12 +1,16 @@
-// What moves the frames of a channel: a WebSocket, a WebSocketStream, a pair of WHATWG streams, or a stream of Node. Each has
+// What moves the frames of a channel: a WebSocket, a WebSocketStream, a pair of WHATWG streams, or a stream of Node.
+// Each has
 //   ready()          waits until it is open;
 //   room(size)       memory for a frame of so many bytes, where it has some: that of one that was written before;
-//   write(frames)    sends frames together, and gives a promise that waits until the carrier has taken them, or nothing where it has;
+//   write(frames)    sends frames together, and gives a promise that waits until the carrier has taken them, or
+//                    nothing where it has;
 //   pull()           the next bytes that came, or undefined where the connection has ended;
-//   discard(most)    drops what comes from now on, so that the other party can read on, and reads no more after so many bytes;
-//   close(patience, isOver)  once all is sent that was written, ends this party's half; unless it `isOver`, since the other party has ended its stream, waits
-//                    after `discard` until that has closed its half, at most so many milliseconds: what is closed before may reset a connection of
-//                    TCP, and what was sent may be lost;
+//   discard(most)    drops what comes from now on, so that the other party can read on, and reads no more after so many
+//                    bytes;
+//   close(patience, isOver)  once all is sent that was written, ends this party's half; unless it `isOver`, since the
+//                    other party has ended its stream, waits after `discard` until that has closed its half, at most so
+//                    many milliseconds: what is closed before may reset a connection of TCP, and what was sent may be
+//                    lost;
 //   destroy(reason)  ends it at once: what isn't sent yet is dropped, and no listener stays;
 // and a WebSocket calls `overflowed`, where one was set, with the error by which it has destroyed itself.
 import { NoiseError } from './codes.mjs';
@@ -18,7 +22,8 @@ import { ofWebSocket, ofWebSocketStream } from './websocket.mjs';
  * What is used of a pair of WHATWG streams of bytes, and of a WebSocketStream.
  * @typedef {{ readable: { getReader: () => any }, writable: { getWriter: () => any } }} StreamPair
  * @typedef {{ opened: Promise<any>, closed: Promise<any>, close: () => void }} WebSocketStreamLike
- * @typedef {import('./websocket.mjs').WebSocketLike | WebSocketStreamLike | StreamPair | import('./nodestream.mjs').NodeStream} Connection
+ * @typedef {import('./websocket.mjs').WebSocketLike | WebSocketStreamLike | StreamPair |
+ * import('./nodestream.mjs').NodeStream} Connection
  */
 
 const cut = (cause) => new NoiseError('NOISE_CUT', { cause });
@@ -29,7 +34,8 @@ function ofStreams({ readable, writable }) {
   let unsent = 0;
   let isClosing = false;
   let drained;
-  const read = () => reader.read().then(({ value, done }) => (done ? undefined : value), (error) => { throw cut(error); });
+  const read = () =>
+    reader.read().then(({ value, done }) => (done ? undefined : value), (error) => { throw cut(error); });
   const end = () => {
     isClosing = true;
     return writer.close();
@@ -54,7 +60,9 @@ function ofStreams({ readable, writable }) {
       await reader.cancel();
     },
     destroy: (reason) => {
-      for (const done of [unsent > 0 || isClosing ? writer.abort(reason) : end(), reader.cancel(reason)]) done.catch(() => {});
+      for (const done of [unsent > 0 || isClosing ? writer.abort(reason) : end(), reader.cancel(reason)]) {
+        done.catch(() => {});
+      }
     },
   };
 }

@@ -1,4 +1,5 @@
-// Cipher states (Noise, 5.1), for a protocol whose packets have associated data, name their nonces or have a form of their own.
+// Cipher states (Noise, 5.1), for a protocol whose packets have associated data, name their nonces or have a form
+// of their own.
 import { NoiseError, code, must } from './codes.mjs';
 import { freeLater, letGo, library } from './module.mjs';
 import { bytesOf } from './bytes.mjs';
@@ -36,7 +37,8 @@ export class CipherState {
   }
 
   /**
-   * EncryptWithAd: the message of at most 65519 bytes of plaintext, 16 bytes longer. Neither `ad`, at most 65535 bytes, nor the nonce is in it.
+   * EncryptWithAd: the message of at most 65519 bytes of plaintext, 16 bytes longer. Neither `ad`, at most 65535
+   * bytes, nor the nonce is in it.
    * @param {Uint8Array} ad
    * @param {Uint8Array} plaintext
    * @returns {Uint8Array}
@@ -45,7 +47,9 @@ export class CipherState {
     const { length } = bytesOf(plaintext, 'plaintext');
     if (length > 65519) throw new NoiseError('NOISE_TOO_LONG');
     const { noise_cipher_encrypt: encrypt } = library().x;
-    return this.#inPlace(ad, plaintext, (place, at, count, buffer, result) => encrypt(place, at, count, buffer, ROOM, length, result));
+    return this.#inPlace(ad, plaintext, (place, at, count, buffer, result) =>
+      encrypt(place, at, count, buffer, ROOM, length, result),
+    );
   }
 
   /**
@@ -57,7 +61,9 @@ export class CipherState {
   decryptWithAd(ad, message) {
     const size = bytesOf(message, 'message').length;
     const { noise_cipher_decrypt: decrypt } = library().x;
-    return this.#inPlace(ad, message, (place, at, count, buffer, result) => decrypt(place, at, count, buffer, size, result));
+    return this.#inPlace(ad, message, (place, at, count, buffer, result) =>
+      decrypt(place, at, count, buffer, size, result),
+    );
   }
 
   /**
@@ -69,7 +75,8 @@ export class CipherState {
   }
 
   /**
-   * The nonce of the next message. Setting it (Noise, 11.4) is for receiving: a key never encrypts two texts at one nonce.
+   * The nonce of the next message. Setting it (Noise, 11.4) is for receiving: a key never encrypts two texts at one
+   * nonce.
    * @type {bigint}
    */
   get nonce() {
@@ -77,7 +84,9 @@ export class CipherState {
   }
 
   set nonce(nonce) {
-    if (typeof nonce !== 'bigint' || nonce < 0n || nonce >= 1n << 64n) throw new RangeError('a nonce is a BigInt from 0 to 2^64 - 1');
+    if (typeof nonce !== 'bigint' || nonce < 0n || nonce >= 1n << 64n) {
+      throw new RangeError('a nonce is a BigInt from 0 to 2^64 - 1');
+    }
     must(library().x.noise_cipher_set_nonce(this.#here(), nonce));
   }
 

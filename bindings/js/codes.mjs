@@ -2,16 +2,17 @@
 
 /** The numbers of include/noise.h. */
 export const code = Object.freeze({
-  OK: 0, NAME: 1, PATTERN: 2, EPHEMERAL_MISSING: 4, STATIC_MISSING: 5, REMOTE_MISSING: 6, REMOTE_UNEXPECTED: 7, PSK_COUNT: 8,
-  NOT_YOUR_TURN: 10, TOO_LONG: 11, DONE: 12, ENDED: 13, AGREEMENT: 14, SHORT: 15, TAG: 16, EXHAUSTED: 17, ROOM: 18, NOT_DONE: 19,
-  WANTED: 20, ONE_WAY: 22, STRUCT: 23, LENGTH: 24, WINDOW: 25, RESERVED: 26, OLD: 27, REPEATED: 28, NOT_DUE: 29, HEADING: 30,
-  ARROW: 31, TOKEN: 32, PRE_MESSAGE: 33, TURN: 34, PSK_PLACE: 35, NAME_TAKEN: 36, LIMIT: 37, ENDING: 38, RULE: 39, WANTED_PSK: 40, END: 41,
-  MORE: 42, CLOSED: 43, CUT: 44,
+  OK: 0, NAME: 1, PATTERN: 2, EPHEMERAL_MISSING: 4, STATIC_MISSING: 5, REMOTE_MISSING: 6, REMOTE_UNEXPECTED: 7,
+  PSK_COUNT: 8, NOT_YOUR_TURN: 10, TOO_LONG: 11, DONE: 12, ENDED: 13, AGREEMENT: 14, SHORT: 15, TAG: 16,
+  EXHAUSTED: 17, ROOM: 18, NOT_DONE: 19, WANTED: 20, ONE_WAY: 22, STRUCT: 23, LENGTH: 24, WINDOW: 25, RESERVED: 26,
+  OLD: 27, REPEATED: 28, NOT_DUE: 29, HEADING: 30, ARROW: 31, TOKEN: 32, PRE_MESSAGE: 33, TURN: 34, PSK_PLACE: 35,
+  NAME_TAKEN: 36, LIMIT: 37, ENDING: 38, RULE: 39, WANTED_PSK: 40, END: 41, MORE: 42, CLOSED: 43, CUT: 44,
 });
 
 /** What each means; from BUSY on they are this package's own. */
 const TEXTS = Object.freeze({
-  NAME: 'no protocol name of a fundamental pattern with 25519, ChaChaPoly and SHA256, or a psk place beyond its messages',
+  NAME: 'no protocol name of a fundamental pattern with 25519, ChaChaPoly and SHA256, '
+    + 'or a psk place beyond its messages',
   PATTERN: 'a pattern text that spells no valid pattern: checkPattern says where',
   EPHEMERAL_MISSING: 'the pattern has a token e of this party, and no ephemeral key was passed',
   STATIC_MISSING: 'the pattern has a token s of this party: pass staticKey',
@@ -51,19 +52,24 @@ const TEXTS = Object.freeze({
   END: 'the other party has ended its stream, and all of it came',
   MORE: "the frame isn't complete",
   CLOSED: 'the stream was ended before, or has refused something',
-  CUT: 'the connection ended before the other party has ended its stream, or in the handshake, or was never made: cause is its error, if it had one',
+  CUT: 'the connection ended before the other party has ended its stream, or in the handshake, or was never made: '
+    + 'cause is its error, if it had one',
   BUSY: 'another call on this handshake is under way: await it first',
   DISPOSED: 'this object is used up',
   NOT_LOADED: 'await load() first',
   KEY: "X25519 fails for the other party's public key, or gives all zeros: close",
   REFUSED: "verify didn't return true for the other party's static key, and the connection was closed",
-  UNAUTHENTICATED: 'nothing says who may be the other party: pass verify, remoteStatic, psks or pskFor, or acceptAnyKey: true',
+  UNAUTHENTICATED: 'nothing says who may be the other party: '
+    + 'pass verify, remoteStatic, psks or pskFor, or acceptAnyKey: true',
   BACKLOG: 'more came over the WebSocket than may wait until it is received, and the connection was closed',
 });
 
 const NAMES = new Map(Object.entries(code).map(([name, number]) => [number, `NOISE_${name}`]));
 
-/** @typedef {`NOISE_${keyof typeof TEXTS}`} Code What a call was refused for, by the name of include/noise.h, or of this package. */
+/**
+ * What a call was refused for, by the name of include/noise.h, or of this package.
+ * @typedef {`NOISE_${keyof typeof TEXTS}`} Code
+ */
 
 /** The name of the library's number. */
 export const codeOf = (number) => NAMES.get(number) ?? 'NOISE_UNKNOWN';
@@ -87,7 +93,8 @@ export class NoiseError extends Error {
      */
     this.number = code[name.slice(6)];
     /**
-     * At NOISE_SHORT and NOISE_TAG of `Handshake.read`: the token at which the message was refused, from 0 on; the payload comes after the last.
+     * At NOISE_SHORT and NOISE_TAG of `Handshake.read`: the token at which the message was refused, from 0 on; the
+     * payload comes after the last.
      * @type {number | undefined}
      */
     this.token = token;

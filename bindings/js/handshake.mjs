@@ -28,14 +28,15 @@ export class Handshake {
   #ephemeral;
   #static;
   #agreements = new Agreements();
-  #opening;    // the first 32 bytes of the first message that was read: the other party's ephemeral key, where it has one
+  // the first 32 bytes of the first message that was read: the other party's ephemeral key, where it has one
+  #opening;
   #chosen = 0;    // psks for the message that is read
   #started = false;
   #busy = false;
 
   /**
-   * Checks the set-up at once, and throws what noise_start returns. The ephemeral key pair is drawn at the first message, unless one is passed:
-   * that must never have been used before.
+   * Checks the set-up at once, and throws what noise_start returns. The ephemeral key pair is drawn at the first
+   * message, unless one is passed: that must never have been used before.
    * @param {import('./setup.mjs').HandshakeOptions} options
    */
   constructor(options) {
@@ -170,7 +171,8 @@ export class Handshake {
   }
 
   /**
-   * As `read`, but NOISE_TAG and NOISE_SHORT leave the handshake as it was, so that it can read another message: for those that a stranger can send.
+   * As `read`, but NOISE_TAG and NOISE_SHORT leave the handshake as it was, so that it can read another message:
+   * for those that a stranger can send.
    * @param {Uint8Array} message
    * @returns {Promise<Uint8Array>}
    */
@@ -206,14 +208,17 @@ export class Handshake {
    * @returns {number}
    */
   messageLength(payloadLength) {
-    if (!Number.isSafeInteger(payloadLength) || payloadLength < 0) throw new RangeError('payloadLength has to be a number of bytes');
+    if (!Number.isSafeInteger(payloadLength) || payloadLength < 0) {
+      throw new RangeError('payloadLength has to be a number of bytes');
+    }
     const lib = library();
     must(lib.x.noise_message_len(this.#here(), payloadLength, lib.at.number));
     return lib.size(lib.at.number);
   }
 
   /**
-   * The handshake hash so far. Before the first call of `write` or `read` an ephemeral key of a pre-message isn't drawn yet.
+   * The handshake hash so far. Before the first call of `write` or `read` an ephemeral key of a pre-message isn't
+   * drawn yet.
    * @returns {Uint8Array}
    */
   get hash() {
@@ -251,7 +256,8 @@ export class Handshake {
   }
 
   /**
-   * Makes the transport, and uses this handshake up. Each direction is rekeyed after each `interval` of its messages; 0 is never.
+   * Makes the transport, and uses this handshake up. Each direction is rekeyed after each `interval` of its
+   * messages; 0 is never.
    * @param {{ interval?: number }} [options]
    * @returns {Transport}
    */

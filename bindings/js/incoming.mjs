@@ -49,7 +49,9 @@ class Held {
     this.length -= count;
     let left = count;
     let whole = 0;
-    for (; whole < this.#chunks.length && this.#chunks[whole].length <= left; whole += 1) left -= this.#chunks[whole].length;
+    for (; whole < this.#chunks.length && this.#chunks[whole].length <= left; whole += 1) {
+      left -= this.#chunks[whole].length;
+    }
     this.#chunks.splice(0, whole);
     if (left > 0) this.#chunks[0] = this.#chunks[0].subarray(left);
     if (this.#chunks.length === 0) this.#room = 0;
@@ -84,8 +86,9 @@ export class Incoming {
   }
 
   /**
-   * What `look` makes of the first bytes, `{ value }`, or undefined where it needs more of them. `look(held, count)` gets these bytes, and says `wanted`,
-   * how many more it needs, or else `used` and `value`. NOISE_TOO_LONG where it needs more than `limit` in all.
+   * What `look` makes of the first bytes, `{ value }`, or undefined where it needs more of them. `look(held,
+   * count)` gets these bytes, and says `wanted`, how many more it needs, or else `used` and `value`. NOISE_TOO_LONG
+   * where it needs more than `limit` in all.
    */
   found(look, limit = Infinity) {
     const held = this.#held;
@@ -105,8 +108,8 @@ export class Incoming {
   }
 
   /**
-   * The same, once enough came, or undefined where the connection has ended before that. `wait` passes a promise on, and may end the waiting: no byte is
-   * lost then.
+   * The same, once enough came, or undefined where the connection has ended before that. `wait` passes a promise
+   * on, and may end the waiting: no byte is lost then.
    */
   async next(look, { limit, wait = (promise) => promise } = {}) {
     for (;;) {

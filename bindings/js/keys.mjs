@@ -1,5 +1,5 @@
-// Key pairs. A handshake asks an object with `publicKey`, 32 bytes, and `agree(remote)`, which gives the result of X25519 or a promise of it.
-// Those that are made here are WebCrypto's: the private key stays inside the browser.
+// Key pairs. A handshake asks an object with `publicKey`, 32 bytes, and `agree(remote)`, which gives the result of
+// X25519 or a promise of it. Those that are made here are WebCrypto's: the private key stays inside the browser.
 
 import { bytesOf, equal } from './bytes.mjs';
 import { OWN, mustBeOwn } from './own.mjs';
@@ -11,9 +11,13 @@ const PKCS8 = Uint8Array.of(48, 46, 2, 1, 0, 48, 5, 6, 3, 43, 101, 110, 4, 34, 4
 const BASE_POINT = new Uint8Array(32).fill(9, 0, 1);
 
 const imported = (remote) => crypto.subtle.importKey('raw', remote, { name: NAME }, true, []);
-const agreed = async (secret, key) => new Uint8Array(await crypto.subtle.deriveBits({ name: NAME, public: key }, secret, 256));
+const agreed = async (secret, key) =>
+  new Uint8Array(await crypto.subtle.deriveBits({ name: NAME, public: key }, secret, 256));
 
-/** What a handshake asks of its key pairs. Of those that are made here it imports each public key once, and has each result computed once. */
+/**
+ * What a handshake asks of its key pairs. Of those that are made here it imports each public key once, and has each
+ * result computed once.
+ */
 export class Agreements {
   #imports = [];
   #begun = [];
@@ -35,7 +39,10 @@ export class Agreements {
     return result;
   }
 
-  /** The result for a pair and a public key; that of `next`, a pair that is asked for the same key later, or undefined, is begun beside it. */
+  /**
+   * The result for a pair and a public key; that of `next`, a pair that is asked for the same key later, or
+   * undefined, is begun beside it.
+   */
   of(pair, remote, next) {
     if (!(pair instanceof KeyPair)) return pair.agree(remote);
     const result = this.#begin(pair, remote);
@@ -48,8 +55,8 @@ export class Agreements {
  * Whatever answers for a key pair of X25519.
  * @typedef {object} DH
  * @property {Uint8Array} publicKey 32 bytes.
- * @property {(remote: Uint8Array) => Uint8Array | Promise<Uint8Array>} agree Gives the result of X25519 for this pair and a public key. One of all
- * zeros is refused.
+ * @property {(remote: Uint8Array) => Uint8Array | Promise<Uint8Array>} agree Gives the result of X25519 for this
+ * pair and a public key. One of all zeros is refused.
  */
 
 /** A key pair of WebCrypto's X25519, whose private key isn't extractable from it. */
@@ -79,7 +86,8 @@ export class KeyPair {
   }
 
   /**
-   * The result of X25519 for this private key and a public key of 32 bytes. It rejects where the result would be all zeros.
+   * The result of X25519 for this private key and a public key of 32 bytes. It rejects where the result would be
+   * all zeros.
    * @param {Uint8Array} remote
    * @returns {Promise<Uint8Array>}
    */
@@ -116,7 +124,10 @@ export class KeyPair {
 
   /**
    * The pair of a CryptoKeyPair that the program keeps, in IndexedDB for example.
-   * @param {{ privateKey: import('./platform.js').WebCryptoKey, publicKey: import('./platform.js').WebCryptoKey }} pair
+   * @param {{
+   *   privateKey: import('./platform.js').WebCryptoKey,
+   *   publicKey: import('./platform.js').WebCryptoKey,
+   * }} pair
    * @returns {Promise<KeyPair>}
    */
   static async from({ privateKey, publicKey }) {

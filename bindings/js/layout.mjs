@@ -44,14 +44,23 @@ function tokensAt(bytes) {
 /** What the library says of a pattern but its messages' layouts, as bytes. */
 function infoOf(pattern) {
   const lib = library();
-  const number = lib.x.noise_pattern(...lib.put('prologue', patternBytes(wholePattern(pattern))), lib.at.info, lib.at.result);
+  const number = lib.x.noise_pattern(
+    ...lib.put('prologue', patternBytes(wholePattern(pattern))),
+    lib.at.info,
+    lib.at.result,
+  );
   if (number !== code.OK) throw new NoiseError(codeOf(number));
   return lib.view(lib.at.info, 95).slice();
 }
 
 function piecesOf(pattern, number) {
   const lib = library();
-  const answer = lib.x.noise_layout(...lib.put('prologue', patternBytes(wholePattern(pattern))), number, 0, lib.at.layout);
+  const answer = lib.x.noise_layout(
+    ...lib.put('prologue', patternBytes(wholePattern(pattern))),
+    number,
+    0,
+    lib.at.layout,
+  );
   if (answer !== code.OK) throw new NoiseError(codeOf(answer));
   const bytes = lib.view(lib.at.layout, 140);
   const word = (at) => bytes[at] + 256 * bytes[at + 1];    // no message has more than 65535 bytes
@@ -69,8 +78,8 @@ export function staticKeysOf(pattern) {
 }
 
 /**
- * The messages of a pattern, of a name or a text: who sends each, its tokens, its pieces in order, and its length with an empty payload. Of a text that
- * isn't valid it throws what `checkPattern` says.
+ * The messages of a pattern, of a name or a text: who sends each, its tokens, its pieces in order, and its length
+ * with an empty payload. Of a text that isn't valid it throws what `checkPattern` says.
  * @param {string} pattern
  * @returns {Layout}
  */

@@ -2,7 +2,19 @@
 import { NoiseError, must } from './codes.mjs';
 import { ofNumbers } from './numbers.mjs';
 
-const SCRATCH = { name: 512, prologue: 65536, payload: 65536, message: 65552, result: 56, setup: 422, answer: 32, key: 33, number: 16, info: 95, layout: 140 };
+const SCRATCH = {
+  name: 512,
+  prologue: 65536,
+  payload: 65536,
+  message: 65552,
+  result: 56,
+  setup: 422,
+  answer: 32,
+  key: 33,
+  number: 16,
+  info: 95,
+  layout: 140,
+};
 const PAGE = 65536;
 /** The major version of the library. */
 const VERSION = 1;
@@ -45,7 +57,9 @@ class Library {
     return place;
   }
 
-  /** A 32-bit memory takes a number, and so does a 64-bit one of Node 20; that of the final proposal takes a BigInt. */
+  /**
+   * A 32-bit memory takes a number, and so does a 64-bit one of Node 20; that of the final proposal takes a BigInt.
+   */
   #grow(pages) {
     try {
       this.memory.grow(pages);
@@ -55,7 +69,10 @@ class Library {
     }
   }
 
-  /** Takes views of the whole memory: those that were taken before it grew see nothing any more. Only JavaScript makes it grow. */
+  /**
+   * Takes views of the whole memory: those that were taken before it grew see nothing any more. Only JavaScript
+   * makes it grow.
+   */
   #see() {
     this.#bytes = new Uint8Array(this.memory.buffer);
     this.#data = new DataView(this.memory.buffer);
@@ -94,7 +111,9 @@ class Library {
     this.unused[kind].push(place);
   }
 
-  /** What the last call has returned besides its code. Both numbers of 8 bytes are places in a message, below 2^32. */
+  /**
+   * What the last call has returned besides its code. Both numbers of 8 bytes are places in a message, below 2^32.
+   */
   result() {
     const start = this.at.result;
     return {
@@ -147,7 +166,9 @@ export function library() {
   return loaded;
 }
 
-const forgotten = new FinalizationRegistry((places) => { for (const [kind, place] of places) loaded.free(kind, place); });
+const forgotten = new FinalizationRegistry((places) => {
+  for (const [kind, place] of places) loaded.free(kind, place);
+});
 
 /** Frees places, each with its kind, once nobody has an object any more, unless it lets go of them before. */
 export function freeLater(object, places) {
@@ -164,17 +185,21 @@ const ofFile = (url) => globalThis.process.getBuiltinModule('fs/promises').readF
 async function instanceOf(source) {
   if (source instanceof ArrayBuffer || ArrayBuffer.isView(source)) return WebAssembly.instantiate(source, {});
   const url = new URL(source, import.meta.url);
-  if (url.protocol === 'file:' && globalThis.process?.getBuiltinModule) return WebAssembly.instantiate(await ofFile(url), {});
+  if (url.protocol === 'file:' && globalThis.process?.getBuiltinModule) {
+    return WebAssembly.instantiate(await ofFile(url), {});
+  }
   const answer = await fetch(url);
   if (!answer.ok) throw new Error(`${url}: ${answer.status} ${answer.statusText}`);
   // A server that doesn't know the type of .wasm takes part too.
   const isTyped = answer.headers.get('content-type') === 'application/wasm';
-  return isTyped ? WebAssembly.instantiateStreaming(answer, {}) : WebAssembly.instantiate(await answer.arrayBuffer(), {});
+  return isTyped
+    ? WebAssembly.instantiateStreaming(answer, {})
+    : WebAssembly.instantiate(await answer.arrayBuffer(), {});
 }
 
 /**
- * Whether this engine runs WebAssembly with 64-bit memory, which the module that `load()` takes doesn't have: one of nothing but such a memory is
- * tried.
+ * Whether this engine runs WebAssembly with 64-bit memory, which the module that `load()` takes doesn't have: one
+ * of nothing but such a memory is tried.
  */
 export function hasMemory64() {
   return WebAssembly.validate(Uint8Array.of(0, 97, 115, 109, 1, 0, 0, 0, 5, 3, 1, 4, 1));
@@ -183,14 +208,16 @@ export function hasMemory64() {
 /** The library of a new instance, if it has the version that this package was written for. */
 async function libraryOf(source) {
   const { instance } = await instanceOf(source);
-  if (instance.exports.noise_version?.() >>> 16 !== VERSION) throw new Error(`the module isn't version ${VERSION} of the library`);
+  if (instance.exports.noise_version?.() >>> 16 !== VERSION) {
+    throw new Error(`the module isn't version ${VERSION} of the library`);
+  }
   return new Library(instance.exports.memory, await ofNumbers(instance.exports));
 }
 
 /**
- * Loads the module, once: later calls do nothing. Without an argument it is noise_c.wasm beside this file, which has 32-bit memory. An address that is
- * relative counts from here. It throws what `fetch`, reading a file and WebAssembly throw, as a CompileError for a module with 64-bit memory where the
- * engine has none.
+ * Loads the module, once: later calls do nothing. Without an argument it is noise_c.wasm beside this file, which
+ * has 32-bit memory. An address that is relative counts from here. It throws what `fetch`, reading a file and
+ * WebAssembly throw, as a CompileError for a module with 64-bit memory where the engine has none.
  * @param {string | { readonly href: string } | ArrayBuffer | ArrayBufferView} [source]
  * @returns {Promise<void>}
  */

@@ -1,5 +1,5 @@
-// The Noise Protocol Framework, revision 34, with 25519, ChaChaPoly and SHA256, on the proved library as WebAssembly. docs/JAVASCRIPT.md says how
-// it is used, and what of it is proved.
+// The Noise Protocol Framework, revision 34, with 25519, ChaChaPoly and SHA256, on the proved library as
+// WebAssembly. docs/JAVASCRIPT.md says how it is used, and what of it is proved.
 export { NoiseError } from './codes.mjs';
 export { equal, fromHex, hex } from './bytes.mjs';
 export { hasMemory64, load } from './module.mjs';

@@ -10,14 +10,16 @@ import { Waiting } from './waiting.mjs';
 import { EARLY } from './websocket.mjs';
 
 /**
- * Refuses options that don't say who may be the other party, and a `verify` that would never be called; tells whether it is to be called. The package
- * for Go decides alike.
+ * Refuses options that don't say who may be the other party, and a `verify` that would never be called; tells
+ * whether it is to be called. The package for Go decides alike.
  */
 function hasToVerify({ pattern, responder, remoteStatic, psks = [], pskFor }, verify, acceptAnyKey) {
   if (verify !== undefined && typeof verify !== 'function') throw new TypeError('verify has to be a function');
   const isKeyed = staticKeysOf(pattern)[responder ? 'initiator' : 'responder'];
   if (acceptAnyKey !== true) {
-    if (verify && !isKeyed) throw new TypeError('verify would never be called: the other party has no static key in this pattern');
+    if (verify && !isKeyed) {
+      throw new TypeError('verify would never be called: the other party has no static key in this pattern');
+    }
     if (!verify && !remoteStatic && !pskFor && psks.length === 0) throw new NoiseError('NOISE_UNAUTHENTICATED');
   }
   return verify !== undefined && isKeyed;
@@ -30,8 +32,8 @@ function sizeOf(value, what) {
 }
 
 /**
- * How much may wait over a WebSocket: 1 MiB until the last message of the handshake has come, `backlog` then, and while `verify` or `pskFor` is asked
- * 1 MiB more than what waits.
+ * How much may wait over a WebSocket: 1 MiB until the last message of the handshake has come, `backlog` then, and
+ * while `verify` or `pskFor` is asked 1 MiB more than what waits.
  */
 class Bound {
   #carrier;
@@ -60,8 +62,8 @@ class Bound {
 }
 
 /**
- * Passes the messages of a handshake, each of at most `limit` bytes, as long as `waiting` isn't over. Gives the frames that are kept back: that of the last
- * message, if this party writes it, leaves with the first payload.
+ * Passes the messages of a handshake, each of at most `limit` bytes, as long as `waiting` isn't over. Gives the
+ * frames that are kept back: that of the last message, if this party writes it, leaves with the first payload.
  */
 async function pass({ carrier, incoming, handshake, verify, limit, waiting, bound }) {
   let isDue = verify !== undefined;
@@ -88,6 +90,30 @@ async function pass({ carrier, incoming, handshake, verify, limit, waiting, boun
   }
 }
 
+/**
+ * @typedef {object} SocketOptions
+ * @property {number} [interval] Each direction is rekeyed after so many of its messages, the same number at both
+ * parties; 0 is never.
+ * @property {(remoteStatic: Uint8Array) => boolean | Promise<boolean>} [verify] Called once, as soon as the other
+ * party's static key is known, before anything else is sent or read. Unless it returns true itself, the connection
+ * is closed, and `open` throws NOISE_REFUSED. In a pattern in which the other party has no static key it is a
+ * TypeError.
+ * @property {boolean} [acceptAnyKey] Talks to anybody, where none of `verify`, `remoteStatic`, `psks` and `pskFor`
+ * says who it may be. Without it `open` throws NOISE_UNAUTHENTICATED.
+ * @property {import('./waiting.mjs').Signal} [signal] Ends the call of `open`, whatever it waits for: it destroys
+ * the connection, and throws the signal's reason.
+ * @property {number} [handshakeLimit] How many bytes a handshake message may have: 4096, if nothing is said. At
+ * more `open` throws NOISE_TOO_LONG.
+ * @property {number} [backlog] How many bytes of a WebSocket that can't be paused may wait until they are received:
+ * 64 MiB, if nothing is said, each message with 256 more. At more the connection is closed, and `receive` throws
+ * NOISE_BACKLOG. Until the last message of the handshake has come that is 1 MiB, and while `verify` or `pskFor` is
+ * asked 1 MiB more than what waits then.
+ */
+/**
+ * The set-up of a handshake, and of a channel.
+ * @typedef {import('./setup.mjs').HandshakeOptions & SocketOptions} NoiseSocketOptions
+ */
+
 /** Ends waiting once a signal aborts, and gives a function that lets go of the signal. */
 function endBy(signal, waiting) {
   if (signal === undefined) return () => {};
@@ -98,24 +124,8 @@ function endBy(signal, waiting) {
 }
 
 /**
- * @typedef {object} SocketOptions
- * @property {number} [interval] Each direction is rekeyed after so many of its messages, the same number at both parties; 0 is never.
- * @property {(remoteStatic: Uint8Array) => boolean | Promise<boolean>} [verify] Called once, as soon as the other party's static key is known, before
- * anything else is sent or read. Unless it returns true itself, the connection is closed, and `open` throws NOISE_REFUSED. In a pattern in which the
- * other party has no static key it is a TypeError.
- * @property {boolean} [acceptAnyKey] Talks to anybody, where none of `verify`, `remoteStatic`, `psks` and `pskFor` says who it may be. Without it
- * `open` throws NOISE_UNAUTHENTICATED.
- * @property {import('./waiting.mjs').Signal} [signal] Ends the call of `open`, whatever it waits for: it destroys the connection, and throws the signal's reason.
- * @property {number} [handshakeLimit] How many bytes a handshake message may have: 4096, if nothing is said. At more `open` throws NOISE_TOO_LONG.
- * @property {number} [backlog] How many bytes of a WebSocket that can't be paused may wait until they are received: 64 MiB, if nothing is said, each
- * message with 256 more. At more the connection is closed, and `receive` throws NOISE_BACKLOG. Until the last message of the handshake has come that is 1 MiB, and while
- * `verify` or `pskFor` is asked 1 MiB more than what waits then.
- */
-/** @typedef {import('./setup.mjs').HandshakeOptions & SocketOptions} NoiseSocketOptions The set-up of a handshake, and of a channel. */
-
-/**
- * Passes a handshake over a connection: the carrier, what came over it, unless the other party sends nothing (Noise, 7.4), the stream, and the frames that
- * are kept back.
+ * Passes a handshake over a connection: the carrier, what came over it, unless the other party sends nothing
+ * (Noise, 7.4), the stream, and the frames that are kept back.
  */
 export async function opened(connection, options) {
   const carrier = carrierOf(connection);
@@ -123,16 +133,27 @@ export async function opened(connection, options) {
   let handshake;
   let letGo;
   try {
-    const { interval = 0, verify, acceptAnyKey, signal, handshakeLimit = 4096, backlog = 1 << 26, ...setup } = optionsOf(options, true);
+    const { interval = 0, verify, acceptAnyKey, signal, handshakeLimit = 4096, backlog = 1 << 26, ...setup } =
+      optionsOf(options, true);
     const limit = sizeOf(handshakeLimit, 'handshakeLimit');
     const bound = new Bound(carrier, sizeOf(backlog, 'backlog'));
-    handshake = new Handshake(typeof setup.pskFor === 'function' ? { ...setup, pskFor: bound.asking(setup.pskFor) } : setup);
+    handshake = new Handshake(
+      typeof setup.pskFor === 'function' ? { ...setup, pskFor: bound.asking(setup.pskFor) } : setup,
+    );
     const isDue = hasToVerify(setup, verify, acceptAnyKey);
     letGo = endBy(signal, waiting);
     carrier.overflowed = (error) => waiting.end(error);
     await waiting.for(carrier.ready());
     const incoming = new Incoming(() => carrier.pull());
-    const kept = await pass({ carrier, incoming, handshake, verify: isDue ? bound.asking(verify) : undefined, limit, waiting, bound });
+    const kept = await pass({
+      carrier,
+      incoming,
+      handshake,
+      verify: isDue ? bound.asking(verify) : undefined,
+      limit,
+      waiting,
+      bound,
+    });
     carrier.overflowed = undefined;    // the next call of receive throws it
     bound.hasLast();
     const isSilent = handshake.stage.messages === 1 && !setup.responder;

@@ -1,7 +1,8 @@
 // What the engine's own types are, by the types that a program has: those of the DOM, of Node, or none.
 
 /** The type of instances of a global class, or another where there is none. */
-type Of<Name extends string, Other> = typeof globalThis extends { [N in Name]: { prototype: infer Made } } ? Made : Other;
+type Of<Name extends string, Other> =
+  typeof globalThis extends { [N in Name]: { prototype: infer Made } } ? Made : Other;
 
 /** What comes over a channel, as a ReadableStream. */
 export interface PayloadReadable extends Of<'ReadableStream', AsyncIterable<Uint8Array>> {}
@@ -14,4 +15,6 @@ export interface WebCryptoKey extends Of<'CryptoKey', { readonly type: string }>
 
 /** Symbol.asyncDispose, where the types have it: `await using` takes it. */
 export interface Disposes extends AsyncDisposes {}
-type AsyncDisposes = SymbolConstructor extends { readonly asyncDispose: infer Key extends symbol } ? { [K in Key]: () => Promise<void> } : {};
+type AsyncDisposes = SymbolConstructor extends { readonly asyncDispose: infer Key extends symbol }
+  ? { [K in Key]: () => Promise<void> }
+  : {};

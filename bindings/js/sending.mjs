@@ -1,7 +1,10 @@
 // What a channel sends: frames in turn, after those that the handshake has kept back.
 import { Turns, Waiting, turn } from './waiting.mjs';
 
-/** So many times in a row something is sent before timers and connections have their turn: what is always taken at once would keep them waiting. */
+/**
+ * So many times in a row something is sent before timers and connections have their turn: what is always taken at
+ * once would keep them waiting.
+ */
 const IN_A_ROW = 32;
 
 export class Sending {

@@ -1,4 +1,5 @@
-// A channel over what moves bytes: a WebSocket, one message a frame, or a pair of WHATWG streams or a stream of Node, each message after its length.
+// A channel over what moves bytes: a WebSocket, one message a frame, or a pair of WHATWG streams or a stream of
+// Node, each message after its length.
 import { NoiseError } from './codes.mjs';
 import { bytesOf, copyOf } from './bytes.mjs';
 import { opened } from './opening.mjs';
@@ -9,7 +10,8 @@ import { Turns, Waiting, mustGoOn, unlessAborted, within } from './waiting.mjs';
 
 /** How long a channel that is closed waits for the other party to close the connection, in milliseconds. */
 const LINGER = 5000;
-const BRIEF = { patience: 200, most: 1 << 20 };    // how long one that is left does, once all is sent, and how many bytes it reads
+// how long one that is left does, once all is sent, and how many bytes it reads
+const BRIEF = { patience: 200, most: 1 << 20 };
 
 /** @typedef {import('./waiting.mjs').Signal} Signal */
 
@@ -53,13 +55,15 @@ export class NoiseSocket {
      * @type {Uint8Array | undefined}
      */
     this.remoteStatic = stream.remoteStatic;
-    if (kept.length > 0) setTimeout(() => this.#flushLater());    // who does nothing at once doesn't keep the other party waiting
+    // who does nothing at once doesn't keep the other party waiting
+    if (kept.length > 0) setTimeout(() => this.#flushLater());
   }
 
   /**
-   * Passes a handshake, without payloads, over a WebSocket, over `{readable, writable}`, or over a stream of Node. What a WebSocket got before this
-   * call isn't seen. Where it throws, the connection is destroyed. The last message of the handshake, if this party writes it, leaves with what is sent
-   * at once after this call, or else soon after it.
+   * Passes a handshake, without payloads, over a WebSocket, over `{readable, writable}`, or over a stream of Node.
+   * What a WebSocket got before this call isn't seen. Where it throws, the connection is destroyed. The last
+   * message of the handshake, if this party writes it, leaves with what is sent at once after this call, or else
+   * soon after it.
    * @param {import('./carriers.mjs').Connection} connection
    * @param {import('./opening.mjs').NoiseSocketOptions} options
    * @returns {Promise<NoiseSocket & import('./platform.js').Disposes>}
@@ -100,9 +104,10 @@ export class NoiseSocket {
   }
 
   /**
-   * Sends a payload, and waits until the connection has taken it. One of more than 65519 bytes comes as several, and of an empty one nothing is sent. In
-   * a loop of such calls the program's timers and other connections have their turn. A signal that aborts before the payload's turn takes nothing from the
-   * channel; later it ends the channel, since the other party may get a part.
+   * Sends a payload, and waits until the connection has taken it. One of more than 65519 bytes comes as several,
+   * and of an empty one nothing is sent. In a loop of such calls the program's timers and other connections have
+   * their turn. A signal that aborts before the payload's turn takes nothing from the channel; later it ends the
+   * channel, since the other party may get a part.
    * @param {Uint8Array} payload
    * @param {{ signal?: Signal }} [options]
    * @returns {Promise<void>}
@@ -133,8 +138,8 @@ export class NoiseSocket {
   }
 
   /**
-   * Ends what this party sends, and waits until the connection has taken the end: the other party's `receive` gives undefined then. This party goes
-   * on to receive.
+   * Ends what this party sends, and waits until the connection has taken the end: the other party's `receive` gives
+   * undefined then. This party goes on to receive.
    * @param {{ signal?: Signal }} [options]
    * @returns {Promise<void>}
    */
@@ -152,7 +157,8 @@ export class NoiseSocket {
   }
 
   /**
-   * Sends the last message of the handshake, where it is kept back, and waits until the connection has taken all that was sent.
+   * Sends the last message of the handshake, where it is kept back, and waits until the connection has taken all
+   * that was sent.
    * @returns {Promise<void>}
    */
   async flush() {
@@ -161,13 +167,15 @@ export class NoiseSocket {
   }
 
   #flushLater() {
-    if (this.#sending.hasKept) this.#sending.take(() => this.#sending.put()).catch(() => {});    // the next call of send rejects
+    // the next call of send rejects
+    if (this.#sending.hasKept) this.#sending.take(() => this.#sending.put()).catch(() => {});
   }
 
   /**
-   * The next payload, or undefined once the other party has ended its stream, and all of it came. Where the connection has ended before that, it
-   * throws NOISE_CUT, and to the initiator of a one-way pattern nothing comes: NOISE_ONE_WAY. Calls at once are served in order. A signal that aborts
-   * takes nothing from the channel: the next call gets the payload.
+   * The next payload, or undefined once the other party has ended its stream, and all of it came. Where the
+   * connection has ended before that, it throws NOISE_CUT, and to the initiator of a one-way pattern nothing comes:
+   * NOISE_ONE_WAY. Calls at once are served in order. A signal that aborts takes nothing from the channel: the next
+   * call gets the payload.
    * @param {{ signal?: Signal }} [options]
    * @returns {Promise<Uint8Array | undefined>}
    */
@@ -210,7 +218,8 @@ export class NoiseSocket {
   }
 
   /**
-   * The payloads, until the other party has ended its stream. Who leaves a loop over them before closes the connection, as Symbol.asyncDispose does.
+   * The payloads, until the other party has ended its stream. Who leaves a loop over them before closes the
+   * connection, as Symbol.asyncDispose does.
    * @returns {AsyncIterableIterator<Uint8Array>}
    */
   async* [Symbol.asyncIterator]() {
@@ -224,7 +233,8 @@ export class NoiseSocket {
   }
 
   /**
-   * What comes, as a stream of WHATWG, for `pipeTo` and Node's `pipeline`. Who cancels it closes the connection, as Symbol.asyncDispose does.
+   * What comes, as a stream of WHATWG, for `pipeTo` and Node's `pipeline`. Who cancels it closes the connection, as
+   * Symbol.asyncDispose does.
    * @returns {import('./platform.js').PayloadReadable}
    */
   get readable() {
@@ -253,9 +263,10 @@ export class NoiseSocket {
   }
 
   /**
-   * Ends what this party sends, unless it is ended, and closes the connection once all is sent and the other party has ended its stream or closed the
-   * connection, or after `timeout` milliseconds. It never rejects: `end` does where the end can't be sent. What still comes is dropped, and calls that
-   * wait for a payload throw NOISE_DISPOSED.
+   * Ends what this party sends, unless it is ended, and closes the connection once all is sent and the other party
+   * has ended its stream or closed the connection, or after `timeout` milliseconds. It never rejects: `end` does
+   * where the end can't be sent. What still comes is dropped, and calls that wait for a payload throw
+   * NOISE_DISPOSED.
    * @param {{ timeout?: number }} [options]
    * @returns {Promise<void>}
    */
@@ -265,8 +276,9 @@ export class NoiseSocket {
   }
 
   /**
-   * Closes the connection once all is sent, but without an end of what this party sends: the other party gets what was sent, and then NOISE_CUT, unless
-   * `end` was called before. It may go on to send for ever: for 200 milliseconds it has the time to close, and at most 1 MiB is read.
+   * Closes the connection once all is sent, but without an end of what this party sends: the other party gets what
+   * was sent, and then NOISE_CUT, unless `end` was called before. It may go on to send for ever: for 200
+   * milliseconds it has the time to close, and at most 1 MiB is read.
    * @private
    */
   leave(mark) {
@@ -280,7 +292,8 @@ export class NoiseSocket {
     this.#receiving.end(new NoiseError('NOISE_DISPOSED'));
     this.#carrier.discard(most);
     await within(timeout, this.#sending.take(async () => {
-      if (isWhole && !this.#hasEnded) await this.#putEnd().catch(() => {});    // the responder of a one-way pattern has none
+      // the responder of a one-way pattern has none
+      if (isWhole && !this.#hasEnded) await this.#putEnd().catch(() => {});
       await this.#sending.put();
       await this.#carrier.close(patience, this.#isEnded);
     }));
@@ -288,7 +301,8 @@ export class NoiseSocket {
   }
 
   /**
-   * Ends all at once, without an end of what this party sends: the other party sees a cut. After `close` it does nothing.
+   * Ends all at once, without an end of what this party sends: the other party sees a cut. After `close` it does
+   * nothing.
    * @returns {void}
    */
   destroy() {

@@ -1,4 +1,5 @@
-// Streams with an end, by the proved channel of the library: it makes and finds frames, and says where a stream ends, and when it is broken.
+// Streams with an end, by the proved channel of the library: it makes and finds frames, and says where a stream
+// ends, and when it is broken.
 import { NoiseError, code, must } from './codes.mjs';
 import { library } from './module.mjs';
 import { bytesOf } from './bytes.mjs';
@@ -17,7 +18,10 @@ export function frameOf(message) {
   return room.slice(0, lib.streamResult().len);
 }
 
-/** What the library finds at the start of these bytes, of which it is shown so many: the message of a frame, or how many more are wanted. */
+/**
+ * What the library finds at the start of these bytes, of which it is shown so many: the message of a frame, or how
+ * many more are wanted.
+ */
 export function findMessage(held, count) {
   const lib = library();
   held.copyTo(lib.view(lib.at.message, count));
@@ -38,12 +42,21 @@ export class Stream extends Sealed {
   /** @private */
   static kinds = ['streamSender', 'streamReceiver'];
 
-  /** The frame of a payload of at most MOST bytes, in memory that `room` has for it, or in its own. Of no bytes there is none, and it is empty. */
+  /**
+   * The frame of a payload of at most MOST bytes, in memory that `room` has for it, or in its own. Of no bytes
+   * there is none, and it is empty.
+   */
   write(payload, room) {
     const lib = library();
     const [sender] = this.halves;
     if (bytesOf(payload, 'payload').length > MOST) throw new NoiseError('NOISE_TOO_LONG');
-    const number = lib.x.noise_stream_write(sender, ...lib.put('payload', payload), lib.at.message, ROOM, lib.at.result);
+    const number = lib.x.noise_stream_write(
+      sender,
+      ...lib.put('payload', payload),
+      lib.at.message,
+      ROOM,
+      lib.at.result,
+    );
     lib.wipe('payload', payload.length);
     must(number);
     const frame = lib.view(lib.at.message, lib.streamResult().len);
@@ -61,7 +74,10 @@ export class Stream extends Sealed {
     return lib.view(lib.at.message, lib.streamResult().len).slice();
   }
 
-  /** What the library reads at the start of these bytes, of which it is shown so many: a payload, undefined for the end, or how many more are wanted. */
+  /**
+   * What the library reads at the start of these bytes, of which it is shown so many: a payload, undefined for the
+   * end, or how many more are wanted.
+   */
   read(held, count) {
     const lib = library();
     const [, receiver] = this.halves;

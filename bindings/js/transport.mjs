@@ -1,4 +1,5 @@
-// What follows a handshake: a transport, for messages in order, datagrams, for a network that loses, repeats and reorders, or cipher states.
+// What follows a handshake: a transport, for messages in order, datagrams, for a network that loses, repeats and
+// reorders, or cipher states.
 import { NoiseError, must } from './codes.mjs';
 import { freeLater, letGo, library } from './module.mjs';
 import { bytesOf } from './bytes.mjs';
@@ -70,7 +71,13 @@ export class Sealed {
     const lib = library();
     const [sender] = this.halves;
     if (bytesOf(payload, 'payload').length > 65519) throw new NoiseError('NOISE_TOO_LONG');
-    const number = call(sender, ...lib.put('payload', payload), lib.at.message, payload.length + overhead, lib.at.result);
+    const number = call(
+      sender,
+      ...lib.put('payload', payload),
+      lib.at.message,
+      payload.length + overhead,
+      lib.at.result,
+    );
     lib.wipe('payload', payload.length);
     must(number);
     return lib.view(lib.at.message, lib.result().len).slice();
@@ -102,7 +109,12 @@ export class Sealed {
 /** What the halves of an object have in common. */
 function commonOf(both) {
   const dispose = () => both.dispose();
-  return { hash: both.hash, remoteStatic: both.remoteStatic, dispose, ...(Symbol.dispose && { [Symbol.dispose]: dispose }) };
+  return {
+    hash: both.hash,
+    remoteStatic: both.remoteStatic,
+    dispose,
+    ...(Symbol.dispose && { [Symbol.dispose]: dispose }),
+  };
 }
 const sealerOf = (both) => Object.freeze({ ...commonOf(both), seal: (payload) => both.seal(payload) });
 const openerOf = (both) => Object.freeze({ ...commonOf(both), open: (message) => both.open(message) });
@@ -137,7 +149,10 @@ export class Transport extends Sealed {
   get nonces() {
     const lib = library();
     const [sender, receiver] = this.halves;
-    return { send: lib.nonce(lib.x.noise_sender_nonce, sender), receive: lib.nonce(lib.x.noise_receiver_nonce, receiver) };
+    return {
+      send: lib.nonce(lib.x.noise_sender_nonce, sender),
+      receive: lib.nonce(lib.x.noise_receiver_nonce, receiver),
+    };
   }
 
   /**

@@ -26,7 +26,10 @@ export function unlessAborted(promise, signal) {
   });
 }
 
-/** Work in turns: each begins once the one before has settled, and at once where there is none, unless its signal has aborted before. */
+/**
+ * Work in turns: each begins once the one before has settled, and at once where there is none, unless its signal
+ * has aborted before.
+ */
 export class Turns {
   #last = Promise.resolve();
   #count = 0;
@@ -69,7 +72,10 @@ export class Turns {
   }
 }
 
-/** Waits for promises, until it is ended: whatever waits rejects then, for that reason, and so does what would wait later. */
+/**
+ * Waits for promises, until it is ended: whatever waits rejects then, for that reason, and so does what would wait
+ * later.
+ */
 export class Waiting {
   #rejects = new Set();
   #end;
@@ -113,7 +119,10 @@ export function within(milliseconds, promise) {
 
 export const pause = (milliseconds) => new Promise((resolve) => { setTimeout(resolve, milliseconds); });
 
-/** Lets timers and connections have their turn, in Node. A browser has no such call, and needs none: it takes nothing at once. */
+/**
+ * Lets timers and connections have their turn, in Node. A browser has no such call, and needs none: it takes
+ * nothing at once.
+ */
 export const turn = () => new Promise((resolve) => { (globalThis.setImmediate ?? queueMicrotask)(resolve); });
 
 /** Drops what is read until the end. After `most` bytes it reads no more, and stays pending. */

@@ -4,7 +4,8 @@ import { frameOf, messageOf } from './stream.mjs';
 import { drain, pause, within } from './waiting.mjs';
 
 /**
- * What is used of a WebSocket of a browser, of Node or of the package ws, which alone has `pause`, `resume` and `terminate`.
+ * What is used of a WebSocket of a browser, of Node or of the package ws, which alone has `pause`, `resume` and
+ * `terminate`.
  * @typedef {object} WebSocketLike
  * @property {string} binaryType
  * @property {number} readyState
@@ -62,7 +63,10 @@ class Backlog {
     for (const { resolve, reject } of this.#waiting.splice(0)) if (error) reject(error); else resolve(undefined);
   }
 
-  /** The first message. Those that were pulled are dropped many at a time: to move the others for each would take time by its square. */
+  /**
+   * The first message. Those that were pulled are dropped many at a time: to move the others for each would take
+   * time by its square.
+   */
   #next() {
     const message = this.#messages[this.#first];
     this.#messages[this.#first] = undefined;
@@ -117,7 +121,11 @@ const bytesIn = (data) => (typeof data === 'string' ? TEXT : new Uint8Array(data
 
 /** The frame of a message. */
 function framed(message) {
-  if (message === TEXT) throw new NoiseError('NOISE_SHORT', { message: 'a text message came over the WebSocket, and a message of Noise is a binary one' });
+  if (message === TEXT) {
+    throw new NoiseError('NOISE_SHORT', {
+      message: 'a text message came over the WebSocket, and a message of Noise is a binary one',
+    });
+  }
   return frameOf(message);
 }
 
@@ -196,7 +204,9 @@ export function ofWebSocketStream(socket) {
   let reader;
   let writer;
   const broken = (error) => { throw cut(error); };
-  const opened = socket.opened.then(({ readable, writable }) => { [reader, writer] = [readable.getReader(), writable.getWriter()]; });
+  const opened = socket.opened.then(({ readable, writable }) => {
+    [reader, writer] = [readable.getReader(), writable.getWriter()];
+  });
   const closed = socket.closed.then(() => {}, () => {});
   opened.catch(() => {});    // `ready` may not be called
   const read = () => reader.read().then(({ value, done }) => (done ? undefined : framed(bytesIn(value))), broken);
@@ -210,7 +220,9 @@ export function ofWebSocketStream(socket) {
       }
     },
     pull: read,
-    discard: (most) => { drain(() => reader.read().then(({ value, done }) => (done ? undefined : bytesIn(value))), most); },
+    discard: (most) => {
+      drain(() => reader.read().then(({ value, done }) => (done ? undefined : bytesIn(value))), most);
+    },
     close: async (patience) => {
       await writer.close();
       await within(patience, closed);

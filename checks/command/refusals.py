@@ -1,4 +1,4 @@
-"""Commands whose file or output fails at each byte, both where the program reads and writes a byte a call, and as it
+"""Commands whose files or output fail at each byte, both where the program reads and writes a byte a call, and as it
 does by itself."""
 
 import functools
@@ -30,14 +30,26 @@ def tries_of(line, folder):
     whole = run(words, folder)
     yield words, {}, whole._replace(err=b"")
     if words[0] not in ("list", "show", "test"):
-        size = os.path.getsize(f"{folder}/{words[1]}")
-        for variables in limits("READ", range(size + 1)):
-            yield words, variables, Ran(3, b"", b"cannot read\n")
+        for size, told in refused_reads(words, folder):
+            for variables in limits("READ", [size]):
+                yield words, variables, Ran(3, b"", told)
         yield words, {"READ_PIECE": "1"}, whole
     step = max(1, len(whole.out) // MOST_LIMITS)
     for variables in limits("OUTPUT", range(0, len(whole.out), step)):
         yield words, variables, Ran(3, whole.out[: int(variables["OUTPUT_LIMIT"])], b"cannot write\n")
     yield words, {"OUTPUT_PIECE": "1"}, whole
+
+
+def refused_reads(words, folder):
+    """After how many bytes a read of the command's files fails, and what is told then: the first word is no file where
+    it is a pattern's name, and a file after it is named."""
+    first = passed = 0
+    for word in words[1:]:
+        if os.path.exists(f"{folder}/{word}"):
+            passed += os.path.getsize(f"{folder}/{word}")
+            told = "cannot read\n" if word == words[1] else f"fault {word}: cannot read\n"
+            yield from ((size, told.encode()) for size in range(first, passed + 1))
+            first = passed + 1
 
 
 def closed_pipe(words, folder):

@@ -24,7 +24,8 @@ def of_the_page():
         rows = re.search(
             rf"^(?:export )?const {table} = Object\.freeze\(\{{\n(.*?)^\}}\);", text, re.DOTALL | re.MULTILINE
         )[1]
-        for sentence in STRING.findall(rows):
+        joined = re.sub(r"'\n\s*\+ '", "", rows)  # a string may go on in the next line
+        for sentence in STRING.findall(joined):
             if sentence != "{mend}":  # one of MIXES
                 yield plain(sentence)
 

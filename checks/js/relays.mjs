@@ -103,6 +103,8 @@ if (words.includes('ws')) {
   const count = await all(
     byWebSocket(pair), kinds, (link, role, kind) => (kind === 'flip' ? link.sent(role) : link.messages(role)),
   );
-  console.log(`js: ${count} channels over WebSockets of the package ws behind a relay that damages one byte or message`);
+  console.log(
+    `js: ${count} channels over WebSockets of the package ws behind a relay that damages one byte or message`,
+  );
   close();
 }

@@ -46,4 +46,7 @@ await assert.rejects(
 );
 stranger.terminate();
 close();
-console.log(`js: ${got >> 20} MiB over a WebSocket of the package ws to a slow reader, at most ${most >> 20} MiB of them on the way`);
+console.log(
+  `js: ${got >> 20} MiB over a WebSocket of the package ws to a slow reader, `
+    + `at most ${most >> 20} MiB of them on the way`,
+);

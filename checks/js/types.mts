@@ -1,7 +1,7 @@
 // The package as a program in TypeScript uses it. It is only checked, against the package's types, and never run.
 import {
-  CipherState, Code, Connection, DH, Datagrams, Handshake, HandshakeOptions, KeyPair, NoiseError, NoiseSocket, NoiseSocketOptions, Opener, Sealer,
-  Transport, checkPattern, equal, hasMemory64, hex, layout, load, protocolName,
+  CipherState, Code, Connection, DH, Datagrams, Handshake, HandshakeOptions, KeyPair, NoiseError, NoiseSocket,
+  NoiseSocketOptions, Opener, Sealer, Transport, checkPattern, equal, hasMemory64, hex, layout, load, protocolName,
 } from 'yulimosar';
 
 await load();
@@ -13,7 +13,9 @@ const staticKey: KeyPair = await KeyPair.generate();
 const fromBytes: KeyPair = await KeyPair.fromSecret(new Uint8Array(32).fill(7));
 console.log(fromBytes.publicKey.length);
 const handshake = new Handshake({ pattern: protocolName('XX'), staticKey, psks: [new Uint8Array(32)] });
-const late = new Handshake({ pattern: 'XXpsk3', responder: true, staticKey, pskFor: async (remoteStatic) => remoteStatic.slice(0, 32) });
+const late = new Handshake({
+  pattern: 'XXpsk3', responder: true, staticKey, pskFor: async (remoteStatic) => remoteStatic.slice(0, 32),
+});
 late.dispose();
 const message: Uint8Array = await handshake.write(new Uint8Array(3));
 try {

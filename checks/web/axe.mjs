@@ -9,8 +9,11 @@ const RULES = `{ rules: { region: { enabled: true }, 'target-size': { enabled: t
 /** Of what depends on the scheme alone. */
 const COLOURS = `{ runOnly: { type: 'rule', values: ['color-contrast', 'link-in-text-block'] } }`;
 const run = (rules) => `axe.run(document, { resultTypes: ['violations'], ...${rules} })
-  .then(({ violations }) => violations.map(({ id, nodes }) => id + ': ' + nodes.slice(0, 3).map(({ html, any, all, none }) =>
-    html.slice(0, 140) + ' ' + [...any, ...all, ...none].map(({ message }) => message).join(' ')).join(' | ')))`;
+  .then(({ violations }) => {
+    const said = ({ any, all, none }) => [...any, ...all, ...none].map(({ message }) => message).join(' ');
+    const at = (nodes) => nodes.slice(0, 3).map((it) => it.html.slice(0, 140) + ' ' + said(it)).join(' | ');
+    return violations.map(({ id, nodes }) => id + ': ' + at(nodes));
+  })`;
 
 /** The text of axe-core, or undefined. */
 async function source(browser) {
@@ -29,12 +32,18 @@ async function check(page, text, what, rules = RULES) {
 
 /** Controls whose border has less than 3:1 to what is around it. */
 const BORDERS = `(() => {
-  const parts = (colour) => colour.match(/[\\d.]+/g).slice(0, 3).map((it) => it / 255).map((it) => (it <= 0.04045 ? it / 12.92 : ((it + 0.055) / 1.055) ** 2.4));
+  const linear = (it) => (it <= 0.04045 ? it / 12.92 : ((it + 0.055) / 1.055) ** 2.4);
+  const parts = (colour) => colour.match(/[\\d.]+/g).slice(0, 3).map((it) => linear(it / 255));
   const light = (colour) => { const [r, g, b] = parts(colour); return 0.2126 * r + 0.7152 * g + 0.0722 * b; };
-  const ratio = (a, b) => { const [x, y] = [light(a), light(b)].sort((p, q) => q - p); return (x + 0.05) / (y + 0.05); };
+  const ratio = (a, b) => {
+    const [x, y] = [light(a), light(b)].sort((p, q) => q - p);
+    return (x + 0.05) / (y + 0.05);
+  };
   const all = [...document.querySelectorAll('input:not([type=checkbox]), select, .editor, button:not(.bytes button)')];
   const shown = all.filter((it) => it.offsetHeight && !it.disabled && it.getAttribute('aria-disabled') !== 'true');
-  return shown.filter((it) => ratio(getComputedStyle(it).borderTopColor, getComputedStyle(it.closest('section')).backgroundColor) < 3).map((it) => it.outerHTML.slice(0, 100));
+  const around = (it) => getComputedStyle(it.closest('section')).backgroundColor;
+  const faint = shown.filter((it) => ratio(getComputedStyle(it).borderTopColor, around(it)) < 3);
+  return faint.map((it) => it.outerHTML.slice(0, 100));
 })()`;
 
 /** A page with a bit of all: a run with a refusal, a key schedule, two patterns beside each other, a fault. */
@@ -103,5 +112,6 @@ export async function axe(page) {
     await at(width, name);
   }
   await scheme('light');
-  return `axe-core ${/axe v([\d.]+)/.exec(text)[1]} finds nothing in ${runs} runs, at ${WIDTHS.join(', ')} px, in light and in dark`;
+  return `axe-core ${/axe v([\d.]+)/.exec(text)[1]} finds nothing in ${runs} runs, `
+    + `at ${WIDTHS.join(', ')} px, in light and in dark`;
 }

@@ -48,7 +48,9 @@ export class Browser {
       this.#waiting.delete(id);
       if (error) reject(new Error(error.message));
       else resolve(result);
-    } else if (['Runtime.consoleAPICalled', 'Runtime.exceptionThrown', 'Log.entryAdded'].includes(method)) this.#said.push(JSON.stringify(params));
+    } else if (['Runtime.consoleAPICalled', 'Runtime.exceptionThrown', 'Log.entryAdded'].includes(method)) {
+      this.#said.push(JSON.stringify(params));
+    }
   }
 
   /** What the page has said on its console. */

@@ -48,7 +48,9 @@ async function allPatterns() {
     assert.match(await page.last(), /^accepted/, base);
     await page.save(base);
   }
-  report(`${FUNDAMENTAL.length} fundamental and ${DEFERRED.length} deferred patterns run to the end, with equal hashes`);
+  report(
+    `${FUNDAMENTAL.length} fundamental and ${DEFERRED.length} deferred patterns run to the end, with equal hashes`,
+  );
 }
 
 async function faults() {
@@ -185,7 +187,8 @@ async function walks() {
     await new Walk(page, new Hand(browser)).all();
   }
   report(
-    'a pattern of one’s own, its fault mended, undo, a run with a refusal, its key schedule and link, streams: by keyboard alone and by pointer, at a width each',
+    'a pattern of one’s own, its fault mended, undo, a run with a refusal, its key schedule and link, streams: '
+      + 'by keyboard alone and by pointer, at a width each',
   );
 }
 
@@ -269,7 +272,8 @@ try {
   assert.deepEqual(browser.said, [], 'the console has to be silent');
   await offline();
   report(
-    'a pattern of one’s own, refusals, transport, datagrams, the link, what a screen reader gets: as they should be; the console is silent',
+    'a pattern of one’s own, refusals, transport, datagrams, the link, what a screen reader gets: '
+      + 'as they should be; the console is silent',
   );
 } finally {
   await browser.close();

@@ -142,4 +142,7 @@ saidOf(wrong, 1).forEach(
 );
 const missing = Object.keys(SENTENCES).filter((name) => !met.has(name));
 assert.deepEqual(missing, [], 'sentences of the page that no pattern has');
-console.log(`web: noise explain says of ${texts.length} patterns what the page says, in its ${met.size} sentences, and tells the faults of ${wrong.length} others`);
+console.log(
+  `web: noise explain says of ${texts.length} patterns what the page says, in its ${met.size} sentences, `
+    + `and tells the faults of ${wrong.length} others`,
+);

@@ -5,7 +5,16 @@ import assert from 'node:assert/strict';
 import { before, test } from 'node:test';
 import { checkPattern } from '../../bindings/js/check.mjs';
 import { load } from '../../bindings/js/module.mjs';
-import { UNJUDGED, againSentence, keySentence, mixedWords, rowsOf, warningsOf, waysOf, writerSentence } from '../../web/facts.mjs';
+import {
+  UNJUDGED,
+  againSentence,
+  keySentence,
+  mixedWords,
+  rowsOf,
+  warningsOf,
+  waysOf,
+  writerSentence,
+} from '../../web/facts.mjs';
 import { differencesOf } from '../../web/factsview.mjs';
 import { explain } from '../../web/faults.mjs';
 import { mendsOf } from '../../web/mends.mjs';
@@ -32,7 +41,11 @@ test('the smallest sets of private keys that are enough for some DHs', () => {
   assert.deepEqual(waysOf(['ee']), [['initiator e'], ['responder e']]);
   assert.deepEqual(waysOf(['ee', 'es']), [['initiator e'], ['responder e', 'responder s']]);
   assert.deepEqual(waysOf(['ss']), [['initiator s'], ['responder s']]);
-  assert.deepEqual(waysOf(['ee', 'es', 'se']), [['initiator e', 'initiator s'], ['initiator e', 'responder e'], ['responder e', 'responder s']]);
+  assert.deepEqual(waysOf(['ee', 'es', 'se']), [
+    ['initiator e', 'initiator s'],
+    ['initiator e', 'responder e'],
+    ['responder e', 'responder s'],
+  ]);
 });
 
 test('the keys of the transport need other private keys in NN, NK, XX and IK', () => {
@@ -51,10 +64,16 @@ test('no two of NN, NK, XX, IX, IK and KK have the same facts', () => {
 });
 
 test('who can compute the key at each encrypted s and payload', () => {
-  assert.equal(keyOf('XX', 'Message 2, s'), 'The initiator’s e, or the responder’s e. Whoever takes the initiator’s part needs only an e of its own.');
+  assert.equal(
+    keyOf('XX', 'Message 2, s'),
+    'The initiator’s e, or the responder’s e. Whoever takes the initiator’s part needs only an e of its own.',
+  );
   assert.equal(keyOf('IK', 'Message 1, s'), 'The initiator’s e, or the responder’s s.');
   assert.equal(keyOf('IK', 'Message 1, payload'), 'The responder’s s, or the initiator’s e and s.');
-  assert.match(keyOf('XX', 'Message 3, s'), /Whoever takes the responder’s part needs only an e and an s of its own\.$/);
+  assert.match(
+    keyOf('XX', 'Message 3, s'),
+    /Whoever takes the responder’s part needs only an e and an s of its own\.$/,
+  );
   assert.doesNotMatch(keyOf('XK', 'Message 3, s'), /part/);
   assert.equal(keyOf('IX', 'Message 1, s'), 'In the clear: everybody sees it.');
   assert.equal(keyOf('NN', 'Message 1, payload'), 'In the clear: everybody sees it.');
@@ -63,7 +82,9 @@ test('who can compute the key at each encrypted s and payload', () => {
 });
 
 test('who can have written a message', () => {
-  for (const name of ['K', 'X', 'IK', 'KK']) assert.equal(writerOf(name, 'Message 1'), 'Whoever has the initiator’s s, or the responder’s s.', name);
+  for (const name of ['K', 'X', 'IK', 'KK']) {
+    assert.equal(writerOf(name, 'Message 1'), 'Whoever has the initiator’s s, or the responder’s s.', name);
+  }
   assert.equal(writerOf('N', 'Message 1'), 'Anyone, with an e of its own.');
   assert.equal(writerOf('NN', 'Message 1'), 'Anyone: it has no tag.');
   assert.equal(writerOf('XX', 'Message 3'), 'Whoever has the initiator’s s, or the responder’s e.');
@@ -81,14 +102,23 @@ test('which recordings are accepted again', () => {
   assert.equal(againOf('IK', 'Message 2'), 'Refused: the initiator’s e is new each time.');
   assert.equal(againOf('N', 'Transport, initiator’s'), 'Accepted again: the responder puts in no e before.');
   assert.equal(againOf('XX', 'Transport, initiator’s'), 'Refused: the responder’s e is new each time.');
-  assert.equal(againOf('M:\n  <- e, s\n  ...\n  -> e, ee, es\n', 'Message 1'), 'Refused: the responder’s e is new each time.');
+  assert.equal(
+    againOf('M:\n  <- e, s\n  ...\n  -> e, ee, es\n', 'Message 1'),
+    'Refused: the responder’s e is new each time.',
+  );
   assert.equal(againOf('M:\n  -> e\n  <- e\n', 'Message 2'), 'Accepted again: it has no tag.');
 });
 
 test('keys that everybody can compute, and an s that no DH mixes, are warned of', () => {
-  assert.deepEqual(warningsOf(planOf('M:\n  -> e\n  <- e\n')), ['Transport, recorded: no DH is mixed in, and everybody can compute the key.']);
-  assert.deepEqual(warningsOf(planOf('M:\n  -> e, s\n  <- e, ee\n')), ['The initiator’s s is named, and no DH mixes it: nothing shows that the initiator has its private key.']);
-  assert.deepEqual(warningsOf(planOf('MINEpsk1:\n  -> e, s, psk\n  <- e, ee, se\n')), ['Message 1, s: no DH is mixed in, and everybody can compute the key.']);
+  assert.deepEqual(warningsOf(planOf('M:\n  -> e\n  <- e\n')), [
+    'Transport, recorded: no DH is mixed in, and everybody can compute the key.',
+  ]);
+  assert.deepEqual(warningsOf(planOf('M:\n  -> e, s\n  <- e, ee\n')), [
+    'The initiator’s s is named, and no DH mixes it: nothing shows that the initiator has its private key.',
+  ]);
+  assert.deepEqual(warningsOf(planOf('MINEpsk1:\n  -> e, s, psk\n  <- e, ee, se\n')), [
+    'Message 1, s: no DH is mixed in, and everybody can compute the key.',
+  ]);
   for (const name of FUNDAMENTAL) assert.deepEqual(warningsOf(planOf(name)), [], name);
 });
 
@@ -125,7 +155,15 @@ function numbers(start) {
 test('the first fault that the page reads is the library’s', () => {
   const next = numbers(7);
   const pick = (list) => list[next(list.length)];
-  const known = ['', '', '', '  <- s\n  ...\n', '  -> s\n  <- s\n  ...\n', '  <- e, s\n  ...\n', '  <- s\n  -> s\n  ...\n'];
+  const known = [
+    '',
+    '',
+    '',
+    '  <- s\n  ...\n',
+    '  -> s\n  <- s\n  ...\n',
+    '  <- e, s\n  ...\n',
+    '  <- s\n  -> s\n  ...\n',
+  ];
   const met = new Set();
   for (let n = 0; n < 4000; n += 1) {
     const names = pick([['e', 's', 'ee', 'es', 'se', 'ss'], ['e', 's', 'ee', 'es', 'se', 'ss', 'psk', 'E', 'x', '']]);
@@ -149,13 +187,16 @@ test('the first fault that the page reads is the library’s', () => {
       assert.doesNotMatch(title + says, /[{}]|undefined/, JSON.stringify(text));
     }
   }
-  for (const kind of [0, 30, 31, 32, 33, 34, 35, 37, 38, 1, 2, 3, 4, 5]) assert.ok(met.has(kind), `no text has the fault ${kind}`);
+  for (const kind of [0, 30, 31, 32, 33, 34, 35, 37, 38, 1, 2, 3, 4, 5]) {
+    assert.ok(met.has(kind), `no text has the fault ${kind}`);
+  }
 });
 
 test('all faults that reading can see are told', () => {
   const text = 'DEV:\n  -> e, es\n  <- e, ee, ee\n  -> e\n';
   assert.deepEqual(faultsOf(text, checkPattern(text)).map((fault) => explain(text, fault).title), [
-    'Rule 1 is broken at message 1, token es', 'Rule 3 is broken at message 2, token ee', 'Rule 2 is broken at message 3, token e']);
+    'Rule 1 is broken at message 1, token es', 'Rule 3 is broken at message 2, token ee',
+    'Rule 2 is broken at message 3, token e']);
   const malformed = 'DEV:\n-> e\n  -> e, foo\n  -> ee\n';
   assert.deepEqual(faultsOf(malformed, checkPattern(malformed)).map((fault) => explain(malformed, fault).title), [
     'Line 2', 'Line 3: “foo”', 'Line 4']);
@@ -171,7 +212,8 @@ test('no correction takes a psk away, or makes a message a key known before', ()
   const pieces = ['e', 's', 'ee', 'es', 'psk', 'psk', 'x'];
   for (let n = 0; n < 1500; n += 1) {
     const message = () => Array.from({ length: 1 + next(4) }, () => pieces[next(pieces.length)]).join(', ');
-    const given = `${['MINE:', 'MINEpsk0:', 'MINEpsk1:', 'mine'][next(4)]}\n${Array.from({ length: 1 + next(3) }, (_, at) => `  ${at % 2 ? '<-' : '->'} ${message()}\n`).join('')}`;
+    const given = `${['MINE:', 'MINEpsk0:', 'MINEpsk1:', 'mine'][next(4)]}\n`
+      + `${Array.from({ length: 1 + next(3) }, (_, at) => `  ${at % 2 ? '<-' : '->'} ${message()}\n`).join('')}`;
     const found = checkPattern(given);
     for (const offer of found.valid ? [] : mendsOf(given, found)) {
       assert.ok(count(offer.text) >= count(given), JSON.stringify([given, offer]));
@@ -239,10 +281,12 @@ test('what the editor can mend it offers to', () => {
 test('an offer is right, or its fault is further on', () => {
   const pieces = ['e', 's', 'ee', 'es', 'se', 'ss', 'psk', 'E', 'x', ''];
   const next = numbers(5);
-  const message = () => Array.from({ length: 1 + next(4) }, () => pieces[next(pieces.length)]).join(next(5) ? ', ' : ',');
+  const message = () =>
+    Array.from({ length: 1 + next(4) }, () => pieces[next(pieces.length)]).join(next(5) ? ', ' : ',');
   for (let n = 0; n < 2000; n += 1) {
     const arrows = ['  -> ', '  <- ', ' -> ', '  → '];
-    const text = `${['MINE:', 'MINEpsk0:', 'XX:', 'mine'][next(4)]}\n${Array.from({ length: next(4) }, () => `${arrows[next(4)]}${message()}\n`).join('')}`;
+    const text = `${['MINE:', 'MINEpsk0:', 'XX:', 'mine'][next(4)]}\n`
+      + `${Array.from({ length: next(4) }, () => `${arrows[next(4)]}${message()}\n`).join('')}`;
     const verdict = checkPattern(text);
     if (verdict.valid) continue;
     const { span } = explain(text, verdict);
@@ -255,8 +299,12 @@ test('a missing DH is mixed where both its keys are known', () => {
   const mends = (text) => mendsOf(text, checkPattern(text)).map((it) => [it.label, it.text]);
   const nk = 'MINE:\n  <- s\n  ...\n  -> e, es\n';
   assert.deepEqual(mends(`${nk}  <- e\n`), [['Mix ee in message 2, after e', `${nk}  <- e, ee\n`]]);
-  assert.deepEqual(mends('MINE:\n  -> e\n  <- e, s, es\n  -> s, se\n'), [['Mix ee in message 2, after e', 'MINE:\n  -> e\n  <- e, ee, s, es\n  -> s, se\n']]);
-  assert.deepEqual(mends('MINEpsk2:\n  -> e\n  <- s, es, psk\n'), [['Let the responder send e, and mix ee after it', 'MINEpsk2:\n  -> e\n  <- e, ee, s, es, psk\n']]);
+  assert.deepEqual(mends('MINE:\n  -> e\n  <- e, s, es\n  -> s, se\n'), [
+    ['Mix ee in message 2, after e', 'MINE:\n  -> e\n  <- e, ee, s, es\n  -> s, se\n'],
+  ]);
+  assert.deepEqual(mends('MINEpsk2:\n  -> e\n  <- s, es, psk\n'), [
+    ['Let the responder send e, and mix ee after it', 'MINEpsk2:\n  -> e\n  <- e, ee, s, es, psk\n'],
+  ]);
 });
 
 test('each pattern without one of its DHs has an offer that works', () => {

@@ -4,7 +4,10 @@ import assert from 'node:assert/strict';
 import { gzipSync } from 'node:zlib';
 
 const TYPING = `const it = document.getElementById('text'); const start = performance.now();
-  for (let n = 0; n < 50; n += 1) { it.value = 'MINE:\\n  -> e, s\\n  <- e, ee, se\\n'.slice(0, 6 + n % 30); it.dispatchEvent(new Event('input')); }
+  for (let n = 0; n < 50; n += 1) {
+    it.value = 'MINE:\\n  -> e, s\\n  <- e, ee, se\\n'.slice(0, 6 + n % 30);
+    it.dispatchEvent(new Event('input'));
+  }
   return (performance.now() - start) / 50;`;
 
 /**
@@ -15,7 +18,11 @@ const PAINTING = `const it = document.getElementById('text'); const times = [];
   for (let n = 0; n < 20; n += 1) {
     const start = performance.now();
     it.value = 'MINE:\\n  -> e, s\\n  <- e, ee, se\\n'.slice(0, 8 + n); it.dispatchEvent(new Event('input'));
-    await new Promise((done) => requestAnimationFrame(() => { const { port1, port2 } = new MessageChannel(); port1.onmessage = done; port2.postMessage(0); }));
+    await new Promise((done) => requestAnimationFrame(() => {
+      const { port1, port2 } = new MessageChannel();
+      port1.onmessage = done;
+      port2.postMessage(0);
+    }));
     times.push(performance.now() - start);
   }
   return times.sort((x, y) => x - y)[10];`;
@@ -40,7 +47,8 @@ const RATIO = `const { Handshake, KeyPair, protocolName } = await import('../bin
     for (let k = 0; k < 3; k += 1) { await agree(a, b); await agree(b, a); }
     curve.push(performance.now() - start);
     start = performance.now();
-    const [i, r] = [new Handshake({ pattern, staticKey: c, ephemeralKey: d }), new Handshake({ pattern, responder: true, staticKey: e, ephemeralKey: f })];
+    const i = new Handshake({ pattern, staticKey: c, ephemeralKey: d });
+    const r = new Handshake({ pattern, responder: true, staticKey: e, ephemeralKey: f });
     await r.read(await i.write()); await i.read(await r.write()); await r.read(await i.write());
     i.finish().dispose(); r.finish().dispose();
     ends.push(performance.now() - start);
@@ -49,7 +57,8 @@ const RATIO = `const { Handshake, KeyPair, protocolName } = await import('../bin
   return mean(ends) / mean(curve);`;
 
 const SEALING = `const { Handshake, protocolName } = await import('../bindings/js/noise.mjs');
-  const [i, r] = [new Handshake({ pattern: protocolName('NN') }), new Handshake({ pattern: protocolName('NN'), responder: true })];
+  const pattern = protocolName('NN');
+  const [i, r] = [new Handshake({ pattern }), new Handshake({ pattern, responder: true })];
   await r.read(await i.write()); await i.read(await r.write());
   const [transport, payload] = [i.finish(), new Uint8Array(16384)];
   for (let n = 0; n < 400; n += 1) transport.seal(payload);
@@ -64,7 +73,9 @@ const SEALING = `const { Handshake, protocolName } = await import('../bindings/j
 /** How many bytes the page has, compressed: all that a first visit loads, with the module and what a run loads. */
 export async function weight(page) {
   await page.open();
-  const names = await page.evaluate(`[location.href.split('#')[0], ...performance.getEntriesByType('resource').map(({ name }) => name)]`);
+  const names = await page.evaluate(
+    `[location.href.split('#')[0], ...performance.getEntriesByType('resource').map(({ name }) => name)]`,
+  );
   const sizes = await Promise.all(
     [...new Set(names)].map(
       async (name) => gzipSync(Buffer.from(await (await fetch(name)).arrayBuffer()), { level: 9 }).length,
@@ -85,6 +96,7 @@ export async function figures(browser, open) {
   const [first, key, paint, ratio, rate] = [
     loads.sort((x, y) => x - y)[2], await run(TYPING), await run(PAINTING), await run(RATIO), await run(SEALING),
   ];
-  return `first verdict ${first.toFixed(0)} ms after the page is asked for, ${key.toFixed(2)} ms a key, ${paint.toFixed(0)} ms until it is painted, `
+  return `first verdict ${first.toFixed(0)} ms after the page is asked for, ${key.toFixed(2)} ms a key, `
+    + `${paint.toFixed(0)} ms until it is painted, `
     + `both parties of XX ${ratio.toFixed(2)} times six results of X25519, sealing 16 KiB ${rate.toFixed(0)} MB/s`;
 }

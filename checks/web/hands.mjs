@@ -48,7 +48,8 @@ export class Keyboard extends Hand {
     for (let n = 0; n < 150 && !await this.evaluate(is); n += 1) await this.browser.press('Tab', undefined, back);
     assert.ok(
       await this.evaluate(is),
-      `Tab doesn't reach ${selector}: it is at ${await this.evaluate('document.activeElement.outerHTML.slice(0, 120)')}`,
+      `Tab doesn't reach ${selector}: `
+        + `it is at ${await this.evaluate('document.activeElement.outerHTML.slice(0, 120)')}`,
     );
   }
 
@@ -65,7 +66,8 @@ export class Keyboard extends Hand {
   /** Goes through the options of a list by the arrow keys. */
   async choose(selector, value) {
     await this.reach(selector);
-    const at = `(() => { const it = document.querySelector(${quoted(selector)}); const values = [...it.options].map(({ value }) => value);
+    const at = `(() => { const it = document.querySelector(${quoted(selector)});
+      const values = [...it.options].map(({ value }) => value);
       return [values.indexOf(it.value), values.indexOf(${quoted(value)})]; })()`;
     for (let n = 0; n < 60; n += 1) {
       const [is, to] = await this.evaluate(at);
@@ -100,7 +102,8 @@ export class Pointer extends Hand {
       const { left, top, width, height } = it.getBoundingClientRect();
       const at = [left + width / 2, top + height / 2];
       const there = document.elementFromPoint(...at);
-      if (!it.contains(there)) throw new Error(${quoted(selector)} + ' is covered by ' + there?.outerHTML.slice(0, 100));
+      const by = there?.outerHTML.slice(0, 100);
+      if (!it.contains(there)) throw new Error(${quoted(selector)} + ' is covered by ' + by);
       return at; })()`);
     await this.browser.send('Input.dispatchMouseEvent', { type: 'mouseMoved', x, y });
     for (const type of ['mousePressed', 'mouseReleased']) {
@@ -118,9 +121,11 @@ export class Pointer extends Hand {
 
   /** A list opens as a window of its own, which the protocol doesn't reach: the option is set, and the change told. */
   async choose(selector, value) {
-    await this.evaluate(`(() => { const it = document.querySelector(${quoted(selector)}); it.focus(); it.value = ${quoted(value)};
+    await this.evaluate(
+      `(() => { const it = document.querySelector(${quoted(selector)}); it.focus(); it.value = ${quoted(value)};
       if (it.value !== ${quoted(value)}) throw new Error('no such option');
-      for (const name of ['input', 'change']) it.dispatchEvent(new Event(name, { bubbles: true })); })()`);
+      for (const name of ['input', 'change']) it.dispatchEvent(new Event(name, { bubbles: true })); })()`,
+    );
   }
 
   async flip(box, at) {

@@ -27,7 +27,8 @@ async function leftOut(page) {
   assert.equal(await page.textOf('notice'), 'This link has a run, which is done again with new keys. See the run');
   await page.click('#notice a');
   await page.until(
-    'document.getElementById("run").getBoundingClientRect().top < innerHeight / 2 && location.hash.includes("pattern=NN") && !location.hash.includes("run=")',
+    'document.getElementById("run").getBoundingClientRect().top < innerHeight / 2 && '
+      + 'location.hash.includes("pattern=NN") && !location.hash.includes("run=")',
   );
   await page.resize(1100);
   await page.reload();
@@ -60,7 +61,10 @@ async function tooLong(page) {
  */
 async function backAndForward(page) {
   const at = async (text, count) => {
-    await page.until(`document.getElementById("text").value === ${JSON.stringify(text)} && document.getElementById("log").childElementCount === ${count}`);
+    await page.until(
+      `document.getElementById("text").value === ${JSON.stringify(text)} && `
+        + `document.getElementById("log").childElementCount === ${count}`,
+    );
     await page.until('document.getElementById("said").textContent.startsWith("The run was done again")');
   };
   await page.open(linkOf({ run: 'wi_dr.0' }));

@@ -82,9 +82,12 @@ export class Page {
   }
 
   async begin() {
-    await this.run(`const it = document.getElementById('start'); (it.hidden ? document.getElementById('step') : it).click()`);
+    await this.run(
+      `const it = document.getElementById('start'); (it.hidden ? document.getElementById('step') : it).click()`,
+    );
     await this.until(
-      'document.getElementById("log").childElementCount === 0 && document.getElementById("all").getAttribute("aria-disabled") === "false"',
+      'document.getElementById("log").childElementCount === 0 && '
+        + 'document.getElementById("all").getAttribute("aria-disabled") === "false"',
     );
   }
 

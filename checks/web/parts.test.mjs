@@ -103,7 +103,8 @@ test('names, comments, vector files and links are taken', () => {
   assert.equal(
     intake('https://example.org/web/index.html#pattern=NN%3A&mode=stream').fragment, '#pattern=NN%3A&mode=stream',
   );
-  const vector = 'vector 2\nprotocol Noise_M_25519_ChaChaPoly_SHA256\nM:\n  -> e\nend\nprologue ff\ninterval 3\ninitiator xor - -\nresponder xor - -\ndatagrams 256\n';
+  const vector = 'vector 2\nprotocol Noise_M_25519_ChaChaPoly_SHA256\nM:\n  -> e\nend\nprologue ff\ninterval 3\n'
+    + 'initiator xor - -\nresponder xor - -\ndatagrams 256\n';
   const { setup, says } = intake(vector);
   assert.deepEqual(setup, { text: 'M:\n  -> e\n', interval: 3, mode: 'datagrams', window: 256, prologue: '' });
   assert.match(says, /isn’t text/);

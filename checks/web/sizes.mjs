@@ -12,16 +12,20 @@ const PSKS =
 /** How far the page's parts moved while it loaded, as Chromium counts it. */
 const SHIFT = `new Promise((done) => {
   let sum = 0;
-  const add = (list) => { for (const { value, hadRecentInput } of list.getEntries()) if (!hadRecentInput) sum += value; };
+  const add = (list) => {
+    for (const { value, hadRecentInput } of list.getEntries()) if (!hadRecentInput) sum += value;
+  };
   new PerformanceObserver(add).observe({ type: 'layout-shift', buffered: true });
   setTimeout(() => done(sum), 200);
 })`;
 /** How many texts of the picture are drawn smaller than 12 pixels, and which reach over its edge or over each other. */
-const SMALL = `[...document.querySelectorAll('#picture text')].filter((it) => parseFloat(getComputedStyle(it).fontSize) * it.ownerSVGElement.getScreenCTM().a < 11.99).length`;
+const SMALL = `[...document.querySelectorAll('#picture text')].filter((it) =>
+  parseFloat(getComputedStyle(it).fontSize) * it.ownerSVGElement.getScreenCTM().a < 11.99).length`;
 const OVERLAPS = `(() => {
   const all = [...document.querySelectorAll('#picture text')].map((it) => [it.textContent, it.getBBox()]);
   const { width } = document.querySelector('#picture svg').viewBox.baseVal;
-  const isOver = (a, b) => a.x + a.width > b.x + 1 && b.x + b.width > a.x + 1 && a.y + a.height > b.y + 3 && b.y + b.height > a.y + 3;
+  const isOver = (a, b) => a.x + a.width > b.x + 1 && b.x + b.width > a.x + 1
+    && a.y + a.height > b.y + 3 && b.y + b.height > a.y + 3;
   return all.flatMap(([text, box], n) => [
     ...(box.x < 0 || box.x + box.width > width ? [text] : []),
     ...all.slice(n + 1).filter(([, other]) => isOver(box, other)).map(([other]) => text + ' | ' + other),
@@ -75,6 +79,7 @@ export async function sizes(page, top) {
     }
   }
   await page.resize(1100);
-  return `no page is wider than its window, at ${WIDTHS.length + BETWEEN.length} widths; nothing moves while the page loads or a fault is typed, and no two `
+  return `no page is wider than its window, at ${WIDTHS.length + BETWEEN.length} widths; `
+    + 'nothing moves while the page loads or a fault is typed, and no two '
     + 'texts of the picture meet';
 }

@@ -25,7 +25,10 @@ async function overWebSockets() {
   }
   assert.deepEqual(told, { closed: Object.keys(EXPECTED).length, failed: [] });
   close();
-  console.log(`js: ${Object.keys(EXPECTED).length} channels over a WebSocket of Node: echoes, closed and cut connections, text frames, messages too long`);
+  console.log(
+    `js: ${Object.keys(EXPECTED).length} channels over a WebSocket of Node: `
+      + 'echoes, closed and cut connections, text frames, messages too long',
+  );
 }
 
 /** A connection over TCP: the client's end, and a socket of the server's. */
@@ -94,4 +97,7 @@ await load();
 await overWebSockets();
 await overTcp();
 await otherStreams();
-console.log(`js: ${Object.keys(FAULTS).length + 3} channels over streams: echoes, connections that end inside a message, messages that nobody sealed`);
+console.log(
+  `js: ${Object.keys(FAULTS).length + 3} channels over streams: `
+    + 'echoes, connections that end inside a message, messages that nobody sealed',
+);

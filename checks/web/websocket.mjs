@@ -90,7 +90,10 @@ export function takeWebSockets(server, taken) {
   server.on('upgrade', ({ headers, url }, socket, head) => {
     const accepted =
       createHash('sha1').update(`${headers['sec-websocket-key']}258EAFA5-E914-47DA-95CA-C5AB0DC85B11`).digest('base64');
-    socket.write(`HTTP/1.1 101 Switching Protocols\r\nupgrade: websocket\r\nconnection: upgrade\r\nsec-websocket-accept: ${accepted}\r\n\r\n`);
+    socket.write(
+      'HTTP/1.1 101 Switching Protocols\r\nupgrade: websocket\r\nconnection: upgrade\r\n'
+        + `sec-websocket-accept: ${accepted}\r\n\r\n`,
+    );
     taken(new ServerSocket(socket, head), url);
   });
 }

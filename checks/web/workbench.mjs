@@ -29,7 +29,9 @@ async function panes(page) {
   assert.ok(facts.top < 600, `the facts begin at ${facts.top}`);
   assert.ok(picture.right > 1300, 'the width isn’t used');
   await page.resize(390, 844);
-  const tops = (await Promise.all(['.editor', '#verdict', '#picture', '#step', '#facts'].map((it) => box(page, it)))).map(({ top }) => top);
+  const tops = (await Promise.all(
+    ['.editor', '#verdict', '#picture', '#step', '#facts'].map((it) => box(page, it)),
+  )).map(({ top }) => top);
   assert.deepEqual(tops, tops.toSorted((a, b) => a - b), 'on a phone the order is text, verdict, picture, step, facts');
   await page.resize(1440, 900);
 }
@@ -50,13 +52,23 @@ async function byKeyboard(page) {
   for (const count of [0, 1, 2, 3, 4, 5, 6]) {
     labels.push(await page.textOf('step'));
     await browser.press('Enter', '\r');
-    await page.until(`document.getElementById("log").childElementCount === ${count} && document.getElementById("all").getAttribute("aria-disabled") === "${count === 6}"`);
+    await page.until(
+      `document.getElementById("log").childElementCount === ${count} && `
+        + `document.getElementById("all").getAttribute("aria-disabled") === "${count === 6}"`,
+    );
     assert.equal(await page.evaluate('document.activeElement.id'), 'step');
     const { top, bottom } = await box(page, '#step');
     assert.ok(top >= 0 && bottom <= 900, 'the focus isn’t in view');
   }
-  assert.deepEqual(labels, ['Draw keys and begin', 'Write message 1 as the initiator', 'Deliver message 1 to the responder', 'Write message 2 as the responder',
-    'Deliver message 2 to the initiator', 'Write message 3 as the initiator', 'Deliver message 3 to the responder']);
+  assert.deepEqual(labels, [
+    'Draw keys and begin',
+    'Write message 1 as the initiator',
+    'Deliver message 1 to the responder',
+    'Write message 2 as the responder',
+    'Deliver message 2 to the initiator',
+    'Write message 3 as the initiator',
+    'Deliver message 3 to the responder',
+  ]);
   return stops;
 }
 
@@ -108,7 +120,8 @@ async function oldFacts(page) {
 async function caret(page) {
   await page.open(fragment(XX));
   await page.run(
-    'const it = document.getElementById("text"); it.focus(); it.setSelectionRange(it.value.indexOf("s, es"), it.value.indexOf("s, es"))',
+    'const it = document.getElementById("text"); it.focus(); '
+      + 'it.setSelectionRange(it.value.indexOf("s, es"), it.value.indexOf("s, es"))',
   );
   await page.until('document.querySelectorAll("#picture .under").length === 2');
   assert.equal(
@@ -141,10 +154,14 @@ async function designs(page) {
   assert.equal(await page.evaluate('document.getElementById("prologue").value'), 'first');
 }
 
-const paste = (page, text) => page.run(`const data = new DataTransfer(); data.setData('text/plain', ${quoted(text)});
-  document.getElementById('text').dispatchEvent(new ClipboardEvent('paste', { clipboardData: data, bubbles: true, cancelable: true }))`);
-const drop = (page, name, text) => page.run(`const data = new DataTransfer(); data.items.add(new File([${quoted(text)}], ${quoted(name)}));
-  document.getElementById('picture').dispatchEvent(new DragEvent('drop', { dataTransfer: data, bubbles: true, cancelable: true }))`);
+const paste = (page, text) =>
+  page.run(`const data = new DataTransfer(); data.setData('text/plain', ${quoted(text)});
+  const how = { clipboardData: data, bubbles: true, cancelable: true };
+  document.getElementById('text').dispatchEvent(new ClipboardEvent('paste', how))`);
+const drop = (page, name, text) =>
+  page.run(`const data = new DataTransfer(); data.items.add(new File([${quoted(text)}], ${quoted(name)}));
+  const how = { dataTransfer: data, bubbles: true, cancelable: true };
+  document.getElementById('picture').dispatchEvent(new DragEvent('drop', how))`);
 
 /** A way back in: files, names and links. */
 async function wayIn(page) {
@@ -264,5 +281,6 @@ export async function workbench(page) {
   await largeFont(page);
   assert.equal(await disabled(page, 'step'), 'false');
   await page.resize(1100);
-  return `two panes from 1100 px; XX by ${stops} stops of the keyboard and one button; designs, undo, files, names and links; no payload in the history; one voice`;
+  return `two panes from 1100 px; XX by ${stops} stops of the keyboard and one button; `
+    + 'designs, undo, files, names and links; no payload in the history; one voice';
 }

@@ -24,7 +24,8 @@ static void x25519(const key_pair *own, const uint8_t remote[32], uint8_t dh_res
     size_t len = 32;
     EVP_PKEY *other = EVP_PKEY_new_raw_public_key(EVP_PKEY_X25519, NULL, remote, 32);
     EVP_PKEY_CTX *context = EVP_PKEY_CTX_new(own->secret, NULL);
-    must(other && context && EVP_PKEY_derive_init(context) == 1 && EVP_PKEY_derive_set_peer(context, other) == 1, "no X25519");
+    must(other && context && EVP_PKEY_derive_init(context) == 1
+         && EVP_PKEY_derive_set_peer(context, other) == 1, "no X25519");
     must(EVP_PKEY_derive(context, dh_result, &len) == 1, "X25519 fails for this public key");
     EVP_PKEY_CTX_free(context);
     EVP_PKEY_free(other);
@@ -69,28 +70,40 @@ function start({ has, knows, knowsEphemeral, psks }) {
     forParty(knows, 'set(&setup.remote_s, &other->s);'),
     forParty(knowsEphemeral, 'set(&setup.remote_e, &other->e);'),
     psks > 0 && ['    setup.psk_count = PSKS;', '    memcpy(setup.psks, psks, sizeof psks);'],
-    '    uint32_t code = noise_start(&p->handshake, (const uint8_t *)pattern, sizeof pattern - 1, (const uint8_t *)prologue, sizeof prologue - 1, &setup);',
+    '    uint32_t code = noise_start(&p->handshake, (const uint8_t *)pattern, sizeof pattern - 1, '
+      + '(const uint8_t *)prologue, sizeof prologue - 1, &setup);',
     '    must(code == NOISE_OK, noise_text(code));',
     '    noise_wipe(&setup, sizeof setup);',
     '}',
   );
 }
 
-/** For each mode the call that ends the handshake, its two structs, and where it has messages the calls that seal and open one. */
+/**
+ * For each mode the call that ends the handshake, its two structs, and where it has messages the calls that seal and
+ * open one.
+ */
 const KINDS = {
   transport: ['noise_finish', 'noise_sender', 'noise_receiver', 'noise_seal', 'noise_open'],
   stream: ['noise_finish_stream', 'noise_stream_sender', 'noise_stream_receiver'],
-  datagrams: ['noise_finish_datagrams', 'noise_datagram_sender', 'noise_datagram_receiver', 'noise_datagram_seal', 'noise_datagram_open'],
+  datagrams: [
+    'noise_finish_datagrams',
+    'noise_datagram_sender',
+    'noise_datagram_receiver',
+    'noise_datagram_seal',
+    'noise_datagram_open',
+  ],
 };
 
 const MESSAGE = (seal, open) => lines(
-  `    must(${seal}(&client.sender, (const uint8_t *)"hello", 5, message, sizeof message, &result) == NOISE_OK, "not sealed");`,
+  `    must(${seal}(&client.sender, (const uint8_t *)"hello", 5, message, sizeof message, `
+    + '&result) == NOISE_OK, "not sealed");',
   `    must(${open}(&server.receiver, message, result.len, &result) == NOISE_OK, "not opened");`,
   '    printf("the server reads: %.*s\\n", (int)result.len, (const char *)message + result.from);',
 ).trimEnd();
 
 const STREAM = lines(
-  '    must(noise_stream_write(&client.sender, (const uint8_t *)"hello", 5, message, sizeof message, &result) == NOISE_OK, "not written");',
+  '    must(noise_stream_write(&client.sender, (const uint8_t *)"hello", 5, message, sizeof message, '
+    + '&result) == NOISE_OK, "not written");',
   '    size_t at = 0, len = result.len;',
   '    must(noise_stream_end(&client.sender, message + len, sizeof message - len, &result) == NOISE_OK, "not ended");',
   '    len += result.len;    // all that the connection carries',
@@ -99,7 +112,8 @@ const STREAM = lines(
   '        printf("the server reads: %.*s\\n", (int)result.len, (const char *)message + at + result.from);',
   '        at += result.used;',
   '    }',
-  '    must(code == NOISE_END, noise_text(code));    // at NOISE_MORE receive more; if the connection ends then, the stream is cut',
+  '    must(code == NOISE_END, noise_text(code));    // at NOISE_MORE receive more; '
+    + 'if the connection ends then, the stream is cut',
 ).trimEnd();
 
 /** What compares the other party's static key with the one that is expected, where the pattern has one. */
@@ -130,8 +144,10 @@ function main({ psks, mode, interval, window, has }) {
     '    }',
     has.responder && '    compare(&client, &server.s);',
     has.initiator && '    compare(&server, &client.s);',
-    `    must(${finish}(&client.handshake, ${option}, &client.sender, &client.receiver) == NOISE_OK, "the client isn't done");`,
-    `    must(${finish}(&server.handshake, ${option}, &server.sender, &server.receiver) == NOISE_OK, "the server isn't done");`,
+    `    must(${finish}(&client.handshake, ${option}, &client.sender, &client.receiver) == NOISE_OK, `
+      + `"the client isn't done");`,
+    `    must(${finish}(&server.handshake, ${option}, &server.sender, &server.receiver) == NOISE_OK, `
+      + `"the server isn't done");`,
     '    noise_wipe(&client.handshake, sizeof client.handshake);',
     '    noise_wipe(&server.handshake, sizeof server.handshake);',
     mode === 'stream' ? STREAM : MESSAGE(seal, open),
@@ -147,7 +163,10 @@ export function c(facts) {
   const [, sender, receiver] = KINDS[mode];
   const text = isNamed
     ? [`static const char pattern[] = "Noise_${section}_25519_ChaChaPoly_SHA256";`]
-    : ['static const char pattern[] =', ...facts.lines.map((line, n) => `    "${line}\\n"${n === facts.lines.length - 1 ? ';' : ''}`)];
+    : [
+      'static const char pattern[] =',
+      ...facts.lines.map((line, n) => `    "${line}\\n"${n === facts.lines.length - 1 ? ';' : ''}`),
+    ];
   return lines(
     `// The pattern ${section}: both parties in one program. At the top of the repository, with OpenSSL's headers:`,
     `//     cc -I include ${name}.c dist/noise_c.S -lcrypto -o ${name}`,

@@ -77,10 +77,22 @@ const MESSAGES = ({ isDatagrams, window }) => lines(
 );
 
 export function go(facts) {
-  const { section, name, isNamed, prologue, psks, has, isDatagrams, isStream, interval, oneWay, knowsEphemeral } = facts;
-  if (knowsEphemeral.initiator || knowsEphemeral.responder) return `// ${section} has an ephemeral key before "...", which the package for Go has no field for. Take the program in C.\n`;
+  const { section, name, isNamed, prologue, psks, has, isDatagrams, isStream, interval, oneWay, knowsEphemeral } =
+    facts;
+  if (knowsEphemeral.initiator || knowsEphemeral.responder) {
+    return `// ${section} has an ephemeral key before "...", which the package for Go has no field `
+      + 'for. Take the program in C.\n';
+  }
   const text = isNamed ? `"${section}"` : facts.lines.map((line) => `"${line}\\n"`).join(' +\n\t');
-  const imports = lines(psks > 0 && '\t"crypto/rand"', '\t"fmt"', isStream && '\t"io"', '\t"log"', isStream && '\t"net"', '', '\t"example.org/yulimosar/noise"');
+  const imports = lines(
+    psks > 0 && '\t"crypto/rand"',
+    '\t"fmt"',
+    isStream && '\t"io"',
+    '\t"log"',
+    isStream && '\t"net"',
+    '',
+    '\t"example.org/yulimosar/noise"',
+  );
   return lines(
     `// The pattern ${section}: both parties in one program, ${name}.go. docs/GO.md has the go.mod for it.`,
     'package main', '', 'import (', imports.trimEnd(), ')', '',
@@ -97,7 +109,13 @@ export function go(facts) {
     (config('initiator', facts) + config('responder', facts)).trimEnd() || undefined,
     (isStream ? STREAM(oneWay) : MESSAGES(facts)).trimEnd(),
     '}', '',
-    (has.initiator || has.responder) && ['func public(key *noise.KeyPair) *noise.PublicKey {', '\tpublic := key.Public()', '\treturn &public', '}', ''],
+    (has.initiator || has.responder) && [
+      'func public(key *noise.KeyPair) *noise.PublicKey {',
+      '\tpublic := key.Public()',
+      '\treturn &public',
+      '}',
+      '',
+    ],
     'func must(err error) {', '\tif err != nil {', '\t\tlog.Fatal(err)', '\t}', '}',
   );
 }

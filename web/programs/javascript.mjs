@@ -2,7 +2,8 @@
 import { visible } from '../bytes.mjs';
 import { lines } from './text.mjs';
 
-const quoted = (text) => `'${visible(JSON.stringify(text)).slice(1, -1).replaceAll('\\"', '"').replaceAll("'", "\\'")}'`;
+const quoted = (text) =>
+  `'${visible(JSON.stringify(text)).slice(1, -1).replaceAll('\\"', '"').replaceAll("'", "\\'")}'`;
 
 function options(role, { has, knows, knowsEphemeral, psks }) {
   const [own, other] = role === 'initiator' ? ['client', 'server'] : ['server', 'client'];
@@ -30,16 +31,23 @@ function keys({ has, knowsEphemeral, psks }) {
     has.responder && draw('serverKey'),
     knowsEphemeral.responder && `${draw('clientEphemeral')}    // a new one for each handshake`,
     knowsEphemeral.initiator && `${draw('serverEphemeral')}    // a new one for each handshake`,
-    psks > 0 && `const psks = Array.from({ length: ${psks} }, () => crypto.getRandomValues(new Uint8Array(32)));    // in the order of the psk tokens`,
+    psks > 0
+      && `const psks = Array.from({ length: ${psks} }, () => crypto.getRandomValues(new Uint8Array(32)));`
+        + '    // in the order of the psk tokens',
   );
 }
 
 function socket(role, facts) {
   const { has, interval, psks } = facts;
-  const [reads, writes, other, isOther] = role === 'initiator' ? ['back', 'there', 'server', has.responder] : ['there', 'back', 'client', has.initiator];
-  const more = [interval > 0 && `interval: ${interval}`, isOther && `verify: (key) => String(key) === String(${other}Key.publicKey)`,
-    !isOther && psks === 0 && 'acceptAnyKey: true'].filter(Boolean);
-  return `  NoiseSocket.open({ readable: ${reads}.readable, writable: ${writes}.writable }, ${object([...options(role, facts), ...more], '  ')}),`;
+  const [reads, writes, other, isOther] =
+    role === 'initiator' ? ['back', 'there', 'server', has.responder] : ['there', 'back', 'client', has.initiator];
+  const more = [
+    interval > 0 && `interval: ${interval}`,
+    isOther && `verify: (key) => String(key) === String(${other}Key.publicKey)`,
+    !isOther && psks === 0 && 'acceptAnyKey: true',
+  ].filter(Boolean);
+  const given = object([...options(role, facts), ...more], '  ');
+  return `  NoiseSocket.open({ readable: ${reads}.readable, writable: ${writes}.writable }, ${given}),`;
 }
 
 function streams(facts) {
@@ -54,18 +62,26 @@ function streams(facts) {
     "const sent = client.send(bytes('hello'));",
     "console.log('the server reads:', text(await server.receive()));",
     'await sent;',
-    !oneWay && ["const answered = server.send(bytes('and hello'));", "console.log('the client reads:', text(await client.receive()));", 'await answered;'],
+    !oneWay && [
+      "const answered = server.send(bytes('and hello'));",
+      "console.log('the client reads:', text(await client.receive()));",
+      'await answered;',
+    ],
     'await Promise.all([client.close(), server.close()]);',
   );
 }
 
 /** The comparison of the other party's static key, where the pattern has one. */
-const compare = (n, own, other) => `if (String(handshakes[${n}].remoteStatic) !== String(${other}Key.publicKey)) throw new Error('the ${own} expects another key');`;
+const compare = (n, own, other) =>
+  `if (String(handshakes[${n}].remoteStatic) !== String(${other}Key.publicKey)) `
+  + `throw new Error('the ${own} expects another key');`;
 
 /** Messages in order, or datagrams. */
 function messages(facts) {
   const { window, interval, isDatagrams, has } = facts;
-  const finish = isDatagrams ? `finishDatagrams({ window: ${window} })` : `finish(${interval > 0 ? `{ interval: ${interval} }` : ''})`;
+  const finish = isDatagrams
+    ? `finishDatagrams({ window: ${window} })`
+    : `finish(${interval > 0 ? `{ interval: ${interval} }` : ''})`;
   return lines(
     'const handshakes = [',
     `  new Handshake(${object(options('initiator', facts), '  ')}),`,
@@ -88,9 +104,12 @@ export function javascript(facts) {
   const { section, name, isNamed, prologue, isStream, has, knowsEphemeral } = facts;
   const isKeyed = [has, knowsEphemeral].some((who) => who.initiator || who.responder);
   const imported = [!isStream && 'Handshake', isKeyed && 'KeyPair', isStream && 'NoiseSocket', 'load'].filter(Boolean);
-  const pattern = isNamed ? `'${section}'` : `[\n${facts.lines.map((line) => `  '${line}',`).join('\n')}\n  '',\n].join('\\n')`;
+  const pattern = isNamed
+    ? `'${section}'`
+    : `[\n${facts.lines.map((line) => `  '${line}',`).join('\n')}\n  '',\n].join('\\n')`;
   return lines(
-    `// The pattern ${section}: both parties in one program, ${name}.mjs. docs/JAVASCRIPT.md says how the package is installed.`,
+    `// The pattern ${section}: both parties in one program, ${name}.mjs. `
+      + 'docs/JAVASCRIPT.md says how the package is installed.',
     `import { ${imported.join(', ')} } from 'yulimosar';`, '',
     'const bytes = (it) => new TextEncoder().encode(it);',
     'const text = (it) => new TextDecoder().decode(it);', '',

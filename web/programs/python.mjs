@@ -64,12 +64,23 @@ const MESSAGES = ({ isDatagrams, window }) => lines(
 
 export function python(facts) {
   const { section, name, isNamed, psks, has, isStream, oneWay, knowsEphemeral } = facts;
-  if (knowsEphemeral.initiator || knowsEphemeral.responder) return `# ${section} has an ephemeral key before "...", which the package for Python refuses. Take the program in C.\n`;
-  const imported = ['Config', !isStream && 'Handshake', (has.initiator || has.responder) && 'KeyPair', isStream && 'NoiseSocket', isStream && 'accept', isStream && 'connect'];
+  if (knowsEphemeral.initiator || knowsEphemeral.responder) {
+    return `# ${section} has an ephemeral key before "...", `
+      + 'which the package for Python refuses. Take the program in C.\n';
+  }
+  const imported = [
+    'Config',
+    !isStream && 'Handshake',
+    (has.initiator || has.responder) && 'KeyPair',
+    isStream && 'NoiseSocket',
+    isStream && 'accept',
+    isStream && 'connect',
+  ];
   const text = isNamed ? `"${section}"` : `(\n${facts.lines.map((line) => `    "${line}\\n"\n`).join('')})`;
   const modules = lines(psks > 0 && 'import secrets', isStream && ['import socket', 'import threading']);
   return lines(
-    `# The pattern ${section}: both parties in one program, ${name}.py. docs/PYTHON.md says how the package is installed.`,
+    `# The pattern ${section}: both parties in one program, ${name}.py. `
+      + 'docs/PYTHON.md says how the package is installed.',
     modules.trimEnd() || undefined,
     modules && '',
     `from yulimosar import ${imported.filter(Boolean).join(', ')}`,

@@ -18,7 +18,10 @@ function builder(role, { has, knows, psks, interval, isDatagrams }) {
 }
 
 function keys({ has, psks }) {
-  const draw = (own) => [`    let ${own}_key = KeyPair::generate()?;`, `    let ${own}_public = *${own}_key.public_key();`];
+  const draw = (own) => [
+    `    let ${own}_key = KeyPair::generate()?;`,
+    `    let ${own}_public = *${own}_key.public_key();`,
+  ];
   const psk = '*KeyPair::generate()?.secret_key()?';
   return lines(
     has.initiator && draw('client'),
@@ -29,7 +32,9 @@ function keys({ has, psks }) {
 
 /** The stream of a party: the other party's static key is compared, if the pattern has one. */
 function open(isOther, other, below) {
-  return isOther ? `Stream::new(${below}, handshake, |key| key == &${other}_public)?` : `Stream::anonymous(${below}, handshake)?`;
+  return isOther
+    ? `Stream::new(${below}, handshake, |key| key == &${other}_public)?`
+    : `Stream::anonymous(${below}, handshake)?`;
 }
 
 const indented = (text, by) => text.replaceAll('\n', `\n${by}`);
@@ -51,7 +56,11 @@ function streams(facts) {
     `    let mut stream = ${open(has.responder, 'server', 'here')};`,
     '    stream.write_all(b"hello")?;',
     '    stream.close_write()?;',
-    !oneWay && ['    let mut answer = String::new();', '    stream.read_to_string(&mut answer)?;', '    println!("the client reads: {answer}");'],
+    !oneWay && [
+      '    let mut answer = String::new();',
+      '    stream.read_to_string(&mut answer)?;',
+      '    println!("the client reads: {answer}");',
+    ],
     '    server.join().expect("the server doesn\'t panic")',
   );
 }
@@ -87,13 +96,20 @@ function messages(facts) {
 
 export function rust(facts) {
   const { section, name, isNamed, prologue, isStream, knowsEphemeral } = facts;
-  if (knowsEphemeral.initiator || knowsEphemeral.responder) return `// ${section} has an ephemeral key before "...", which the crate for Rust has no call for. Take the program in C.\n`;
+  if (knowsEphemeral.initiator || knowsEphemeral.responder) {
+    return `// ${section} has an ephemeral key before "...", which the crate for Rust has no call `
+      + 'for. Take the program in C.\n';
+  }
   const pair = facts.has.initiator || facts.has.responder || facts.psks > 0 ? 'KeyPair, ' : '';
   const text = isNamed ? `"${section}"` : `concat!(\n${facts.lines.map((line) => `    "${line}\\n",`).join('\n')}\n)`;
   return lines(
     `// The pattern ${section}: both parties in one program, ${name}.rs. docs/RUST.md has the Cargo.toml for it.`,
     !isStream ? `use yulimosar::{Builder, Error, ${pair}MAX_MESSAGE};`
-      : ['use std::io::{self, Read, Write};', 'use std::os::unix::net::UnixStream;', `use yulimosar::{Builder, ${pair}Stream};`],
+      : [
+        'use std::io::{self, Read, Write};',
+        'use std::os::unix::net::UnixStream;',
+        `use yulimosar::{Builder, ${pair}Stream};`,
+      ],
     '',
     `const PATTERN: &str = ${text};`,
     `const PROLOGUE: &[u8] = b${quoted(prologue, hexEscape)};`, '',

@@ -14,4 +14,5 @@ export const hexEscape = (byte) => `\\x${byte.toString(16).padStart(2, '0')}`;
 export const octalEscape = (byte) => `\\${byte.toString(8).padStart(3, '0')}`;
 
 /** Lines joined, without those that are undefined or false. */
-export const lines = (...all) => all.flat().filter((line) => line !== undefined && line !== false).map((line) => `${line}\n`).join('');
+export const lines = (...all) =>
+  all.flat().filter((line) => line !== undefined && line !== false).map((line) => `${line}\n`).join('');

@@ -84,7 +84,11 @@ test('cipher states', async (t) => {
     const [a, b] = await NN();
     const [{ send }, { receive }] = [a.finishCiphers(), b.finishCiphers()];
     const messages = Array.from({ length: 3 }, (_, n) => send.encryptWithAd(text('ad'), text(`${n}`)));
-    for (const [ad, message, number] of [['other', messages[0], 'NOISE_TAG'], ['ad', messages[1], 'NOISE_TAG'], ['ad', messages[0].slice(0, 15), 'NOISE_SHORT']]) {
+    for (const [ad, message, number] of [
+      ['other', messages[0], 'NOISE_TAG'],
+      ['ad', messages[1], 'NOISE_TAG'],
+      ['ad', messages[0].slice(0, 15), 'NOISE_SHORT'],
+    ]) {
       assert.throws(() => receive.decryptWithAd(text(ad), message), refused(number));
       assert.equal(receive.nonce, 0n);
     }
@@ -93,7 +97,9 @@ test('cipher states', async (t) => {
     assert.equal(receive.nonce, 3n);
     receive.nonce = (1n << 64n) - 1n;
     assert.throws(() => receive.decryptWithAd(text('ad'), messages[0]), refused('NOISE_EXHAUSTED'));
-    for (const nonce of [-1n, 1n << 64n, 5, '5', undefined]) assert.throws(() => { receive.nonce = nonce; }, RangeError);
+    for (const nonce of [-1n, 1n << 64n, 5, '5', undefined]) {
+      assert.throws(() => { receive.nonce = nonce; }, RangeError);
+    }
   });
 
   await t.test('each has its direction, its limits, and its end', async () => {
@@ -107,7 +113,11 @@ test('cipher states', async (t) => {
     assert.throws(() => send.encryptWithAd(new Uint8Array(65536), EMPTY), refused('NOISE_LENGTH'));
     assert.throws(() => receive.decryptWithAd(EMPTY, new Uint8Array(65536)), refused('NOISE_TOO_LONG'));
     for (const wrong of ['text', undefined, [1], new Uint16Array(2)]) {
-      for (const call of [() => send.encryptWithAd(wrong, EMPTY), () => send.encryptWithAd(EMPTY, wrong), () => receive.decryptWithAd(EMPTY, wrong)]) {
+      for (const call of [
+        () => send.encryptWithAd(wrong, EMPTY),
+        () => send.encryptWithAd(EMPTY, wrong),
+        () => receive.decryptWithAd(EMPTY, wrong),
+      ]) {
         assert.throws(call, TypeError);
       }
     }

@@ -36,7 +36,10 @@ export function pair(...strategies) {
   return [{ readable: down.readable, writable: up.writable }, { readable: up.readable, writable: down.writable }];
 }
 
-/** Both ends of a connection by streams of Node, which take at once what is written; once it has `refuses`, one calls that instead. */
+/**
+ * Both ends of a connection by streams of Node, which take at once what is written; once it has `refuses`, one calls
+ * that instead.
+ */
 export function duplexes() {
   const write = function write(bytes, _, done) {
     if (this.refuses) {
@@ -79,7 +82,9 @@ class Socket extends EventTarget {
   }
 
   take(data) {
-    this.dispatchEvent(Object.assign(new Event('message'), { data: typeof data === 'string' ? data : data.slice().buffer }));
+    this.dispatchEvent(
+      Object.assign(new Event('message'), { data: typeof data === 'string' ? data : data.slice().buffer }),
+    );
   }
 
   send(data) {

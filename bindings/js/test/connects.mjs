@@ -1,5 +1,6 @@
-// Prints how many milliseconds a first connection by XX over TCP takes, with both parties in this program: the least, and the one in the middle; and the least
-// within memory. One is from the call of `connect` until a payload has come back and both streams are ended.
+// Prints how many milliseconds a first connection by XX over TCP takes, with both parties in this program: the least,
+// and the one in the middle; and the least within memory. One is from the call of `connect` until a payload has come
+// back and both streams are ended.
 import { once } from 'node:events';
 import { connect, createServer } from 'node:net';
 import { KeyPair, NoiseSocket, load } from '../noise.mjs';
@@ -8,7 +9,12 @@ import { pair } from './connections.mjs';
 await load();
 const [client, own] = [await KeyPair.generate(), await KeyPair.generate()];
 async function serve(socket) {
-  const channel = await NoiseSocket.open(socket, { pattern: 'XX', responder: true, staticKey: own, acceptAnyKey: true });
+  const channel = await NoiseSocket.open(socket, {
+    pattern: 'XX',
+    responder: true,
+    staticKey: own,
+    acceptAnyKey: true,
+  });
   for await (const payload of channel) await channel.send(payload);
   await channel.close();
 }

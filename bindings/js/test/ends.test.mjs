@@ -119,7 +119,9 @@ test('ends', { timeout: 300000 }, async (t) => {
       const name = wrong === FORGED ? 'NOISE_TAG' : 'NOISE_SHORT';
       assert.deepEqual(await Promise.all(calls), [name, name, name]);
       const before = came;
-      for (const call of [a.send(text('x')), a.end(), a.flush(), a.receive()]) await assert.rejects(call, refused(name));
+      for (const call of [a.send(text('x')), a.end(), a.flush(), a.receive()]) {
+        await assert.rejects(call, refused(name));
+      }
       await a.close();
       if (!far.closed) await once(far, 'close');
       assert.equal(came, before);
@@ -144,24 +146,29 @@ test('ends', { timeout: 300000 }, async (t) => {
     await Promise.all([c.close(), d.close()]);
   });
 
-  await t.test('after a cut each call throws it, with its cause; after a close of one’s own NOISE_DISPOSED has none', async () => {
-    for (const first of ['send', 'receive']) {
-      const [near, far] = await overTcp();
-      const [a] = await channels([near, far]);
-      far.resetAndDestroy();
-      await assert.rejects(a.receive(), refused('NOISE_CUT'));
-      for (const call of first === 'send' ? [a.send(text('x')), a.receive()] : [a.receive(), a.send(text('x'))]) {
-        await assert.rejects(call, (error) => error.code === 'NOISE_CUT' && error.cause.code === 'ECONNRESET');
+  await t.test(
+    'after a cut each call throws it, with its cause; after a close of one’s own NOISE_DISPOSED has none',
+    async () => {
+      for (const first of ['send', 'receive']) {
+        const [near, far] = await overTcp();
+        const [a] = await channels([near, far]);
+        far.resetAndDestroy();
+        await assert.rejects(a.receive(), refused('NOISE_CUT'));
+        for (const call of first === 'send' ? [a.send(text('x')), a.receive()] : [a.receive(), a.send(text('x'))]) {
+          await assert.rejects(call, (error) => error.code === 'NOISE_CUT' && error.cause.code === 'ECONNRESET');
+        }
       }
-    }
-    for (const close of ['close', 'destroy']) {
-      const [a, b] = await channels(await overTcp());
-      const closed = a[close]();
-      for (const call of [a.send(text('x')), a.receive()]) await assert.rejects(call, (error) => error.code === 'NOISE_DISPOSED' && error.cause === undefined);
-      b.destroy();
-      await closed;
-    }
-  });
+      for (const close of ['close', 'destroy']) {
+        const [a, b] = await channels(await overTcp());
+        const closed = a[close]();
+        for (const call of [a.send(text('x')), a.receive()]) {
+          await assert.rejects(call, (error) => error.code === 'NOISE_DISPOSED' && error.cause === undefined);
+        }
+        b.destroy();
+        await closed;
+      }
+    },
+  );
 
   await t.test('with 13 MB unsent, and a peer that doesn’t read, each call settles', async () => {
     const [near, far] = await overTcp();
@@ -209,21 +216,24 @@ test('ends', { timeout: 300000 }, async (t) => {
     await Promise.all([closed, b.close()]);
   });
 
-  await t.test('a party that has ended its half of the connection gets all that is sent, also before a close', async () => {
-    const [near, far] = await overTcp();
-    const [a, b] = await channels([near, far]);
-    for (let n = 0; n < 100; n += 1) a.send(MEGABYTES);
-    await b.end();
-    assert.equal(await a.receive(), undefined);
-    far.end();    // as AsyncStream of Rust does
-    await new Promise((resolve) => { setTimeout(resolve, 50); });
-    a.send(text('late'));
-    const closed = a.close({ timeout: 60000 });
-    let size = 0;
-    for await (const { length } of b) size += length;
-    assert.equal(size, 100 * MEGABYTES.length + 4);
-    await Promise.all([closed, b.close()]);
-  });
+  await t.test(
+    'a party that has ended its half of the connection gets all that is sent, also before a close',
+    async () => {
+      const [near, far] = await overTcp();
+      const [a, b] = await channels([near, far]);
+      for (let n = 0; n < 100; n += 1) a.send(MEGABYTES);
+      await b.end();
+      assert.equal(await a.receive(), undefined);
+      far.end();    // as AsyncStream of Rust does
+      await new Promise((resolve) => { setTimeout(resolve, 50); });
+      a.send(text('late'));
+      const closed = a.close({ timeout: 60000 });
+      let size = 0;
+      for await (const { length } of b) size += length;
+      assert.equal(size, 100 * MEGABYTES.length + 4);
+      await Promise.all([closed, b.close()]);
+    },
+  );
 
   await t.test('close waits as long as it is asked to, also for ever', async () => {
     const [a, b] = await channels(await overTcp());

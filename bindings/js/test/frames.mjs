@@ -1,4 +1,5 @@
-// Prints how many milliseconds of processor time it takes to read 64,000 frames of 19 bytes that came in one chunk: the least of three times.
+// Prints how many milliseconds of processor time it takes to read 64,000 frames of 19 bytes that came in one chunk: the
+// least of three times.
 import { Handshake, NoiseSocket, load } from '../noise.mjs';
 
 const COUNT = 64000;
@@ -23,7 +24,9 @@ async function read() {
   }
   give(chunk);
   const start = process.cpuUsage();
-  for (let n = 0; n < COUNT; n += 1) if ((await channel.receive())[0] !== (n & 255)) throw new Error(`another payload ${n}`);
+  for (let n = 0; n < COUNT; n += 1) {
+    if ((await channel.receive())[0] !== (n & 255)) throw new Error(`another payload ${n}`);
+  }
   const { user, system } = process.cpuUsage(start);
   return (user + system) / 1000;
 }

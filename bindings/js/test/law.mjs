@@ -1,13 +1,24 @@
-// What two parties of a channel may report, whatever is between them: each has the first payloads that the other has written, in order; it reports an end only
-// if the other has ended and all of it came; and else it throws. After a refusal it sends nothing. X25519 is a toy, as in checks/c-library/relay.py: the
-// result of two public keys is their xor.
+// What two parties of a channel may report, whatever is between them: each has the first payloads that the other has
+// written, in order; it reports an end only if the other has ended and all of it came; and else it throws. After a
+// refusal it sends nothing. X25519 is a toy, as in checks/c-library/relay.py: the result of two public keys is their
+// xor.
 import assert from 'node:assert/strict';
 import { NoiseError, NoiseSocket } from '../noise.mjs';
 import { text } from './connections.mjs';
 
-export const TEXTS = [['a first text', 'b', 'the last of the client'].map(text), ['1', 'what the server has to say', 'and good bye'].map(text)];
+export const TEXTS = [
+  ['a first text', 'b', 'the last of the client'].map(text),
+  ['1', 'what the server has to say', 'and good bye'].map(text),
+];
 /** When each party ends its stream: at once, once the other's has ended, or, without receiving at all, by close. */
-export const ORDERS = [['ends', 'ends'], ['waits', 'ends'], ['ends', 'waits'], ['closes', 'ends'], ['ends', 'closes'], ['closes', 'closes']];
+export const ORDERS = [
+  ['ends', 'ends'],
+  ['waits', 'ends'],
+  ['ends', 'waits'],
+  ['closes', 'ends'],
+  ['ends', 'closes'],
+  ['closes', 'closes'],
+];
 export const NOTHING = { kind: 'nothing' };
 
 function keyOf(role, ofStatic) {
@@ -25,7 +36,12 @@ export function damaged(message, { kind, at, bit }, from, number) {
   if (kind === 'flip' && isInside) return [message.map((byte, n) => (n === at - from ? byte ^ (1 << bit) : byte))];
   if (at !== number) return [message];
   if (kind === 'cut') return undefined;
-  return { drop: [], repeat: [message, message], shorten: [message.slice(0, -1)], lengthen: [Uint8Array.of(...message, 0)] }[kind] ?? [message];
+  return {
+    drop: [],
+    repeat: [message, message],
+    shorten: [message.slice(0, -1)],
+    lengthen: [Uint8Array.of(...message, 0)],
+  }[kind] ?? [message];
 }
 
 /** Sends what a party has to send, and ends it, unless the other party's end comes first, or `close` is to do it. */
@@ -62,7 +78,10 @@ export async function party(link, role, order) {
 export function check({ link, reports }, role, order) {
   const [mine, other, written] = [reports[role], reports[1 - role], TEXTS[1 - role]];
   assert.deepEqual(mine.got, written.slice(0, mine.got.length), 'what was received is a front of what was written');
-  if (mine.gotEnd) assert.ok(other.hasEnded && mine.got.length === written.length, 'an end, and not all of it came');
-  else if (order !== 'closes') assert.ok(mine.error instanceof NoiseError, `neither an end nor a refusal: ${mine.error}`);
+  if (mine.gotEnd) {
+    assert.ok(other.hasEnded && mine.got.length === written.length, 'an end, and not all of it came');
+  } else if (order !== 'closes') {
+    assert.ok(mine.error instanceof NoiseError, `neither an end nor a refusal: ${mine.error}`);
+  }
   if (mine.error) assert.equal(link.sent(role), mine.sent, 'something is sent after a refusal');
 }

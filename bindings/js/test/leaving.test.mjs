@@ -23,7 +23,8 @@ const WAYS = {
   'Symbol.asyncDispose': (channel) => channel[Symbol.asyncDispose](),
   cancel: (channel) => channel.readable.cancel(),
   'break of readable': async (channel) => { for await (const payload of channel.readable) if (payload) break; },
-  'pipeTo that is aborted': (channel) => channel.readable.pipeTo(new WritableStream(), { signal: AbortSignal.timeout(20) }).catch(() => {}),
+  'pipeTo that is aborted': (channel) =>
+    channel.readable.pipeTo(new WritableStream(), { signal: AbortSignal.timeout(20) }).catch(() => {}),
 };
 
 test('leaving', async (t) => {

@@ -7,7 +7,10 @@ import { NN, channels, duplexes, openSockets, outcome, overTcp, pair, refused, s
 
 const EVENTS = ['message', 'close', 'open'];
 
-/** The first of two open sockets, whose other end counts what it is sent, and whose `bufferedAmount` only this test changes. */
+/**
+ * The first of two open sockets, whose other end counts what it is sent, and whose `bufferedAmount` only this test
+ * changes.
+ */
 function slowSocket() {
   const [near, far] = openSockets();
   near.send = (data) => {
@@ -86,25 +89,42 @@ test('limits', { timeout: 300000 }, async (t) => {
     there.close();
   });
 
-  await t.test('over a WebSocket 8 MiB that follow the last message of the handshake at once are received', async () => {
-    const [one, two] = [await KeyPair.generate(), await KeyPair.generate()];
-    const slow = { publicKey: two.publicKey, agree: async (remote) => { await new Promise((resolve) => { setTimeout(resolve, 30); }); return two.agree(remote); } };
-    const isOne = (key) => Buffer.compare(key, one.publicKey) === 0;
-    for (const server of [{ pattern: 'XX', verify: isOne }, { pattern: 'XXpsk3', pskFor: () => new Uint8Array(32) }]) {
-      const [near, far] = openSockets();
-      const opening = NoiseSocket.open(near, { ...server, staticKey: slow, responder: true });
-      const a = await NoiseSocket.open(far, { pattern: server.pattern, staticKey: one, psks: server.pskFor ? [new Uint8Array(32)] : [], acceptAnyKey: true });
-      const sends = Array.from({ length: 128 }, () => a.send(new Uint8Array(65519)));
-      const b = await opening;
-      let got = 0;
-      const reading = (async () => { for await (const { length } of b) got += length; })();
-      await Promise.all(sends);
-      await a.close();
-      await reading;
-      assert.equal(got, 128 * 65519);
-      await b.close();
-    }
-  });
+  await t.test(
+    'over a WebSocket 8 MiB that follow the last message of the handshake at once are received',
+    async () => {
+      const [one, two] = [await KeyPair.generate(), await KeyPair.generate()];
+      const slow = {
+        publicKey: two.publicKey,
+        agree: async (remote) => {
+          await new Promise((resolve) => { setTimeout(resolve, 30); });
+          return two.agree(remote);
+        },
+      };
+      const isOne = (key) => Buffer.compare(key, one.publicKey) === 0;
+      for (const server of [
+        { pattern: 'XX', verify: isOne },
+        { pattern: 'XXpsk3', pskFor: () => new Uint8Array(32) },
+      ]) {
+        const [near, far] = openSockets();
+        const opening = NoiseSocket.open(near, { ...server, staticKey: slow, responder: true });
+        const a = await NoiseSocket.open(far, {
+          pattern: server.pattern,
+          staticKey: one,
+          psks: server.pskFor ? [new Uint8Array(32)] : [],
+          acceptAnyKey: true,
+        });
+        const sends = Array.from({ length: 128 }, () => a.send(new Uint8Array(65519)));
+        const b = await opening;
+        let got = 0;
+        const reading = (async () => { for await (const { length } of b) got += length; })();
+        await Promise.all(sends);
+        await a.close();
+        await reading;
+        assert.equal(got, 128 * 65519);
+        await b.close();
+      }
+    },
+  );
 
   await t.test('an open channel keeps what waits, up to its backlog', async () => {
     const [near, far] = openSockets();
@@ -164,7 +184,9 @@ test('limits', { timeout: 300000 }, async (t) => {
 
   await t.test('what is no number of bytes is no limit', async () => {
     for (const limit of [-1, NaN, 1.5, '100', null, Infinity]) {
-      for (const name of ['handshakeLimit', 'backlog']) await assert.rejects(NoiseSocket.open(pair()[0], { ...NN, [name]: limit }), RangeError);
+      for (const name of ['handshakeLimit', 'backlog']) {
+        await assert.rejects(NoiseSocket.open(pair()[0], { ...NN, [name]: limit }), RangeError);
+      }
     }
   });
 
@@ -183,7 +205,12 @@ test('limits', { timeout: 300000 }, async (t) => {
     there.close();
   });
 
-  for (const [kind, connect] of Object.entries({ TCP: overTcp, streams: pair, WebSocket: openSockets, 'a WebSocket that connects': sockets })) {
+  for (const [kind, connect] of Object.entries({
+    TCP: overTcp,
+    streams: pair,
+    WebSocket: openSockets,
+    'a WebSocket that connects': sockets,
+  })) {
     await t.test(`${kind}: a signal ends open, whatever it waits for`, async () => {
       const [near, far] = await connect();
       const reason = new Error('enough');
@@ -197,7 +224,9 @@ test('limits', { timeout: 300000 }, async (t) => {
       }
       if (kind.includes('WebSocket')) assert.equal(near.listeners('message'), 0);
       const [here] = await connect();
-      await assert.rejects(NoiseSocket.open(here, { ...NN, signal: AbortSignal.abort(reason) }), (error) => error === reason);
+      await assert.rejects(NoiseSocket.open(here, { ...NN, signal: AbortSignal.abort(reason) }), (error) =>
+        error === reason,
+      );
       if (kind === 'TCP') assert.equal(here.destroyed, true);
     });
   }
@@ -213,7 +242,11 @@ test('limits', { timeout: 300000 }, async (t) => {
     for (const options of hangs) {
       const [near, far] = await overTcp();
       const psks = options.pskFor ? [new Uint8Array(32)] : [];
-      const peer = outcome(NoiseSocket.open(far, { pattern: options.pattern, staticKey: two, psks, acceptAnyKey: true }).then((it) => it.receive()));
+      const peer = outcome(
+        NoiseSocket.open(far, { pattern: options.pattern, staticKey: two, psks, acceptAnyKey: true }).then((it) =>
+          it.receive(),
+        ),
+      );
       const opened = NoiseSocket.open(near, { ...options, responder: true, signal: AbortSignal.timeout(200) });
       await assert.rejects(opened, { name: 'TimeoutError' });
       assert.equal(near.destroyed, true);
@@ -222,7 +255,9 @@ test('limits', { timeout: 300000 }, async (t) => {
     const [near, far] = await overTcp();
     far.on('error', () => {});
     const timer = setInterval(() => far.write(Uint8Array.of(1)), 10);
-    await assert.rejects(NoiseSocket.open(near, { ...NN, responder: true, signal: AbortSignal.timeout(200) }), { name: 'TimeoutError' });
+    await assert.rejects(NoiseSocket.open(near, { ...NN, responder: true, signal: AbortSignal.timeout(200) }), {
+      name: 'TimeoutError',
+    });
     clearInterval(timer);
     assert.equal(near.destroyed, true);
     far.destroy();
@@ -238,7 +273,12 @@ test('limits', { timeout: 300000 }, async (t) => {
   });
 
   await t.test('a handshake message has a limit, which is checked before it has come', async () => {
-    for (const [handshakeLimit, length, name] of [[undefined, 4097, 'NOISE_TOO_LONG'], [100, 101, 'NOISE_TOO_LONG'], [100, 100, 'pending'], [65535, 65535, 'pending']]) {
+    for (const [handshakeLimit, length, name] of [
+      [undefined, 4097, 'NOISE_TOO_LONG'],
+      [100, 101, 'NOISE_TOO_LONG'],
+      [100, 100, 'pending'],
+      [65535, 65535, 'pending'],
+    ]) {
       const [near, far] = await overTcp();
       const opened = outcome(NoiseSocket.open(near, { ...NN, responder: true, handshakeLimit }), 200);
       far.write(Uint8Array.of(length >> 8, length & 255));

@@ -11,7 +11,11 @@ const MEMORY64 = new URL('../../../dist/noise_c.wasm', import.meta.url);
 /** What a program of its own prints, with these flags. */
 function printed(script, flags = []) {
   const noise = JSON.stringify(new URL('../noise.mjs', import.meta.url).href);
-  const { stdout, stderr } = spawnSync(process.execPath, [...flags, '--input-type=module', '-e', `const noise = await import(${noise}); ${script}`], { encoding: 'utf8' });
+  const { stdout, stderr } = spawnSync(
+    process.execPath,
+    [...flags, '--input-type=module', '-e', `const noise = await import(${noise}); ${script}`],
+    { encoding: 'utf8' },
+  );
   return stdout.trim() || stderr;
 }
 
@@ -28,20 +32,34 @@ test('what is no module, or no file, is refused, and load can be tried again', a
 test('Node loads the module without a flag, also by its address or its bytes', async () => {
   const file = `new URL("noise_c.wasm", ${JSON.stringify(new URL('../', import.meta.url).href)})`;
   for (const source of ['', '"noise_c.wasm"', file, `await (await import("node:fs/promises")).readFile(${file})`]) {
-    assert.equal(printed(`await noise.load(${source}); console.log(noise.checkPattern("NN:\\n  -> e\\n  <- e, ee\\n").messages)`), '2', source);
+    assert.equal(
+      printed(`await noise.load(${source}); console.log(noise.checkPattern("NN:\\n  -> e\\n  <- e, ee\\n").messages)`),
+      '2',
+      source,
+    );
   }
 });
 
 test('a module with 64-bit memory is loaded where the engine has that', () => {
-  const said = printed(`await noise.load(${JSON.stringify(MEMORY64.href)}).then(() => console.log("loaded"), ({ name }) => console.log(name));
-    console.log(noise.hasMemory64())`);
+  const said = printed(
+    `await noise.load(${JSON.stringify(MEMORY64.href)})
+      .then(() => console.log("loaded"), ({ name }) => console.log(name));
+    console.log(noise.hasMemory64())`,
+  );
   assert.match(said, /^(loaded\ntrue|CompileError\nfalse)$/u);
 });
 
-test('without 128-bit vectors load says so', { skip: process.arch !== 'x64' || !process.versions.node.startsWith('20.') }, () => {
-  const said = printed('await noise.load().catch(({ name, message }) => console.log(name, message))', ['--no-enable-sse4-1']);    // as an old processor
-  assert.match(said, /^CompileError .*SIMD/u);
-});
+test(
+  'without 128-bit vectors load says so',
+  { skip: process.arch !== 'x64' || !process.versions.node.startsWith('20.') },
+  () => {
+    // as an old processor
+    const said = printed('await noise.load().catch(({ name, message }) => console.log(name, message))', [
+      '--no-enable-sse4-1',
+    ]);
+    assert.match(said, /^CompileError .*SIMD/u);
+  },
+);
 
 test('calls at once load one module', async () => {
   await Promise.all([load(), load(), load(await readFile(new URL('../noise_c.wasm', import.meta.url)))]);

@@ -1,4 +1,5 @@
-// The module's memory: places of structs that nobody has any more; and the codes, as the types and the header have them.
+// The module's memory: places of structs that nobody has any more; and the codes, as the types and the header have
+// them.
 import test from 'node:test';
 import assert from 'node:assert/strict';
 import { readFile } from 'node:fs/promises';
@@ -7,7 +8,17 @@ import { runInNewContext } from 'node:vm';
 import { code } from '../codes.mjs';
 import { library } from '../module.mjs';
 import { Incoming } from '../incoming.mjs';
-import { CipherState, Ciphers, Datagrams, Handshake, KeyPair, NoiseError, NoiseSocket, Transport, load } from '../noise.mjs';
+import {
+  CipherState,
+  Ciphers,
+  Datagrams,
+  Handshake,
+  KeyPair,
+  NoiseError,
+  NoiseSocket,
+  Transport,
+  load,
+} from '../noise.mjs';
 
 /** Both parties of NN, after its messages. */
 async function passed() {
@@ -30,16 +41,20 @@ test('memory', async (t) => {
         sealer.seal(new Uint8Array(1));
       }
     };
-    const places = Object.fromEntries(['handshake', 'sender', 'receiver'].map((kind) => [kind, new Set(lib.unused[kind])]));
+    const places = Object.fromEntries(
+      ['handshake', 'sender', 'receiver'].map((kind) => [kind, new Set(lib.unused[kind])]),
+    );
     await forget();
-    for (let n = 0; n < 100 && ['handshake', 'sender'].some((kind) => lib.unused[kind].length < places[kind].size + 100); n += 1) {
+    const isFew = (kind) => lib.unused[kind].length < places[kind].size + 100;
+    for (let n = 0; n < 100 && ['handshake', 'sender'].some(isFew); n += 1) {
       gc();
       await new Promise((resolve) => { setTimeout(resolve, 20); });
     }
     for (const kind of ['handshake', 'sender', 'receiver']) {
       const freed = lib.unused[kind];
       assert.equal(new Set(freed).size, freed.length, 'a place is free twice');
-      assert.ok(freed.length >= 100, `${freed.length} ${kind}`);    // less than 200: an engine may collect some before the last are made
+      // less than 200: an engine may collect some before the last are made
+      assert.ok(freed.length >= 100, `${freed.length} ${kind}`);
       assert.ok(freed.every((place) => lib.view(place, lib.sizes[kind]).every((byte) => byte === 0)));
     }
     const before = lib.next;
@@ -52,14 +67,22 @@ test('memory', async (t) => {
     const [initiator, responder] = await passed();
     const [a, b] = [initiator.finish(), responder.finish()];
     for (const end of [a, b, a, initiator]) end.dispose();
-    for (const kind of Object.keys(lib.unused)) assert.equal(new Set(lib.unused[kind]).size, lib.unused[kind].length, kind);
-    if (Symbol.dispose) for (const Kind of [Handshake, Transport, Datagrams, CipherState, NoiseSocket]) assert.equal(typeof Kind.prototype[Symbol.dispose], 'function');
+    for (const kind of Object.keys(lib.unused)) {
+      assert.equal(new Set(lib.unused[kind]).size, lib.unused[kind].length, kind);
+    }
+    if (Symbol.dispose) {
+      for (const Kind of [Handshake, Transport, Datagrams, CipherState, NoiseSocket]) {
+        assert.equal(typeof Kind.prototype[Symbol.dispose], 'function');
+      }
+    }
   });
 
   await t.test('the codes are those of include/noise.h', async () => {
     const header = await readFile(new URL('../../../include/noise.h', import.meta.url), 'utf8');
     const codes = /enum noise_code \{([^}]*)\}/u.exec(header)[1];
-    const there = Object.fromEntries([...codes.matchAll(/NOISE_(\w+) = (\d+)/gu)].map(([, name, number]) => [name, Number(number)]));
+    const there = Object.fromEntries(
+      [...codes.matchAll(/NOISE_(\w+) = (\d+)/gu)].map(([, name, number]) => [name, Number(number)]),
+    );
     assert.deepEqual({ ...code }, there);
     for (const [name, number] of Object.entries(there)) {
       const error = new NoiseError(`NOISE_${name}`);
@@ -71,7 +94,13 @@ test('memory', async (t) => {
   await t.test('what other calls make has no constructor that makes anything', async () => {
     const { publicKey } = await KeyPair.generate();
     for (const Kind of [KeyPair, Transport, Datagrams, CipherState, Ciphers, NoiseSocket]) {
-      for (const words of [[], [publicKey], [undefined, publicKey], [{}, [0n, 64n], { hash: publicKey }], [{ type: 'private' }, publicKey]]) {
+      for (const words of [
+        [],
+        [publicKey],
+        [undefined, publicKey],
+        [{}, [0n, 64n], { hash: publicKey }],
+        [{ type: 'private' }, publicKey],
+      ]) {
         assert.throws(() => new Kind(...words), { name: 'TypeError', message: /Illegal constructor/u });
       }
     }
@@ -97,7 +126,8 @@ test('memory', async (t) => {
 
   await t.test('bytes are found whole in whichever chunks they come', async () => {
     const all = Uint8Array.from({ length: 300000 }, (_, n) => (n * 7 + (n >> 8)) & 255);
-    const sizes = [1, 0, 2047, 2048, 2049, 3, 0, 4095, 4096, 1, 65536, 1, 1, 20000];    // around that from which on a chunk isn't copied
+    // around that from which on a chunk isn't copied
+    const sizes = [1, 0, 2047, 2048, 2049, 3, 0, 4095, 4096, 1, 65536, 1, 1, 20000];
     let [from, chunk] = [0, 0];
     const pull = async () => {
       if (from === all.length) return undefined;

@@ -5,7 +5,8 @@ import { DEFERRED, FUNDAMENTAL } from './patterns.mjs';
 
 const text = (s) => new TextEncoder().encode(s);
 const other = (role) => (role === 'initiator' ? 'responder' : 'initiator');
-const refused = (code, token) => (error) => error instanceof NoiseError && error.code === code && (token === undefined || error.token === token);
+const refused = (code, token) => (error) =>
+  error instanceof NoiseError && error.code === code && (token === undefined || error.token === token);
 
 /** Both parties of a pattern, with keys of WebCrypto. */
 async function parties(pattern, options = {}) {
@@ -35,7 +36,8 @@ test('with the module loaded', async (t) => {
   await load();
   const all = [
     ...FUNDAMENTAL.map((base) => [base, protocolName(base)]), ...DEFERRED,
-    ['XXpsk3', protocolName('XXpsk3')], ['NNpsk0+psk2', protocolName('NNpsk0+psk2')], ['NK1psk0', DEFERRED.get('NK1').replace('NK1', 'NK1psk0').replace('-> e', '-> psk, e')],
+    ['XXpsk3', protocolName('XXpsk3')], ['NNpsk0+psk2', protocolName('NNpsk0+psk2')],
+    ['NK1psk0', DEFERRED.get('NK1').replace('NK1', 'NK1psk0').replace('-> e', '-> psk, e')],
   ];
   for (const [base, pattern] of all) {
     await t.test(`${base} from its first message to transport messages`, async () => {
@@ -64,12 +66,17 @@ test('with the module loaded', async (t) => {
 
   await t.test('another pattern under a fundamental name is refused', () => {
     assert.deepEqual([FUNDAMENTAL.length, DEFERRED.size], [15, 23]);
-    for (const text_ of DEFERRED.values()) assert.deepEqual(checkPattern(text_), { valid: true, messages: layout(text_).messages.length });
+    for (const text_ of DEFERRED.values()) {
+      assert.deepEqual(checkPattern(text_), { valid: true, messages: layout(text_).messages.length });
+    }
     assert.equal(checkPattern(DEFERRED.get('XX1').replace('XX1', 'XX')).code, 'NOISE_NAME_TAKEN');
   });
 
   await t.test('each rule, and each malformed line, is reported with its place', () => {
-    const rule = (lines) => { const { rule: r, message, token } = checkPattern(`MINE:\n${lines.map((line) => `  ${line}\n`).join('')}`); return [r, message, token]; };
+    const rule = (lines) => {
+      const { rule: r, message, token } = checkPattern(`MINE:\n${lines.map((line) => `  ${line}\n`).join('')}`);
+      return [r, message, token];
+    };
     assert.deepEqual(rule(['-> e, es']), [1, 1, 1]);
     assert.deepEqual(rule(['-> e', '<- e, ee', '-> e']), [2, 3, 0]);
     assert.deepEqual(rule(['-> e', '<- e, ee, ee']), [3, 2, 2]);
@@ -93,7 +100,10 @@ test('with the module loaded', async (t) => {
     assert.throws(start({ pattern: 'MINE:\n  -> e, es\n' }), refused('NOISE_PATTERN'));
     assert.throws(start({ pattern: protocolName('XX') }), refused('NOISE_STATIC_MISSING'));
     assert.throws(start({ pattern: protocolName('NK') }), refused('NOISE_REMOTE_MISSING'));
-    assert.throws(start({ pattern: protocolName('NN'), remoteStatic: new Uint8Array(32) }), refused('NOISE_REMOTE_UNEXPECTED'));
+    assert.throws(
+      start({ pattern: protocolName('NN'), remoteStatic: new Uint8Array(32) }),
+      refused('NOISE_REMOTE_UNEXPECTED'),
+    );
     assert.throws(start({ pattern: protocolName('NNpsk0') }), refused('NOISE_PSK_COUNT'));
     assert.throws(start({ pattern: protocolName('NN'), prologue: new Uint8Array(65536) }), refused('NOISE_LENGTH'));
     assert.throws(start({ pattern: protocolName('NN'), prologue: 'text' }), TypeError);
@@ -104,18 +114,28 @@ test('with the module loaded', async (t) => {
     assert.throws(start({ pattern: 'NNpsk0', pskFor: psk }), TypeError);
   });
 
-  // A server that has a secret with each of two clients, and where a client that has the other's secret is refused: by whom, at which token.
-  for (const [pattern, reader, at] of [['XXpsk3', 'responder', 3], ['IKpsk2', 'initiator', 4], ['IKpsk1', 'responder', 5]]) {
+  // A server that has a secret with each of two clients, and where a client that has the other's secret is refused: by
+  // whom, at which token.
+  for (const [pattern, reader, at] of [
+    ['XXpsk3', 'responder', 3],
+    ['IKpsk2', 'initiator', 4],
+    ['IKpsk1', 'responder', 5],
+  ]) {
     await t.test(`${pattern}: each peer has its secret`, async () => {
       const clients = await Promise.all([1, 2, 3].map(() => KeyPair.generate()));
-      const secrets = new Map(clients.slice(0, 2).map(({ publicKey }, n) => [publicKey.toString(), new Uint8Array(32).fill(n + 1)]));
+      const secrets = new Map(
+        clients.slice(0, 2).map(({ publicKey }, n) => [publicKey.toString(), new Uint8Array(32).fill(n + 1)]),
+      );
       const unknown = new Error('unknown');
       const pskFor = async (key) => {
         if (!secrets.has(key.toString())) throw unknown;
         return secrets.get(key.toString());
       };
       const run = async (staticKey, secret) => {
-        const it = await parties(pattern, { initiator: { staticKey, psks: [secret] }, responder: { psks: undefined, pskFor } });
+        const it = await parties(pattern, {
+          initiator: { staticKey, psks: [secret] },
+          responder: { psks: undefined, pskFor },
+        });
         await pass(it);
         assert.deepEqual(it.responder.remoteStatic, staticKey.publicKey);
         const [a, b] = [it.initiator.finish(), it.responder.finish()];
@@ -124,7 +144,10 @@ test('with the module loaded', async (t) => {
       await run(clients[0], new Uint8Array(32).fill(1));
       await run(clients[1], new Uint8Array(32).fill(2));
       await assert.rejects(run(clients[2], new Uint8Array(32)), unknown);
-      const it = await parties(pattern, { initiator: { staticKey: clients[0], psks: [new Uint8Array(32).fill(2)] }, responder: { psks: undefined, pskFor } });
+      const it = await parties(pattern, {
+        initiator: { staticKey: clients[0], psks: [new Uint8Array(32).fill(2)] },
+        responder: { psks: undefined, pskFor },
+      });
       await assert.rejects(pass(it), refused('NOISE_TAG', at));
       assert.equal(it[reader].stage.ended, true);
     });
@@ -145,7 +168,10 @@ test('with the module loaded', async (t) => {
       return channel.receive();
     };
     const options = { pattern: 'XXpsk3', staticKey: client, psks: [new Uint8Array(32).fill(7)] };
-    const [received] = await Promise.all([accept(), NoiseSocket.open({ readable: down.readable, writable: up.writable }, options).then((a) => a.send(text('hello')))]);
+    const [received] = await Promise.all([
+      accept(),
+      NoiseSocket.open({ readable: down.readable, writable: up.writable }, options).then((a) => a.send(text('hello'))),
+    ]);
     assert.deepEqual(received, text('hello'));
   });
 
@@ -212,24 +238,46 @@ test('with the module loaded', async (t) => {
   await t.test('calls take bytes as a Uint8Array, and nothing else', async () => {
     const pair = await KeyPair.generate();
     const it = await parties('NN');
-    const bad = ['a'.repeat(32), null, 5, Array(32).fill(1), { length: 32 }, new Uint16Array(32), new DataView(new ArrayBuffer(32)), new ArrayBuffer(32)];
+    const bad = [
+      'a'.repeat(32),
+      null,
+      5,
+      Array(32).fill(1),
+      { length: 32 },
+      new Uint16Array(32),
+      new DataView(new ArrayBuffer(32)),
+      new ArrayBuffer(32),
+    ];
     for (const wrong of bad) {
       await assert.rejects(it.initiator.write(wrong), TypeError);
       await assert.rejects(it.responder.read(wrong), TypeError);
       for (const options of [
-        { pattern: 'NN', prologue: wrong }, { pattern: 'NNpsk0', psks: [wrong] }, { pattern: 'NK', remoteStatic: wrong },
-        { pattern: 'XX', staticKey: wrong }, { pattern: 'XX', staticKey: { publicKey: wrong, agree: pair.agree } }, { pattern: 'NN', ephemeralKey: wrong },
+        { pattern: 'NN', prologue: wrong }, { pattern: 'NNpsk0', psks: [wrong] },
+        { pattern: 'NK', remoteStatic: wrong },
+        { pattern: 'XX', staticKey: wrong }, { pattern: 'XX', staticKey: { publicKey: wrong, agree: pair.agree } },
+        { pattern: 'NN', ephemeralKey: wrong },
         { pattern: 'XX:\n  <- e\n  ...\n  -> e, ee\n', remoteEphemeral: wrong },
       ]) assert.throws(() => new Handshake(options), TypeError);
       await assert.rejects(KeyPair.fromSecret(wrong), TypeError);
       await assert.rejects(pair.agree(wrong), TypeError);
-      const late = new Handshake({ pattern: 'KNpsk2', responder: true, remoteStatic: pair.publicKey, pskFor: () => wrong });
+      const late = new Handshake({
+        pattern: 'KNpsk2',
+        responder: true,
+        remoteStatic: pair.publicKey,
+        pskFor: () => wrong,
+      });
       const early = new Handshake({ pattern: 'KNpsk2', staticKey: pair, psks: [new Uint8Array(32)] });
       await late.read(await early.write());
       await assert.rejects(late.write(), TypeError);
     }
-    for (const psks of [new Uint8Array(32), 'secret', null]) assert.throws(() => new Handshake({ pattern: 'NNpsk0', psks }), TypeError);
-    const broken = new Handshake({ pattern: 'NN', responder: true, ephemeralKey: { publicKey: pair.publicKey, agree: () => 'x'.repeat(32) } });
+    for (const psks of [new Uint8Array(32), 'secret', null]) {
+      assert.throws(() => new Handshake({ pattern: 'NNpsk0', psks }), TypeError);
+    }
+    const broken = new Handshake({
+      pattern: 'NN',
+      responder: true,
+      ephemeralKey: { publicKey: pair.publicKey, agree: () => 'x'.repeat(32) },
+    });
     await broken.read(await it.initiator.write());
     await assert.rejects(broken.write(), TypeError);
 
@@ -240,10 +288,17 @@ test('with the module loaded', async (t) => {
     await pass(both);
     const datagrams = both.initiator.finishDatagrams();
     for (const wrong of [...bad, undefined]) {
-      for (const call of [() => a.seal(wrong), () => b.open(wrong), () => datagrams.seal(wrong), () => datagrams.open(wrong)]) assert.throws(call, TypeError);
+      for (const call of [
+        () => a.seal(wrong),
+        () => b.open(wrong),
+        () => datagrams.seal(wrong),
+        () => datagrams.open(wrong),
+      ]) assert.throws(call, TypeError);
     }
     const [sealer, opener] = a.split();
-    for (const call of [() => sealer.seal('text'), () => opener.open('text')]) assert.throws(call, { message: /TextEncoder/u });
+    for (const call of [() => sealer.seal('text'), () => opener.open('text')]) {
+      assert.throws(call, { message: /TextEncoder/u });
+    }
     assert.deepEqual(b.open(sealer.seal(Buffer.from('as it was'))), text('as it was'));
   });
 
@@ -253,7 +308,12 @@ test('with the module loaded', async (t) => {
     for (const passed of [prologue, psk]) passed.fill(0);
     const writing = initiator.write(payload);
     payload.fill(0);
-    const responder = new Handshake({ pattern: 'NNpsk0', responder: true, prologue: text('a test'), psks: [new Uint8Array(32).fill(1)] });
+    const responder = new Handshake({
+      pattern: 'NNpsk0',
+      responder: true,
+      prologue: text('a test'),
+      psks: [new Uint8Array(32).fill(1)],
+    });
     const message = Buffer.from(await writing);
     const reading = responder.read(message);
     message.fill(0);
@@ -273,7 +333,8 @@ test('with the module loaded', async (t) => {
   await t.test('the key pairs of RFC 7748, 6.1, from their secret keys', async () => {
     const bytes = (digits) => new Uint8Array(Buffer.from(digits, 'hex'));
     const [alice, bob] = await Promise.all([
-      '77076d0a7318a57d3c16c17251b26645df4c2f87ebc0992ab177fba51db92c2a', '5dab087e624a8a4b79e17f8b83800ee66f3bb1292618b6fd1c2f8b27ff88e0eb',
+      '77076d0a7318a57d3c16c17251b26645df4c2f87ebc0992ab177fba51db92c2a',
+      '5dab087e624a8a4b79e17f8b83800ee66f3bb1292618b6fd1c2f8b27ff88e0eb',
     ].map((secret) => KeyPair.fromSecret(bytes(secret))));
     assert.deepEqual(alice.publicKey, bytes('8520f0098930a754748b7ddcb43ef75a0dbf3a0d26381af4eba4a98eaa9b4e6a'));
     assert.deepEqual(bob.publicKey, bytes('de9edb7d7b7dc1b4d35b61c2ece435373f8343c85b78674dadfc7e146f882b4f'));

@@ -1,4 +1,5 @@
-// The patterns of the standard: the names of the fundamental ones (Noise, 7.4 and 7.5), and the texts of the deferred ones (18.1), by name.
+// The patterns of the standard: the names of the fundamental ones (Noise, 7.4 and 7.5), and the texts of the deferred
+// ones (18.1), by name.
 import { readFileSync, readdirSync } from 'node:fs';
 
 export const FUNDAMENTAL = ['N', 'K', 'X', 'NN', 'NK', 'NX', 'XN', 'XK', 'XX', 'KN', 'KK', 'KX', 'IN', 'IK', 'IX'];

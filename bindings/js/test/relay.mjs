@@ -1,5 +1,6 @@
-// node relay.mjs: two parties with a relay between them that flips, cuts, repeats or drops at each byte, or over a WebSocket at each message, whatever the
-// order in which they end. What a party reports has to be what the theorem on streams allows.
+// node relay.mjs: two parties with a relay between them that flips, cuts, repeats or drops at each byte, or over a
+// WebSocket at each message, whatever the order in which they end. What a party reports has to be what the theorem on
+// streams allows.
 import assert from 'node:assert/strict';
 import { load } from '../noise.mjs';
 import { openSockets } from './connections.mjs';
@@ -20,7 +21,11 @@ class Pipe {
   #wake = () => {};
 
   constructor(fault, acted) {
-    this.writable = new WritableStream({ write: (chunk) => { acted(); this.#take(chunk, fault); }, close: () => this.close(), abort: () => this.close() });
+    this.writable = new WritableStream({
+      write: (chunk) => { acted(); this.#take(chunk, fault); },
+      close: () => this.close(),
+      abort: () => this.close(),
+    });
     this.readable = new ReadableStream({ pull: (controller) => this.#give(controller, acted) }, { highWaterMark: 0 });
   }
 
@@ -79,7 +84,9 @@ async function session(connect, orders, faults) {
   let acts = 0;
   const link = connect(faults, () => { acts += 1; });
   let reports;
-  const running = Promise.all([0, 1].map((role) => party(link, role, orders[role]))).then((them) => { reports = them; });
+  const running = Promise.all([0, 1].map((role) => party(link, role, orders[role]))).then((them) => {
+    reports = them;
+  });
   for (let round = 0, seen = -1, idle = 0; !reports; round += 1) {
     await tick();
     idle = acts === seen ? idle + 1 : 0;
@@ -91,14 +98,21 @@ async function session(connect, orders, faults) {
   return { link, reports };
 }
 
-/** All sessions over one kind of connection, of which each direction is damaged once at each of `places(link, role, kind)`. */
+/**
+ * All sessions over one kind of connection, of which each direction is damaged once at each of `places(link, role,
+ * kind)`.
+ */
 async function all(connect, kinds, places) {
   let count = 0;
   for (const orders of ORDERS) {
     const whole = await session(connect, orders, [NOTHING, NOTHING]);
     for (const role of [0, 1]) {
       check(whole, role, orders[role]);
-      assert.deepEqual([whole.reports[role].error, whole.reports[role].gotEnd], [undefined, orders[role] !== 'closes'], String(orders));
+      assert.deepEqual(
+        [whole.reports[role].error, whole.reports[role].gotEnd],
+        [undefined, orders[role] !== 'closes'],
+        String(orders),
+      );
     }
     for (const direction of [0, 1]) {
       if (orders[1 - direction] === 'closes') continue;    // that party doesn't receive
@@ -120,7 +134,10 @@ async function all(connect, kinds, places) {
 }
 
 await load();
-console.log(await all(overStreams, ['flip', 'cut', 'repeat', 'drop'], (link, role) => link.sent(role)), 'damaged sessions over streams');
+console.log(
+  await all(overStreams, ['flip', 'cut', 'repeat', 'drop'], (link, role) => link.sent(role)),
+  'damaged sessions over streams',
+);
 const kinds = ['flip', 'cut', 'repeat', 'drop', 'shorten', 'lengthen'];
 const places = (link, role, kind) => (kind === 'flip' ? link.sent(role) : link.messages(role));
 console.log(await all(overWebSockets, kinds, places), 'damaged sessions over WebSockets');

@@ -1,11 +1,22 @@
-// Runs a vector file on the module, as `noise replay` does on the library: the lines that are printed. Frames come whole here: pieces and raw
-// bytes that aren't one frame are passed over.
+// Runs a vector file on the module, as `noise replay` does on the library: the lines that are printed. Frames come
+// whole here: pieces and raw bytes that aren't one frame are passed over.
 import { Handshake, layout } from '../noise.mjs';
 
 const hex = (bytes) => (bytes.length ? Buffer.from(bytes).toString('hex') : '-');
 const bytes = (word) => (word === '-' ? new Uint8Array(0) : new Uint8Array(Buffer.from(word, 'hex')));
 const OTHER = { initiator: 'responder', responder: 'initiator' };
-const WORDS = { 10: 'not-your-turn', 11: 'too-long', 13: 'ended', 15: 'short', 16: 'tag', 17: 'exhausted', 22: 'one-way', 26: 'reserved', 27: 'old', 28: 'repeated' };
+const WORDS = {
+  10: 'not-your-turn',
+  11: 'too-long',
+  13: 'ended',
+  15: 'short',
+  16: 'tag',
+  17: 'exhausted',
+  22: 'one-way',
+  26: 'reserved',
+  27: 'old',
+  28: 'repeated',
+};
 
 class Xor {
   constructor(publicKey) { this.publicKey = publicKey; }
@@ -55,18 +66,24 @@ function setUp(file, role) {
   const known = (own) => (before[OTHER[role]].includes(own) ? pair(OTHER[role], own)?.publicKey : undefined);
   return new Handshake({
     pattern: file.pattern, responder: role === 'responder', prologue: bytes(file.prologue), psks: file.psks,
-    ephemeralKey: pair(role, 'e') ?? new Xor(new Uint8Array(32)), staticKey: pair(role, 's'), remoteStatic: known('s'), remoteEphemeral: known('e'),
+    ephemeralKey: pair(role, 'e') ?? new Xor(new Uint8Array(32)), staticKey: pair(role, 's'), remoteStatic: known('s'),
+    remoteEphemeral: known('e'),
   });
 }
 
 export async function replay(file) {
   const lines = [];
   const ends = {};
-  for (const role of ['initiator', 'responder']) ends[role] = { handshake: setUp(file, role), frames: [], datagrams: [], ended: false };
+  for (const role of ['initiator', 'responder']) {
+    ends[role] = { handshake: setUp(file, role), frames: [], datagrams: [], ended: false };
+  }
   const print = (...words) => lines.push(words.join(' '));
 
   const open = (end) => {
-    if (end.handshake?.stage.done) { end.transport = end.handshake.finish({ interval: Number(file.interval) }); end.handshake = undefined; }
+    if (end.handshake?.stage.done) {
+      end.transport = end.handshake.finish({ interval: Number(file.interval) });
+      end.handshake = undefined;
+    }
   };
   async function write(role, payload) {
     const end = ends[role];
@@ -122,7 +139,11 @@ export async function replay(file) {
     } else {
       const datagram = word === 'foreign' ? bytes(value) : ends[OTHER[role]].datagrams[value];
       if (!datagram) return print('missing', role, value);
-      try { print('payload', role, hex(end.sealed.open(datagram))); } catch (error) { print('rejected', role, WORDS[error.number]); }
+      try {
+        print('payload', role, hex(end.sealed.open(datagram)));
+      } catch (error) {
+        print('rejected', role, WORDS[error.number]);
+      }
     }
     return undefined;
   }
@@ -132,16 +153,31 @@ export async function replay(file) {
     // Both go over to datagrams at the end of the handshake: what is open then is made a state of datagrams at once.
     for (const end of Object.values(ends)) {
       const { handshake } = end;
-      handshake.finish = () => { end.later = Handshake.prototype.finishDatagrams.call(handshake, { window: Number(window) }); return undefined; };
+      handshake.finish = () => {
+        end.later = Handshake.prototype.finishDatagrams.call(handshake, { window: Number(window) });
+        return undefined;
+      };
     }
   }
   for (const it of file.events) await event(it);
   for (const role of ['initiator', 'responder']) {
     const end = ends[role];
-    if (end.ended) print('state', role, 'ended');
-    else if (end.sealed) print('state', role, 'datagrams', end.sealed.nonce);
-    else if (end.transport) print('state', role, 'transport', end.transport.nonces.send, end.transport.nonces.receive, hex(end.transport.hash));
-    else print('state', role, 'handshake', end.handshake.stage.passed);
+    if (end.ended) {
+      print('state', role, 'ended');
+    } else if (end.sealed) {
+      print('state', role, 'datagrams', end.sealed.nonce);
+    } else if (end.transport) {
+      print(
+        'state',
+        role,
+        'transport',
+        end.transport.nonces.send,
+        end.transport.nonces.receive,
+        hex(end.transport.hash),
+      );
+    } else {
+      print('state', role, 'handshake', end.handshake.stage.passed);
+    }
   }
   return lines;
 }

@@ -14,18 +14,30 @@ test('values', async (t) => {
   await t.test('the library is called with numbers, and only nonces are BigInts', async () => {
     const lib = library();
     const isNumber = (value) => typeof value === 'number';
-    assert.ok([lib.x.noise_handshake_size(), ...Object.values(lib.at), ...lib.put('name', text('NN')), lib.take('handshake')].every(isNumber));
+    assert.ok(
+      [
+        lib.x.noise_handshake_size(),
+        ...Object.values(lib.at),
+        ...lib.put('name', text('NN')),
+        lib.take('handshake'),
+      ].every(isNumber),
+    );
     const module = new WebAssembly.Module(await readFile(new URL('../noise_c.wasm', import.meta.url)));
-    const functions = WebAssembly.Module.exports(module).filter(({ kind }) => kind === 'function').map(({ name }) => name);
+    const functions = WebAssembly.Module.exports(module)
+      .filter(({ kind }) => kind === 'function')
+      .map(({ name }) => name);
     const unused = ['noise_seal_in_place', 'noise_datagram_seal_in_place', 'noise_sentence'];
     assert.deepEqual(Object.keys(lib.x).sort(), functions.filter((name) => !unused.includes(name)).sort());
-    for (const interval of [2n, -1, 1.5, NaN, '2', null, 2 ** 53]) assert.throws(() => new Handshake({ pattern: 'NN' }).finish({ interval }), RangeError);
+    for (const interval of [2n, -1, 1.5, NaN, '2', null, 2 ** 53]) {
+      assert.throws(() => new Handshake({ pattern: 'NN' }).finish({ interval }), RangeError);
+    }
   });
 
   await t.test('the largest interval, and sizes of more than 31 bits, are passed as they are', async () => {
     const lib = library();
     const place = lib.take('handshake');
-    assert.equal(lib.x.noise_frame_message(lib.at.message, 65552, 0xffffffff, lib.at.result), 24);    // NOISE_LENGTH, and not a frame of 2^32 - 1 bytes
+    // NOISE_LENGTH, and not a frame of 2^32 - 1 bytes
+    assert.equal(lib.x.noise_frame_message(lib.at.message, 65552, 0xffffffff, lib.at.result), 24);
     lib.free('handshake', place);
     for (const interval of [0, 1, 2 ** 53 - 1]) {
       const [a, b] = [new Handshake({ pattern: 'NN' }), new Handshake({ pattern: 'NN', responder: true })];
@@ -59,23 +71,42 @@ test('values', async (t) => {
 
   await t.test('without options a sentence says what is missing', async () => {
     for (const options of [undefined, null, 'XX', 5]) {
-      assert.throws(() => new Handshake(options), { name: 'TypeError', message: /there are no options: pass at least \{ pattern \}/u });
-      await assert.rejects(NoiseSocket.open(pair()[0], options), { name: 'TypeError', message: /there are no options/u });
+      assert.throws(() => new Handshake(options), {
+        name: 'TypeError',
+        message: /there are no options: pass at least \{ pattern \}/u,
+      });
+      await assert.rejects(NoiseSocket.open(pair()[0], options), {
+        name: 'TypeError',
+        message: /there are no options/u,
+      });
     }
     assert.throws(() => new Handshake({}), { name: 'TypeError', message: /pattern has to be a name, as XX/u });
   });
 
   await t.test('an option that would be ignored is refused, and named', async () => {
     const staticKey = await KeyPair.generate();
-    const ofOpen = { verify: () => false, acceptAnyKey: false, interval: 3, signal: AbortSignal.timeout(1000), handshakeLimit: 4096, backlog: 1 };
+    const ofOpen = {
+      verify: () => false,
+      acceptAnyKey: false,
+      interval: 3,
+      signal: AbortSignal.timeout(1000),
+      handshakeLimit: 4096,
+      backlog: 1,
+    };
     for (const [name, value] of Object.entries(ofOpen)) {
       const message = new RegExp(`^${name} is an option of NoiseSocket.open, and not of Handshake`, 'u');
       assert.throws(() => new Handshake({ pattern: 'XX', staticKey, [name]: value }), { name: 'TypeError', message });
     }
     for (const name of ['prolog', 'staticKeys', 'respnder', 'juge']) {
-      const fault = { name: 'TypeError', message: new RegExp(`^there is no option ${name}: there are pattern, responder, `, 'u') };
+      const fault = {
+        name: 'TypeError',
+        message: new RegExp(`^there is no option ${name}: there are pattern, responder, `, 'u'),
+      };
       assert.throws(() => new Handshake({ pattern: 'XX', staticKey, [name]: true }), fault);
-      await assert.rejects(NoiseSocket.open(pair()[0], { pattern: 'XX', staticKey, acceptAnyKey: true, [name]: true }), fault);
+      await assert.rejects(
+        NoiseSocket.open(pair()[0], { pattern: 'XX', staticKey, acceptAnyKey: true, [name]: true }),
+        fault,
+      );
     }
     assert.ok(new Handshake({ pattern: 'XX', staticKey, verify: undefined }));
   });
@@ -94,12 +125,15 @@ test('values', async (t) => {
     assert.throws(() => hex('00'), TypeError);
     assert.deepEqual(fromHex(hex(publicKey)), publicKey);
     assert.deepEqual([...fromHex('000AfF'), ...fromHex('')], [0, 10, 255]);
-    for (const wrong of ['0', '0g', ' 00', '00\n', publicKey, undefined]) assert.throws(() => fromHex(wrong), TypeError);
+    for (const wrong of ['0', '0g', ' 00', '00\n', publicKey, undefined]) {
+      assert.throws(() => fromHex(wrong), TypeError);
+    }
   });
 
   await t.test('a key in hex digits is refused with what decodes it', async () => {
     const { publicKey } = await KeyPair.generate();
-    const message = /^(remoteStatic|a secret key|a psk) has to be a Uint8Array of 32 bytes: fromHex decodes hex digits$/u;
+    const message =
+      /^(remoteStatic|a secret key|a psk) has to be a Uint8Array of 32 bytes: fromHex decodes hex digits$/u;
     assert.throws(() => new Handshake({ pattern: 'NK', remoteStatic: hex(publicKey) }), { name: 'TypeError', message });
     assert.throws(() => new Handshake({ pattern: 'NNpsk0', psks: [hex(publicKey)] }), { name: 'TypeError', message });
     await assert.rejects(KeyPair.fromSecret(hex(publicKey)), { name: 'TypeError', message });
@@ -107,7 +141,10 @@ test('values', async (t) => {
 
   await t.test('a message that is tried, and refused, leaves the handshake as it was', async () => {
     const [one, two] = [await KeyPair.generate(), await KeyPair.generate()];
-    const it = { initiator: new Handshake({ pattern: 'XX', staticKey: one }), responder: new Handshake({ pattern: 'XX', staticKey: two, responder: true }) };
+    const it = {
+      initiator: new Handshake({ pattern: 'XX', staticKey: one }),
+      responder: new Handshake({ pattern: 'XX', staticKey: two, responder: true }),
+    };
     await it.responder.tryRead(await it.initiator.write());
     const message = await it.responder.write();
     for (let n = 0; n < 12; n += 1) {
@@ -127,10 +164,20 @@ test('values', async (t) => {
     const [server, client, other] = [await KeyPair.generate(), await KeyPair.generate(), await KeyPair.generate()];
     const psk = (number) => new Uint8Array(32).fill(number);
     const pskOf = new Map([[hex(client.publicKey), psk(1)], [hex(other.publicKey), psk(2)]]);
-    const responder = new Handshake({ pattern: 'IKpsk1', responder: true, staticKey: server, pskFor: (key) => pskOf.get(hex(key)) });
-    const first = (staticKey, secret) => new Handshake({ pattern: 'IKpsk1', staticKey, remoteStatic: server.publicKey, psks: [secret] }).write(text('first'));
+    const responder = new Handshake({
+      pattern: 'IKpsk1',
+      responder: true,
+      staticKey: server,
+      pskFor: (key) => pskOf.get(hex(key)),
+    });
+    const first = (staticKey, secret) =>
+      new Handshake({ pattern: 'IKpsk1', staticKey, remoteStatic: server.publicKey, psks: [secret] }).write(
+        text('first'),
+      );
     const claimed = { publicKey: other.publicKey, agree: async () => psk(9) };    // who sends it hasn't the private key
-    for (let n = 0; n < 3; n += 1) await assert.rejects(responder.tryRead(await first(claimed, psk(2))), refused('NOISE_TAG'));
+    for (let n = 0; n < 3; n += 1) {
+      await assert.rejects(responder.tryRead(await first(claimed, psk(2))), refused('NOISE_TAG'));
+    }
     assert.deepEqual(await responder.tryRead(await first(client, psk(1))), text('first'));
     assert.deepEqual(responder.remoteStatic, client.publicKey);
   });

@@ -1,4 +1,5 @@
-// The module against the vector files of examples/vectors/ that say what has to be printed; those lines were computed by a program of another kind.
+// The module against the vector files of examples/vectors/ that say what has to be printed; those lines were computed
+// by a program of another kind.
 import { readFileSync, readdirSync } from 'node:fs';
 import test from 'node:test';
 import assert from 'node:assert/strict';

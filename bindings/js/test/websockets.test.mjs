@@ -1,4 +1,5 @@
-// WebSockets that can be made to wait: those with `pause` and `resume`, as the package ws has them, and WebSocketStream.
+// WebSockets that can be made to wait: those with `pause` and `resume`, as the package ws has them, and
+// WebSocketStream.
 import test from 'node:test';
 import assert from 'node:assert/strict';
 import { NoiseSocket, load } from '../noise.mjs';
@@ -85,7 +86,9 @@ test('WebSockets', { timeout: 300000 }, async (t) => {
 
   await t.test('a stranger’s messages during the handshake are bounded, or wait', async () => {
     const [near, far] = openSockets();
-    const opened = outcome(NoiseSocket.open(pausable(near), { ...NN, responder: true, signal: AbortSignal.timeout(500) }));
+    const opened = outcome(
+      NoiseSocket.open(pausable(near), { ...NN, responder: true, signal: AbortSignal.timeout(500) }),
+    );
     for (let n = 0; n < 1000; n += 1) far.send(new Uint8Array(60000));
     assert.match(await opened, /^NOISE_(TOO_LONG|BACKLOG)$/u);
   });
@@ -94,7 +97,9 @@ test('WebSockets', { timeout: 300000 }, async (t) => {
     const [a, b] = await channels(socketStreams());
     for (const length of [1, 65519, 200000]) {
       const sent = a.send(new Uint8Array(length).fill(7));
-      for (let left = length; left > 0; left -= 65519) assert.deepEqual(await b.receive(), new Uint8Array(Math.min(left, 65519)).fill(7));
+      for (let left = length; left > 0; left -= 65519) {
+        assert.deepEqual(await b.receive(), new Uint8Array(Math.min(left, 65519)).fill(7));
+      }
       await sent;
     }
     const back = b.send(text('back'));
@@ -126,7 +131,9 @@ test('WebSockets', { timeout: 300000 }, async (t) => {
   await t.test('who doesn’t read a WebSocketStream makes the sender wait', async () => {
     const [a, b] = await channels(socketStreams());
     let sent = 0;
-    const sending = (async () => { for (; sent < 100; sent += 1) await a.send(new Uint8Array(65519)); })().catch(() => {});
+    const sending = (async () => { for (; sent < 100; sent += 1) await a.send(new Uint8Array(65519)); })().catch(
+      () => {},
+    );
     await pause(100);
     assert.ok(sent < 10, `${sent} payloads`);
     b.destroy();

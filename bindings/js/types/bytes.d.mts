@@ -3,7 +3,8 @@ export function bytesOf(value: any, what: any, length: any): any;
 /** A copy of its own: `slice` of a Buffer makes none. */
 export function copyOf(value: any, what: any, length: any): Uint8Array;
 /**
- * Whether two keys, or other bytes, are the same: a Buffer and a Uint8Array too. The time doesn't depend on where they differ.
+ * Whether two keys, or other bytes, are the same: a Buffer and a Uint8Array too. The time doesn't depend on where
+ * they differ.
  * @param {Uint8Array} one
  * @param {Uint8Array} other
  * @returns {boolean}

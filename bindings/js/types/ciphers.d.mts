@@ -3,7 +3,8 @@ export class CipherState {
     /** @private */
     private constructor();
     /**
-     * EncryptWithAd: the message of at most 65519 bytes of plaintext, 16 bytes longer. Neither `ad`, at most 65535 bytes, nor the nonce is in it.
+     * EncryptWithAd: the message of at most 65519 bytes of plaintext, 16 bytes longer. Neither `ad`, at most 65535
+     * bytes, nor the nonce is in it.
      * @param {Uint8Array} ad
      * @param {Uint8Array} plaintext
      * @returns {Uint8Array}
@@ -23,7 +24,8 @@ export class CipherState {
     rekey(): void;
     set nonce(arg: bigint);
     /**
-     * The nonce of the next message. Setting it (Noise, 11.4) is for receiving: a key never encrypts two texts at one nonce.
+     * The nonce of the next message. Setting it (Noise, 11.4) is for receiving: a key never encrypts two texts at one
+     * nonce.
      * @type {bigint}
      */
     get nonce(): bigint;

@@ -68,7 +68,8 @@ export class NoiseError extends Error {
      */
     number: number | undefined;
     /**
-     * At NOISE_SHORT and NOISE_TAG of `Handshake.read`: the token at which the message was refused, from 0 on; the payload comes after the last.
+     * At NOISE_SHORT and NOISE_TAG of `Handshake.read`: the token at which the message was refused, from 0 on; the
+     * payload comes after the last.
      * @type {number | undefined}
      */
     token: number | undefined;
@@ -79,7 +80,7 @@ export class NoiseError extends Error {
 export type Code = `NOISE_${keyof typeof TEXTS}`;
 /** What each means; from BUSY on they are this package's own. */
 declare const TEXTS: Readonly<{
-    NAME: "no protocol name of a fundamental pattern with 25519, ChaChaPoly and SHA256, or a psk place beyond its messages";
+    NAME: string;
     PATTERN: "a pattern text that spells no valid pattern: checkPattern says where";
     EPHEMERAL_MISSING: "the pattern has a token e of this party, and no ephemeral key was passed";
     STATIC_MISSING: "the pattern has a token s of this party: pass staticKey";
@@ -119,13 +120,13 @@ declare const TEXTS: Readonly<{
     END: "the other party has ended its stream, and all of it came";
     MORE: "the frame isn't complete";
     CLOSED: "the stream was ended before, or has refused something";
-    CUT: "the connection ended before the other party has ended its stream, or in the handshake, or was never made: cause is its error, if it had one";
+    CUT: string;
     BUSY: "another call on this handshake is under way: await it first";
     DISPOSED: "this object is used up";
     NOT_LOADED: "await load() first";
     KEY: "X25519 fails for the other party's public key, or gives all zeros: close";
     REFUSED: "verify didn't return true for the other party's static key, and the connection was closed";
-    UNAUTHENTICATED: "nothing says who may be the other party: pass verify, remoteStatic, psks or pskFor, or acceptAnyKey: true";
+    UNAUTHENTICATED: string;
     BACKLOG: "more came over the WebSocket than may wait until it is received, and the connection was closed";
 }>;
 export {};

@@ -10,8 +10,8 @@
 /** One party of a handshake, from its first message to its last. */
 export class Handshake {
     /**
-     * Checks the set-up at once, and throws what noise_start returns. The ephemeral key pair is drawn at the first message, unless one is passed:
-     * that must never have been used before.
+     * Checks the set-up at once, and throws what noise_start returns. The ephemeral key pair is drawn at the first
+     * message, unless one is passed: that must never have been used before.
      * @param {import('./setup.mjs').HandshakeOptions} options
      */
     constructor(options: import('./setup.mjs').HandshakeOptions);
@@ -28,7 +28,8 @@ export class Handshake {
      */
     read(message: Uint8Array): Promise<Uint8Array>;
     /**
-     * As `read`, but NOISE_TAG and NOISE_SHORT leave the handshake as it was, so that it can read another message: for those that a stranger can send.
+     * As `read`, but NOISE_TAG and NOISE_SHORT leave the handshake as it was, so that it can read another message:
+     * for those that a stranger can send.
      * @param {Uint8Array} message
      * @returns {Promise<Uint8Array>}
      */
@@ -42,7 +43,8 @@ export class Handshake {
      */
     messageLength(payloadLength: number): number;
     /**
-     * The handshake hash so far. Before the first call of `write` or `read` an ephemeral key of a pre-message isn't drawn yet.
+     * The handshake hash so far. Before the first call of `write` or `read` an ephemeral key of a pre-message isn't
+     * drawn yet.
      * @returns {Uint8Array}
      */
     get hash(): Uint8Array;
@@ -57,7 +59,8 @@ export class Handshake {
      */
     get ephemeralPublicKey(): Uint8Array | undefined;
     /**
-     * Makes the transport, and uses this handshake up. Each direction is rekeyed after each `interval` of its messages; 0 is never.
+     * Makes the transport, and uses this handshake up. Each direction is rekeyed after each `interval` of its
+     * messages; 0 is never.
      * @param {{ interval?: number }} [options]
      * @returns {Transport}
      */

@@ -4,15 +4,16 @@ export class Incoming {
     /** How many bytes came and aren't used. */
     get left(): number;
     /**
-     * What `look` makes of the first bytes, `{ value }`, or undefined where it needs more of them. `look(held, count)` gets these bytes, and says `wanted`,
-     * how many more it needs, or else `used` and `value`. NOISE_TOO_LONG where it needs more than `limit` in all.
+     * What `look` makes of the first bytes, `{ value }`, or undefined where it needs more of them. `look(held,
+     * count)` gets these bytes, and says `wanted`, how many more it needs, or else `used` and `value`. NOISE_TOO_LONG
+     * where it needs more than `limit` in all.
      */
     found(look: any, limit?: number): {
         value: any;
     } | undefined;
     /**
-     * The same, once enough came, or undefined where the connection has ended before that. `wait` passes a promise on, and may end the waiting: no byte is
-     * lost then.
+     * The same, once enough came, or undefined where the connection has ended before that. `wait` passes a promise
+     * on, and may end the waiting: no byte is lost then.
      */
     next(look: any, { limit, wait }?: {
         limit: any;

@@ -1,6 +1,12 @@
-/** What a handshake asks of its key pairs. Of those that are made here it imports each public key once, and has each result computed once. */
+/**
+ * What a handshake asks of its key pairs. Of those that are made here it imports each public key once, and has each
+ * result computed once.
+ */
 export class Agreements {
-    /** The result for a pair and a public key; that of `next`, a pair that is asked for the same key later, or undefined, is begun beside it. */
+    /**
+     * The result for a pair and a public key; that of `next`, a pair that is asked for the same key later, or
+     * undefined, is begun beside it.
+     */
     of(pair: any, remote: any, next: any): any;
     #private;
 }
@@ -8,8 +14,8 @@ export class Agreements {
  * Whatever answers for a key pair of X25519.
  * @typedef {object} DH
  * @property {Uint8Array} publicKey 32 bytes.
- * @property {(remote: Uint8Array) => Uint8Array | Promise<Uint8Array>} agree Gives the result of X25519 for this pair and a public key. One of all
- * zeros is refused.
+ * @property {(remote: Uint8Array) => Uint8Array | Promise<Uint8Array>} agree Gives the result of X25519 for this
+ * pair and a public key. One of all zeros is refused.
  */
 /** A key pair of WebCrypto's X25519, whose private key isn't extractable from it. */
 export class KeyPair {
@@ -31,7 +37,10 @@ export class KeyPair {
     static fromSecret(bytes: Uint8Array): Promise<KeyPair>;
     /**
      * The pair of a CryptoKeyPair that the program keeps, in IndexedDB for example.
-     * @param {{ privateKey: import('./platform.js').WebCryptoKey, publicKey: import('./platform.js').WebCryptoKey }} pair
+     * @param {{
+     *   privateKey: import('./platform.js').WebCryptoKey,
+     *   publicKey: import('./platform.js').WebCryptoKey,
+     * }} pair
      * @returns {Promise<KeyPair>}
      */
     static from({ privateKey, publicKey }: {
@@ -47,7 +56,8 @@ export class KeyPair {
      */
     readonly publicKey: Uint8Array;
     /**
-     * The result of X25519 for this private key and a public key of 32 bytes. It rejects where the result would be all zeros.
+     * The result of X25519 for this private key and a public key of 32 bytes. It rejects where the result would be
+     * all zeros.
      * @param {Uint8Array} remote
      * @returns {Promise<Uint8Array>}
      */
@@ -63,8 +73,8 @@ export type DH = {
      */
     publicKey: Uint8Array;
     /**
-     * Gives the result of X25519 for this pair and a public key. One of all
-     * zeros is refused.
+     * Gives the result of X25519 for this
+     * pair and a public key. One of all zeros is refused.
      */
     agree: (remote: Uint8Array) => Uint8Array | Promise<Uint8Array>;
 };

@@ -4,8 +4,8 @@ export function staticKeysOf(pattern: any): {
     responder: boolean;
 };
 /**
- * The messages of a pattern, of a name or a text: who sends each, its tokens, its pieces in order, and its length with an empty payload. Of a text that
- * isn't valid it throws what `checkPattern` says.
+ * The messages of a pattern, of a name or a text: who sends each, its tokens, its pieces in order, and its length
+ * with an empty payload. Of a text that isn't valid it throws what `checkPattern` says.
  * @param {string} pattern
  * @returns {Layout}
  */

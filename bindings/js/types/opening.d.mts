@@ -1,21 +1,6 @@
 /**
- * @typedef {object} SocketOptions
- * @property {number} [interval] Each direction is rekeyed after so many of its messages, the same number at both parties; 0 is never.
- * @property {(remoteStatic: Uint8Array) => boolean | Promise<boolean>} [verify] Called once, as soon as the other party's static key is known, before
- * anything else is sent or read. Unless it returns true itself, the connection is closed, and `open` throws NOISE_REFUSED. In a pattern in which the
- * other party has no static key it is a TypeError.
- * @property {boolean} [acceptAnyKey] Talks to anybody, where none of `verify`, `remoteStatic`, `psks` and `pskFor` says who it may be. Without it
- * `open` throws NOISE_UNAUTHENTICATED.
- * @property {import('./waiting.mjs').Signal} [signal] Ends the call of `open`, whatever it waits for: it destroys the connection, and throws the signal's reason.
- * @property {number} [handshakeLimit] How many bytes a handshake message may have: 4096, if nothing is said. At more `open` throws NOISE_TOO_LONG.
- * @property {number} [backlog] How many bytes of a WebSocket that can't be paused may wait until they are received: 64 MiB, if nothing is said, each
- * message with 256 more. At more the connection is closed, and `receive` throws NOISE_BACKLOG. Until the last message of the handshake has come that is 1 MiB, and while
- * `verify` or `pskFor` is asked 1 MiB more than what waits then.
- */
-/** @typedef {import('./setup.mjs').HandshakeOptions & SocketOptions} NoiseSocketOptions The set-up of a handshake, and of a channel. */
-/**
- * Passes a handshake over a connection: the carrier, what came over it, unless the other party sends nothing (Noise, 7.4), the stream, and the frames that
- * are kept back.
+ * Passes a handshake over a connection: the carrier, what came over it, unless the other party sends nothing
+ * (Noise, 7.4), the stream, and the frames that are kept back.
  */
 export function opened(connection: any, options: any): Promise<{
     carrier: {
@@ -47,32 +32,37 @@ export function opened(connection: any, options: any): Promise<{
 }>;
 export type SocketOptions = {
     /**
-     * Each direction is rekeyed after so many of its messages, the same number at both parties; 0 is never.
+     * Each direction is rekeyed after so many of its messages, the same number at both
+     * parties; 0 is never.
      */
     interval?: number | undefined;
     /**
-     * Called once, as soon as the other party's static key is known, before
-     * anything else is sent or read. Unless it returns true itself, the connection is closed, and `open` throws NOISE_REFUSED. In a pattern in which the
-     * other party has no static key it is a TypeError.
+     * Called once, as soon as the other
+     * party's static key is known, before anything else is sent or read. Unless it returns true itself, the connection
+     * is closed, and `open` throws NOISE_REFUSED. In a pattern in which the other party has no static key it is a
+     * TypeError.
      */
     verify?: ((remoteStatic: Uint8Array) => boolean | Promise<boolean>) | undefined;
     /**
-     * Talks to anybody, where none of `verify`, `remoteStatic`, `psks` and `pskFor` says who it may be. Without it
-     * `open` throws NOISE_UNAUTHENTICATED.
+     * Talks to anybody, where none of `verify`, `remoteStatic`, `psks` and `pskFor`
+     * says who it may be. Without it `open` throws NOISE_UNAUTHENTICATED.
      */
     acceptAnyKey?: boolean | undefined;
     /**
-     * Ends the call of `open`, whatever it waits for: it destroys the connection, and throws the signal's reason.
+     * Ends the call of `open`, whatever it waits for: it destroys
+     * the connection, and throws the signal's reason.
      */
     signal?: import("./waiting.mjs").Signal | undefined;
     /**
-     * How many bytes a handshake message may have: 4096, if nothing is said. At more `open` throws NOISE_TOO_LONG.
+     * How many bytes a handshake message may have: 4096, if nothing is said. At
+     * more `open` throws NOISE_TOO_LONG.
      */
     handshakeLimit?: number | undefined;
     /**
-     * How many bytes of a WebSocket that can't be paused may wait until they are received: 64 MiB, if nothing is said, each
-     * message with 256 more. At more the connection is closed, and `receive` throws NOISE_BACKLOG. Until the last message of the handshake has come that is 1 MiB, and while
-     * `verify` or `pskFor` is asked 1 MiB more than what waits then.
+     * How many bytes of a WebSocket that can't be paused may wait until they are received:
+     * 64 MiB, if nothing is said, each message with 256 more. At more the connection is closed, and `receive` throws
+     * NOISE_BACKLOG. Until the last message of the handshake has come that is 1 MiB, and while `verify` or `pskFor` is
+     * asked 1 MiB more than what waits then.
      */
     backlog?: number | undefined;
 };

@@ -8,7 +8,10 @@ export function protocolName(section: string): string;
 export function patternBytes(text: any): Uint8Array;
 /** So many messages, as the library takes them. */
 export function intervalOf(interval: any): any;
-/** The options themselves, where there are any: of a handshake, or else of a channel. One that is passed and would be ignored is refused. */
+/**
+ * The options themselves, where there are any: of a handshake, or else of a channel. One that is passed and would
+ * be ignored is refused.
+ */
 export function optionsOf(options: any, ofChannel?: boolean): any;
 /** Copies of the options, as far as they can be checked here: the library checks the rest. */
 export function setupOf(options: any): {
@@ -27,7 +30,8 @@ export function start(place: any, options: any, ephemeral: any, staticKey: any):
 export function wholePattern(pattern: any): any;
 export type HandshakeOptions = {
     /**
-     * A protocol name, the name of a pattern alone, as XXpsk3, or a pattern text whose lines end with a line feed.
+     * A protocol name, the name of a pattern alone, as XXpsk3, or a pattern text whose lines
+     * end with a line feed.
      */
     pattern: string;
     responder?: boolean | undefined;
@@ -37,7 +41,8 @@ export type HandshakeOptions = {
     prologue?: Uint8Array | undefined;
     staticKey?: import("./keys.mjs").DH | undefined;
     /**
-     * Drawn at the first message, where it isn't passed. It must never have been used before.
+     * Drawn at the first message, where it isn't passed. It must
+     * never have been used before.
      */
     ephemeralKey?: import("./keys.mjs").DH | undefined;
     /**
@@ -50,9 +55,9 @@ export type HandshakeOptions = {
      */
     psks?: Uint8Array[] | undefined;
     /**
-     * In place of `psks`: called at each psk token with the other
-     * party's static key, it gives the secret of 32 bytes. The other party hasn't shown yet that it has the private key. What it throws rejects `write`
-     * or `read`, and nothing is sent.
+     * In place of `psks`: called at
+     * each psk token with the other party's static key, it gives the secret of 32 bytes. The other party hasn't shown
+     * yet that it has the private key. What it throws rejects `write` or `read`, and nothing is sent.
      */
     pskFor?: ((remoteStatic: Uint8Array) => Uint8Array | Promise<Uint8Array>) | undefined;
 };

@@ -5,9 +5,10 @@
  */
 export class NoiseSocket implements AsyncIterable<Uint8Array> {
     /**
-     * Passes a handshake, without payloads, over a WebSocket, over `{readable, writable}`, or over a stream of Node. What a WebSocket got before this
-     * call isn't seen. Where it throws, the connection is destroyed. The last message of the handshake, if this party writes it, leaves with what is sent
-     * at once after this call, or else soon after it.
+     * Passes a handshake, without payloads, over a WebSocket, over `{readable, writable}`, or over a stream of Node.
+     * What a WebSocket got before this call isn't seen. Where it throws, the connection is destroyed. The last
+     * message of the handshake, if this party writes it, leaves with what is sent at once after this call, or else
+     * soon after it.
      * @param {import('./carriers.mjs').Connection} connection
      * @param {import('./opening.mjs').NoiseSocketOptions} options
      * @returns {Promise<NoiseSocket & import('./platform.js').Disposes>}
@@ -28,9 +29,10 @@ export class NoiseSocket implements AsyncIterable<Uint8Array> {
      */
     readonly remoteStatic: Uint8Array | undefined;
     /**
-     * Sends a payload, and waits until the connection has taken it. One of more than 65519 bytes comes as several, and of an empty one nothing is sent. In
-     * a loop of such calls the program's timers and other connections have their turn. A signal that aborts before the payload's turn takes nothing from the
-     * channel; later it ends the channel, since the other party may get a part.
+     * Sends a payload, and waits until the connection has taken it. One of more than 65519 bytes comes as several,
+     * and of an empty one nothing is sent. In a loop of such calls the program's timers and other connections have
+     * their turn. A signal that aborts before the payload's turn takes nothing from the channel; later it ends the
+     * channel, since the other party may get a part.
      * @param {Uint8Array} payload
      * @param {{ signal?: Signal }} [options]
      * @returns {Promise<void>}
@@ -39,8 +41,8 @@ export class NoiseSocket implements AsyncIterable<Uint8Array> {
         signal?: import("./waiting.mjs").Signal | undefined;
     } | undefined): Promise<void>;
     /**
-     * Ends what this party sends, and waits until the connection has taken the end: the other party's `receive` gives undefined then. This party goes
-     * on to receive.
+     * Ends what this party sends, and waits until the connection has taken the end: the other party's `receive` gives
+     * undefined then. This party goes on to receive.
      * @param {{ signal?: Signal }} [options]
      * @returns {Promise<void>}
      */
@@ -48,14 +50,16 @@ export class NoiseSocket implements AsyncIterable<Uint8Array> {
         signal?: import("./waiting.mjs").Signal | undefined;
     } | undefined): Promise<void>;
     /**
-     * Sends the last message of the handshake, where it is kept back, and waits until the connection has taken all that was sent.
+     * Sends the last message of the handshake, where it is kept back, and waits until the connection has taken all
+     * that was sent.
      * @returns {Promise<void>}
      */
     flush(): Promise<void>;
     /**
-     * The next payload, or undefined once the other party has ended its stream, and all of it came. Where the connection has ended before that, it
-     * throws NOISE_CUT, and to the initiator of a one-way pattern nothing comes: NOISE_ONE_WAY. Calls at once are served in order. A signal that aborts
-     * takes nothing from the channel: the next call gets the payload.
+     * The next payload, or undefined once the other party has ended its stream, and all of it came. Where the
+     * connection has ended before that, it throws NOISE_CUT, and to the initiator of a one-way pattern nothing comes:
+     * NOISE_ONE_WAY. Calls at once are served in order. A signal that aborts takes nothing from the channel: the next
+     * call gets the payload.
      * @param {{ signal?: Signal }} [options]
      * @returns {Promise<Uint8Array | undefined>}
      */
@@ -63,7 +67,8 @@ export class NoiseSocket implements AsyncIterable<Uint8Array> {
         signal?: import("./waiting.mjs").Signal | undefined;
     } | undefined): Promise<Uint8Array | undefined>;
     /**
-     * What comes, as a stream of WHATWG, for `pipeTo` and Node's `pipeline`. Who cancels it closes the connection, as Symbol.asyncDispose does.
+     * What comes, as a stream of WHATWG, for `pipeTo` and Node's `pipeline`. Who cancels it closes the connection, as
+     * Symbol.asyncDispose does.
      * @returns {import('./platform.js').PayloadReadable}
      */
     get readable(): import("./platform.js").PayloadReadable;
@@ -73,9 +78,10 @@ export class NoiseSocket implements AsyncIterable<Uint8Array> {
      */
     get writable(): import("./platform.js").PayloadWritable;
     /**
-     * Ends what this party sends, unless it is ended, and closes the connection once all is sent and the other party has ended its stream or closed the
-     * connection, or after `timeout` milliseconds. It never rejects: `end` does where the end can't be sent. What still comes is dropped, and calls that
-     * wait for a payload throw NOISE_DISPOSED.
+     * Ends what this party sends, unless it is ended, and closes the connection once all is sent and the other party
+     * has ended its stream or closed the connection, or after `timeout` milliseconds. It never rejects: `end` does
+     * where the end can't be sent. What still comes is dropped, and calls that wait for a payload throw
+     * NOISE_DISPOSED.
      * @param {{ timeout?: number }} [options]
      * @returns {Promise<void>}
      */
@@ -83,18 +89,21 @@ export class NoiseSocket implements AsyncIterable<Uint8Array> {
         timeout?: number | undefined;
     } | undefined): Promise<void>;
     /**
-     * Closes the connection once all is sent, but without an end of what this party sends: the other party gets what was sent, and then NOISE_CUT, unless
-     * `end` was called before. It may go on to send for ever: for 200 milliseconds it has the time to close, and at most 1 MiB is read.
+     * Closes the connection once all is sent, but without an end of what this party sends: the other party gets what
+     * was sent, and then NOISE_CUT, unless `end` was called before. It may go on to send for ever: for 200
+     * milliseconds it has the time to close, and at most 1 MiB is read.
      * @private
      */
     private leave;
     /**
-     * Ends all at once, without an end of what this party sends: the other party sees a cut. After `close` it does nothing.
+     * Ends all at once, without an end of what this party sends: the other party sees a cut. After `close` it does
+     * nothing.
      * @returns {void}
      */
     destroy(): void;
     /**
-     * The payloads, until the other party has ended its stream. Who leaves a loop over them before closes the connection, as Symbol.asyncDispose does.
+     * The payloads, until the other party has ended its stream. Who leaves a loop over them before closes the
+     * connection, as Symbol.asyncDispose does.
      * @returns {AsyncIterableIterator<Uint8Array>}
      */
     [Symbol.asyncIterator](): AsyncIterableIterator<Uint8Array>;

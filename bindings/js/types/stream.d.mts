@@ -1,6 +1,9 @@
 /** A message after its length: its frame. NOISE_LENGTH where no frame has so many bytes. */
 export function frameOf(message: any): any;
-/** What the library finds at the start of these bytes, of which it is shown so many: the message of a frame, or how many more are wanted. */
+/**
+ * What the library finds at the start of these bytes, of which it is shown so many: the message of a frame, or how
+ * many more are wanted.
+ */
 export function findMessage(held: any, count: any): {
     wanted: any;
     used?: undefined;
@@ -18,11 +21,17 @@ export const MOST: 65519;
 export class Stream extends Sealed {
     /** @private */
     private static kinds;
-    /** The frame of a payload of at most MOST bytes, in memory that `room` has for it, or in its own. Of no bytes there is none, and it is empty. */
+    /**
+     * The frame of a payload of at most MOST bytes, in memory that `room` has for it, or in its own. Of no bytes
+     * there is none, and it is empty.
+     */
     write(payload: any, room: any): any;
     /** The frame of the end. */
     end(): any;
-    /** What the library reads at the start of these bytes, of which it is shown so many: a payload, undefined for the end, or how many more are wanted. */
+    /**
+     * What the library reads at the start of these bytes, of which it is shown so many: a payload, undefined for the
+     * end, or how many more are wanted.
+     */
     read(held: any, count: any): {
         wanted: any;
         used?: undefined;

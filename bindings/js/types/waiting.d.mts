@@ -14,14 +14,20 @@ export function unlessAborted(promise: any, signal: any): any;
 export function within(milliseconds: any, promise: any): Promise<any>;
 /** Drops what is read until the end. After `most` bytes it reads no more, and stays pending. */
 export function drain(read: any, most?: number): Promise<void>;
-/** Work in turns: each begins once the one before has settled, and at once where there is none, unless its signal has aborted before. */
+/**
+ * Work in turns: each begins once the one before has settled, and at once where there is none, unless its signal
+ * has aborted before.
+ */
 export class Turns {
     /** Whether nothing is under way, and nothing waits. */
     get isIdle(): boolean;
     take(work: any, signal: any): Promise<any>;
     #private;
 }
-/** Waits for promises, until it is ended: whatever waits rejects then, for that reason, and so does what would wait later. */
+/**
+ * Waits for promises, until it is ended: whatever waits rejects then, for that reason, and so does what would wait
+ * later.
+ */
 export class Waiting {
     get isOver(): boolean;
     get reason(): any;

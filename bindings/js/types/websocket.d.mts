@@ -22,7 +22,8 @@ export function ofWebSocketStream(socket: any): {
 /** What may wait until the last message of a handshake has come, in bytes. */
 export const EARLY: number;
 /**
- * What is used of a WebSocket of a browser, of Node or of the package ws, which alone has `pause`, `resume` and `terminate`.
+ * What is used of a WebSocket of a browser, of Node or of the package ws, which alone has `pause`, `resume` and
+ * `terminate`.
  */
 export type WebSocketLike = {
     binaryType: string;

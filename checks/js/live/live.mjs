@@ -237,5 +237,8 @@ async function relays() {
 await load();
 const counts = [await patterns(PATTERNS), await orders(), await relays()];
 const over = CARRIERS.length === 2 ? 'TCP and WebSocket' : 'TCP';
-console.log(`js: channels with ${peerName}, over ${over}: ${counts[0]} by pattern with 1 MiB each way, ${counts[1]} by the order of ends, ${counts[2]} behind a relay`);
+console.log(
+  `js: channels with ${peerName}, over ${over}: ${counts[0]} by pattern with 1 MiB each way, `
+    + `${counts[1]} by the order of ends, ${counts[2]} behind a relay`,
+);
 process.exit(0);

@@ -1,11 +1,13 @@
-// udp.mjs: IK over UDP, beside the keys of keygen.mjs. node udp.mjs server listens on 127.0.0.1, port 4044, and sends back what it opens; node udp.mjs client TEXT
-// sends the text until it comes back.
+// udp.mjs: IK over UDP, beside the keys of keygen.mjs. node udp.mjs server listens on 127.0.0.1, port 4044, and sends
+// back what it opens; node udp.mjs client TEXT sends the text until it comes back.
 import { createSocket } from 'node:dgram';
 import { readFile } from 'node:fs/promises';
 import { Handshake, KeyPair, equal, hex, load } from 'yulimosar';
 
 const [role, text] = process.argv.slice(2);
-if (role !== 'server' && (role !== 'client' || text === undefined)) throw new Error('usage: node udp.mjs server, or node udp.mjs client TEXT');
+if (role !== 'server' && (role !== 'client' || text === undefined)) {
+  throw new Error('usage: node udp.mjs server, or node udp.mjs client TEXT');
+}
 const [FIRST, ANSWER, DATA] = [1, 2, 3];    // the first byte of each packet
 const packet = (kind, bytes) => Buffer.concat([Uint8Array.of(kind), bytes]);
 await load();
@@ -14,8 +16,13 @@ const other = await readFile(role === 'server' ? 'client.public' : 'server.publi
 const setup = { pattern: 'IK', prologue: new TextEncoder().encode('udp 1'), staticKey };
 const socket = createSocket('udp4');
 let queue = Promise.resolve();
-/** One message of a handshake at a time: a second call meanwhile is NOISE_BUSY. One that is refused, as anybody can send it, is dropped. */
-const inTurn = (work) => { queue = queue.then(work).catch((error) => console.error(`${role}: dropped: ${error.message}`)); };
+/**
+ * One message of a handshake at a time: a second call meanwhile is NOISE_BUSY. One that is refused, as anybody can send
+ * it, is dropped.
+ */
+const inTurn = (work) => {
+  queue = queue.then(work).catch((error) => console.error(`${role}: dropped: ${error.message}`));
+};
 
 function serve() {
   const sessions = new Map();    // by address: `now` has opened a datagram, and `next` hasn't yet
@@ -40,7 +47,10 @@ function serve() {
     socket.send(sessions.get(name).answer, from.port, from.address);    // the same again, where the first was lost
   }
 
-  /** A session takes the place of another once a datagram of it opens: a stranger who repeats a first packet can't make one. */
+  /**
+   * A session takes the place of another once a datagram of it opens: a stranger who repeats a first packet can't make
+   * one.
+   */
   function data(bytes, from) {
     const session = sessions.get(`${from.address} ${from.port}`) ?? {};
     for (const state of [session.now, session.next]) {
@@ -70,7 +80,8 @@ async function ask() {
   const handshake = new Handshake({ ...setup, remoteStatic: other });
   const first = packet(FIRST, await handshake.write());
   let datagrams;
-  const send = () => socket.send(datagrams ? packet(DATA, datagrams.seal(new TextEncoder().encode(text))) : first, 4044, '127.0.0.1');
+  const send = () =>
+    socket.send(datagrams ? packet(DATA, datagrams.seal(new TextEncoder().encode(text))) : first, 4044, '127.0.0.1');
   const again = setInterval(send, 300);
   const late = setTimeout(() => { throw new Error('no answer'); }, 10000);
   socket.on('message', (bytes) => {

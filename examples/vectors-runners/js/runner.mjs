@@ -1,6 +1,7 @@
-// Runs the suite of test vectors with an implementation in JavaScript: node runner.mjs PARTY.mjs SUITE.json [JUNIT.xml]. PARTY.mjs is a module beside this file,
-// as party_yulimosar.mjs, whose `Party` calls an implementation: copy that. The report has a line for each flag, and says whether the flag is of a kind of cases
-// or of a mistake; JUNIT.xml gets each test. The status is 0 if no test failed.
+// Runs the suite of test vectors with an implementation in JavaScript: node runner.mjs PARTY.mjs SUITE.json
+// [JUNIT.xml]. PARTY.mjs is a module beside this file, as party_yulimosar.mjs, whose `Party` calls an implementation:
+// copy that. The report has a line for each flag, and says whether the flag is of a kind of cases or of a mistake;
+// JUNIT.xml gets each test. The status is 0 if no test failed.
 import { createHash } from 'node:crypto';
 import { readFileSync, writeFileSync } from 'node:fs';
 import { pathToFileURL } from 'node:url';
@@ -12,7 +13,8 @@ class NotSupported extends Error {}
 class Failed extends Error {}
 
 const hex = (bytes) => Buffer.from(bytes ?? []).toString('hex');
-const dataOf = (value) => (typeof value === 'string' ? Buffer.from(value, 'hex') : Buffer.alloc(value.count, value.byte, 'hex'));
+const dataOf = (value) =>
+  (typeof value === 'string' ? Buffer.from(value, 'hex') : Buffer.alloc(value.count, value.byte, 'hex'));
 
 /** A test of a group, with the parties that take part in it. */
 class Run {
@@ -61,7 +63,9 @@ class Run {
       if (wanted.sha256) [wanted, got] = [wanted.sha256, createHash('sha256').update(got).digest()];
     } else if (step.do === 'read') wanted = hex(dataOf(step.payload ?? message.payload));
     else if (step.do === 'hash') wanted = this.group.hash;
-    if (hex(got) !== wanted) throw new Failed(`${step.do}: ${hex(got).slice(0, 80)} in place of ${wanted.slice(0, 80)}`);
+    if (hex(got) !== wanted) {
+      throw new Failed(`${step.do}: ${hex(got).slice(0, 80)} in place of ${wanted.slice(0, 80)}`);
+    }
   }
 
   /** Takes a step; whether the test goes on after it. */
@@ -84,10 +88,14 @@ class Run {
         throw new Failed(`${step.do} was refused: ${error}`);
       }
       const token = party.token(error);
-      if (token !== undefined && token !== step.token) throw new Failed(`refused at token ${token}, in place of ${step.token}`);
+      if (token !== undefined && token !== step.token) {
+        throw new Failed(`refused at token ${token}, in place of ${step.token}`);
+      }
       return true;
     }
-    if (step.refused !== undefined) throw new Failed(`${step.do} was accepted, and has to be refused: ${step.refused} ${step.at ?? ''}`);
+    if (step.refused !== undefined) {
+      throw new Failed(`${step.do} was accepted, and has to be refused: ${step.refused} ${step.at ?? ''}`);
+    }
     this.compare(step, got);
     return true;
   }
@@ -130,7 +138,8 @@ function textReport(rows, notes) {
       counts.get(flag)[what] += 1;
     }
   }
-  const line = (name, kind, ...cells) => `${name.padEnd(28)} ${kind.padEnd(7)} ${cells.map((it) => String(it).padStart(7)).join(' ')}`;
+  const line = (name, kind, ...cells) => `${name.padEnd(28)} ${kind.padEnd(7)} `
+    + `${cells.map((it) => String(it).padStart(7)).join(' ')}`;
   const lines = [line('flag', 'kind', 'passed', 'failed', 'not run')];
   for (const [flag, it] of counts) lines.push(line(flag, notes[flag].kind, it.passed, it.failed, it['not run']));
   for (const { test, pattern, what, why } of rows) {
@@ -145,10 +154,20 @@ const quoted = (text) => `"${text.replace(/[&<>"]/g, (it) => `&#${it.charCodeAt(
 function junitReport(name, rows) {
   const count = (it) => rows.filter(({ what }) => what === it).length;
   const lines = ['<?xml version="1.0" encoding="UTF-8"?>'];
-  lines.push(`<testsuite name=${quoted(name)} tests="${rows.length}" failures="${count('failed')}" skipped="${count('not run')}">`);
+  lines.push(
+    `<testsuite name=${quoted(name)} tests="${rows.length}" failures="${count('failed')}" `
+      + `skipped="${count('not run')}">`,
+  );
   for (const { test, pattern, what, why } of rows) {
-    const inside = { passed: '', failed: `<failure message=${quoted(why)}/>`, 'not run': `<skipped message=${quoted(why)}/>` }[what];
-    lines.push(`  <testcase classname=${quoted(test.flags[0])} name=${quoted(`${test.tcId} ${pattern}: ${test.comment}`)}>${inside}</testcase>`);
+    const inside = {
+      passed: '',
+      failed: `<failure message=${quoted(why)}/>`,
+      'not run': `<skipped message=${quoted(why)}/>`,
+    }[what];
+    lines.push(
+      `  <testcase classname=${quoted(test.flags[0])} `
+        + `name=${quoted(`${test.tcId} ${pattern}: ${test.comment}`)}>${inside}</testcase>`,
+    );
   }
   return [...lines, '</testsuite>', ''].join('\n');
 }

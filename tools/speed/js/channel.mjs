@@ -117,15 +117,23 @@ async function write() {
       return `${median(times).toFixed(1)} µs, at least ${Math.min(...times).toFixed(1)},`;
     });
     const speed = median(all.map((it) => it.speed)).toFixed(1);
-    console.log(`${kind}: ${speed} MB/s by writes of ${size} bytes; each takes ${sends} of the sender's processor and ${reads} of the reader's`);
+    console.log(
+      `${kind}: ${speed} MB/s by writes of ${size} bytes; `
+        + `each takes ${sends} of the sender's processor and ${reads} of the reader's`,
+    );
   }
   const ratio = (of) => {
     const all = samples.channel.map((it, n) => of(it, samples['node:tls'][n]));
     return `${median(all).toFixed(2)} (${Math.min(...all).toFixed(2)} to ${Math.max(...all).toFixed(2)})`;
   };
   const slower = ({ sends, reads }) => Math.max(sends, reads);
-  console.log(`times as fast as node:tls: ${ratio((our, their) => our.speed / their.speed)}, by the slower side's processor ${ratio((our, their) => slower(their) / slower(our))}`);
-  console.log(`${rounds} rounds, load ${loadavg()[0].toFixed(1)}, node ${process.version}, OpenSSL ${process.versions.openssl}`);
+  console.log(
+    `times as fast as node:tls: ${ratio((our, their) => our.speed / their.speed)}, `
+      + `by the slower side's processor ${ratio((our, their) => slower(their) / slower(our))}`,
+  );
+  console.log(
+    `${rounds} rounds, load ${loadavg()[0].toFixed(1)}, node ${process.version}, OpenSSL ${process.versions.openssl}`,
+  );
 }
 
 await load();

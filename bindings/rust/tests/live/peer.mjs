@@ -1,5 +1,5 @@
-// One end over TCP, or over a WebSocket, as examples/live/main.rs says: node peer.mjs PATTERN OWN_SECRET PEER_KEY PSK ADDRESS ORDER SIZE [websocket], by the
-// package for JavaScript.
+// One end over TCP, or over a WebSocket, as examples/live/main.rs says: node peer.mjs PATTERN OWN_SECRET PEER_KEY PSK
+// ADDRESS ORDER SIZE [websocket], by the package for JavaScript.
 import { once } from 'node:events';
 import { createServer as createHttpServer } from 'node:http';
 import { connect, createServer } from 'node:net';
