@@ -2,7 +2,7 @@
 //! out by hand.
 
 use super::support::{end, first_frame, party};
-use noise_conversation::{comes_as, reads_as};
+use noise_theorems::{comes_as, reads_as};
 use noise_names::Role;
 
 #[test]
