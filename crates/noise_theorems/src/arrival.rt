@@ -20,7 +20,7 @@ pub fn run_pieces<A: Keys, B: Keys>(
 ) -> Result<(Duel<A, B>, Report), AllocError>
     ensures reports { ReportsRun A.public_of A.agreement B.public_of B.agreement
         (events_of events.now) duel result }
-    ensures arrive { PiecesArrive A.public_of A.agreement B.public_of B.agreement
+    ensures come { PiecesArrive A.public_of A.agreement B.public_of B.agreement
         (events_of events.now) duel result }
 {
     joined_frames_come();

@@ -32,10 +32,10 @@ pub fn converse<K: Agreeing>(
     interval: u64,
     lines: &[(Role, Vec<u8>, Cuts)],
 ) -> Result<(Duel<K, K>, Report), ConversationFault>
-    requires prologue { length prologue.now ≤ 65535 }
+    requires short { length prologue.now ≤ 65535 }
     requires lines { lines_fit_from pattern 0 (roles_and_payloads lines.now) ≡ true }
     requires dh_results { HaveDhResults K.public_of K.agreement pattern initiator responder }
-    ensures { Converses K.public_of K.agreement pattern
+    ensures reports { Converses K.public_of K.agreement pattern
         (starts K.public_of K.agreement pattern prologue.now psks.now initiator responder)
         interval (roles_and_payloads lines.now) result }
 {

@@ -53,7 +53,7 @@ pub fn run_datagrams<A: Keys, B: Keys>(
 fn go_over<A: Keys, B: Keys>(duel: Duel<A, B>, window: Window) -> DatagramDuel
     requires initiator { is_datagram_ready duel.initiator ≡ true }
     requires responder { is_datagram_ready duel.responder ≡ true }
-    ensures { (v w : EndState) → DuelMatches A.public_of A.agreement B.public_of B.agreement duel (both_sides v w)
+    ensures matches { (v w : EndState) → DuelMatches A.public_of A.agreement B.public_of B.agreement duel (both_sides v w)
         → DatagramDuelMatches result (datagram_sides_of v w window) }
 {
     match duel.into_datagrams(window) {

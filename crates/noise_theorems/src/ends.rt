@@ -29,8 +29,8 @@ pub(crate) fn make_ends<K: Agreeing>(
     psks: &[[u8; 32]],
     interval: u64,
 ) -> Result<Duel<K, K>, ConversationFault>
-    requires { length prologue.now ≤ 65535 }
-    ensures { MakesEnds K.public_of K.agreement pattern
+    requires short { length prologue.now ≤ 65535 }
+    ensures made { MakesEnds K.public_of K.agreement pattern
         (starts K.public_of K.agreement pattern prologue.now psks.now initiator responder) interval result }
 {
     let of_initiator = shown_before(&pattern, Role::Initiator, &initiator);
@@ -70,8 +70,8 @@ fn make_end<K: Keys>(
     psks: &[[u8; 32]],
     interval: u64,
 ) -> Result<End<K>, ConversationFault>
-    requires { length prologue.now ≤ 65535 }
-    ensures setup { let found = setup_fault pattern role (K.public_of keys) remote (length psks.now) in
+    requires short { length prologue.now ≤ 65535 }
+    ensures fault { let found = setup_fault pattern role (K.public_of keys) remote (length psks.now) in
         MatchResult result (λ _. found ≡ None) (λ fault. IsReportedFault found fault) }
     ensures matches { IfOk result (λ end. EndMatches K.public_of K.agreement end
         (end_of (party_at_start pattern role prologue.now (K.public_of keys)

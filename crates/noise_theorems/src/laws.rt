@@ -11,7 +11,9 @@ ghost use Rattle.noise_theorems.specs.Setup.{XorKeysHaveDhResults};
 ghost use Rattle.noise_theorems.specs.Turns.{LinesTakeTurns};
 ghost use Rattle.noise_theorems.specs.Talked.{FittingLinesRun};
 
-use noise_duel::laws::{alike_are_parts, datagrams_agree, ends_agree, ends_match, lines_come_through};
+use noise_duel::laws::{
+    alike_are_parts, datagrams_agree, ends_agree, ends_match, lines_come_through,
+};
 use noise_handshake::Keys;
 use noise_handshake::laws::{accepted_once, refused_once, setup_is_whole, tokens_match};
 use noise_session::laws::{accepted_exactly, end_is_reported, judged_once, written_is_taken};

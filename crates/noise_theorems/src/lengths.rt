@@ -36,8 +36,8 @@ fn line_fits(
     role: Role,
     payload_len: usize,
 ) -> bool
-    requires { turn ≡ turn_from Initiator place }
-    ensures { result ≡ line_fits pattern.now place role payload_len }
+    requires turn { turn ≡ turn_from Initiator place }
+    ensures value { result ≡ line_fits pattern.now place role payload_len }
 {
     if place < pattern.pattern().messages().len() {
         let overhead = usize::from(pattern.overhead(place as u8 + 1));

@@ -13,7 +13,7 @@ use noise_handshake::{Handshake, Keys};
 /// Where the other party's message is due, that is so exactly if the party accepts the message as one of the payload.
 /// The handshake and the message are left as `Handshake::read` leaves them.
 pub fn reads_as<K: Keys>(handshake: &mut Handshake<K>, message: &mut [u8], payload: &[u8]) -> bool
-    requires { length message.old ≤ 65535 }
+    requires short { length message.old ≤ 65535 }
     ensures exactly { (v : Party) → Matches K.public_of K.agreement handshake.old v → Listens v
         → (result ≡ true ↔ ((xs : List (List ℕ)) × Accepts v message.old xs payload.now)) }
     ensures reads { (v : Party) → Matches K.public_of K.agreement handshake.old v

@@ -34,8 +34,8 @@ pub fn run_events<K: Agreeing>(
     interval: u64,
     events: &[Event],
 ) -> Result<(Duel<K, K>, Report), ConversationFault>
-    requires { length prologue.now ≤ 65535 }
-    ensures { RunsOverNetwork K.public_of K.agreement pattern
+    requires short { length prologue.now ≤ 65535 }
+    ensures reports { RunsOverNetwork K.public_of K.agreement pattern
         (starts K.public_of K.agreement pattern prologue.now psks.now initiator responder)
         interval (events_of events.now) result }
 {

@@ -82,7 +82,7 @@ fn read(rt: &impl Abort, alloc: Global, text: &[u8]) -> VectorFile
 fn fits(rt: &impl Abort, alloc: Global, file: VectorFile)
     requires right { IsVectorFile file }
     requires allowed { IsAllowedFile SayOnly file }
-    ensures { (p : Plan) × (lines : List (Role × List ℕ)) × HasFittingLines file p lines }
+    ensures fits { (p : Plan) × (lines : List (Role × List ℕ)) × HasFittingLines file p lines }
 {
     let VectorFile {
         protocol,

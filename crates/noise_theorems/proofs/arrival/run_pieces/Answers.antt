@@ -8,8 +8,8 @@ use Rattle.noise_duel.specs.Sides.{side}
 use Rattle.noise_theorems.specs.Joined.{raw_events}
 use Rattle.noise_theorems.proofs.arrival.run_pieces.Goals as goal
 
-pub returns-clause-arrive : goal.returns-clause-arrive
-returns-clause-arrive g c v w role s last payloads pieces matches is valid far all cut =
+pub returns-clause-come : goal.returns-clause-come
+returns-clause-come g c v w role s last payloads pieces matches is valid far all cut =
     let reported = c.in_ok-made.ensures.reports v w matches in
     let notes = notes_of c.in_ok-made.made.1.entries.items in
     let run : Run (both_sides v w) (raw_events role pieces) notes reported.last =

@@ -21,7 +21,7 @@ returns g c =
     let events = datagram_events_of c.args.events.now in
     let reported = datagram_notes_of c.in_ok-made.made.1.entries.items in
     let begun = c.datagrams_agree.ensures.start p a b i j opening notes d c.args.window run one in
-    let matches = c.go_over-parties.ensures d.initiator.state d.responder.state (record { initiator = matches.initiator; responder = matches.responder }) in
+    let matches = c.go_over-parties.ensures.matches d.initiator.state d.responder.state (record { initiator = matches.initiator; responder = matches.responder }) in
     let left = c.in_ok-made.ensures.reports v w matches in
     let reports = c.datagram_entries_agree.ensures.reported v w events reported left.last begun left.run in
     let agree = c.datagram_entries_agree.ensures.agree v w events reported left.last begun left.run in
@@ -34,7 +34,7 @@ returns g c =
       keys = c.datagram_entries_agree.ensures.keys v w events reported left.last c.in_ok-made.made.0 begun left.run left.matches;
     }) in
     record {
-      reports = λ v w matches. c.in_ok-made.ensures.reports (datagrams_of v.party c.args.window) (datagrams_of w.party c.args.window) (c.go_over-parties.ensures v w matches);
+      reports = λ v w matches. c.in_ok-made.ensures.reports (datagrams_of v.party c.args.window) (datagrams_of w.party c.args.window) (c.go_over-parties.ensures.matches v w matches);
       agrees = ended_party;
       hashes = λ p a b i j opening notes d hash run matches psks e f.
           or-clash c.clash_reported.ensures.matches c.clash_reported.ensures.found d (ended_party p a b i j opening notes d run matches)

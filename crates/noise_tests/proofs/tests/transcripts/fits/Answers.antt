@@ -16,11 +16,13 @@ returns g c =
     let lines = c.expect-lines.result.items in
     let said : c.args.file.events.items ≡ map say_of lines = search rules in
     let fit : lines_fit_from p 0 (roles_and_payloads lines) ≡ true = search rules in
-    let ran = rw c.expect.ensures at c.run_events-made.ensures in
+    let ran = rw c.expect.ensures at c.run_events-made.ensures.reports in
     let right = ran.0 in
-    let none : fault_of p (xor_starts p c.args.file.prologue.items c.args.file.psks.items a b) ≡ None = search rules in (
-      p,
-      roles_and_payloads lines,
-      fit-file c.args.file p a b lines c.requires.right c.requires.allowed c.xor_keys-initiator.ensures c.xor_keys-responder.ensures
-          c.pattern_of-pattern.ensures.named c.pattern_of-pattern.ensures.pattern c.pattern_of-pattern.ensures.valid said fit none,
-    )
+    let none : fault_of p (xor_starts p c.args.file.prologue.items c.args.file.psks.items a b) ≡ None = search rules in record {
+      fits = (
+        p,
+        roles_and_payloads lines,
+        fit-file c.args.file p a b lines c.requires.right c.requires.allowed c.xor_keys-initiator.ensures c.xor_keys-responder.ensures
+            c.pattern_of-pattern.ensures.named c.pattern_of-pattern.ensures.pattern c.pattern_of-pattern.ensures.valid said fit none,
+      );
+    }

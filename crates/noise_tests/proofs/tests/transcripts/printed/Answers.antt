@@ -6,7 +6,7 @@ use Rattle.noise_tests.proofs.tests.transcripts.printed.Goals as goal
 pub returns : goal.returns
 returns g c =
     let f = c.read-read.result in
-    let fits = c.fits.ensures in
+    let fits = c.fits.ensures.fits in
     let low : c.talk-status.result ≤ 1 = grind arith in
     let grown = c.talk-status.ensures.printed f fits.0 fits.1 fits.2 (ap Some c.read-read.ensures.text) low in (
       f,
