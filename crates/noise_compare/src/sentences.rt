@@ -10,7 +10,8 @@ use crate::parts::Parts;
 use crate::report::{push_line, push_place, push_value};
 use crate::steps::is_line;
 use crate::values::values_in;
-use noise_mistakes::{Kind, Logged, is_right, refusing_mistakes};
+use crate::finding::{is_right, refusing_mistakes};
+use crate::state::{Kind, Logged};
 use std::alloc::{AllocError, Global};
 
 /// What is said of the line `logged` of the log, at this index, whose place the line `expected` has, with other values.

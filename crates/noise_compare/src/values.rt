@@ -6,7 +6,7 @@ ghost use Rattle.noise_compare.specs.Values.{AreLogged, add_digit, agreement_or_
 
 use crate::line::Line;
 use hex::FromHexError;
-use noise_mistakes::{Kind, Logged, State};
+use crate::state::{Kind, Logged, State};
 use std::alloc::{AllocError, Global};
 
 /// The bytes of a word of hex digits, and none of `-`; of any other word the word's own.

@@ -5,18 +5,18 @@ ghost use Rattle.noise_names.specs.Text.{pre_lines};
 ghost use Rattle.noise_names.specs.WrongText.{line_feeds};
 ghost use Rattle.noise_explain.specs.RulePlaces.{IsRulePlace, list_before};
 
-use crate::place::Place;
+use crate::position::Position;
 use noise_lines::token_word;
 use noise_names::{Message, Pattern, Role, RuleFault, Token};
 
 // Where this fault stands.
-pub(crate) fn rule_place(pattern: &Pattern, fault: RuleFault) -> Place
+pub(crate) fn rule_place(pattern: &Pattern, fault: RuleFault) -> Position
     ensures { IsRulePlace pattern.now fault result }
 {
     let messages = pattern.messages();
     let (message, token) = spot(messages.len(), fault);
     let tokens = tokens_at(messages, message.saturating_sub(1));
-    Place {
+    Position {
         line: message.saturating_sub(1) + pre_line_count(pattern) + 2,
         column: list_len(tokens, token) + 6,
     }

@@ -12,9 +12,9 @@ ghost use Rattle.noise_tool.specs.Testing.{EndsTest};
 use crate::pattern_names::pattern_text;
 use crate::run::replay;
 use crate::testing::FilesByName;
-use noise_explain::{Explained, explain, explain_long, unread_head};
-use noise_explain_vectors::{
-    explain_line, explain_start, explain_vector, is_vector_text, pattern_in,
+use noise_explain::{
+    Explained, explain, explain_line, explain_long, explain_start, explain_vector, is_vector_text, pattern_in,
+    unread_head,
 };
 use noise_lines::{Fault, flush, report_fault, write};
 use noise_vectors::{AllowedEvents, VectorFault, VectorFile, read_vector};

@@ -15,7 +15,7 @@ use noise_lines::{
     verdict_lines, write,
 };
 use noise_names::ValidPattern;
-use noise_template::{KeyFileFault, names_protocol, read_given, template, wrong_line_text};
+use noise_explain::{KeyFileFault, names_protocol, read_given, template, wrong_line_text};
 use noise_words::Filled;
 use std::alloc::Global;
 use std::io::Write;
