@@ -5,13 +5,13 @@ ghost use Rattle.noise_compare.specs.Finding.{found_mistakes, tried_mistakes};
 ghost use Rattle.noise_compare.specs.Advice.{IsAdvice, advice_text, bytes_text, form_text, has_other_bytes, has_state, indented, indented_sentences, mistakes_text, refusing_text, sentences};
 ghost use Rattle.noise_compare.specs.Report.{ended};
 
-use crate::line::Line;
-use crate::report::push_line;
-use crate::values::has_bytes;
 use crate::finding::{is_right, mistakes, tried_mistakes};
+use crate::line::Line;
 use crate::mistake::Mistake;
 use crate::mistake_sentences::sentence;
+use crate::report::push_line;
 use crate::state::{Logged, Situation};
+use crate::values::has_bytes;
 use std::alloc::{AllocError, Global};
 
 /// Appends what is said of a logged line at this step, which is that of the right line `expected`.

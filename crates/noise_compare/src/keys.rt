@@ -74,7 +74,11 @@ fn split_explains(at: &Situation<'_>, logged: &Logged, key: &[u8; 32], input: &[
 fn other_key_explains(at: &Situation<'_>, logged: &Logged) -> bool
     ensures { result ≡ other_key_explains at.now logged.now }
 {
-    0 < at.keys.iter().filter(|key| other_key_fits(at, logged, *key)).count()
+    0 < at
+        .keys
+        .iter()
+        .filter(|key| other_key_fits(at, logged, *key))
+        .count()
 }
 
 fn other_key_fits(at: &Situation<'_>, logged: &Logged, key: &[u8; 32]) -> bool
@@ -86,7 +90,11 @@ fn other_key_fits(at: &Situation<'_>, logged: &Logged, key: &[u8; 32]) -> bool
 fn key_before_explains(at: &Situation<'_>, logged: &Logged) -> bool
     ensures { result ≡ key_before_explains at.now logged.now }
 {
-    0 < at.keys.iter().filter(|key| key_before_fits(at, logged, *key)).count()
+    0 < at
+        .keys
+        .iter()
+        .filter(|key| key_before_fits(at, logged, *key))
+        .count()
 }
 
 fn key_before_fits(at: &Situation<'_>, logged: &Logged, key: &[u8; 32]) -> bool

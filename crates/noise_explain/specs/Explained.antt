@@ -52,7 +52,7 @@ pub record SaysRight (name text : List ℕ) (e : Explained) : Type 0 where
   pub status_is : e.status ≡ 0
   pub text_is : e.text.items ≡ right_head name p ++ facts_text p
 
--- the text has the fault that `check` reports: its position, the line there with a caret below the position, and sentences
+-- the text has the fault that `check` reports: its position, the line there with a caret below that, and sentences
 pub record SaysWrong (name text : List ℕ) (e : Explained) : Type 0 where
   pub fault : Fault
   pub wrong : IsCheckFault text fault

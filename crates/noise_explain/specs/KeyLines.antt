@@ -1,5 +1,6 @@
 -- A file with what is given for the places of a template: a line `NAME = HEX` for each.
 use Rattle.std.specs.Prelude.{⊤, ◌≡◌, ◌≢◌, ℕ, Vec, ◌+◌, ◌==◌, ◌&&◌, Bool, true, false, not, List, [], ◌∷◌, ◌++◌, Option, Some, None, codes, decimal, drop, find, if◌then◌else◌, length, map, nat_le}
+use Rattle.std.specs.Char.{to_ascii_lowercase}
 use Rattle.std.specs.Bool.{nat_eq}
 use Rattle.std.specs.Global.{Global}
 use Rattle.std.specs.List.{filter, list_any, slice_split, starts_with}
@@ -51,13 +52,9 @@ pattern_places p =
 abbrev pub is_space : ℕ → Bool
 is_space b = list_any (λ s. s == b) (32 ∷ 9 ∷ 13 ∷ [])
 
--- `A` to `Z` (65 to 90) as `a` to `z`
-abbrev pub lower : ℕ → ℕ
-lower b = if nat_le 65 b && nat_le b 90 then b + 32 else b
-
 -- a line without its spaces, in lower case: neither counts
 abbrev pub plain_line : List ℕ → List ℕ
-plain_line line = map lower (filter (λ b. not (is_space b)) line)
+plain_line line = map to_ascii_lowercase (filter (λ b. not (is_space b)) line)
 
 -- a line that says nothing: a blank one, or a comment, which begins with `#` (35)
 abbrev pub is_passed : List ℕ → Bool

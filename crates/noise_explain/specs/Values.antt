@@ -7,6 +7,7 @@ use Rattle.noise_names.specs.declared.token.Token.{Token}
 use Rattle.noise_names.specs.declared.token.Token.TheVariants.{Ee, Es, Se, Ss}
 use Rattle.noise_names.specs.Text.{word_of}
 use Rattle.noise_names.specs.Tokens.{same_role, same_token}
+use Rattle.noise_keys.specs.Table.{same_own}
 use Rattle.noise_keys.specs.declared.keys.Own.{Own}
 use Rattle.noise_keys.specs.declared.keys.Own.TheVariants.{Ephemeral, Static}
 use Rattle.noise_vectors.specs.VectorText.{own_word, role_word}
@@ -52,11 +53,6 @@ place_name (Key role own) = role_word role ++ 32 ∷ own_word own
 place_name (Dh t) = codes "dh " ++ word_of t
 place_name (Psk index) = codes "psk " ++ decimal index
 place_name (Payload number) = codes "payload " ++ decimal number
-
-abbrev pub same_own : Own → Own → Bool
-same_own Ephemeral Ephemeral = true
-same_own Static Static = true
-same_own _ _ = false
 
 abbrev pub same_place : Place → Place → Bool
 same_place Prologue Prologue = true

@@ -1,10 +1,10 @@
 //! The sentences on the pattern that a vector file spells, and on a file that ends too early.
 
+use crate::advice::Advice;
 use crate::line_column::{block_fault, block_of, first_word};
 use crate::line_place::{has_end, is_own};
-use crate::sentences::Sentences;
-use crate::advice::Advice;
 use crate::position::line_at;
+use crate::sentences::Sentences;
 use crate::text_advice::fault_advice;
 
 // What is wrong with a line of that pattern.

@@ -96,7 +96,7 @@ fn explain_text(
     text: &[u8],
     fault: TextFault,
 ) -> Result<Explained, AllocError>
-    requires { IsCheckFault text.now (Text fault) }
+    requires fault { IsCheckFault text.now (Text fault) }
     ensures said { IfOk result (SaysWrong name.now text.now) }
     ensures bound { IfOk result (λ e. e.status ≤ 2) }
 {
@@ -129,7 +129,11 @@ fn explain_rule(
 {
     let position = rule_place(pattern, fault);
     let mut reported = wrong_head(alloc, name, position, Fault::Rule(fault))?;
-    reported.extend_from_slice(&caret_lines(alloc, line_at(text, position.line), position.column)?)?;
+    reported.extend_from_slice(&caret_lines(
+        alloc,
+        line_at(text, position.line),
+        position.column,
+    )?)?;
     reported.extend_from_slice(&all_rule_lines(alloc, pattern, fault)?)?;
     Ok(Explained {
         text: reported,

@@ -3,7 +3,7 @@
 ghost use Rattle.std.specs.Prelude.{◌≡◌, ◌++◌, ◌∷◌, [], IfErr, IfOk, OnOk, drop, map};
 ghost use Rattle.std.specs.Bool.{nat_eq};
 ghost use Rattle.std.specs.List.{starts_with};
-ghost use Rattle.noise_explain.specs.KeyLines.{IfLine, IsGivenBy, IsRead, IsValueIn, IsWrongFile, front_of, is_given, is_passed, is_space, lines_in, lower, place_in, plain_line, word_after};
+ghost use Rattle.noise_explain.specs.KeyLines.{IfLine, IsGivenBy, IsRead, IsValueIn, IsWrongFile, front_of, is_given, is_passed, is_space, lines_in, place_in, plain_line, word_after};
 ghost use Rattle.noise_explain.specs.Values.{AreRight, fits};
 ghost use Rattle.noise_explain.specs.declared.key_lines.KeyFileFault.TheVariants.{Memory};
 
@@ -120,19 +120,16 @@ fn plain_line(alloc: Global, line: &[u8]) -> Result<Vec<u8>, AllocError>
         .copied()
         .filter(|b| !is_space(*b))
         .collect(alloc)?;
-    written.iter().map(|b| lower(*b)).collect(alloc)
+    written
+        .iter()
+        .map(|b| b.to_ascii_lowercase())
+        .collect(alloc)
 }
 
 fn is_space(b: u8) -> bool
     ensures { result ≡ is_space b }
 {
     b == 32 || b == 9 || b == 13
-}
-
-fn lower(b: u8) -> u8
-    ensures { result ≡ lower b }
-{
-    if 65 <= b && b <= 90 { b + 32 } else { b }
 }
 
 // Whether a line says nothing.

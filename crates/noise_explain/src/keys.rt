@@ -25,7 +25,7 @@ pub(crate) fn push_psks(
 ) -> Result<(), AllocError>
     requires right { AreRight given.now }
     requires low { IsTrue (list_all (λ n. nat_le n 8) places.now) }
-    ensures { OnOk result (text.new.items ≡ text.old.items ++ psks_text given.now places.now) }
+    ensures appended { OnOk result (text.new.items ≡ text.old.items ++ psks_text given.now places.now) }
 {
     let Some((place, later)) = places.split_first() else {
         return Ok(());
@@ -38,7 +38,8 @@ pub(crate) fn push_psks(
 fn push_psk(place: u8, given: &[Given], text: &mut Vec<u8>) -> Result<(), AllocError>
     requires right { AreRight given.now }
     requires low { place ≤ 8 }
-    ensures { OnOk result (text.new.items ≡ text.old.items ++ (psk_words (psk_at given.now place) ++ 10 ∷ [])) }
+    ensures appended { OnOk result (text.new.items
+        ≡ text.old.items ++ (psk_words (psk_at given.now place) ++ 10 ∷ [])) }
 {
     text.extend_from_slice(b"psk ".as_slice())?;
     push_key(Place::Psk(place), 160 + place, given, text)?;
@@ -53,8 +54,8 @@ pub(crate) fn push_party(
     given: &[Given],
     text: &mut Vec<u8>,
 ) -> Result<(), AllocError>
-    requires { AreRight given.now }
-    ensures { OnOk result (text.new.items ≡ text.old.items ++ keys_text given.now pattern.now role) }
+    requires right { AreRight given.now }
+    ensures appended { OnOk result (text.new.items ≡ text.old.items ++ keys_text given.now pattern.now role) }
 {
     push_keys(pattern, role, given, text)?;
     push_answer(pattern, role, Token::Ee, given, text)?;
@@ -70,8 +71,8 @@ fn push_keys(
     given: &[Given],
     text: &mut Vec<u8>,
 ) -> Result<(), AllocError>
-    requires { AreRight given.now }
-    ensures { OnOk result (text.new.items ≡ text.old.items ++ keys_line given.now pattern.now role) }
+    requires right { AreRight given.now }
+    ensures appended { OnOk result (text.new.items ≡ text.old.items ++ keys_line given.now pattern.now role) }
 {
     text.extend_from_slice(role_word(role).as_bytes())?;
     text.extend_from_slice(b" table ".as_slice())?;
@@ -90,8 +91,9 @@ fn push_own(
     given: &[Given],
     text: &mut Vec<u8>,
 ) -> Result<(), AllocError>
-    requires { AreRight given.now }
-    ensures { OnOk result (text.new.items ≡ text.old.items ++ key_word (template_key given.now pattern.now role own)) }
+    requires right { AreRight given.now }
+    ensures appended { OnOk result (text.new.items
+        ≡ text.old.items ++ key_word (template_key given.now pattern.now role own)) }
 {
     if sends(pattern, role, token_of(own)) {
         return push_public(role, own, given, text);
@@ -108,8 +110,8 @@ fn push_answer(
     given: &[Given],
     text: &mut Vec<u8>,
 ) -> Result<(), AllocError>
-    requires { AreRight given.now }
-    ensures { OnOk result (text.new.items ≡ text.old.items
+    requires right { AreRight given.now }
+    ensures appended { OnOk result (text.new.items ≡ text.old.items
         ++ lines_of answer_words (entries_for given.now pattern.now role dh) []) }
 {
     if mixes(pattern.messages(), dh) {
@@ -120,8 +122,9 @@ fn push_answer(
 
 // Appends the line of a DH result.
 fn push_entry(role: Role, dh: Token, given: &[Given], text: &mut Vec<u8>) -> Result<(), AllocError>
-    requires { AreRight given.now }
-    ensures { OnOk result (text.new.items ≡ text.old.items ++ (answer_words (entry given.now role dh) ++ 10 ∷ [])) }
+    requires right { AreRight given.now }
+    ensures appended { OnOk result (text.new.items
+        ≡ text.old.items ++ (answer_words (entry given.now role dh) ++ 10 ∷ [])) }
 {
     text.extend_from_slice(b"answer ".as_slice())?;
     text.extend_from_slice(own_word(own_at(role, dh)).as_bytes())?;
@@ -135,8 +138,9 @@ fn push_entry(role: Role, dh: Token, given: &[Given], text: &mut Vec<u8>) -> Res
 
 // Appends a party's public key.
 fn push_public(role: Role, own: Own, given: &[Given], text: &mut Vec<u8>) -> Result<(), AllocError>
-    requires { AreRight given.now }
-    ensures { OnOk result (text.new.items ≡ text.old.items ++ encode_lower (value_in given.now (Place.Key role own))) }
+    requires right { AreRight given.now }
+    ensures appended { OnOk result (text.new.items
+        ≡ text.old.items ++ encode_lower (value_in given.now (Place.Key role own))) }
 {
     push_key(Place::Key(role, own), key_byte(role, own), given, text)
 }
@@ -144,9 +148,9 @@ fn push_public(role: Role, own: Own, given: &[Given], text: &mut Vec<u8>) -> Res
 // Appends what is given for a key, a DH result or a psk, or else its placeholder of this byte.
 fn push_key(place: Place, byte: u8, given: &[Given], text: &mut Vec<u8>) -> Result<(), AllocError>
     requires key { takes_key place ≡ true }
-    requires byte { placeholder_of place ≡ placeholder byte }
+    requires placeholder { placeholder_of place ≡ placeholder byte }
     requires right { AreRight given.now }
-    ensures { OnOk result (text.new.items ≡ text.old.items ++ encode_lower (value_in given.now place)) }
+    ensures appended { OnOk result (text.new.items ≡ text.old.items ++ encode_lower (value_in given.now place)) }
 {
     match given_for(place, given) {
         Some(value) => hex_word(value, text),

@@ -1,5 +1,6 @@
 //! What a pattern text or a vector file says and what is wrong with it, in sentences: where the fault stands, and what
-//! would mend it. Also the vector file that a pattern needs, with a placeholder for each key, or what a file gives for it.
+//! would mend it. Also the vector file that a pattern needs, with a placeholder for each key, or what a file gives for
+//! it.
 #![tactic(auto)]
 
 mod advice;
@@ -43,19 +44,15 @@ mod values;
 mod vector_explanation;
 mod word_sentences;
 
-pub use advice::Advice;
 pub use choice::{named_template, names_protocol, spelled_template};
-pub use column::column_of;
 pub use difference::difference_line;
-pub use excerpt::{caret_lines, push_sentence, unread_head, wrong_head};
+pub use excerpt::unread_head;
 pub use expected::wrong_line_text;
-pub use explanation::{Explained, explain, explain_long, rule_lines};
-pub use facts::{fact_lines, push_fact};
-pub use frame_piece::Piece;
+pub use explanation::{Explained, explain, explain_long};
 pub use key_lines::{KeyFileFault, LineFault, read_given};
-pub use known::{Spot, token_at};
-pub use position::{Position, after_line, line_at};
+pub use run_counts::{Act, RunCounts};
 pub use text::template;
-pub use text_advice::{fault_advice, slip};
 pub use values::{Given, Place};
-pub use vector_explanation::{explain_line, explain_start, explain_vector, is_vector_text, pattern_in};
+pub use vector_explanation::{
+    explain_line, explain_start, explain_vector, is_vector_text, pattern_in,
+};

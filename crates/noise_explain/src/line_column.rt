@@ -3,10 +3,10 @@
 ghost use Rattle.std.specs.Prelude.{◌≡◌, ◌⊎◌, ◌+◌, ◌-◌, ◌≤◌, ℕ, List, length, IfSome, MatchOption};
 ghost use Rattle.noise_explain.specs.VectorColumns.{HasNoBlockFault, IsBlock, IsBlockColumn, IsBlockFault, IsLineColumn, IsWordColumn, first_word, IsShortLine, IsWholeLine, IsWrongWord, word_from};
 
-use crate::line_shapes::shapes_of;
-use crate::shapes::{Shape, has_shape};
 use crate::column::column_of;
+use crate::line_shapes::shapes_of;
 use crate::position::{after_line, line_at};
+use crate::shapes::{Shape, has_shape};
 use noise_names::{Pattern, TextFault};
 use noise_vectors::{LineKind, lines_before_end};
 
@@ -43,7 +43,7 @@ fn word_column(kind: LineKind, line: &[u8]) -> usize
 // How many bytes stand before the word at fault, or before the end of a line that lacks a word. None: all words are of
 // their shapes.
 pub(crate) fn wrong_at(shapes: &[Shape], line: &[u8]) -> Option<usize>
-    ensures at { MatchOption result (IsWholeLine shapes.now line.now 1)
+    ensures value { MatchOption result (IsWholeLine shapes.now line.now 1)
         (λ at. IsWrongWord shapes.now line.now (at + 1) ⊎ IsShortLine shapes.now line.now (at + 1)) }
     ensures within { IfSome result (λ at. at ≤ length line.now) }
 {

@@ -1,13 +1,13 @@
 //! The sentences on wrong lines of vector files.
 
+use crate::advice::Advice;
 use crate::line_column::{first_word, word_from, wrong_at};
 use crate::line_place::{NeededRole, is_after_datagrams, is_first_version, needed_role};
 use crate::line_shapes::shapes_of;
 use crate::sentences::Sentences;
 use crate::shapes::Shape;
-use crate::word_sentences::word_reported;
-use crate::advice::Advice;
 use crate::text_advice::slip;
+use crate::word_sentences::word_reported;
 use noise_vectors::LineKind;
 
 // What is wrong with a line of a text, which has to be of this kind.

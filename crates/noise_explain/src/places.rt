@@ -81,8 +81,8 @@ fn push_psks(indices: &[u8], places: &mut Vec<Place>) -> Result<(), AllocError>
 // Appends those of the payloads: of the handshake's messages, and of a transport message of each party that may send
 // one.
 fn push_payloads(messages: &[Message], places: &mut Vec<Place>) -> Result<(), AllocError>
-    requires { length messages.now ≤ 8 }
-    ensures { OnOk result
+    requires few { length messages.now ≤ 8 }
+    ensures appended { OnOk result
         (places.new.items ≡ places.old.items ++ map (λ turn. Payload turn.0) (speakers messages.now)) }
 {
     push_turns(messages, 1, Role::Initiator, places)?;
@@ -102,8 +102,8 @@ fn push_turns(
     party: Role,
     places: &mut Vec<Place>,
 ) -> Result<(), AllocError>
-    requires { number + length messages.now ≤ 9 }
-    ensures { OnOk result
+    requires few { number + length messages.now ≤ 9 }
+    ensures appended { OnOk result
         (places.new.items ≡ places.old.items ++ map (λ turn. Payload turn.0) (writers number party messages.now)) }
 {
     let Some((_, later)) = messages.split_first() else {

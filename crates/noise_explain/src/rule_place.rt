@@ -62,7 +62,7 @@ fn pre_line_count(pattern: &Pattern) -> usize
 
 // How many bytes of the list of these tokens stand before this one, or of the whole list where there are no more.
 fn list_len(tokens: &[Token], token: usize) -> usize
-    requires { length tokens.now ≤ 10 }
+    requires short { length tokens.now ≤ 10 }
     ensures value { result ≡ length (list_before tokens.now token) }
     ensures few { result ≤ 50 }
 {

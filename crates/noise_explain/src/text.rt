@@ -19,7 +19,7 @@ use std::alloc::{AllocError, Global};
 /// static key, of the responder `e2` and `52`; `ee`, `e5`, `5e` and `55` the DH results of `ee`, `es`, `se` and `ss`;
 /// `a0` to `a8` the psk of that index. The prologue and a payload are empty then.
 pub fn template(alloc: Global, pattern: &Pattern, given: &[Given]) -> Result<Vec<u8>, AllocError>
-    requires { AreRight given.now }
+    requires right { AreRight given.now }
     ensures text { IfOk result (λ text. text.items ≡ template_text given.now pattern.now) }
     ensures file { IfOk result (λ text. IsTemplateText given.now pattern.now text.items) }
 {
@@ -61,8 +61,8 @@ fn push_block(pattern: &Pattern, text: &mut Vec<u8>) -> Result<(), AllocError>
 
 // Appends what is given for the prologue or a payload, which is empty else.
 fn push_bytes(given: &[Given], place: Place, text: &mut Vec<u8>) -> Result<(), AllocError>
-    requires { placeholder_of place ≡ [] }
-    ensures { OnOk result (text.new.items ≡ text.old.items ++ hex_of (value_in given.now place)) }
+    requires placeholder { placeholder_of place ≡ [] }
+    ensures appended { OnOk result (text.new.items ≡ text.old.items ++ hex_of (value_in given.now place)) }
 {
     match given_for(place, given) {
         Some(value) => hex_word(value, text),
@@ -72,8 +72,8 @@ fn push_bytes(given: &[Given], place: Place, text: &mut Vec<u8>) -> Result<(), A
 
 // Appends a line for each message of the handshake, and for a transport message of each party that may send one.
 fn push_says(messages: &[Message], given: &[Given], text: &mut Vec<u8>) -> Result<(), AllocError>
-    requires { length messages.now ≤ 8 }
-    ensures { OnOk result (text.new.items
+    requires few { length messages.now ≤ 8 }
+    ensures appended { OnOk result (text.new.items
         ≡ text.old.items ++ lines_of (say_words given.now) (speakers messages.now) []) }
 {
     push_turns(messages, 1, Role::Initiator, given, text)?;
@@ -93,8 +93,8 @@ fn push_turns(
     given: &[Given],
     text: &mut Vec<u8>,
 ) -> Result<(), AllocError>
-    requires { number + length messages.now ≤ 9 }
-    ensures { OnOk result (text.new.items
+    requires few { number + length messages.now ≤ 9 }
+    ensures appended { OnOk result (text.new.items
         ≡ text.old.items ++ lines_of (say_words given.now) (writers number party messages.now) []) }
 {
     let Some((_, later)) = messages.split_first() else {

@@ -1,9 +1,10 @@
 //! The places of a template that have a placeholder, and what is given for them.
 
 ghost use Rattle.std.specs.Prelude.{◌≡◌, IfOk, option_map, string_bytes};
+ghost use Rattle.noise_keys.specs.Table.{same_own};
 ghost use Rattle.noise_names.specs.Tokens.{same_role, same_token};
 ghost use Rattle.noise_vectors.specs.VectorText.{own_word};
-ghost use Rattle.noise_explain.specs.Values.{given_for, place_name, same_own, same_place, takes_key};
+ghost use Rattle.noise_explain.specs.Values.{given_for, place_name, same_place, takes_key};
 
 use noise_keys::Own;
 use noise_lines::{role_word, token_word};

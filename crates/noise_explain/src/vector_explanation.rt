@@ -5,16 +5,17 @@ ghost use Rattle.noise_names.specs.Names.{name_bytes};
 ghost use Rattle.noise_explain.specs.VectorExplained.{IsPatternIn, LacksPattern, ReportsFault, ExplainsLine, ReportsVector, is_vector_text, vector_head, without_mark};
 
 use crate::block_sentences::{block_reported, ending_reported};
+use crate::excerpt::{caret_lines, push_sentence, unread_head, wrong_head};
 use crate::expected_forms::expected_form;
+use crate::explanation::{Explained, rule_lines};
+use crate::facts::fact_lines;
 use crate::line_column::{first_word, line_column};
 use crate::line_sentences::line_reported;
+use crate::position::{Position, line_at};
+use crate::run_counts::RunCounts;
 use crate::run_sentences::run_lines;
 use crate::sentences::Sentences;
 use crate::setup_sentences::setup_lines;
-use crate::excerpt::{caret_lines, push_sentence, unread_head, wrong_head};
-use crate::explanation::{Explained, rule_lines};
-use crate::facts::fact_lines;
-use crate::position::{Position, line_at};
 use noise_lines::{Fault, named_pattern, push_shown};
 use noise_names::{Pattern, ProtocolName};
 use noise_vectors::LineKind;
@@ -155,19 +156,19 @@ pub fn pattern_in(
     }
 }
 
-/// Explains a right vector file: its protocol, what follows from the tokens of its pattern, and what its run came to,
-/// whose lines these are.
+/// Explains a right vector file: its protocol, what follows from the tokens of its pattern, and what its run came to, by
+/// what was counted in it.
 pub fn explain_vector(
     alloc: Global,
     name: &str,
     protocol: &ProtocolName,
     pattern: Option<Pattern>,
-    lines: &[Vec<u8>],
+    counts: &RunCounts,
 ) -> Result<Explained, AllocError>
     ensures { IfOk result (ReportsVector name.now protocol.now) }
 {
     let mut text = vector_head(alloc, name, protocol)?;
-    text.extend_from_slice(&vector_lines(alloc, pattern, lines)?)?;
+    text.extend_from_slice(&vector_lines(alloc, pattern, counts)?)?;
     Ok(Explained { text, status: 0 })
 }
 
@@ -187,14 +188,14 @@ fn vector_head(alloc: Global, name: &str, protocol: &ProtocolName) -> Result<Vec
 fn vector_lines(
     alloc: Global,
     pattern: Option<Pattern>,
-    lines: &[Vec<u8>],
+    counts: &RunCounts,
 ) -> Result<Vec<u8>, AllocError> {
     let mut text = Vec::new(alloc);
     if let Some(pattern) = pattern
         && let Ok(valid) = pattern.check()
     {
         text.extend_from_slice(&fact_lines(alloc, &valid)?)?;
-        text.extend_from_slice(&run_lines(alloc, valid.pattern(), lines)?)?;
+        text.extend_from_slice(&run_lines(alloc, valid.pattern(), counts)?)?;
     }
     Ok(text)
 }

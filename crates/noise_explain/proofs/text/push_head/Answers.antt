@@ -13,4 +13,4 @@ returns c =
     let last : c.as_slice-3.result.now ≡ codes "\ninterval 0\n" = search rules in
     on-ok c.extend_from_slice-4.result _ _ _ _ c.extend_from_slice-4.ensures.items
     (head-pushed c.args.given.now p _ _ _ _ _ _ _ _ _ _ _ _ first name prologue last c.in_ok-extend_from_slice.ensures.items c.in_ok-extend_from_slice-2.ensures.items
-    c.in_ok-push.ensures.items c.in_ok-push_block.ensures c.in_ok-extend_from_slice-3.ensures.items c.in_ok-push_bytes.ensures)
+    c.in_ok-push.ensures.items c.in_ok-push_block.ensures c.in_ok-extend_from_slice-3.ensures.items c.in_ok-push_bytes.ensures.appended)

@@ -7,4 +7,4 @@ pub returns-clause-file : goal.returns-clause-file
 returns-clause-file c =
     let text : c.push_says.new.text.items ≡ template_text c.args.given.now c.args.pattern.now = search rules in
     let few : length c.args.pattern.now.places ≤ 9 = subst (λ (ns : List ℕ). length ns ≤ 9) c.places.ensures.value c.numbers.ensures.few in
-    is-template c.args.given.now c.args.pattern.now c.push_says.new.text c.push_says.new.text.items c.requires c.messages.ensures.limits few text
+    is-template c.args.given.now c.args.pattern.now c.push_says.new.text c.push_says.new.text.items c.requires.right c.messages.ensures.limits few text
