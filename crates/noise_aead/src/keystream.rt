@@ -41,7 +41,7 @@ pub fn generator_apart(key: &[u8; 32], nonce: &[u8; 12], word: u32) -> ChaCha20R
 /// The first half of the next block. The other half is passed over.
 #[inline(always)]
 pub fn half_block(words: &mut ChaCha20Rng) -> [u8; 32]
-    requires { words.old.word_pos + 16 < 2 ^ 68 }
+    requires room { words.old.word_pos + 16 < 2 ^ 68 }
     ensures bytes { result ≡ bytes_from words.old 32 }
     ensures words { words.new ≡ record words.old { word_pos = words.old.word_pos + 16 } }
 {
@@ -54,7 +54,7 @@ pub fn half_block(words: &mut ChaCha20Rng) -> [u8; 32]
 // The next 16 words, each word's lowest byte first.
 #[inline(always)]
 fn block(words: &mut ChaCha20Rng) -> [u8; 64]
-    requires { words.old.word_pos + 16 < 2 ^ 68 }
+    requires room { words.old.word_pos + 16 < 2 ^ 68 }
     ensures bytes { result ≡ bytes_from words.old 64 }
     ensures words { words.new ≡ record words.old { word_pos = words.old.word_pos + 16 } }
 {
@@ -104,7 +104,7 @@ pub fn apply(words: &mut ChaCha20Rng, text: &mut [u8])
     requires fits { length text.old ≤ 65535 }
     requires beginning { words.old.word_pos % 16 ≡ 0 }
     requires room { words.old.word_pos + 2 ^ 15 < 2 ^ 68 }
-    ensures { text.new ≡ xored (byte_from words.old) 0 text.old }
+    ensures text { text.new ≡ xored (byte_from words.old) 0 text.old }
 {
     let whole = text.len() / BLOCK_LEN;
     // The generator makes four blocks at once: these three came with the block of the one-time key.
@@ -175,8 +175,8 @@ fn apply_block(words: &mut ChaCha20Rng, text: &mut [u8])
 // A whole block of text with what is read for it.
 #[inline(always)]
 fn xor_block(text: &mut [u8], stream: &[u8; 64])
-    requires { length text.old ≡ 64 }
-    ensures { text.new ≡ zip2 bit_xor text.old stream.now }
+    requires whole { length text.old ≡ 64 }
+    ensures text { text.new ≡ zip2 bit_xor text.old stream.now }
 {
     if let Some(text) = text.first_chunk_mut::<64>() {
         xor64(text, stream);
@@ -188,7 +188,7 @@ fn xor_block(text: &mut [u8], stream: &[u8; 64])
 fn apply_front(words: &mut ChaCha20Rng, text: &mut [u8])
     requires within { length text.old ≤ 64 }
     requires room { words.old.word_pos + 16 < 2 ^ 68 }
-    ensures { text.new ≡ xored (byte_from words.old) 0 text.old }
+    ensures text { text.new ≡ xored (byte_from words.old) 0 text.old }
 {
     let stream = block(words);
     for (j, byte) in text.iter_mut().enumerate() {

@@ -15,8 +15,8 @@ const OUTER_PAD: u8 = 0x5c;
 
 // The key with zeros up to a block.
 fn key_block(key: &[u8]) -> [u8; 64]
-    requires { length key.now ≤ 64 }
-    ensures { result ≡ block_key key.now }
+    requires short { length key.now ≤ 64 }
+    ensures value { result ≡ block_key key.now }
 {
     let mut block = [0; BLOCK_LEN];
     block[..key.len()].copy_from_slice(key);
@@ -53,8 +53,8 @@ impl Hmac {
     ghost use Rattle.noise_kdf.specs.Keyed.{HasHmacKey};
 
     pub fn new(key: &[u8]) -> Hmac
-        requires { length key.now ≤ 64 }
-        ensures { HasHmacKey result key.now }
+        requires short { length key.now ≤ 64 }
+        ensures keyed { HasHmacKey result key.now }
     {
         let block = key_block(key);
         Hmac {

@@ -21,8 +21,8 @@ mod keyed;
 /// HMAC-SHA256 (RFC 2104) of the parts joined, under a key of at most 64 bytes, which is SHA-256's
 /// block. A text in several parts, empty ones too, has the code of the text in one.
 pub fn hmac(key: &[u8], parts: &[&[u8]]) -> [u8; 32]
-    requires { length key.now ≤ 64 }
-    ensures { result ≡ hmac_of key.now (flat_map (λ p. p.now) parts.now) }
+    requires short { length key.now ≤ 64 }
+    ensures value { result ≡ hmac_of key.now (flat_map (λ p. p.now) parts.now) }
 {
     Hmac::new(key).code(parts)
 }

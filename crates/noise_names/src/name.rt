@@ -52,8 +52,8 @@ impl ProtocolName {
 
     // The name of a base and its psk places.
     pub(crate) fn of(base: &[u8], places: PskPlaces) -> ProtocolName
-        requires { IsTrue (is_base base.now) }
-        ensures { result ≡ record { base = base.now; places = places } }
+        requires base { IsTrue (is_base base.now) }
+        ensures value { result ≡ record { base = base.now; places = places } }
     {
         let mut copied = ArrayVec::new();
         copied.try_extend_from_slice(base).unwrap();
@@ -126,7 +126,7 @@ fn section_len(bytes: &[u8]) -> usize
 
 // Appends the modifiers of these places.
 pub(crate) fn push_modifiers(out: &mut ArrayVec<u8, 255>, places: &[u8])
-    requires digits { IsTrue (are_places places.now) }
+    requires rising { IsTrue (are_places places.now) }
     requires room { array_vec_len out.old + 5 * length places.now ≤ 255 }
     ensures written { out.new.items ≡ out.old.items ++ join_with_byte 43 (map modifier places.now) }
     ensures bound { array_vec_len out.new ≤ array_vec_len out.old + 5 * length places.now }

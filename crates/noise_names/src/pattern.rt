@@ -36,8 +36,8 @@ impl Message {
 
     // The message of these tokens.
     pub(crate) fn of(tokens: &[Token]) -> Message
-        requires { length tokens.now ≤ 10 }
-        ensures { result ≡ tokens.now }
+        requires few { length tokens.now ≤ 10 }
+        ensures value { result ≡ tokens.now }
     {
         let mut copy = ArrayVec::new();
         copy.try_extend_from_slice(tokens).unwrap();
@@ -116,8 +116,8 @@ impl Pattern {
         responder: &[Token],
         messages: ArrayVec<Message, 8>,
     ) -> Pattern
-        requires { IsPattern (plan_of base.now places initiator.now responder.now messages.items) }
-        ensures { result ≡ plan_of base.now places initiator.now responder.now messages.items }
+        requires within { IsPattern (plan_of base.now places initiator.now responder.now messages.items) }
+        ensures value { result ≡ plan_of base.now places initiator.now responder.now messages.items }
     {
         let mut name = ArrayVec::new();
         name.try_extend_from_slice(base).unwrap();

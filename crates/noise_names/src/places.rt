@@ -27,7 +27,7 @@ impl Model for PskPlaces {
 impl PskPlaces {
     /// These numbers as places, the empty list too. None if they do not rise strictly or one is above 8.
     pub fn new(numbers: &[u8]) -> Option<PskPlaces>
-        ensures only { IsSome result ↔ IsTrue (are_places numbers.now) }
+        ensures some { IsSome result ↔ IsTrue (are_places numbers.now) }
         ensures value { IfSome result (λ places. places ≡ numbers.now) }
     {
         let mut copy: ArrayVec<u8, 9> = ArrayVec::new();

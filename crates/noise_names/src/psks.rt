@@ -12,7 +12,7 @@ impl Pattern {
     /// at the end of message n. A place greater than the number of messages is refused, and the first such place is
     /// reported.
     pub fn with_psks(base: &Pattern, places: &PskPlaces) -> Result<Pattern, PlaceFault>
-        requires { IsFalse (has_psk base.now) }
+        requires plain { IsFalse (has_psk base.now) }
         ensures placed { IfOk result (λ pattern. Placed base.now places.now pattern) }
         ensures fault { IfErr result (λ fault. first_beyond base.now places.now ≡ Some fault.place) }
     {
@@ -40,7 +40,7 @@ fn first_beyond(count: usize, places: &[u8]) -> Option<u8>
 fn with_psks(messages: &[Message], places: &[u8]) -> ArrayVec<Message, 8>
     requires few { length messages.now ≤ 8 }
     requires short { (i : ℕ) → length (slice_index_or messages.now i []) ≤ 8 }
-    ensures { result.items ≡ with_psks_from places.now 1 messages.now }
+    ensures value { result.items ≡ with_psks_from places.now 1 messages.now }
 {
     let mut psked = ArrayVec::new();
     let mut number: u8 = 1;
@@ -53,8 +53,8 @@ fn with_psks(messages: &[Message], places: &[u8]) -> ArrayVec<Message, 8>
 
 // A message with its psk tokens.
 pub(crate) fn message_with_psks(tokens: &[Token], number: u8, places: &[u8]) -> Message
-    requires { length tokens.now ≤ 8 }
-    ensures { result ≡ with_psk_tokens places.now number tokens.now }
+    requires short { length tokens.now ≤ 8 }
+    ensures value { result ≡ with_psk_tokens places.now number tokens.now }
 {
     let mut all: ArrayVec<Token, 10> = ArrayVec::new();
     if number == 1 && places.contains(&0) {

@@ -50,8 +50,8 @@ pub fn fundamental_at(place: u8) -> Option<Pattern>
 // The table.
 #[tactic(auto, unfolding(crate::specs::Fundamental::fundamentals, crate::specs::Fundamental::fundamental_of))]
 pub(crate) fn row(place: u8) -> Pattern
-    requires { place < 15 }
-    ensures { slice_get fundamentals place ≡ Some result }
+    requires within { place < 15 }
+    ensures value { slice_get fundamentals place ≡ Some result }
 {
     use Token::{E, Ee, Es, S, Se, Ss};
     match place {
@@ -75,9 +75,9 @@ pub(crate) fn row(place: u8) -> Pattern
 
 // The fundamental pattern that has these parts.
 fn plain(base: &[u8], initiator: &[Token], responder: &[Token], messages: &[&[Token]]) -> Pattern
-    requires { fundamental_of base.now
+    requires known { fundamental_of base.now
         ≡ Some (plain base.now initiator.now responder.now (map (λ m. m.now) messages.now)) }
-    ensures { result ≡ plain base.now initiator.now responder.now (map (λ m. m.now) messages.now) }
+    ensures value { result ≡ plain base.now initiator.now responder.now (map (λ m. m.now) messages.now) }
 {
     let mut list = ArrayVec::new();
     for tokens in messages {

@@ -68,7 +68,7 @@ impl ValidPattern {
 
     // What comes before the message after so many, and whose turn it is then.
     fn seen_after(&self, passed: usize) -> (Seen, Role)
-        requires { passed ≤ length self.now.messages }
+        requires last { passed ≤ length self.now.messages }
         ensures seen { result.0 ≡ seen_of (first_places self.now passed) }
         ensures turn { result.1 ≡ turn_from Role.Initiator passed }
     {
@@ -83,7 +83,7 @@ impl ValidPattern {
     pub fn overhead(&self, message: u8) -> u16
         requires first { 1 ≤ message }
         requires last { message ≤ length self.now.messages }
-        ensures { result ≡ overhead_of self.now message }
+        ensures value { result ≡ overhead_of self.now message }
     {
         let index = usize::from(message) - 1;
         let (seen, party) = self.seen_after(index);
@@ -118,7 +118,7 @@ impl ValidPattern {
         requires first { 1 ≤ message }
         requires last { message ≤ length self.now.messages }
         requires token { token ≤ length (tokens_of self.now message) }
-        ensures { result ≡ bytes_before self.now message token }
+        ensures value { result ≡ bytes_before self.now message token }
     {
         let (_, bytes) = self.seen_before(message, token);
         bytes
@@ -130,7 +130,7 @@ impl ValidPattern {
         requires first { 1 ≤ message }
         requires last { message ≤ length self.now.messages }
         requires token { token ≤ length (tokens_of self.now message) }
-        ensures { result ≡ has_key self.now (places_to self.now message token) }
+        ensures value { result ≡ has_key self.now (places_to self.now message token) }
     {
         let (seen, _) = self.seen_before(message, token);
         seen.has_key(self.pattern.has_psk())
@@ -138,8 +138,8 @@ impl ValidPattern {
 
     /// Whether there is a cipher key after the pre-messages and so many messages (Noise, 5.2 and 9.2).
     pub fn has_key(&self, passed: u8) -> bool
-        requires { passed ≤ length self.now.messages }
-        ensures { result ≡ has_key self.now (first_places self.now passed) }
+        requires last { passed ≤ length self.now.messages }
+        ensures value { result ≡ has_key self.now (first_places self.now passed) }
     {
         let (seen, _) = self.seen_after(usize::from(passed));
         seen.has_key(self.pattern.has_psk())

@@ -45,8 +45,8 @@ fn fault(line: usize, kind: TextFaultKind) -> TextFault
 
 // The first fault of the lines after a heading with these psk places.
 fn fault_of_lines(places: &[u8], lines: &[u8]) -> TextFault
-    requires { IsTrue (are_places places.now) }
-    ensures { (s : Section) → IsSection s → s.places ≡ places.now
+    requires rising { IsTrue (are_places places.now) }
+    ensures fault { (s : Section) → IsSection s → s.places ≡ places.now
         → IsTextFault (line (heading_of s) ++ lines.now) result }
 {
     let mut judged = Judged::new(lines);
@@ -188,8 +188,8 @@ impl Judged {
     }
 
     fn judge_pre_message(self, role: Role, list: &Words) -> Result<Judged, TextFaultKind>
-        requires { IsTrue self.dots_ahead }
-        ensures { (places : List ℕ) (s : Passed) (dotted : Bool) (tokens : List Token) → Matches self s
+        requires dots { IsTrue self.dots_ahead }
+        ensures next { (places : List ℕ) (s : Passed) (dotted : Bool) (tokens : List Token) → Matches self s
             → IsPassed places dotted s → HasTokens list.now tokens
             → IsNextJudged places dotted s (arrow_then role (words tokens)) result }
     {
@@ -219,8 +219,8 @@ impl Judged {
     }
 
     fn judge_message(self, places: &[u8], role: Role, list: &Words) -> Result<Judged, TextFaultKind>
-        requires { IsFalse self.dots_ahead }
-        ensures { (s : Passed) (dotted : Bool) (tokens : List Token) → Matches self s
+        requires dots { IsFalse self.dots_ahead }
+        ensures next { (s : Passed) (dotted : Bool) (tokens : List Token) → Matches self s
             → IsPassed places.now dotted s → HasTokens list.now tokens
             → IsNextJudged places.now dotted s (arrow_then role (words tokens)) result }
     {
@@ -323,8 +323,8 @@ impl Words {
 
     // Whether these have the psk tokens of the message of this number, and no others.
     fn have_psks(&self, number: u8, places: &[u8]) -> bool
-        requires { array_vec_len self.now.own ≤ 8 }
-        ensures { (tokens : List Token) → HasTokens self.now tokens
+        requires few { array_vec_len self.now.own ≤ 8 }
+        ensures psks { (tokens : List Token) → HasTokens self.now tokens
             → IsTrue result ↔ (tokens ≡ with_psk_tokens places.now number (own_tokens tokens)) }
     {
         are_same(

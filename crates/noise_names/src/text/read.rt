@@ -41,7 +41,7 @@ pub(crate) fn read(text: &[u8]) -> Option<Pattern>
 
 // The name that a heading gives, and what follows its colon.
 pub(super) fn read_heading(text: &[u8]) -> Option<(ProtocolName, &[u8])>
-    ensures section { IfSome result (λ r. IsSection r.0) }
+    ensures valid { IfSome result (λ r. IsSection r.0) }
     ensures some { IfSome result (λ r. text.now ≡ heading_of r.0 ++ r.1.now) }
     ensures every { (s : Section) (after : List ℕ) → IsSection s → text.now ≡ heading_of s ++ after
         → MatchOption result (Unit {0} → ⊥) (λ r. (r.0 ≡ s) × (r.1.now ≡ after)) }
@@ -63,7 +63,7 @@ fn section_len(text: &[u8]) -> usize
 
 // The pattern of this base without psk tokens: the fundamental one, or else that of these lines.
 fn read_plain(base: &[u8], lines: &[u8]) -> Option<Pattern>
-    requires { IsTrue (is_base base.now) }
+    requires base { IsTrue (is_base base.now) }
     ensures plain { IfSome result (λ q. has_psk q ≡ false) }
     ensures every { (p : Plan) → IsPattern p → p.base ≡ base.now → lines.now ≡ body_of p
         → result ≡ Some (plain_of p) }
@@ -77,7 +77,7 @@ fn read_plain(base: &[u8], lines: &[u8]) -> Option<Pattern>
 // The pattern of this base and these lines without psk tokens, if that is within the limits.
 fn read_lines(base: &[u8], lines: &[u8]) -> Option<Pattern>
     requires base { IsTrue (is_base base.now) }
-    requires unknown { fundamental_of base.now ≡ None }
+    requires none { fundamental_of base.now ≡ None }
     ensures plain { IfSome result (λ q. has_psk q ≡ false) }
     ensures every { (p : Plan) → IsPattern p → p.base ≡ base.now → lines.now ≡ body_of p
         → result ≡ Some (plain_of p) }
@@ -120,10 +120,10 @@ fn read_pre_messages(lines: &[u8]) -> (ArrayVec<Token, 8>, ArrayVec<Token, 8>, &
 
 // The tokens of the party's line, none if this is no such line, and the lines after it.
 fn read_pre_message(role: Role, lines: &[u8]) -> (ArrayVec<Token, 8>, &[u8])
-    ensures there { (t : Token) (ts : List Token) (more : List ℕ) → length (own_tokens (t ∷ ts)) ≤ 8
+    ensures some { (t : Token) (ts : List Token) (more : List ℕ) → length (own_tokens (t ∷ ts)) ≤ 8
         → lines.now ≡ token_line role (t ∷ ts) ++ more
         → (result.0.items ≡ own_tokens (t ∷ ts)) × (result.1.now ≡ more) }
-    ensures absent { ((rest : List ℕ) → lines.now ≡ codes "  " ++ (arrow_of role ++ rest) → ⊥)
+    ensures none { ((rest : List ℕ) → lines.now ≡ codes "  " ++ (arrow_of role ++ rest) → ⊥)
         → (result.0.items ≡ []) × (result.1.now ≡ lines.now) }
 {
     match read_line(role, lines) {
@@ -135,7 +135,7 @@ fn read_pre_message(role: Role, lines: &[u8]) -> (ArrayVec<Token, 8>, &[u8])
 // The messages' tokens other than psk.
 fn read_messages(lines: &[u8]) -> ArrayVec<Message, 8>
     ensures plain { list_any (λ tokens. list_any is_psk tokens) result.items ≡ false }
-    ensures sizes { IsTrue (list_all has_few_tokens result.items) }
+    ensures limits { IsTrue (list_all has_few_tokens result.items) }
     ensures few { array_vec_len result ≤ 8 }
     ensures every { (ms : List (List Token)) → length ms ≤ 8 → IsTrue (list_all has_few_tokens ms)
         → lines.now ≡ message_lines Initiator ms → result.items ≡ map own_tokens ms }
@@ -158,7 +158,7 @@ fn read_messages(lines: &[u8]) -> ArrayVec<Message, 8>
 fn read_line(role: Role, lines: &[u8]) -> Option<(ArrayVec<Token, 8>, &[u8])>
     ensures plain { IfSome result (λ r. list_any is_psk r.0.items ≡ false) }
     ensures shorter { IfSome result (λ r. length r.1.now < length lines.now) }
-    ensures starts { IfSome result (λ r. (rest : List ℕ) × (lines.now ≡ codes "  " ++ (arrow_of role ++ rest))) }
+    ensures prefix { IfSome result (λ r. (rest : List ℕ) × (lines.now ≡ codes "  " ++ (arrow_of role ++ rest))) }
     ensures every { (t : Token) (ts : List Token) (more : List ℕ) → length (own_tokens (t ∷ ts)) ≤ 8
         → lines.now ≡ token_line role (t ∷ ts) ++ more
         → MatchOption result (Unit {0} → ⊥) (λ r. (r.0.items ≡ own_tokens (t ∷ ts)) × (r.1.now ≡ more)) }
@@ -207,7 +207,7 @@ fn read_words(list: &[u8]) -> (ArrayVec<Token, 8>, &[u8])
 // Appends the token, unless it is psk or there is no room.
 fn push_own(tokens: &mut ArrayVec<Token, 8>, token: Token)
     ensures plain { list_any is_psk tokens.old.items ≡ false → list_any is_psk tokens.new.items ≡ false }
-    ensures pushed { array_vec_len tokens.old + length (own_tokens (token ∷ [])) ≤ 8
+    ensures written { array_vec_len tokens.old + length (own_tokens (token ∷ [])) ≤ 8
         → tokens.new.items ≡ tokens.old.items ++ own_tokens (token ∷ []) }
 {
     if let Token::Psk = token {

@@ -33,7 +33,7 @@ pub(crate) fn text(pattern: &Pattern) -> Text
 
 // The heading's line, at most 55 bytes.
 fn heading(base: &[u8], places: &PskPlaces) -> ArrayVec<u8, 255>
-    requires { length base.now ≤ 8 }
+    requires short { length base.now ≤ 8 }
     ensures written { result.items ≡ line (section_bytes base.now places.now ++ codes ":") }
     ensures bound { array_vec_len result ≤ 55 }
 {
@@ -56,8 +56,8 @@ fn append(out: &mut Text, bytes: &[u8])
 
 // Appends the pre-messages' lines and the one that ends them, at most 38 bytes.
 fn push_pre_messages(out: &mut Text, initiator: &[Token], responder: &[Token])
-    requires few { length initiator.now ≤ 2 }
-    requires few_too { length responder.now ≤ 2 }
+    requires initiator { length initiator.now ≤ 2 }
+    requires responder { length responder.now ≤ 2 }
     requires room { array_vec_len out.old + 38 ≤ 541 }
     ensures written { out.new.items ≡ out.old.items ++ pre_lines initiator.now responder.now }
     ensures bound { array_vec_len out.new ≤ array_vec_len out.old + 38 }
@@ -84,8 +84,8 @@ fn push_pre_message(out: &mut Text, role: Role, tokens: &[Token])
 
 // Appends the messages' lines.
 fn push_messages(out: &mut Text, messages: &[Message])
-    requires { array_vec_len out.old + 56 * length messages.now ≤ 541 }
-    ensures { out.new.items ≡ out.old.items ++ message_lines Initiator messages.now }
+    requires room { array_vec_len out.old + 56 * length messages.now ≤ 541 }
+    ensures written { out.new.items ≡ out.old.items ++ message_lines Initiator messages.now }
 {
     let mut role = Role::Initiator;
     for message in messages {
@@ -110,7 +110,7 @@ fn push_token_line(out: &mut Text, role: Role, tokens: &[Token])
 
 // Appends the tokens' words.
 fn push_words(out: &mut Text, tokens: &[Token])
-    requires { array_vec_len out.old + 5 * length tokens.now ≤ 541 }
+    requires room { array_vec_len out.old + 5 * length tokens.now ≤ 541 }
     ensures written { out.new.items ≡ out.old.items ++ words tokens.now }
     ensures bound { array_vec_len out.new ≤ array_vec_len out.old + 5 * length tokens.now }
 {

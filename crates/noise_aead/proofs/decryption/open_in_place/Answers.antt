@@ -37,6 +37,6 @@ returns-then-is_same-clause-ok c =
     let expected = tag-first a.key.now a.nonce.now a.ad.now a.buf.now c.half_block-one_time_key.result c.tag-expected.result c.generator-words.result
     at c.half_block-one_time_key.ensures.bytes c.tag-expected.ensures in
     let text = text-next a.key.now a.nonce.now a.buf.now c.apply.new.text c.generator-words.result c.half_block-one_time_key.new.words
-    at c.half_block-one_time_key.ensures.words c.apply.ensures in
+    at c.half_block-one_time_key.ensures.words c.apply.ensures.text in
     sealed-masked a.key.now a.nonce.now a.ad.now a.buf.now a.tag.now (sym (c.is_same.ensures.0 c.if-is_same.true) ∙ expected)
     ∙ ap (sealed a.key.now a.nonce.now a.ad.now) (sym text)

@@ -14,7 +14,7 @@ returns c =
     let text : List ℕ = c.apply.new.text in
     let at = c.generator-words.ensures.place 0 refl in
     let ciphertext = text-next a.key.now a.nonce.now a.buf.now text c.generator-words.result c.half_block-one_time_key.new.words
-    at c.half_block-one_time_key.ensures.words c.apply.ensures in
+    at c.half_block-one_time_key.ensures.words c.apply.ensures.text in
     let tag = tag-first a.key.now a.nonce.now a.ad.now text c.half_block-one_time_key.result c.tag.result c.generator-words.result
     at c.half_block-one_time_key.ensures.bytes c.tag.ensures in
     record {

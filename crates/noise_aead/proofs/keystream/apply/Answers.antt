@@ -83,19 +83,23 @@ rest_done g words text done new d is =
     (blocks_done g words text done new w (length done - 64 * w) (length text) d.place (omega (arith, d.same)) (omega arith) d.bytes is)
 
 pub returns-then-not-is_empty : goal.returns-then-not-is_empty
-returns-then-not-is_empty c =
-    rest_done c.args.words.now c.apply_blocks-2.new.words c.args.text.now _ c.apply_front.new.text
-    (last_blocks c.args.words.now c.loop-i.words c.apply_blocks-2.new.words c.args.text.now c.loop-i.text c.apply_blocks-2.new.text c.min-first.result c.loop-i.i
-    (omega arith) (omega arith) c.loop-i.invariant.place c.loop-i.invariant.text c.apply_blocks-2.ensures.text c.apply_blocks-2.ensures.words)
-    c.apply_front.ensures
+returns-then-not-is_empty c = record {
+  text =
+      rest_done c.args.words.now c.apply_blocks-2.new.words c.args.text.now _ c.apply_front.new.text
+      (last_blocks c.args.words.now c.loop-i.words c.apply_blocks-2.new.words c.args.text.now c.loop-i.text c.apply_blocks-2.new.text c.min-first.result c.loop-i.i
+      (omega arith) (omega arith) c.loop-i.invariant.place c.loop-i.invariant.text c.apply_blocks-2.ensures.text c.apply_blocks-2.ensures.words)
+      c.apply_front.ensures.text;
+}
 
 nothing : (f : ℕ → ℕ) (bytes : List ℕ) → length bytes ≡ 0 → bytes ≡ xored f 0 bytes
 nothing f [] e = refl
 nothing f (b ∷ bytes) e = absurd (omega arith)
 
 pub returns-else-not-is_empty : goal.returns-else-not-is_empty
-returns-else-not-is_empty c =
-    rest_done c.args.words.now c.apply_blocks-2.new.words c.args.text.now _ _
-    (last_blocks c.args.words.now c.loop-i.words c.apply_blocks-2.new.words c.args.text.now c.loop-i.text c.apply_blocks-2.new.text c.min-first.result c.loop-i.i
-    (omega arith) (omega arith) c.loop-i.invariant.place c.loop-i.invariant.text c.apply_blocks-2.ensures.text c.apply_blocks-2.ensures.words)
-    (nothing (byte_from c.apply_blocks-2.new.words) _ (grind (arith, c.is_empty.ensures, c.if-not-is_empty.false)))
+returns-else-not-is_empty c = record {
+  text =
+      rest_done c.args.words.now c.apply_blocks-2.new.words c.args.text.now _ _
+      (last_blocks c.args.words.now c.loop-i.words c.apply_blocks-2.new.words c.args.text.now c.loop-i.text c.apply_blocks-2.new.text c.min-first.result c.loop-i.i
+      (omega arith) (omega arith) c.loop-i.invariant.place c.loop-i.invariant.text c.apply_blocks-2.ensures.text c.apply_blocks-2.ensures.words)
+      (nothing (byte_from c.apply_blocks-2.new.words) _ (grind (arith, c.is_empty.ensures, c.if-not-is_empty.false)));
+}

@@ -9,7 +9,7 @@ pub slice_bounds-xor_block-end-2 : goal.slice_bounds-xor_block-end-2
 slice_bounds-xor_block-end-2 c = sym (length-take-le 64 c.args.text.now (omega arith))
 
 pub xor_block-requires : goal.xor_block-requires
-xor_block-requires c = length-take-le 64 c.args.text.now (omega arith)
+xor_block-requires c = record { whole = length-take-le 64 c.args.text.now (omega arith) }
 
 pub returns-clause-text : goal.returns-clause-text
 returns-clause-text c =
@@ -24,8 +24,8 @@ returns-clause-text c =
     let t1 : List ℕ = put_mid 0 64 text c.xor_block.new.text in
     let t2 : List ℕ = put_mid 64 64 t1 c.xor_block-2.new.text in
     let t3 : List ℕ = put_mid 128 64 t2 c.xor_block-3.new.text in
-    let is1 = block_done g c.set_word_pos.new.self text text c.block-a.result c.xor_block.new.text 0 (omega arith) at0 c.block-a.ensures.bytes refl c.xor_block.ensures in
-    let is2 = block_done g c.block-a.new.words text t1 c.block-b.result c.xor_block-2.new.text 1 (omega arith) at1 c.block-b.ensures.bytes is1 c.xor_block-2.ensures in
-    let is3 = block_done g c.block-b.new.words text t2 c.block-c.result c.xor_block-3.new.text 2 (omega arith) at2 c.block-c.ensures.bytes is2 c.xor_block-3.ensures in
-    let is4 = block_done g c.block-c.new.words text t3 c.block-d.result c.xor_block-4.new.text 3 (omega arith) at3 c.block-d.ensures.bytes is3 c.xor_block-4.ensures in
+    let is1 = block_done g c.set_word_pos.new.self text text c.block-a.result c.xor_block.new.text 0 (omega arith) at0 c.block-a.ensures.bytes refl c.xor_block.ensures.text in
+    let is2 = block_done g c.block-a.new.words text t1 c.block-b.result c.xor_block-2.new.text 1 (omega arith) at1 c.block-b.ensures.bytes is1 c.xor_block-2.ensures.text in
+    let is3 = block_done g c.block-b.new.words text t2 c.block-c.result c.xor_block-3.new.text 2 (omega arith) at2 c.block-c.ensures.bytes is2 c.xor_block-3.ensures.text in
+    let is4 = block_done g c.block-c.new.words text t3 c.block-d.result c.xor_block-4.new.text 3 (omega arith) at3 c.block-d.ensures.bytes is3 c.xor_block-4.ensures.text in
     all_done (byte_from g) text _ 256 (omega arith) is4

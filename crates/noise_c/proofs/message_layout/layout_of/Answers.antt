@@ -19,5 +19,5 @@ returns c =
       c.piece_at-11.ensures,
       c.tokens_of.ensures.value,
       c.from.ensures,
-      c.overhead.ensures,
+      c.overhead.ensures.value,
     ) refl

@@ -92,5 +92,5 @@ returns c =
     let numbers : are_numbers done ≡ true = are_numbers-push c.loop-number.invariant.0 c.in-Some.number c.loop-number.invariant.2 c.in-Some.ensures.some.0 in
     let ten : c.push_number.new.numbers.items ≡ take 10 done = search rules in
     let seen : c.deref.result.now ≡ take 10 done = c.deref.ensures.0 ∙ ten in
-    c.ok_or.ensures.value ∙ made c.new.result c.deref.result.now c.new.ensures.only c.new.ensures.value
+    c.ok_or.ensures.value ∙ made c.new.result c.deref.result.now c.new.ensures.some c.new.ensures.value
     ∙ ap as_places seen ∙ ten_places done ∙ sym (ap modifiers_read read ∙ modifiers_read-all done numbers)

@@ -20,7 +20,7 @@ returns-in_err-places c =
 
 pub returns : goal.returns
 returns c =
-    ap (λ (s : Section). Ok s) c.of.ensures
+    ap (λ (s : Section). Ok s) c.of.ensures.value
     ∙ sym (section_ok c.args.section.now c.split_at.result.0.now c.split_at.result.1.now c.in_ok-places.places
     (base_is c.args.section.now c.split_at.result.0.now c.base_len.result c.base_len.ensures c.split_at.ensures.front)
     (modifiers_are c.args.section.now c.split_at.result.1.now c.base_len.result c.base_len.ensures c.split_at.ensures.back)

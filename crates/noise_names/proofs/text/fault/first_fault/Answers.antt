@@ -11,7 +11,7 @@ pub returns-in-Some-strip_prefix : goal.returns-in-Some-strip_prefix
 returns-in-Some-strip_prefix c =
     after-heading c.args.text.now c.in-Some.name c.in-Some.after.now c.in-Some-strip_prefix.lines.now c.fault_of_lines.result c.in-Some.ensures.some
     (stripped _ (codes "\n") c.in-Some-strip_prefix.lines c.in-Some-strip_prefix.ensures.cases)
-    (c.fault_of_lines.ensures c.in-Some.name c.in-Some.ensures.section (sym (c.numbers.ensures.value ∙ c.places.ensures)))
+    (c.fault_of_lines.ensures.fault c.in-Some.name c.in-Some.ensures.valid (sym (c.numbers.ensures.value ∙ c.places.ensures)))
 
 pub returns-else-is_empty : goal.returns-else-is_empty
 returns-else-is_empty c =

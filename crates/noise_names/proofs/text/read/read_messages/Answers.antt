@@ -19,7 +19,7 @@ loop-tokens-preserved c = record {
   few = omega (arith, c.push.ensures.len, differ_from_test _ _ 8 c.is_full.ensures.value c.if-is_full.false, c.is_full.ensures.fits);
   every = λ ms few sizes e.
       let next = next-line _ _ _ _ _ _ (c.loop-tokens.invariant.every ms few sizes e) c.in-Some.ensures.shorter c.in-Some.ensures.every in
-      rw (c.push.ensures.items, c.of.ensures, c.as_slice.ensures.value, c.other-role.ensures) next.after;
+      rw (c.push.ensures.items, c.of.ensures.value, c.as_slice.ensures.value, c.other-role.ensures) next.after;
 }
 
 pub returns-clause-every : goal.returns-clause-every

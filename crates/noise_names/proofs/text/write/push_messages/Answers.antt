@@ -14,8 +14,10 @@ loop-message-preserved c = (
 )
 
 pub returns : goal.returns
-returns c =
-    sym (append-nil c.loop-message.out.items)
-    ∙ ap (λ k. c.loop-message.out.items ++ k)
-    (sym (at_drop_all (message_lines c.loop-message.role) c.args.messages.now c.loop-message.message-index c.loop-message-test.false))
-    ∙ c.loop-message.invariant.0
+returns c = record {
+  written =
+      sym (append-nil c.loop-message.out.items)
+      ∙ ap (λ k. c.loop-message.out.items ++ k)
+      (sym (at_drop_all (message_lines c.loop-message.role) c.args.messages.now c.loop-message.message-index c.loop-message-test.false))
+      ∙ c.loop-message.invariant.0;
+}

@@ -3,4 +3,7 @@ use Rattle.noise_names.proofs.Lengths.{key_by-seen_of}
 use Rattle.noise_names.proofs.valid.ValidPattern.has_key.Goals as goal
 
 pub returns : goal.returns
-returns c = search (rules, key_by-seen_of)
+returns c = record {
+  value =
+      search (rules, key_by-seen_of);
+}

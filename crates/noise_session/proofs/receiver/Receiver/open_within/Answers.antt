@@ -1,5 +1,5 @@
-use Rattle.std.proofs.Common.{◌≡◌, ℕ, List, [], length, Err, IsOk, rules, sym, subst}
-use Rattle.noise_session.proofs.Common.{false≢true, ciphertext_under, OpenFault, HalfValue, receiver_fault, OpensUnless, ReceiverOpens, half_value}
+use Rattle.std.proofs.Common.{◌≡◌, ℕ, List, [], length, Err, rules, sym, subst}
+use Rattle.noise_session.proofs.Common.{ciphertext_under, OpenFault, HalfValue, receiver_fault, OpensUnless, ReceiverOpens, half_value}
 use Rattle.noise_state.specs.declared.cipher.CipherFault.{CipherFault}
 use Rattle.noise_state.specs.Cipher.{DecryptRefused, keyed_in, nonce_in}
 use Rattle.noise_session.proofs.receiver.Receiver.open_within.Goals as goal
@@ -22,14 +22,14 @@ pub returns-in-Err-Short-clause-opens : goal.returns-in-Err-Short-clause-opens
 returns-in-Err-Short-clause-opens c =
     let cipher = c.self.inside.half.cipher in
     let refused = subst (λ (f : CipherFault). DecryptRefused (keyed_in cipher) (nonce_in cipher) (length c.args.message.now) f) c.in-Err-Short.field-0-is
-    c.in-Err-Short.ensures.refused in
+    c.in-Err-Short.ensures.decrypts.0 in
     unopened (half_value c.self.inside.half) c.args.self.now _ c.args.message.now _ _ c.self.view_is (search rules) (search rules)
-    (λ payload same. false≢true (subst (λ r. IsOk r) c.in-Err-Short.is (c.decrypt.ensures.accepts.1 (refused.0, refused.1, (payload, same)))))
+    (c.in-Err-Short.ensures.decrypts.1 refused.0 refused.1)
 
 pub returns-in-Err-Tag-clause-opens : goal.returns-in-Err-Tag-clause-opens
 returns-in-Err-Tag-clause-opens c =
     let cipher = c.self.inside.half.cipher in
     let refused = subst (λ (f : CipherFault). DecryptRefused (keyed_in cipher) (nonce_in cipher) (length c.args.message.now) f) c.in-Err-Tag.field-0-is
-    c.in-Err-Tag.ensures.refused in
+    c.in-Err-Tag.ensures.decrypts.0 in
     unopened (half_value c.self.inside.half) c.args.self.now _ c.args.message.now _ _ c.self.view_is (search rules) (search rules)
-    (λ payload same. false≢true (subst (λ r. IsOk r) c.in-Err-Tag.is (c.decrypt.ensures.accepts.1 (refused.0, refused.1, (payload, same)))))
+    (c.in-Err-Tag.ensures.decrypts.1 refused.0 refused.1)
