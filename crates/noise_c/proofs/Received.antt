@@ -16,7 +16,7 @@ use Rattle.noise_channel.specs.Reading.ReaderState.{Listens}
 use Rattle.noise_channel.specs.Reading.NextValue.{Wants, Payload, End, Refused, Closed}
 use Rattle.noise_channel.specs.Reading.ChannelReads.{wants, gives, ends, refuses, closed_at_end, closed_broken}
 use Rattle.noise_channel.specs.Runs.{Rests, uses, payloads}
-use Rattle.noise_channel_agreement.specs.Receiving.{HandsOut, ReadsOnce, ReadsToEnd}
+use Rattle.noise_channel.specs.Receiving.{HandsOut, ReadsOnce, ReadsToEnd}
 use Rattle.noise_c.proofs.Common.{KeepsParty, NoiseHandshake, Party, Plan}
 use Rattle.noise_c.specs.FinishedPrograms.{ReadsAfter}
 use Rattle.noise_c.specs.TransportCodes.{open_code}

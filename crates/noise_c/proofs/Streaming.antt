@@ -14,7 +14,7 @@ use Rattle.noise_channel.specs.Writing.ChannelWrites.{ends}
 use Rattle.noise_channel.specs.Writing.Put.{Wrote}
 use Rattle.noise_channel.specs.Writing.WriterState.{Speaks}
 use Rattle.noise_channel.specs.Writing.WritesAll.{goes_on, stops}
-use Rattle.noise_channel_agreement.specs.Receiving.{HandsOutAll}
+use Rattle.noise_channel.specs.Receiving.{HandsOutAll}
 use Rattle.noise_c.specs.FinishedPrograms.{IsStreamOf}
 use Rattle.noise_c.proofs.Common.{nat_tests}
 use Rattle.noise_c.proofs.Received.{part-after}

@@ -16,8 +16,8 @@ use Rattle.noise_channel.specs.Writing.{Call, WriterState, WritesAll, bytes_put,
 use Rattle.noise_channel.specs.Writing.WriterState.{Speaks}
 use Rattle.noise_duel.specs.Agreement.{IsSetUp, KeysAgree}
 use Rattle.noise_duel.specs.Messages.{HandshakeMessage, Start}
-use Rattle.noise_channel_agreement.specs.Finished.{HaveFinished}
-use Rattle.noise_channel_agreement.specs.Receiving.{ReadsToEnd}
+use Rattle.noise_channel.specs.Finished.{HaveFinished}
+use Rattle.noise_channel.specs.Receiving.{ReadsToEnd}
 use Rattle.noise_c.specs.declared.structs.NoiseCipher.{NoiseCipher}
 use Rattle.noise_c.specs.declared.structs.NoiseDatagramReceiver.{NoiseDatagramReceiver}
 use Rattle.noise_c.specs.declared.structs.NoiseDatagramSender.{NoiseDatagramSender}

@@ -11,9 +11,9 @@ ghost use Rattle.noise_channel.specs.Streams.{incoming, outgoing};
 ghost use Rattle.noise_channel.specs.Reading.{ReaderState};
 ghost use Rattle.noise_channel.specs.Reading.ReaderState.{Listens};
 ghost use Rattle.noise_duel.specs.Messages.{HandshakeMessage, Start};
-ghost use Rattle.noise_channel_agreement.specs.Finished.{ForgedOrTwice, HaveFinished};
-ghost use Rattle.noise_channel_agreement.specs.Receiving.{HandsOut, HandsOutAll, ReadsOnce, ReadsTo, ReadsToEnd};
-ghost use Rattle.noise_channel_agreement.specs.Agreement.{IsWholeOrForged};
+ghost use Rattle.noise_channel.specs.Finished.{ForgedOrTwice, HaveFinished};
+ghost use Rattle.noise_channel.specs.Receiving.{HandsOut, HandsOutAll, ReadsOnce, ReadsTo, ReadsToEnd};
+ghost use Rattle.noise_channel.specs.Agreement.{IsWholeOrForged};
 ghost use Rattle.noise_c.specs.declared.codes.numbers.TheConstants.{OK};
 ghost use Rattle.noise_c.specs.DhResults.{DhResults, with_dh_results};
 ghost use Rattle.noise_c.specs.Finishing.{Finishes};
@@ -27,7 +27,7 @@ use crate::streams::{noise_stream_is_cut, noise_stream_read};
 use crate::structs::{
     NoiseHalf, NoiseHandshake, NoiseStreamReceiver, NoiseStreamResult, NoiseStreamSender,
 };
-use noise_channel_agreement::laws::{calls_join, finished_agree, read_is_front};
+use noise_channel::laws::{calls_join, finished_agree, read_is_front};
 use std::alloc::AllocError;
 
 // Reads the frame at the start of the buffer, appends its payload to `out`, and returns how many bytes are used: none

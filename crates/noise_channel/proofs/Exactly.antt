@@ -9,7 +9,7 @@ use Rattle.noise_channel.specs.Reading.ReaderState.{Listens, AtEnd, Broken}
 use Rattle.noise_channel.specs.Reading.NextValue.{Wants, Payload, End, Refused}
 use Rattle.noise_channel.specs.Reading.ChannelReads.{wants, gives, ends, refuses}
 use Rattle.noise_channel.proofs.Calls.{reads-once}
-use Rattle.noise_channel.proofs.Streams.{length-frame_at}
+use Rattle.noise_channel.proofs.Streaming.{length-frame_at}
 
 -- what each DH result says of the buffer
 abbrev pub Wanting : List ℕ → ℕ → Type 0

@@ -18,5 +18,6 @@ mod state;
 mod streams;
 mod support;
 mod taking;
+mod transcripts;
 mod transport;
 mod using;

@@ -54,7 +54,7 @@ pub(crate) struct Whole {
 
 // The tokens of message i, counted from 0; none after the last.
 pub(crate) fn tokens_at(messages: &[Message], i: usize) -> &[Token]
-    ensures tokens { result.now ≡ tokens_at messages.now i }
+    ensures value { result.now ≡ tokens_at messages.now i }
     ensures few { length result.now ≤ 10 }
 {
     if i < messages.len() {
@@ -114,7 +114,7 @@ impl BeforeMessage {
         requires psks { count_by is_psk self.now.tokens.items + count_by is_psk tokens.now
             ≤ length self.now.psks.items }
         requires nonces { nonce_now state + 11 < 2 ^ 64 - 1 }
-        ensures { IsNext self.now result tokens.now remote state }
+        ensures next { IsNext self.now result tokens.now remote state }
     {
         let taken = psk_count(&self.tokens);
         let mut psks = ArrayVec::new();
@@ -148,7 +148,7 @@ impl BeforeMessage {
 
     // Follows the first so many tokens of the message.
     fn front<K: Keys>(&self, keys: &K, message: &[u8], count: usize) -> Front
-        requires { count ≤ length self.now.tokens.items }
+        requires within { count ≤ length self.now.tokens.items }
         ensures nonce { nonce_now result.state ≤ nonce_now self.now.state + 10 }
         ensures many { length result.steps.items ≤ count }
         ensures range { IfSome result.end (λ end. end.0 ≤ length message.now) }
@@ -224,7 +224,7 @@ impl BeforeMessage {
     ///
     /// `keys` are those of the handshake. Of other keys or tokens the steps may end early.
     pub fn withheld_steps<K: Keys>(&self, keys: &K, token: u8) -> ArrayVec<Step, 11>
-        ensures withheld { (v : Party) → MatchesBefore self.now v → K.public_of keys.now ≡ v.own
+        ensures lacks { (v : Party) → MatchesBefore self.now v → K.public_of keys.now ≡ v.own
             → K.agreement keys.now ≡ v.agree → (lacks : LacksDhResult v token)
             → result.items ≡ steps_before v token lacks.lacks.before }
     {

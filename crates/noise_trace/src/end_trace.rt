@@ -92,7 +92,7 @@ impl<K: Keys> EndTrace<K> {
         ensures interval { self.new.interval ≡ self.old.interval }
         ensures shown { (v : Party) → Follows K.public_of K.agreement self.old.following v
             → use_value result ≡ Message steps.items (opening_in v) }
-        ensures directions { (v : EndState) → Follows K.public_of K.agreement self.old.following v.party
+        ensures opened { (v : EndState) → Follows K.public_of K.agreement self.old.following v.party
             → self.old.directions ≡ None → v.sent ≡ 0 → v.received ≡ 0 → self.new.directions ≡ directions_in v }
     {
         let opening = Opening::after(&self.following);

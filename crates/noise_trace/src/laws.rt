@@ -24,7 +24,7 @@ use noise_handshake::Keys;
 /// The bytes of a message's steps, joined, are the message. After its last step the values are those of the handshake
 /// then, and after the last step of the start those before the first message.
 pub fn steps_make_messages()
-    ensures joined { (has_psks : Bool) (r : History) (ts : List Token) (xs : List (List ℕ)) (payload : List ℕ)
+    ensures message { (has_psks : Bool) (r : History) (ts : List Token) (xs : List (List ℕ)) (payload : List ℕ)
         → joined (message_bytes has_psks r ts xs payload) (message_steps has_psks r ts xs payload)
         ≡ message_bytes has_psks r ts xs payload }
     ensures accepted { (v : Party) (xs : List (List ℕ)) (payload : List ℕ)
@@ -40,6 +40,6 @@ pub fn steps_make_messages()
 pub fn end_is_followed<K: Keys>()
     ensures partial { (t : EndTrace K) (v : EndState) (bytes : List ℕ) → EndFollows K.public_of K.agreement t v
         → EndFollows K.public_of K.agreement t (record v { partial = bytes }) }
-    ensures ended_session { (t : EndTrace K) (v : EndState) → EndFollows K.public_of K.agreement t v
+    ensures ended { (t : EndTrace K) (v : EndState) → EndFollows K.public_of K.agreement t v
         → EndFollows K.public_of K.agreement t (ended_session v) }
 {}

@@ -22,9 +22,9 @@ use noise_state::SymmetricState;
 
 // Adds the step of a part.
 fn add_step(steps: &mut ArrayVec<StartStep, 6>, part: StartPart, state: &SymmetricState)
-    requires { length steps.old.items < 6 }
+    requires room { length steps.old.items < 6 }
     ensures len { length steps.new.items ≡ length steps.old.items + 1 }
-    ensures added { (r : History) → StateMatches state.now r
+    ensures after { (r : History) → StateMatches state.now r
         → steps.new.items ≡ steps.old.items ++ start_step part r ∷ [] }
 {
     steps.push(StartStep {

@@ -42,8 +42,8 @@ fn take_e(state: &mut SymmetricState, has_psks: bool, rest: &[u8]) -> Option<(us
 }
 
 fn first_32(text: &[u8]) -> [u8; 32]
-    requires { 32 ≤ length text.now }
-    ensures { result ≡ take 32 text.now }
+    requires long { 32 ≤ length text.now }
+    ensures value { result ≡ take 32 text.now }
 {
     let mut key = [0; 32];
     key.copy_from_slice(&text[..32]);
@@ -153,8 +153,8 @@ fn known_next(reads: bool, known: &Remote, learned: Remote) -> Remote
 
 // The bytes of a message from a place on.
 pub(crate) fn bytes_from(message: &[u8], place: usize) -> &[u8]
-    requires { place ≤ length message.now }
-    ensures { result.now ≡ drop place message.now }
+    requires within { place ≤ length message.now }
+    ensures value { result.now ≡ drop place message.now }
 {
     &message[place..]
 }

@@ -51,7 +51,7 @@ pub(crate) fn values_of(state: &SymmetricState) -> StateValues
 
 // Mixes a ciphertext into the hash, and counts a nonce where there is a key (EncryptAndHash and DecryptAndHash).
 pub(crate) fn mix_piece(state: &mut SymmetricState, piece: &[u8])
-    requires { nonce_now state.old < 2 ^ 64 - 1 }
+    requires nonces { nonce_now state.old < 2 ^ 64 - 1 }
     ensures nonce { nonce_now state.new ≤ nonce_now state.old + 1 }
     ensures mixed { (r : History) → StateMatches state.old r
         → StateMatches state.new (and_then r (Ciphertext piece.now)) }

@@ -3,9 +3,9 @@
 ghost use Rattle.std.specs.Prelude.{◌≡◌};
 
 use noise_channel::{
-    Framed, Next, StreamFault, StreamReceiver, StreamSender, StreamState, next_frame,
+    Framed, Next, StreamFault, StreamReceiver, StreamSender, StreamState, next_frame, read_to,
+    read_to_end,
 };
-use noise_channel_agreement::{read_to, read_to_end};
 use noise_names::Role;
 use noise_session::{HalfParts, OpenFault, Receiver, Sender, frame_message};
 

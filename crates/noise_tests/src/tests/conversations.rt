@@ -4,11 +4,11 @@ ghost use Rattle.std.specs.Prelude.{IsSome};
 
 use super::transport::{KEY, sealed};
 use noise_aead::rekey;
-use noise_conversation::laws::xor_keys_have_dh_results;
-use noise_conversation::{converse, lines_fit, run_events, run_pieces};
 use noise_duel::{Cuts, Duel, Event, Report};
 use noise_handshake::XorKeys;
 use noise_names::{Pattern, PskPlaces, Role, ValidPattern, fundamental};
+use noise_theorems::laws::xor_keys_have_dh_results;
+use noise_theorems::{converse, lines_fit, run_events, run_pieces};
 use std::alloc::{AllocError, Global};
 use std::process::Abort;
 

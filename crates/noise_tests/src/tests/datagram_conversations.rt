@@ -8,15 +8,15 @@ ghost use Rattle.noise_session.specs.Datagrams.{datagrams_of};
 ghost use Rattle.noise_session.specs.EndDatagrams.{is_datagram_ready};
 ghost use Rattle.noise_session.specs.Ends.{hash_in};
 ghost use Rattle.noise_duel.specs.Sides.{Sides};
-ghost use Rattle.noise_conversation.specs.Clash.{HistoriesClash};
-ghost use Rattle.noise_conversation.specs.Datagrams.{DatagramsOverNetwork};
+ghost use Rattle.noise_theorems.specs.Clash.{HistoriesClash};
+ghost use Rattle.noise_theorems.specs.Datagrams.{DatagramsOverNetwork};
 
 use super::conversations::{both_keys, pattern};
-use noise_conversation::{run_datagrams, run_events};
 use noise_duel::{Cuts, DatagramDuel, DatagramEvent, DatagramReport, Duel, Event};
 use noise_handshake::XorKeys;
 use noise_names::{Role, ValidPattern};
 use noise_session::Window;
+use noise_theorems::{run_datagrams, run_events};
 use std::alloc::Global;
 
 // Any events between two parties of equal setup, and then datagrams, where both report one hash and may go over.

@@ -2,10 +2,10 @@
 
 use super::duels::{Ends, between};
 use super::support::opened;
-use noise_conversation::run_datagrams;
 use noise_duel::{DatagramDuel, DatagramEvent};
 use noise_names::Role;
 use noise_session::{End, Transport, Window};
+use noise_theorems::run_datagrams;
 use std::alloc::{AllocError, Global};
 use std::process::Abort;
 

@@ -1,11 +1,11 @@
 //! A run of two parties of unequal prologues, which no vector file describes.
 
 use super::support::end;
-use noise_conversation::{find_clash, find_mix_hash_clash, run_apart};
 use noise_duel::{Cuts, Duel, Event};
 use noise_handshake::XorKeys;
 use noise_names::Role;
 use noise_session::End;
+use noise_theorems::{find_clash, find_mix_hash_clash, run_apart};
 use sha2::{Digest, Sha256};
 use std::alloc::Global;
 use std::process::Abort;

@@ -11,7 +11,7 @@ ghost use Rattle.noise_handshake.specs.Passed.{passed_places};
 ghost use Rattle.noise_duel.specs.Conversation.{InTurn};
 ghost use Rattle.noise_duel.specs.Messages.{HandshakeMessage, Start};
 ghost use Rattle.noise_duel.specs.SetUpAlike.{AreSetUpAlike, HasDhResults, HasLongKeys};
-ghost use Rattle.noise_channel_agreement.specs.Finished.{HaveFinished};
+ghost use Rattle.noise_channel.specs.Finished.{HaveFinished};
 
 use noise_duel::laws::{alike_are_parts, ends_match, lines_come_through};
 use noise_handshake::laws::{keys_carried, overhead_added};

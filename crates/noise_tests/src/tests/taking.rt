@@ -2,8 +2,8 @@
 //! out by hand.
 
 use super::support::{end, first_frame, party};
-use noise_conversation::{comes_as, reads_as};
 use noise_names::Role;
+use noise_theorems::{comes_as, reads_as};
 
 #[test]
 fn a_frame_comes_as_its_payload(rt: HostRuntime) {

@@ -1,6 +1,6 @@
 use Rattle.std.proofs.Common.{◌≡◌, ◌∙◌, ℕ, ◌-◌, List, length, drop, arith, ap, subst, sym, refl, length-drop}
 use Rattle.std.proofs.lemmas.List.{drop-drop}
-use Rattle.noise_channel_agreement.specs.Receiving.{ReadsOnce, ReadsTo}
+use Rattle.noise_channel.specs.Receiving.{ReadsOnce, ReadsTo}
 use Rattle.noise_c.specs.StreamStructs.{stream_receiver_from_c}
 use Rattle.noise_c.proofs.Received.{part-after, part-long, part-of}
 use Rattle.noise_c.proofs.reading.read_stream_to.Goals as goal

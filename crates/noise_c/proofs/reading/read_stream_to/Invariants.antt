@@ -2,7 +2,7 @@ use Rattle.std.proofs.Common.{◌≡◌, ◌+◌, ◌-◌, ◌≤◌, length, dr
 use Rattle.noise_session.specs.TransportValue.{TransportState}
 use Rattle.noise_channel.specs.Halves.{ReaderMatches}
 use Rattle.noise_channel.specs.Reading.{ReaderState}
-use Rattle.noise_channel_agreement.specs.Receiving.{ReadsSome}
+use Rattle.noise_channel.specs.Receiving.{ReadsSome}
 use Rattle.noise_c.specs.StreamStructs.{is_stream_receiver, stream_receiver_from_c}
 use Rattle.noise_c.proofs.reading.read_stream_to.Given as goal
 

@@ -1,4 +1,4 @@
-use Rattle.noise_channel.proofs.Streams.{closed-run}
+use Rattle.noise_channel.proofs.Streaming.{closed-run}
 use Rattle.noise_channel.proofs.laws.closed_stays.Goals as goal
 
 pub returns : goal.returns

@@ -9,4 +9,4 @@ returns-in-S-default-Some-clause-mixed c r s e k =
     let mixed = c.mix_hash.ensures ∙ ap (λ (z : SymmetricState). mix_hash z key) s in
     mixes-s c.args.has_psks c.args.party c.args.keys.now c.args.token r key c.mix_hash.new.self c.args.steps.now.items
     c.add_step-in-S-default-Some.new.steps.items c.in-S-default-Some.is-0 c.in-S-default-Some.is-2 mixed
-    (c.add_step-in-S-default-Some.ensures.added (and_then r (MixHash key)) mixed)
+    (c.add_step-in-S-default-Some.ensures.after (and_then r (MixHash key)) mixed)

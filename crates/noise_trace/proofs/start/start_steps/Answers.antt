@@ -43,7 +43,7 @@ returns g c n none =
     (subst (λ (z : Remote). HasKeysFor z second) (sym er) (subst (λ (ts : List Token). HasKeysFor (keys_of Responder c.args.role ours known) ts) (sym c.pre-second.ensures.value) kr)) in
     let all : c.mix_keys-2.new.steps.items ≡ start_steps p c.args.role prologue ours known =
     in-turn b first second name prologue initiator responder c.new-steps.result.items c.add_step.new.steps.items c.add_step-2.new.steps.items
-    c.mix_keys.new.steps.items c.mix_keys-2.new.steps.items c.new-steps.ensures (c.add_step.ensures.added r0 s0) (c.add_step-2.ensures.added r1 s1) a.1 d.1
+    c.mix_keys.new.steps.items c.mix_keys-2.new.steps.items c.new-steps.ensures (c.add_step.ensures.after r0 s0) (c.add_step-2.ensures.after r1 s1) a.1 d.1
     ∙ made-is p b first second name prologue initiator responder (keys_of Initiator c.args.role ours known) (keys_of Responder c.args.role ours known)
     has_psks c.pre-first.ensures.value c.pre-second.ensures.value named ei er in
     subst (λ (z : Plan). c.mix_keys-2.new.steps.items ≡ start_steps z c.args.role prologue ours known) same all

@@ -10,7 +10,7 @@ returns-in-Ok-clause-opened c r x s h e =
     let new : List ℕ = c.decrypt_and_hash.new.buf in
     let n : ℕ = c.in-Ok.field-0 in
     let d = c.in-Ok.ensures.4 ∙ ap (λ (z : SymmetricState). ciphertext_now z (take n new)) s in (
-      ap (λ (k : List ℕ). Some k) (c.first_32.ensures ∙ opened-is r x c.args.buffer.now new n h e d c.in-Ok.ensures.3),
+      ap (λ (k : List ℕ). Some k) (c.first_32.ensures.value ∙ opened-is r x c.args.buffer.now new n h e d c.in-Ok.ensures.3),
       subst (λ (z : List ℕ). StateMatches c.decrypt_and_hash.new.self (and_then r (Ciphertext z))) e
           (c.in-Ok.ensures.6 ∙ ap (λ (z : SymmetricState). after_ciphertext z c.args.buffer.now) s),
     )

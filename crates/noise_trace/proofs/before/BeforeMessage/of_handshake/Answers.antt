@@ -20,7 +20,7 @@ invariant_of-result g c =
     c.messages.ensures.value ∙ ap (λ (z : Plan). z.messages) (c.pattern-pattern.ensures.value ∙ c.pattern.ensures.value) in
     let n : c.progress-progress.result.passed ≡ h.passed = came.passed in
     let due : tokens ≡ tokens_at p.messages h.passed =
-    t ∙ c.tokens_at.ensures.tokens ∙ ap (λ (z : List (List Token)). tokens_at z c.progress-progress.result.passed) ms ∙ ap (tokens_at p.messages) n in
+    t ∙ c.tokens_at.ensures.value ∙ ap (λ (z : List (List Token)). tokens_at z c.progress-progress.result.passed) ms ∙ ap (tokens_at p.messages) n in
     let state : c.from_parts.result ≡ h.state = c.from_parts.ensures ∙ came.state in
     record {
       psks_due = omega (arith, ap (count_by is_psk) due, psks-due p.messages h.passed, whole.psks, ap length (s ∙ c.psks.ensures.value));
@@ -44,7 +44,7 @@ returns-clause-before g c =
     let n : c.progress-progress.result.passed ≡ h.passed = came.passed in
     let state : c.from_parts.result ≡ h.state = c.from_parts.ensures ∙ came.state in
     record {
-      tokens = t ∙ c.tokens_at.ensures.tokens ∙ ap (λ (z : List (List Token)). tokens_at z c.progress-progress.result.passed) ms ∙ ap (tokens_at p.messages) n;
+      tokens = t ∙ c.tokens_at.ensures.value ∙ ap (λ (z : List (List Token)). tokens_at z c.progress-progress.result.passed) ms ∙ ap (tokens_at p.messages) n;
       psks = omega (arith, whole.psks, ap length (s ∙ c.psks.ensures.value));
       nonce = omega (arith, ap nonce_now state, whole.nonce, nonce-most p h.passed c.pattern.ensures.limits);
     }

@@ -26,7 +26,7 @@ returns-clause-whole g c v xs payload sb ag is =
     same_Some {A = ℕ × Remote} (c.in-Some.from, c.in-Some.remote) (length first, knows) (sym c.in-Some.is ∙ f.end) in
     let from_is : c.in-Some.from ≡ length first = ap (λ (q : ℕ × Remote). q.0) same in
     let rest : c.bytes_from.result.now ≡ last =
-    c.bytes_from.ensures ∙ ap (drop c.in-Some.from) e ∙ drop_at first last c.in-Some.from (sym from_is) in
+    c.bytes_from.ensures.value ∙ ap (drop c.in-Some.from) e ∙ drop_at first last c.in-Some.from (sym from_is) in
     let mixed = c.mix_piece.ensures.mixed after f.state in
     let are = c.values_of.ensures (and_then after (Ciphertext c.bytes_from.result.now)) mixed
     ∙ ap (λ (z : List ℕ). values_of (and_then after (Ciphertext z))) rest in

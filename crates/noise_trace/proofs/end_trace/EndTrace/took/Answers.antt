@@ -14,7 +14,7 @@ returns-clause-handshake g c v xs payload f a =
       record {
         party = subst (λ x. Follows g.K.Keys.public_of g.K.Keys.agreement x next) (sym c.passed.ensures.value) reported.1;
         interval = c.passed.ensures.interval ∙ f.interval;
-        directions = c.passed.ensures.directions view reported.1 (f.directions ∙ unopened v more) (f.first more).0 (f.first more).1;
+        directions = c.passed.ensures.opened view reported.1 (f.directions ∙ unopened v more) (f.first more).0 (f.first more).1;
         first = λ later. f.first more;
       },
     )

@@ -10,7 +10,7 @@ next-next-requires-clause-psks g c =
     let n : ℕ = c.self.inside.passed in
     let ms : c.messages-messages.result.now ≡ p.messages = c.messages-messages.ensures.value ∙ ap (λ (z : Plan). z.messages) c.pattern.ensures.value in
     let due : c.tokens_at-tokens.result.now ≡ tokens_at p.messages (n + 1) =
-    c.tokens_at-tokens.ensures.tokens ∙ ap (λ (z : List (List Token)). tokens_at z (n + 1)) ms in
+    c.tokens_at-tokens.ensures.value ∙ ap (λ (z : List (List Token)). tokens_at z (n + 1)) ms in
     omega (
       arith,
       ap (count_by is_psk) c.self.invariant.tokens,
@@ -30,16 +30,16 @@ invariant_of-self g c =
     let ms : c.messages-messages.result.now ≡ p.messages = c.messages-messages.ensures.value ∙ ap (λ (z : Plan). z.messages) c.pattern.ensures.value in
     let left : nonce_now c.in-Some.state ≤ nonce_now before.state + 11 = rw c.in-Some.is at c.whole-steps.ensures.nonce in
     record {
-      tokens = c.next-next.ensures.tokens ∙ c.tokens_at-tokens.ensures.tokens ∙ ap (λ (z : List (List Token)). tokens_at z (n + 1)) ms;
+      tokens = c.next-next.ensures.next.tokens ∙ c.tokens_at-tokens.ensures.value ∙ ap (λ (z : List (List Token)). tokens_at z (n + 1)) ms;
       psks = omega (
         arith,
-        ap length c.next-next.ensures.psks,
+        ap length c.next-next.ensures.next.psks,
         length-drop taken before.psks.items,
         ap (count_by is_psk) c.self.invariant.tokens,
         c.self.invariant.psks,
         psks-later p.messages n,
       );
-      nonce = omega (arith, ap nonce_now c.next-next.ensures.state, left, c.self.invariant.nonce);
+      nonce = omega (arith, ap nonce_now c.next-next.ensures.next.state, left, c.self.invariant.nonce);
     }
 
 pub returns : goal.returns
@@ -55,9 +55,9 @@ returns g c v xs payload f0 next =
     let ms : c.messages-messages.result.now ≡ v.pattern.messages =
     c.messages-messages.ensures.value ∙ ap (λ (z : Plan). z.messages) (c.pattern.ensures.value ∙ f.pattern) in
     let due : c.tokens_at-tokens.result.now ≡ tokens_at v.pattern.messages (v.passed + 1) =
-    c.tokens_at-tokens.ensures.tokens ∙ ap (λ (z : List (List Token)). tokens_at z (n + 1)) ms
+    c.tokens_at-tokens.ensures.value ∙ ap (λ (z : List (List Token)). tokens_at z (n + 1)) ms
     ∙ ap (λ (k : ℕ). tokens_at v.pattern.messages (k + 1)) f.passed in
-    let left : c.next-next.result.state ≡ w.state = c.next-next.ensures.state ∙ ap (λ (q : Remote × SymmetricState). q.1) same in (
+    let left : c.next-next.result.state ≡ w.state = c.next-next.ensures.next.state ∙ ap (λ (q : Remote × SymmetricState). q.1) same in (
       w.steps,
       record {
         pattern = f.pattern;
@@ -65,12 +65,12 @@ returns g c v xs payload f0 next =
         agree = f.agree;
         passed = ap (λ (k : ℕ). k + 1) f.passed;
         before = record {
-          role = c.next-next.ensures.role ∙ f.before.role;
-          has_psks = c.next-next.ensures.has_psks ∙ f.before.has_psks;
-          writes = c.next-next.ensures.writes ∙ ap not f.before.writes ∙ next-turn v.role v.passed;
-          tokens = c.next-next.ensures.tokens ∙ due;
-          remote = c.next-next.ensures.remote ∙ ap (λ (q : Remote × SymmetricState). q.0) same;
-          psks = c.next-next.ensures.psks
+          role = c.next-next.ensures.next.role ∙ f.before.role;
+          has_psks = c.next-next.ensures.next.has_psks ∙ f.before.has_psks;
+          writes = c.next-next.ensures.next.writes ∙ ap not f.before.writes ∙ next-turn v.role v.passed;
+          tokens = c.next-next.ensures.next.tokens ∙ due;
+          remote = c.next-next.ensures.next.remote ∙ ap (λ (q : Remote × SymmetricState). q.0) same;
+          psks = c.next-next.ensures.next.psks
               ∙ ap (λ (us : List Token). drop (count_by is_psk us) c.self.inside.before.psks.items) f.before.tokens
               ∙ ap (drop (count_by is_psk ts)) f.before.psks;
           history = subst (λ (z : SymmetricState). StateMatches z (after_payload (has_psk v.pattern) v.history ts xs payload)) (sym left) w.matches;

@@ -1,0 +1,108 @@
+-- Two parties that have finished have one history, or a message was forged or a text opens twice.
+use Rattle.std.proofs.Common.{◌≡◌, ◌⊎◌, inl, inr, ℕ, ◌≤◌, List, [], ◌∷◌, ◌++◌, length, Option, Some, None, true, refl, sym, ◌∙◌, ap, subst, arith}
+use Rattle.std.specs.Prelude.{is_some}
+use Rattle.sha2.specs.Sha256.{sha256}
+use Rattle.noise_names.specs.declared.token.Role.TheVariants.{Initiator, Responder}
+use Rattle.noise_names.specs.Lists.{same-or, split-apart}
+use Rattle.noise_names.specs.Names.{name_bytes}
+use Rattle.noise_names.specs.Plan.{Plan}
+use Rattle.noise_state.specs.History.{History, Ciphertext, and_then, cipher_key, ciphertext, ciphertext_under, hash, nonce}
+use Rattle.noise_handshake.specs.Party.{Party}
+use Rattle.noise_handshake.specs.Setup.{public_keys}
+use Rattle.noise_duel.specs.Agreement.{KeysReport}
+use Rattle.noise_duel.specs.Messages.{HandshakeMessage, Start, begun_as}
+use Rattle.noise_channel.specs.Finished.{FinishedIsOne, ForgedOrTwice, HaveFinished, LastSealed}
+use Rattle.noise_channel.proofs.Lasting.{AcceptedCarries, AreSpelled, KeyedAlike, LastTwo, WrittenCarries, after_all, has-spelled, last-two, start-alike}
+
+some-of : (o : Option (List ℕ)) → is_some o ≡ true → (k : List ℕ) × (o ≡ Some k)
+some-of (Some k) e = (k, refl)
+some-of None e = cc
+
+last-sealed : (r before : History) (text payload : List ℕ) → text ≡ ciphertext before payload → r ≡ and_then before (Ciphertext text)
+    → is_some (cipher_key before) ≡ true → LastSealed r text
+last-sealed r before text payload e last keyed =
+    let k = some-of (cipher_key before) keyed in
+    record {
+      before = before;
+      last = last;
+      key = k.0;
+      key_is = k.1;
+      payload = payload;
+      sealed_is = e ∙ ap (λ (o : Option (List ℕ)). ciphertext_under o (nonce before) (hash before) payload) k.1;
+    }
+
+last-of : (p : Plan) (n : ℕ) (r s : History) (ps qs : List HandshakeMessage) → length ps ≡ length qs → 1 ≤ length ps → AreSpelled p n r ps
+    → AreSpelled p n s qs → KeyedAlike r s → LastTwo ps qs (after_all p n r ps) (after_all p n s qs)
+last-of p n r s (m ∷ ms) (q ∷ qs) e some f g h = last-two p n r s m q ms qs (omega (arith, e)) f g h
+last-of p n r s [] qs e some f g h = absurd (omega (arith, some))
+last-of p n r s (m ∷ ms) [] e some f g h = absurd (omega (arith, e))
+
+-- the parties' last messages are the same bytes
+module _ (report : KeysReport) (p : Plan) (a b : Start) (ps qs : List HandshakeMessage) (v w : Party) (h : HaveFinished p a b ps qs v w)
+    (l : LastTwo ps qs v.history w.history) (same : l.left.message ≡ l.right.message) where
+  one-text : ciphertext l.left_before l.left.payload ≡ ciphertext l.right_before l.right.payload
+  one-text =
+      let parts = split-apart l.left_front l.right_front (ciphertext l.left_before l.left.payload) (ciphertext l.right_before l.right.payload) l.long
+      (sym l.left_is ∙ same ∙ l.right_is) in parts.1
+
+  left-keyed : is_some (cipher_key l.left_before) ≡ true
+  left-keyed = sym (ap (λ (r : History). is_some (cipher_key r)) l.left_after) ∙ h.keyed
+
+  one-hash : hash l.left_before ≡ hash l.right_before → hash v.history ≡ hash w.history
+  one-hash e =
+      ap hash l.left_after
+      ∙ ap (λ (x : List ℕ). sha256 (x ++ ciphertext l.left_before l.left.payload)) e
+      ∙ ap (λ (c : List ℕ). sha256 (hash l.right_before ++ c)) one-text
+      ∙ sym (ap hash l.right_after)
+
+  pub same-message : ((ps ≡ qs) × (v.history ≡ w.history)) ⊎ ForgedOrTwice p ps qs v.history w.history
+  unfolding last-sealed
+  same-message = elim (same-or (hash l.left_before) (hash l.right_before)) [
+    | inl e ↦
+        elim (report p a b ps qs v w h.initiator h.responder h.wrote_and_took h.took_and_wrote (h.passed ∙ sym h.passed_too) (one-hash e) h.psks h.keys) [
+          | inl one ↦ inl one
+          | inr collision ↦ inr (inr (inr collision))
+        ]
+    | inr differ ↦
+        let text : List ℕ = ciphertext l.left_before l.left.payload in
+        inr (inr (inl (record {
+          text = text;
+          left = last-sealed v.history l.left_before text l.left.payload refl l.left_after left-keyed;
+          right = last-sealed w.history l.right_before text l.right.payload one-text
+              (l.right_after ∙ ap (λ (c : List ℕ). and_then l.right_before (Ciphertext c)) (sym one-text)) (sym l.keyed ∙ left-keyed);
+          differ = differ;
+        })))
+  ]
+
+pub finished-is-one : WrittenCarries → AcceptedCarries → KeysReport → FinishedIsOne
+finished-is-one written accepted report p a b ps qs v w h =
+    let left = has-spelled written accepted (begun_as p Initiator a) v ps h.wrote_and_took in
+    let right = has-spelled written accepted (begun_as p Responder b) w qs h.took_and_wrote in
+    let many : length ps ≡ length p.messages = omega (arith, left.count, h.passed) in
+    let too : length qs ≡ length p.messages = omega (arith, right.count, h.passed_too) in
+    let r0 : History = (begun_as p Initiator a).history in
+    let s0 : History = (begun_as p Responder b).history in
+    let name : List ℕ = name_bytes (record { base = p.base; places = p.places }) in
+    let alike : KeyedAlike r0 s0 =
+    start-alike name a.prologue b.prologue p (public_keys a.own) a.remote b.remote (public_keys b.own) in
+    let found : LastTwo ps qs (after_all p 0 r0 ps) (after_all p 0 s0 qs) =
+    last-of p 0 r0 s0 ps qs (many ∙ sym too) (omega (arith, many, h.some)) left.spelled right.spelled alike in
+    go (subst (λ (r : History). LastTwo ps qs r w.history) (sym left.history) (subst (λ (s : History). LastTwo ps qs (after_all p 0 r0 ps) s) (sym right.history) found)) many
+  where
+    go : LastTwo ps qs v.history w.history → length ps ≡ length p.messages
+        → ((ps ≡ qs) × (v.history ≡ w.history)) ⊎ ForgedOrTwice p ps qs v.history w.history
+    go l many = elim (same-or l.left.message l.right.message) [
+      | inl same ↦ same-message report p a b ps qs v w h l same
+      | inr differ ↦
+          inr (inl (
+            l.place,
+            l.end ∙ many,
+            record {
+              left = l.left.message;
+              right = l.right.message;
+              at_left = l.at_left;
+              at_right = l.at_right;
+              differ = differ;
+            },
+          ))
+    ]

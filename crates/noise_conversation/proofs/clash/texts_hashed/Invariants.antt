@@ -1,6 +1,0 @@
-use Rattle.std.proofs.Common.{take}
-use Rattle.noise_conversation.proofs.Mixed.{Mixes}
-use Rattle.noise_conversation.proofs.clash.texts_hashed.Given as goal
-
-abbrev pub invariant-loop-piece : goal.invariant-loop-piece
-invariant-loop-piece l = Mixes l.name (take l.piece-index l.mixed) l.state l.texts.items

@@ -1,5 +1,0 @@
-use Rattle.noise_conversation.proofs.Exactly.{read-exactly}
-use Rattle.noise_conversation.proofs.laws.read_exactly.Goals as goal
-
-pub returns : goal.returns
-returns c = read-exactly c.accepted_once.ensures c.refused_once.ensures.one c.refused_once.ensures.apart

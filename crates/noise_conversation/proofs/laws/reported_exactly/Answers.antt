@@ -1,5 +1,0 @@
-use Rattle.noise_conversation.proofs.Exactly.{reported-exactly}
-use Rattle.noise_conversation.proofs.laws.reported_exactly.Goals as goal
-
-pub returns : goal.returns
-returns c = reported-exactly c.judged_once.ensures c.accepted_exactly.ensures

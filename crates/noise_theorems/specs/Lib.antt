@@ -1,0 +1,17 @@
+pub mod Agreement
+pub mod Clash
+pub mod Conversed
+pub mod Datagrams
+pub mod Entries
+pub mod Exactly
+pub mod Fitting
+pub mod Joined
+pub mod Lacking
+pub mod Lines
+pub mod Mixed
+pub mod Payloads
+pub mod Setup
+pub mod Taking
+pub mod Talked
+pub mod Turns
+pub mod inner

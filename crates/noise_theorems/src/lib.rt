@@ -1,0 +1,29 @@
+//! Theorems about two parties, as calls that no program makes: a whole conversation of two parties of equal setup, and
+//! what `noise talk` prints of a file whose lines fit.
+#![tactic(auto)]
+
+mod arrival;
+mod clash;
+mod conversation;
+mod datagrams;
+mod ends;
+mod fault;
+mod frame;
+pub mod laws;
+mod lengths;
+mod message;
+mod network;
+mod prologues;
+mod transcript;
+
+pub use arrival::run_pieces;
+pub use clash::{HashClash, find_clash, find_mix_hash_clash};
+pub use conversation::converse;
+pub use datagrams::run_datagrams;
+pub use fault::ConversationFault;
+pub use frame::comes_as;
+pub use lengths::lines_fit;
+pub use message::reads_as;
+pub use network::run_events;
+pub use prologues::run_apart;
+pub use transcript::talk;
