@@ -16,7 +16,7 @@ returns-in-Ok c = λ d matches.
     let both : (is_datagram_ready c.args.duel.initiator ≡ true) × (is_datagram_ready c.args.duel.responder ≡ true) = search rules in
     let yes = both-ready c.args.duel d (c.end_is_reported.ensures c.args.duel.initiator d.initiator.state matches.initiator)
     (c.end_is_reported.ensures c.args.duel.responder d.responder.state matches.responder) both in
-    let begun = c.in-Ok.ensures.begun d.initiator.state d.responder.state (record { initiator = matches.initiator; responder = matches.responder }) in
+    let begun = c.in-Ok.ensures.matches d.initiator.state d.responder.state (record { initiator = matches.initiator; responder = matches.responder }) in
     on_ok c.count_datagrams.result _ _ (λ x. (
       datagram_run_lines c.in-Some.datagrams.window x.0 x.1,
       subst (λ (o : Option FileDatagrams). AreLast o d (datagram_run_lines c.in-Some.datagrams.window x.0 x.1)) (sym some)
