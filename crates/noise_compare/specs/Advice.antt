@@ -1,10 +1,10 @@
 -- What is said of the likely mistakes.
 use Rattle.std.specs.Prelude.{◌≡◌, ℕ, ◌&&◌, ◌||◌, Bool, not, List, [], ◌∷◌, ◌++◌, Option, Some, None, codes, flat_map, if◌then◌else◌}
-use Rattle.noise_mistakes.specs.Finding.{found_mistakes, is_right, refusing_mistakes, tried_mistakes}
-use Rattle.noise_mistakes.specs.Sentences.{sentence}
-use Rattle.noise_mistakes.specs.declared.mistake.Mistake.{Mistake}
-use Rattle.noise_mistakes.specs.declared.state.Situation.{Situation}
-use Rattle.noise_mistakes.specs.declared.state.Logged.{Logged}
+use Rattle.noise_compare.specs.Finding.{found_mistakes, is_right, refusing_mistakes, tried_mistakes}
+use Rattle.noise_compare.specs.Sentences.{sentence}
+use Rattle.noise_compare.specs.declared.mistake.Mistake.{Mistake}
+use Rattle.noise_compare.specs.declared.state.Situation.{Situation}
+use Rattle.noise_compare.specs.declared.state.Logged.{Logged}
 use Rattle.noise_compare.specs.Lines.{is_same_word, word_at, words_in}
 use Rattle.noise_compare.specs.Report.{ended}
 use Rattle.noise_compare.specs.Steps.{hashes_in, last_state, states_before, transport_keys}

@@ -1,10 +1,17 @@
 pub mod Advice
 pub mod Differences
+pub mod Finding
 pub mod Findings
+pub mod Keys
 pub mod Lines
+pub mod Mixing
 pub mod Plain
 pub mod Reading
 pub mod Report
+pub mod Secrets
+pub mod Sentences
+pub mod States
 pub mod Steps
+pub mod Texts
 pub mod Values
 pub mod Walk

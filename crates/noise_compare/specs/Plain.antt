@@ -1,13 +1,13 @@
 -- The lines that people log, as lines of `trace`.
-use Rattle.std.specs.Prelude.{ℕ, ◌==◌, ◌&&◌, ◌||◌, Bool, not, List, [], ◌∷◌, ◌++◌, codes, count_by, decimal, drop, flat_map, fold, if◌then◌else◌, length, map, nat_le, nat_lt, take, bit_xor}
+use Rattle.std.specs.Prelude.{ℕ, ◌==◌, ◌&&◌, ◌||◌, Bool, not, List, [], ◌∷◌, ◌++◌, codes, count_by, decimal, drop, flat_map, fold, if◌then◌else◌, length, map, nat_le, nat_lt, take}
+use Rattle.std.specs.Char.{to_ascii_lowercase}
 use Rattle.std.specs.List.{filter, slice_split}
 use Rattle.std.specs.Str.{bytes_eq}
 use Rattle.noise_compare.specs.Report.{ended}
 
 -- A tab and a carriage return are spaces, and `A` to `Z` are lower-case. A full stop stands for a byte that isn't printed.
 abbrev pub plain_byte : ℕ → ℕ
-plain_byte b = if b == 9 || b == 13 then 32 else (if nat_lt b 32 || nat_lt 126 b then 46
-    else (if nat_le 65 b && nat_le b 90 then bit_xor b 32 else b))
+plain_byte b = if b == 9 || b == 13 then 32 else (if nat_lt b 32 || nat_lt 126 b then 46 else to_ascii_lowercase b)
 
 abbrev pub spaced : List ℕ → List ℕ
 spaced text = map plain_byte text

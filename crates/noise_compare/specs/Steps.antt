@@ -1,9 +1,9 @@
 -- The step of a right line, among the right lines.
 use Rattle.std.specs.Prelude.{ℕ, ◌-◌, ◌==◌, ◌&&◌, Bool, true, false, not, List, [], ◌∷◌, Option, Some, None, flat_map, if◌then◌else◌, length, map, slice_get, take, take_while, unwrap_or}
 use Rattle.std.specs.Str.{bytes_eq}
-use Rattle.noise_mistakes.specs.declared.state.Kind.{Kind}
-use Rattle.noise_mistakes.specs.declared.state.Kind.TheVariants as kind
-use Rattle.noise_mistakes.specs.declared.state.State.{State}
+use Rattle.noise_compare.specs.declared.state.Kind.{Kind}
+use Rattle.noise_compare.specs.declared.state.Kind.TheVariants as kind
+use Rattle.noise_compare.specs.declared.state.State.{State}
 use Rattle.noise_compare.specs.Lines.{has_values, is_of_place, word_at, words_in}
 use Rattle.noise_compare.specs.Values.{kind_in, state_in, word_key}
 use Rattle.noise_compare.specs.declared.line.Line.{Line}

@@ -4,10 +4,10 @@ use Rattle.std.specs.Global.{Global}
 use Rattle.std.specs.Str.{bytes_eq}
 use Rattle.hex.specs.Hex.{decode_of, decode_sized}
 use Rattle.hex.specs.declared.error.FromHexError.{FromHexError}
-use Rattle.noise_mistakes.specs.declared.state.Kind.{Kind}
-use Rattle.noise_mistakes.specs.declared.state.Kind.TheVariants as kind
-use Rattle.noise_mistakes.specs.declared.state.Logged.{Logged}
-use Rattle.noise_mistakes.specs.declared.state.State.{State}
+use Rattle.noise_compare.specs.declared.state.Kind.{Kind}
+use Rattle.noise_compare.specs.declared.state.Kind.TheVariants as kind
+use Rattle.noise_compare.specs.declared.state.Logged.{Logged}
+use Rattle.noise_compare.specs.declared.state.State.{State}
 use Rattle.noise_compare.specs.Lines.{word_at, words_in}
 use Rattle.noise_compare.specs.declared.line.Line.{Line}
 

@@ -1,14 +1,17 @@
 //! What is said of the likely mistakes.
 
 ghost use Rattle.std.specs.Prelude.{◌≡◌, ◌++◌, IfOk, OnOk, codes};
-ghost use Rattle.noise_mistakes.specs.Finding.{found_mistakes, tried_mistakes};
+ghost use Rattle.noise_compare.specs.Finding.{found_mistakes, tried_mistakes};
 ghost use Rattle.noise_compare.specs.Advice.{IsAdvice, advice_text, bytes_text, form_text, has_other_bytes, has_state, indented, indented_sentences, mistakes_text, refusing_text, sentences};
 ghost use Rattle.noise_compare.specs.Report.{ended};
 
+use crate::finding::{is_right, mistakes, tried_mistakes};
 use crate::line::Line;
+use crate::mistake::Mistake;
+use crate::mistake_sentences::sentence;
 use crate::report::push_line;
+use crate::state::{Logged, Situation};
 use crate::values::has_bytes;
-use noise_mistakes::{Logged, Mistake, Situation, is_right, mistakes, sentence, tried_mistakes};
 use std::alloc::{AllocError, Global};
 
 /// Appends what is said of a logged line at this step, which is that of the right line `expected`.

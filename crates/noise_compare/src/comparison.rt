@@ -55,8 +55,8 @@ fn differing(
     right: &[Line<'_>],
     found: Difference<'_, '_>,
 ) -> Result<LogReport, AllocError>
-    requires { found.index < length log.now }
-    ensures { IsFirstDifference right.now log.now found.entry.index (option_copied found.entry.right)
+    requires within { found.index < length log.now }
+    ensures first { IsFirstDifference right.now log.now found.entry.index (option_copied found.entry.right)
         → IfOk result (λ report. IsReport right.now log.now report.finding report.text.items) }
 {
     let line = &log[found.index];
@@ -77,8 +77,8 @@ fn advice(
     logged: &Line<'_>,
     expected: Option<&Line<'_>>,
 ) -> Result<Vec<u8>, AllocError>
-    requires { index < length log.now }
-    ensures { IfOk result (λ text. IfSome (option_copied expected.entry)
+    requires within { index < length log.now }
+    ensures text { IfOk result (λ text. IfSome (option_copied expected.entry)
         (λ found. IsAdvice right.now logged.now found text.items)) }
 {
     match expected {
@@ -94,8 +94,8 @@ fn agreeing(
     log: &[Line<'_>],
     right: &[Line<'_>],
 ) -> Result<LogReport, AllocError>
-    requires { Agrees right.now log.now }
-    ensures { IfOk result (λ report. IsReport right.now log.now report.finding report.text.items) }
+    requires same { Agrees right.now log.now }
+    ensures reported { IfOk result (λ report. IsReport right.now log.now report.finding report.text.items) }
 {
     match step_after(log, right) {
         Some(next) => Ok(LogReport {

@@ -50,7 +50,7 @@ fn after<'a, 'b>(
 ) -> Result<(usize, usize), Option<&'a Line<'b>>>
     requires initiator { initiator ≤ length right.now }
     requires responder { responder ≤ length right.now }
-    ensures { AreLeftAfter right.now (left_from right.now initiator responder) logged.now result }
+    ensures value { AreLeftAfter right.now (left_from right.now initiator responder) logged.now result }
 {
     if is_of_responder(logged) {
         let next = after_match(right, responder, logged)?;
@@ -74,8 +74,8 @@ fn after_match<'a, 'b>(
     from: usize,
     logged: &Line<'_>,
 ) -> Result<usize, Option<&'a Line<'b>>>
-    requires { from ≤ length right.now }
-    ensures { AreLeftFrom right.now (drop from right.now) logged.now result }
+    requires within { from ≤ length right.now }
+    ensures value { AreLeftFrom right.now (drop from right.now) logged.now result }
 {
     for place in from..right.len() {
         let line = &right[place];

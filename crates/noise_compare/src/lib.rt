@@ -1,18 +1,29 @@
 //! Compares a key schedule that another implementation logged with that of a vector file, line by line, and names the
 //! mistakes that give its values.
+//!
+//! Each mistake is a definition: the values that a party with it has after a step (Noise 4.2, 4.3, 5, 7.1, 9.2, 11.3,
+//! 12.3). Those of the list that give the values that a party logged are its likely mistakes.
 #![tactic(auto)]
 
 mod advice;
 mod comparison;
 mod difference;
 mod facts;
+mod finding;
+mod keys;
 mod line;
 mod log;
+mod mistake;
+mod mistake_sentences;
+mod mixing;
 mod parts;
 mod plain;
 mod report;
+mod secrets;
 mod sentences;
+mod state;
 mod steps;
+mod texts;
 mod values;
 
 pub use comparison::{Finding, LogReport, compare_lines};

@@ -19,7 +19,7 @@ pub struct Line<'a> {
 impl<'a> Line<'a> {
     /// The line of this text, which has no LF.
     pub fn new(alloc: Global, number: usize, text: &'a [u8]) -> Result<Line<'a>, AllocError>
-        ensures number { IfOk result (λ line. line.number ≡ number) }
+        ensures counted { IfOk result (λ line. line.number ≡ number) }
         ensures words { IfOk result (λ line. words_in line ≡ line_words text.now) }
     {
         let words = parts(alloc, text, b' ')?;

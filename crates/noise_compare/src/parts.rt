@@ -7,11 +7,11 @@ ghost use Rattle.noise_compare.specs.Values.{kind_in, state_in, word_bytes};
 
 use crate::facts::Facts;
 use crate::line::Line;
+use crate::state::{Kind, Situation, State};
 use crate::steps::{hashes_in, last_state, states_before, transport_keys};
 use crate::values::{bytes_in, kind_in, state_in};
 use noise_aead::{nonce, open_in_place};
 use noise_kdf::expand2;
-use noise_mistakes::{Kind, Situation, State};
 use sha2::{Digest, Sha256};
 use std::alloc::{AllocError, Global};
 

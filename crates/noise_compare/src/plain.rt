@@ -48,10 +48,8 @@ fn plain_byte(b: u8) -> u8
         32
     } else if b < 32 || 126 < b {
         46
-    } else if 65 <= b && b <= 90 {
-        b ^ 32
     } else {
-        b
+        b.to_ascii_lowercase()
     }
 }
 
@@ -68,8 +66,8 @@ fn from_trace(text: &[u8]) -> &[u8]
 }
 
 fn begins_at(text: &[u8], i: usize, front: &[u8]) -> bool
-    requires { i ≤ length text.now }
-    ensures { result ≡ begins (drop i text.now) front.now }
+    requires within { i ≤ length text.now }
+    ensures value { result ≡ begins (drop i text.now) front.now }
 {
     begins(&text[i..], front)
 }

@@ -5,12 +5,13 @@ ghost use Rattle.noise_compare.specs.Advice.{IsAdvice};
 
 use crate::advice::{push_advice, push_bytes, push_refusing};
 use crate::facts::Facts;
+use crate::finding::{is_right, refusing_mistakes};
 use crate::line::Line;
 use crate::parts::Parts;
 use crate::report::{push_line, push_place, push_value};
+use crate::state::{Kind, Logged};
 use crate::steps::is_line;
 use crate::values::values_in;
-use noise_mistakes::{Kind, Logged, is_right, refusing_mistakes};
 use std::alloc::{AllocError, Global};
 
 /// What is said of the line `logged` of the log, at this index, whose place the line `expected` has, with other values.

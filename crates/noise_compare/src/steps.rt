@@ -5,8 +5,8 @@ ghost use Rattle.noise_compare.specs.Steps.{count_before, hashes_in, hashes_of, 
 ghost use Rattle.noise_compare.specs.Values.{word_key};
 
 use crate::line::Line;
+use crate::state::{Kind, State};
 use crate::values::{key_in, kind_in, state_in};
-use noise_mistakes::{Kind, State};
 use std::alloc::{AllocError, Global};
 
 /// Whether a line is this one of the right lines.

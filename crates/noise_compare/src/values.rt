@@ -5,8 +5,8 @@ ghost use Rattle.noise_compare.specs.Lines.{word_at, words_in};
 ghost use Rattle.noise_compare.specs.Values.{AreLogged, add_digit, agreement_or_text, has_bytes, is_text, items_of, kind_by, kind_in, logged_bytes, logged_if_any, logged_word, start_kind, state_in, token_kind, transport_kind, word_array, word_bytes, word_key, word_number};
 
 use crate::line::Line;
+use crate::state::{Kind, Logged, State};
 use hex::FromHexError;
-use noise_mistakes::{Kind, Logged, State};
 use std::alloc::{AllocError, Global};
 
 /// The bytes of a word of hex digits, and none of `-`; of any other word the word's own.

@@ -1,5 +1,11 @@
 pub mod ExplainedLemmas
 pub mod FactLemmas
+pub mod FileLemmas
 pub mod FrameLemmas
-pub mod PlaceLemmas
+pub mod KeyLineLemmas
+pub mod PositionLemmas
+pub mod PushLemmas
 pub mod RuleLemmas
+pub mod ShapeLemmas
+pub mod ValueLemmas
+pub mod WalkLemmas

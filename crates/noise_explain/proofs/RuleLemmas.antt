@@ -18,7 +18,7 @@ use Rattle.noise_names.specs.Plan.{Plan}
 use Rattle.noise_names.specs.Text.{arrow_of, line, message_lines, pre_lines, token_line, word_of, words}
 use Rattle.noise_names.specs.Tokens.{other}
 use Rattle.noise_names.specs.WrongText.{line_feeds}
-use Rattle.noise_explain.specs.Places.{words_before}
+use Rattle.noise_explain.specs.Positions.{words_before}
 use Rattle.noise_explain.specs.RulePlaces.{IsRulePlace, lines_before, list_before, message_tokens, fault_message, fault_token}
 
 -- ---- line feeds

@@ -10,11 +10,11 @@ use Rattle.noise_lines.specs.PrintedWords.{is_printed_byte}
 use Rattle.noise_lines.specs.declared.faults.Fault.{Fault}
 use Rattle.noise_lines.specs.declared.faults.Fault.TheVariants.{Rule, Text, TooLong}
 use Rattle.noise_explain.specs.Facts.{facts_text}
-use Rattle.noise_explain.specs.Places.{IsColumn, line_at}
+use Rattle.noise_explain.specs.Positions.{IsColumn, line_at}
 use Rattle.noise_explain.specs.RulePlaces.{IsRulePlace}
 use Rattle.noise_explain.specs.Shown.{caret_text, right_head, sentence_line, unread_head, wrong_head}
 use Rattle.noise_explain.specs.declared.explanation.Explained.{Explained}
-use Rattle.noise_explain.specs.declared.place.Place.{Place}
+use Rattle.noise_explain.specs.declared.position.Position.{Position}
 
 -- its text begins with these bytes
 abbrev pub TextBeginsWith : List ℕ → Explained → Type 0
@@ -37,12 +37,12 @@ IsTold fault told = ⊤
 
 -- ---- the whole
 
--- a fault of a pattern text stands at this place of it
-abbrev pub IsAt : List ℕ → Fault → Place → Type 0
-IsAt text (Text fault) place =
-    (place.line ≡ fault.line) × IsColumn fault.kind fault.line (line_at text fault.line) place.column
-IsAt text (Rule fault) place = (p : Plan) × Spells text p × IsRulePlace p fault place
-IsAt text fault place = ⊥
+-- a fault of a pattern text stands at this position of it
+abbrev pub IsAt : List ℕ → Fault → Position → Type 0
+IsAt text (Text fault) position =
+    (position.line ≡ fault.line) × IsColumn fault.kind fault.line (line_at text fault.line) position.column
+IsAt text (Rule fault) position = (p : Plan) × Spells text p × IsRulePlace p fault position
+IsAt text fault position = ⊥
 
 -- the text is that of a valid pattern, and is reported as such, with all that follows from its tokens
 pub record SaysRight (name text : List ℕ) (e : Explained) : Type 0 where
@@ -52,17 +52,17 @@ pub record SaysRight (name text : List ℕ) (e : Explained) : Type 0 where
   pub status_is : e.status ≡ 0
   pub text_is : e.text.items ≡ right_head name p ++ facts_text p
 
--- the text has the fault that `check` reports: its place, the line there with a caret below the place, and sentences
+-- the text has the fault that `check` reports: its position, the line there with a caret below that, and sentences
 pub record SaysWrong (name text : List ℕ) (e : Explained) : Type 0 where
   pub fault : Fault
   pub wrong : IsCheckFault text fault
-  pub place : Place
-  pub at : IsAt text fault place
+  pub position : Position
+  pub at : IsAt text fault position
   pub status_is : e.status ≡ status_of fault
   pub told : List ℕ
   pub is_told : IsTold fault told
   pub text_is : e.text.items
-      ≡ wrong_head name place fault ++ (caret_text (line_at text place.line) place.column ++ told)
+      ≡ wrong_head name position fault ++ (caret_text (line_at text position.line) position.column ++ told)
 
 abbrev pub IsExplained : List ℕ → List ℕ → Explained → Type 0
 IsExplained name text e = SaysRight name text e ⊎ SaysWrong name text e

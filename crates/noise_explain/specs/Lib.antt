@@ -3,10 +3,15 @@ pub mod FactLines
 pub mod Facts
 pub mod FactWords
 pub mod FramePieces
+pub mod KeyLines
 pub mod MixedKeys
 pub mod Parties
-pub mod Places
+pub mod Positions
 pub mod RulePlaces
 pub mod Shown
 pub mod Slips
 pub mod StateParts
+pub mod Template
+pub mod Values
+pub mod VectorColumns
+pub mod VectorExplained

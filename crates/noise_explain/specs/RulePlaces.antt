@@ -7,8 +7,8 @@ use Rattle.noise_names.specs.Names.{section_bytes}
 use Rattle.noise_names.specs.Plan.{Plan}
 use Rattle.noise_names.specs.Text.{line, message_lines, pre_lines, words}
 use Rattle.noise_names.specs.WrongText.{line_feeds}
-use Rattle.noise_explain.specs.Places.{words_before}
-use Rattle.noise_explain.specs.declared.place.Place.{Place}
+use Rattle.noise_explain.specs.Positions.{words_before}
+use Rattle.noise_explain.specs.declared.position.Position.{Position}
 
 -- the lines before the message of this number, from 1
 abbrev pub lines_before : Plan → ℕ → List ℕ
@@ -34,7 +34,7 @@ fault_token p fault = if nat_le fault.message (length p.messages) then fault.tok
 
 -- The fault is at this place of the pattern's text: in the line of its message, where its token begins; an arrow and
 -- the spaces round it, five bytes, stand before the tokens.
-pub record IsRulePlace (p : Plan) (fault : RuleFault) (place : Place) : Type 0 where
+pub record IsRulePlace (p : Plan) (fault : RuleFault) (place : Position) : Type 0 where
   pub line_is : place.line ≡ line_feeds (lines_before p (fault_message p fault)) + 1
   pub column_is : place.column
       ≡ length (list_before (message_tokens p (fault_message p fault)) (fault_token p fault)) + 6

@@ -5,13 +5,13 @@ use Rattle.noise_lines.specs.Reported.{fault_line}
 use Rattle.noise_lines.specs.declared.faults.Fault.{Fault}
 use Rattle.noise_names.specs.Names.{section_bytes}
 use Rattle.noise_names.specs.Plan.{Plan}
-use Rattle.noise_explain.specs.declared.place.Place.{Place}
+use Rattle.noise_explain.specs.declared.position.Position.{Position}
 
--- the first line of what is said of a wrong file: its name, the place, and the line that the other commands print of
+-- the first line of what is said of a wrong file: its name, the position, and the line that the other commands print of
 -- the fault
-abbrev pub wrong_head : List ℕ → Place → Fault → List ℕ
-wrong_head name place fault =
-    shown_text name ++ codes ":" ++ decimal place.line ++ codes ":" ++ decimal place.column ++ codes ": "
+abbrev pub wrong_head : List ℕ → Position → Fault → List ℕ
+wrong_head name position fault =
+    shown_text name ++ codes ":" ++ decimal position.line ++ codes ":" ++ decimal position.column ++ codes ": "
     ++ fault_line fault
     ++ codes "\n"
 

@@ -4,7 +4,7 @@ ghost use Rattle.std.specs.Prelude.{◌≡◌, ◌≢◌, ◌++◌, ℕ, List, I
 ghost use Rattle.noise_names.specs.declared.token.Token.{Token};
 ghost use Rattle.noise_names.specs.Names.{base_front, is_base_byte};
 ghost use Rattle.noise_names.specs.Text.{word_of};
-ghost use Rattle.noise_explain.specs.Places.{IsColumn, IsWrongPiece, arrow_column, heading_column};
+ghost use Rattle.noise_explain.specs.Positions.{IsColumn, IsWrongPiece, arrow_column, heading_column};
 
 use noise_lines::token_word;
 use noise_names::{TextFaultKind, Token};

@@ -4,7 +4,7 @@ ghost use Rattle.std.specs.Prelude.{◌≡◌, ◌++◌, IfOk, OnOk, codes, deci
 ghost use Rattle.noise_names.specs.Names.{section_bytes};
 ghost use Rattle.noise_explain.specs.Shown.{caret_text, right_head, sentence_line, shown_end, shown_start, unread_head, wrong_head};
 
-use crate::place::Place;
+use crate::position::Position;
 use noise_lines::{Fault, fault_line, push_shown};
 use noise_names::Pattern;
 use std::alloc::{AllocError, Global};
@@ -13,17 +13,17 @@ use std::alloc::{AllocError, Global};
 pub fn wrong_head(
     alloc: Global,
     name: &str,
-    place: Place,
+    position: Position,
     fault: Fault,
 ) -> Result<Vec<u8>, AllocError>
-    ensures { IfOk result (λ text. text.items ≡ wrong_head name.now place fault) }
+    ensures { IfOk result (λ text. text.items ≡ wrong_head name.now position fault) }
 {
     let mut text = Vec::new(alloc);
     push_shown(name.as_bytes(), &mut text)?;
     text.push(b':')?;
-    push_number(alloc, place.line, &mut text)?;
+    push_number(alloc, position.line, &mut text)?;
     text.push(b':')?;
-    push_number(alloc, place.column, &mut text)?;
+    push_number(alloc, position.column, &mut text)?;
     text.extend_from_slice(b": ".as_slice())?;
     text.extend_from_slice(&fault_line(alloc, fault)?.into_bytes())?;
     text.push(b'\n')?;

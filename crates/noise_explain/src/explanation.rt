@@ -14,7 +14,7 @@ use crate::column::column_of;
 use crate::excerpt::{caret_lines, push_sentence, right_head, unread_head, wrong_head};
 use crate::facts::fact_lines;
 use crate::other_lines::other_lines;
-use crate::place::{Place, line_at};
+use crate::position::{Position, line_at};
 use crate::rule_place::rule_place;
 use crate::rule_sentences::rule_sentences;
 use crate::text_advice::fault_advice;
@@ -96,18 +96,18 @@ fn explain_text(
     text: &[u8],
     fault: TextFault,
 ) -> Result<Explained, AllocError>
-    requires { IsCheckFault text.now (Text fault) }
+    requires fault { IsCheckFault text.now (Text fault) }
     ensures said { IfOk result (SaysWrong name.now text.now) }
     ensures bound { IfOk result (λ e. e.status ≤ 2) }
 {
     let line = line_at(text, fault.line);
-    let place = Place {
+    let position = Position {
         line: fault.line,
         column: column_of(fault.kind, fault.line, line),
     };
-    let mut reported = wrong_head(alloc, name, place, Fault::Text(fault))?;
-    reported.extend_from_slice(&caret_lines(alloc, line, place.column)?)?;
-    reported.extend_from_slice(&told_lines(alloc, text, fault, place.column)?)?;
+    let mut reported = wrong_head(alloc, name, position, Fault::Text(fault))?;
+    reported.extend_from_slice(&caret_lines(alloc, line, position.column)?)?;
+    reported.extend_from_slice(&told_lines(alloc, text, fault, position.column)?)?;
     Ok(Explained {
         text: reported,
         status: 2,
@@ -127,9 +127,13 @@ fn explain_rule(
     ensures said { IfOk result (SaysWrong name.now text.now) }
     ensures bound { IfOk result (λ e. e.status ≤ 2) }
 {
-    let place = rule_place(pattern, fault);
-    let mut reported = wrong_head(alloc, name, place, Fault::Rule(fault))?;
-    reported.extend_from_slice(&caret_lines(alloc, line_at(text, place.line), place.column)?)?;
+    let position = rule_place(pattern, fault);
+    let mut reported = wrong_head(alloc, name, position, Fault::Rule(fault))?;
+    reported.extend_from_slice(&caret_lines(
+        alloc,
+        line_at(text, position.line),
+        position.column,
+    )?)?;
     reported.extend_from_slice(&all_rule_lines(alloc, pattern, fault)?)?;
     Ok(Explained {
         text: reported,

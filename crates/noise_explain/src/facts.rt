@@ -40,7 +40,7 @@ fn push_message(
 ) -> Result<(), AllocError>
     requires first { 1 ≤ message }
     requires last { message ≤ length pattern.now.messages }
-    ensures { OnOk result (text.new.items ≡ text.old.items ++ message_text pattern.now message) }
+    ensures appended { OnOk result (text.new.items ≡ text.old.items ++ message_text pattern.now message) }
 {
     push_message_line(alloc, pattern, message, text)?;
     push_tokens(alloc, pattern, message, text)?;
@@ -59,7 +59,7 @@ fn push_tokens(
 ) -> Result<(), AllocError>
     requires first { 1 ≤ message }
     requires last { message ≤ length pattern.now.messages }
-    ensures { OnOk result (text.new.items
+    ensures appended { OnOk result (text.new.items
         ≡ text.old.items ++ tokens_text pattern.now message (length (tokens_of pattern.now message))) }
 {
     let tokens = tokens_of(pattern, message);
@@ -83,7 +83,7 @@ fn push_token(
     requires last { message ≤ length pattern.now.messages }
     requires token { token < length (tokens_of pattern.now message) }
     requires few { token < 10 }
-    ensures { OnOk result (text.new.items ≡ text.old.items ++ token_text pattern.now message token key) }
+    ensures appended { OnOk result (text.new.items ≡ text.old.items ++ token_text pattern.now message token key) }
 {
     match key {
         Token::E => push_key_line(alloc, pattern, message, token, key, text),
@@ -104,7 +104,7 @@ fn push_static(
     requires last { message ≤ length pattern.now.messages }
     requires token { token < length (tokens_of pattern.now message) }
     requires few { token < 10 }
-    ensures { OnOk result (text.new.items ≡ text.old.items ++ token_text pattern.now message token S) }
+    ensures appended { OnOk result (text.new.items ≡ text.old.items ++ token_text pattern.now message token S) }
 {
     push_key_line(alloc, pattern, message, token, Token::S, text)?;
     push_keyed(alloc, pattern, message, token, "    key of s: ", text)
@@ -123,7 +123,7 @@ fn push_keyed(
     requires first { 1 ≤ message }
     requires last { message ≤ length pattern.now.messages }
     requires token { token ≤ length (tokens_of pattern.now message) }
-    ensures { OnOk result (text.new.items ≡ text.old.items
+    ensures appended { OnOk result (text.new.items ≡ text.old.items
         ++ if_keyed (has_key pattern.now (places_to pattern.now message token)) front.now
         (computed_text pattern.now message token)) }
 {
@@ -147,7 +147,7 @@ fn push_payload(
     requires first { 1 ≤ message }
     requires last { message ≤ length pattern.now.messages }
     requires token { count ≤ length (tokens_of pattern.now message) }
-    ensures { OnOk result (text.new.items ≡ text.old.items ++ payload_text pattern.now message count) }
+    ensures appended { OnOk result (text.new.items ≡ text.old.items ++ payload_text pattern.now message count) }
 {
     push_payload_line(alloc, pattern, message, count, text)?;
     push_keyed(alloc, pattern, message, count, "    key of payload: ", text)
@@ -162,7 +162,7 @@ fn push_computed(
     text: &mut Vec<u8>,
 ) -> Result<(), AllocError>
     requires first { 1 ≤ message }
-    ensures { OnOk result (text.new.items ≡ text.old.items ++ computed_text pattern.now message token) }
+    ensures appended { OnOk result (text.new.items ≡ text.old.items ++ computed_text pattern.now message token) }
 {
     let passed = usize::from(message) - 1;
     let mixed = mixed_by(pattern.pattern(), passed, usize::from(token));
@@ -197,7 +197,7 @@ fn push_origin(
 ) -> Result<(), AllocError>
     requires first { 1 ≤ message }
     requires last { message ≤ length pattern.now.messages }
-    ensures { OnOk result (text.new.items ≡ text.old.items ++ origin_text pattern.now message) }
+    ensures appended { OnOk result (text.new.items ≡ text.old.items ++ origin_text pattern.now message) }
 {
     push("    it can be written by ", text)?;
     push_written(alloc, pattern, message, pattern.has_key(message), text)

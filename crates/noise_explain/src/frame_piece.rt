@@ -89,8 +89,8 @@ fn message_line(
 
 // What stands before the frame in the line of a message.
 fn frame_front(alloc: Global, message: u8) -> Result<String, AllocError>
-    requires { 1 ≤ message }
-    ensures { IfOk result (λ front. string_bytes front ≡ frame_front message) }
+    requires first { 1 ≤ message }
+    ensures text { IfOk result (λ front. string_bytes front ≡ frame_front message) }
 {
     let role = role_word(sender_of(usize::from(message)));
     let number = (message - 1) / 2;
@@ -148,7 +148,7 @@ fn same_bytes(yours: &[u8], right: &[u8]) -> usize
 fn piece_at(pattern: &ValidPattern, message: u8, at: usize, len: usize) -> Piece
     requires first { 1 ≤ message }
     requires last { message ≤ length pattern.now.messages }
-    ensures { IsPieceAt pattern.now message len at result }
+    ensures value { IsPieceAt pattern.now message len at result }
 {
     if at < 2 {
         return Piece::Length;

@@ -3,7 +3,7 @@
 use crate::advice::Advice;
 use crate::column::{after_arrow, column_of, piece_column};
 use crate::excerpt::{push_number, push_sentence};
-use crate::place::{after_line, line_at};
+use crate::position::{after_line, line_at};
 use crate::text_advice::fault_advice;
 use noise_names::{TextFault, TextFaultKind};
 use std::alloc::{AllocError, Global};

@@ -29,7 +29,7 @@ pub(crate) fn push_message_line(
 ) -> Result<(), AllocError>
     requires first { 1 ≤ message }
     requires last { message ≤ length pattern.now.messages }
-    ensures { OnOk result (text.new.items ≡ text.old.items ++ message_line pattern.now message) }
+    ensures appended { OnOk result (text.new.items ≡ text.old.items ++ message_line pattern.now message) }
 {
     push("  message ", text)?;
     push_number(alloc, usize::from(message), text)?;
@@ -53,7 +53,7 @@ pub(crate) fn push_key_line(
     requires last { message ≤ length pattern.now.messages }
     requires token { token < length (tokens_of pattern.now message) }
     requires few { token < 10 }
-    ensures { OnOk result (text.new.items ≡ text.old.items ++ key_line pattern.now message token key) }
+    ensures appended { OnOk result (text.new.items ≡ text.old.items ++ key_line pattern.now message token key) }
 {
     let from = usize::from(pattern.bytes_before(message, token));
     let next = usize::from(pattern.bytes_before(message, token + 1));
@@ -87,7 +87,7 @@ pub(crate) fn push_payload_line(
     requires first { 1 ≤ message }
     requires last { message ≤ length pattern.now.messages }
     requires token { count ≤ length (tokens_of pattern.now message) }
-    ensures { OnOk result (text.new.items ≡ text.old.items ++ payload_line pattern.now message count) }
+    ensures appended { OnOk result (text.new.items ≡ text.old.items ++ payload_line pattern.now message count) }
 {
     push("    payload: from byte ", text)?;
     push_number(

@@ -5,18 +5,18 @@ ghost use Rattle.noise_names.specs.Text.{pre_lines};
 ghost use Rattle.noise_names.specs.WrongText.{line_feeds};
 ghost use Rattle.noise_explain.specs.RulePlaces.{IsRulePlace, list_before};
 
-use crate::place::Place;
+use crate::position::Position;
 use noise_lines::token_word;
 use noise_names::{Message, Pattern, Role, RuleFault, Token};
 
 // Where this fault stands.
-pub(crate) fn rule_place(pattern: &Pattern, fault: RuleFault) -> Place
+pub(crate) fn rule_place(pattern: &Pattern, fault: RuleFault) -> Position
     ensures { IsRulePlace pattern.now fault result }
 {
     let messages = pattern.messages();
     let (message, token) = spot(messages.len(), fault);
     let tokens = tokens_at(messages, message.saturating_sub(1));
-    Place {
+    Position {
         line: message.saturating_sub(1) + pre_line_count(pattern) + 2,
         column: list_len(tokens, token) + 6,
     }
@@ -62,7 +62,7 @@ fn pre_line_count(pattern: &Pattern) -> usize
 
 // How many bytes of the list of these tokens stand before this one, or of the whole list where there are no more.
 fn list_len(tokens: &[Token], token: usize) -> usize
-    requires { length tokens.now ≤ 10 }
+    requires short { length tokens.now ≤ 10 }
     ensures value { result ≡ length (list_before tokens.now token) }
     ensures few { result ≤ 50 }
 {

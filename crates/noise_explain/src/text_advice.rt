@@ -5,7 +5,7 @@ ghost use Rattle.noise_explain.specs.Slips.{end_slip, slip_in};
 
 use crate::advice::Advice;
 use crate::column::after_arrow;
-use crate::place::line_at;
+use crate::position::line_at;
 use noise_names::{TextFault, TextFaultKind};
 
 /// What is wrong with the line of the fault, which has this column.

@@ -6,7 +6,7 @@ use Rattle.noise_tool.proofs.PerformingLemmas.{reported-fault}
 use Rattle.noise_tool.specs.PatternNames.{NamesText}
 use Rattle.noise_tool.specs.Performing.{IsKnownAs, IsLongFile, IsStopped, IsUnreadFile, OfAsked, file_of, takes_pattern}
 use Rattle.noise_tool.specs.Prefixes.{PrintsFault, PrintsPrefix}
-use Rattle.noise_template.specs.Template.{names_protocol}
+use Rattle.noise_explain.specs.Template.{names_protocol}
 use Rattle.noise_words.specs.declared.orders.Chosen.{Chosen}
 use Rattle.noise_words.specs.declared.orders.Chosen.TheVariants as order
 use Rattle.noise_lines.specs.declared.faults.Fault.TheVariants as fault

@@ -7,7 +7,7 @@ use Rattle.noise_tool.proofs.Common.{IfSome, status_of, AppendsPrefix, LeavesOut
 use Rattle.noise_lines.specs.declared.faults.Fault.TheVariants.{TooLong, Unreadable}
 use Rattle.noise_lines.specs.declared.faults.Fault.TheVariants as fault
 use Rattle.noise_lines.specs.Reported.{ReportsRule, error_text}
-use Rattle.noise_template.specs.KeyLines.{IsGivenBy, IsWrongFile}
+use Rattle.noise_explain.specs.KeyLines.{IsGivenBy, IsWrongFile}
 use Rattle.noise_words.specs.declared.orders.Filled.{Filled}
 use Rattle.noise_tool.specs.Filling.{FillsPrefix, IfMade, IfRefused, IsFillRefused, IsFilledBy, IsFilledText, IsRefusal, IsUnreadKeys, IsWordFault, IsWordPattern, IsWrongKeys}
 use Rattle.noise_tool.specs.declared.filling.Filling.{Filling}

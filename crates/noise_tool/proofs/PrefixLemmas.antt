@@ -7,7 +7,7 @@ use Rattle.noise_tool.specs.Templating.{HasTemplate, HasTemplated}
 use Rattle.std.specs.Prelude.{Bool, false, string_bytes}
 use Rattle.noise_lines.specs.Output.{NamesPattern}
 use Rattle.noise_names.specs.Text.{Spells}
-use Rattle.noise_template.specs.Template.{IsTemplateText, names_protocol}
+use Rattle.noise_explain.specs.Template.{IsTemplateText, names_protocol}
 use Rattle.noise_words.specs.declared.orders.Chosen.{Chosen}
 use Rattle.noise_lines.specs.declared.faults.Fault.TheVariants as fault
 use Rattle.noise_words.specs.declared.orders.Chosen.TheVariants as order

@@ -10,11 +10,11 @@ use Rattle.noise_names.specs.declared.token.Token.{Token}
 use Rattle.noise_names.specs.declared.token.Token.TheVariants.{E, S, Ee, Es, Se, Ss, Psk}
 use Rattle.noise_keys.specs.declared.keys.Own.TheVariants.{Ephemeral, Static}
 use Rattle.noise_vectors.specs.declared.file_keys.FileKeys.TheVariants.{Table}
-use Rattle.noise_template.specs.Template.{IsTemplate, psk_at}
-use Rattle.noise_template.specs.Values.{value_in}
-use Rattle.noise_template.specs.declared.values.Given.{Given}
-use Rattle.noise_template.specs.declared.values.Place.TheVariants.{Key}
-use Rattle.noise_template.specs.Template as template
+use Rattle.noise_explain.specs.Template.{IsTemplate, psk_at}
+use Rattle.noise_explain.specs.Values.{value_in}
+use Rattle.noise_explain.specs.declared.values.Given.{Given}
+use Rattle.noise_explain.specs.declared.values.Place.TheVariants.{Key}
+use Rattle.noise_explain.specs.Template as template
 
 -- ---- the pattern
 

@@ -2,7 +2,7 @@
 use Rattle.std.proofs.Common.{◌≡◌, ◌∙◌, subst, true, inl, ℕ, List, Option, Some, None}
 use Rattle.std.specs.Prelude.{IfOk, Result, Ok, Err}
 use Rattle.noise_tool.proofs.Common.{IfSome, Fault, IsVectorFile, file_text, VectorFile, IsExplainedFile, IsExplainedRun, IsExplainedText, IsExplainedVector}
-use Rattle.noise_explain_vectors.specs.VectorExplained.{is_vector_text}
+use Rattle.noise_explain.specs.VectorExplained.{is_vector_text}
 use Rattle.noise_explain.specs.declared.explanation.Explained.{Explained}
 
 -- a right file is reported

@@ -5,7 +5,7 @@ use Rattle.std.specs.Io.KnownBytes.{Appends}
 use Rattle.noise_explain.specs.Explained.{IsExplained, SaysLong}
 use Rattle.noise_explain.specs.Shown.{unread_head}
 use Rattle.noise_explain.specs.declared.explanation.Explained.{Explained}
-use Rattle.noise_explain_vectors.specs.VectorExplained.{ReportsFault, ExplainsLine, ReportsVector, is_vector_text}
+use Rattle.noise_explain.specs.VectorExplained.{ReportsFault, ExplainsLine, ReportsVector, is_vector_text}
 use Rattle.noise_lines.specs.Prefixes.{AppendsPrefix}
 use Rattle.noise_lines.specs.Reported.{error_text}
 use Rattle.noise_lines.specs.declared.faults.Fault.{Fault}
@@ -42,7 +42,7 @@ pub record SaysFile (name text : List ℕ) (e : Explained) : Type 0 where
   pub text_is : text ≡ file_text file
   pub said : IsExplainedRun name file e
 
--- the text is that of no vector file, and the line that `replay` reports is reported with its place
+-- the text is that of no vector file, and the line that `replay` reports is reported with its position
 pub record SaysWrongLine (name text : List ℕ) (e : Explained) : Type 0 where
   pub number : ℕ
   pub kind : LineKind

@@ -12,10 +12,10 @@ use Rattle.noise_lines.specs.Reported.{ReportsRule, error_text, fault_line}
 use Rattle.noise_lines.specs.Verdicts.{named_fault}
 use Rattle.noise_lines.specs.declared.faults.Fault.{Fault}
 use Rattle.noise_lines.specs.declared.faults.Fault.TheVariants.{TooLong, Unreadable}
-use Rattle.noise_template.specs.KeyLines.{IsGivenBy, IsWrongFile, wrong_line_text}
-use Rattle.noise_template.specs.Template.{IsTemplateText, names_protocol}
-use Rattle.noise_template.specs.declared.values.Given.{Given}
-use Rattle.noise_template.specs.declared.key_lines.LineFault.{LineFault}
+use Rattle.noise_explain.specs.KeyLines.{IsGivenBy, IsWrongFile, wrong_line_text}
+use Rattle.noise_explain.specs.Template.{IsTemplateText, names_protocol}
+use Rattle.noise_explain.specs.declared.values.Given.{Given}
+use Rattle.noise_explain.specs.declared.key_lines.LineFault.{LineFault}
 use Rattle.noise_words.specs.declared.orders.Filled.{Filled}
 use Rattle.noise_tool.specs.PatternNames.{NamesText}
 use Rattle.noise_tool.specs.Testing.{is_input}

@@ -23,7 +23,7 @@ use Rattle.noise_vectors.specs.Expectations.{IsFirstUnmet}
 use Rattle.noise_vectors.specs.VectorFile.{IsAllowedFile, IsReadFault, IsVectorFile}
 use Rattle.noise_vectors.specs.WrongLine.{IsReported}
 use Rattle.noise_vectors.specs.VectorText.{file_text}
-use Rattle.noise_template.specs.Template.{names_protocol}
+use Rattle.noise_explain.specs.Template.{names_protocol}
 use Rattle.noise_lines.specs.declared.faults.Fault.{Fault}
 use Rattle.noise_lines.specs.declared.faults.Fault.TheVariants.{TooLong, Unmet}
 use Rattle.noise_tool.specs.declared.run.Outcome.{Outcome}

@@ -2,8 +2,8 @@
 use Rattle.std.specs.Prelude.{◌≡◌, ℕ, List, None}
 use Rattle.noise_names.specs.declared.token.Role.{Role}
 use Rattle.noise_names.specs.Plan.{Plan}
-use Rattle.noise_template.specs.Template.{IsTemplateText}
-use Rattle.noise_template.specs.declared.values.Given.{Given}
+use Rattle.noise_explain.specs.Template.{IsTemplateText}
+use Rattle.noise_explain.specs.declared.values.Given.{Given}
 use Rattle.noise_tool.specs.Ends.{IsFilePattern, setup_of}
 
 -- the file of a template is of its pattern, and nothing is wrong with either setup

@@ -7,7 +7,7 @@ use Rattle.noise_names.specs.Validity.{IsValid}
 use Rattle.noise_lines.specs.Output.{IsCheckFault, IsShowFault, NamesPattern}
 use Rattle.noise_lines.specs.declared.faults.Fault.{Fault}
 use Rattle.noise_lines.specs.declared.faults.Fault.TheVariants.{TooLong}
-use Rattle.noise_template.specs.Template.{IsTemplateText, names_protocol}
+use Rattle.noise_explain.specs.Template.{IsTemplateText, names_protocol}
 
 -- the pattern is valid, and the output grew by a right vector file that says what a handshake of it needs
 pub record HasTemplate (p : Plan) (before after : Option (List ℕ)) : Type 0 where

@@ -9,12 +9,12 @@ ghost use Rattle.noise_tool.specs.Explaining.{ExplainsFiles, ExplainsPrefix, IsE
 ghost use Rattle.noise_tool.specs.PatternNames.{NamesText};
 ghost use Rattle.noise_tool.specs.Testing.{EndsTest};
 
+use crate::counted_run::counted_run;
 use crate::pattern_names::pattern_text;
-use crate::run::replay;
 use crate::testing::FilesByName;
-use noise_explain::{Explained, explain, explain_long, unread_head};
-use noise_explain_vectors::{
-    explain_line, explain_start, explain_vector, is_vector_text, pattern_in,
+use noise_explain::{
+    Explained, explain, explain_line, explain_long, explain_start, explain_vector, is_vector_text,
+    pattern_in, unread_head,
 };
 use noise_lines::{Fault, flush, report_fault, write};
 use noise_vectors::{AllowedEvents, VectorFault, VectorFile, read_vector};
@@ -165,8 +165,12 @@ fn explain_file(alloc: Global, name: &str, file: VectorFile) -> Result<Explained
 {
     let protocol = file.protocol.clone()?;
     let pattern = pattern_in(&file.protocol, &file.block)?;
-    match replay(alloc, file) {
-        Ok(outcome) => Ok(explain_vector(alloc, name, &protocol, pattern, &outcome.lines)?),
+    let messages = match &pattern {
+        Some(pattern) => pattern.messages().len(),
+        None => 0,
+    };
+    match counted_run(alloc, file, messages) {
+        Ok(counts) => Ok(explain_vector(alloc, name, &protocol, pattern, &counts)?),
         Err(fault) if fault.status() < 3 => Ok(explain_start(
             alloc,
             name,

@@ -10,12 +10,12 @@ ghost use Rattle.noise_tool.specs.Filling.{FillsFiles, FillsPrefix, IfMade, IfRe
 
 use crate::pattern_names::pattern_text;
 use crate::testing::{FilesByName, is_input};
+use noise_explain::{KeyFileFault, names_protocol, read_given, template, wrong_line_text};
 use noise_lines::{
     Fault, Verdict, flush, named_fault, named_valid_pattern, report_fault, spelled_valid_pattern,
     verdict_lines, write,
 };
 use noise_names::ValidPattern;
-use noise_template::{KeyFileFault, names_protocol, read_given, template, wrong_line_text};
 use noise_words::Filled;
 use std::alloc::Global;
 use std::io::Write;

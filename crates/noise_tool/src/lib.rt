@@ -2,6 +2,7 @@
 #![tactic(auto)]
 
 mod comparison;
+mod counted_run;
 mod datagram_report;
 mod ends;
 mod explanation;

@@ -31,10 +31,10 @@ use crate::pattern_names::{pattern_text, show_word};
 use crate::run::{Outcome, replay};
 use crate::testing::{FilesByName, test};
 use crate::trace_file::trace_chosen;
+use noise_explain::{named_template, names_protocol, spelled_template};
 use noise_lines::{
     Fault, check, compare, convert, flush, list, read_file, report_fault, write, write_lines,
 };
-use noise_template::{named_template, names_protocol, spelled_template};
 use noise_vectors::{AllowedEvents, VectorFile, read_vector};
 use noise_words::{Chosen, Order};
 use std::alloc::Global;

@@ -156,7 +156,8 @@ pub fn begun_line(alloc: Global, word: &str, role: Role) -> Result<Line, AllocEr
     Line::new(alloc, word)?.word(role_word(role))
 }
 
-fn cause_word(cause: Cause) -> &'static str
+/// The word for a cause.
+pub(crate) fn cause_word(cause: Cause) -> &'static str
     ensures text { result.now ≡ print.cause_word cause }
     ensures printed { IsTrue (is_printed result.now) }
 {

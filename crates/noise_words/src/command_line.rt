@@ -31,7 +31,7 @@ fn stated<'a>(
     whole: &mut Command<'a>,
     words: &'a [String],
 ) -> Result<Order, LineFault>
-    requires { app_of whole.old ≡ noise }
+    requires right { app_of whole.old ≡ noise }
     ensures ok { IfOk result (λ c. asked (map string_bytes words.entry.now) ≡ Some (order_of c)) }
     ensures line { IfErr result
         (λ fault. (fault ≡ LineFault.Memory) ⊎ (asked (map string_bytes words.entry.now) ≡ None)) }

@@ -20,9 +20,9 @@ returns-in-Err c =
       line_is = c.index-log-index.is;
       left = left_for left line;
       left_are = walked-left right before left line c.loop-index.invariant.2;
-      expected_is = c.in-Err.ensures.1;
-      differs = subst (λ (expected : Option Line). IfSome expected (λ right. has_values line right ≡ false)) (sym c.in-Err.ensures.1)
-          (stopped-differs left line c.in-Err.ensures.0);
+      expected_is = c.in-Err.ensures.value.1;
+      differs = subst (λ (expected : Option Line). IfSome expected (λ right. has_values line right ≡ false)) (sym c.in-Err.ensures.value.1)
+          (stopped-differs left line c.in-Err.ensures.value.0);
     }
 
 pub returns : goal.returns

@@ -5,4 +5,4 @@ use Rattle.noise_compare.proofs.plain.from_trace.Goals as goal
 pub loop-i-preserved : goal.loop-i-preserved
 loop-i-preserved c = c.loop-i.invariant
     ∙ passed_place c.args.text.now c.loop-i.i (c.loop-i.i + 1) c.loop-i-test.true (add-one c.loop-i.i)
-    (sym c.begins_at.ensures ∙ c.if-begins_at.false)
+    (sym c.begins_at.ensures.value ∙ c.if-begins_at.false)

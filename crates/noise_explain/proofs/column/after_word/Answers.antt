@@ -1,5 +1,5 @@
 use Rattle.noise_names.specs.declared.token.Token.TheVariants.{Psk}
-use Rattle.noise_explain.proofs.PlaceLemmas.{some-word}
+use Rattle.noise_explain.proofs.PositionLemmas.{some-word}
 use Rattle.noise_explain.proofs.column.after_word.Goals as goal
 
 pub returns-clause-some : goal.returns-clause-some

@@ -1,4 +1,4 @@
-use Rattle.noise_explain.proofs.PlaceLemmas.{piece-more}
+use Rattle.noise_explain.proofs.PositionLemmas.{piece-more}
 use Rattle.noise_explain.proofs.column.piece_column.Goals as goal
 
 pub loop-after-preserved : goal.loop-after-preserved

@@ -1,5 +1,5 @@
 use Rattle.std.proofs.Common.{length}
-use Rattle.noise_explain.proofs.PlaceLemmas.{IsLeftOf}
+use Rattle.noise_explain.proofs.PositionLemmas.{IsLeftOf}
 use Rattle.noise_explain.proofs.column.piece_column.Given as goal
 
 abbrev pub invariant-loop-after : goal.invariant-loop-after

@@ -6,8 +6,9 @@ use Rattle.noise_explain.proofs.FactLemmas.{three-texts}
 use Rattle.noise_explain.proofs.piece_lines.push_payload_line.Goals as goal
 
 pub returns : goal.returns
-returns c =
-    let from : c.from.result ≡ bytes_before c.args.pattern.now c.args.message c.args.count =
-    omega (arith, c.from.ensures, c.bytes_before.ensures.value) in
-    three-texts c.push-2.result _ _ _ _ _ _ _ _ _ c.in_ok-push.ensures c.in_ok-push_number.ensures (ap decimal from)
-    (c.payload_how.ensures ∙ ap payload_how c.has_key_before.ensures.value) c.push-2.ensures
+returns c = record {
+  appended = let from : c.from.result ≡ bytes_before c.args.pattern.now c.args.message c.args.count =
+      omega (arith, c.from.ensures, c.bytes_before.ensures.value) in
+      three-texts c.push-2.result _ _ _ _ _ _ _ _ _ c.in_ok-push.ensures c.in_ok-push_number.ensures (ap decimal from)
+      (c.payload_how.ensures ∙ ap payload_how c.has_key_before.ensures.value) c.push-2.ensures;
+}

@@ -1,5 +1,5 @@
 use Rattle.std.proofs.Common.{◌≡◌, ◌≤◌, ◌*◌, length, take}
-use Rattle.noise_explain.specs.Places.{words_before}
+use Rattle.noise_explain.specs.Positions.{words_before}
 use Rattle.noise_explain.proofs.rule_place.list_len.Given as goal
 
 abbrev pub invariant-loop-index : goal.invariant-loop-index

@@ -10,7 +10,7 @@ use Rattle.noise_words.proofs.command_line.stated.Goals as goal
 pub returns-in-Some-clause-ok : goal.returns-in-Some-clause-ok
 returns-in-Some-clause-ok c =
     let texts = map string_bytes c.args.words.now in
-    let noise_is = c.requires in
+    let noise_is = c.requires.right in
     let exact = c.in-Ok.ensures.ok.2 (ap is_simple noise_is) in
     let free = sym (ap (λ (app : App). fault_of app texts) noise_is) ∙ c.in-Ok.ensures.kinds (ap is_simple_and_free noise_is) in
     let order_is : stated_in (subcommand_rows_of c.in-Ok.matches) ≡ Some (order_of c.in-Some.order) = search rules in
@@ -19,7 +19,7 @@ returns-in-Some-clause-ok c =
 pub returns-in-Ok-clause-line : goal.returns-in-Ok-clause-line
 returns-in-Ok-clause-line c =
     let texts = map string_bytes c.args.words.now in
-    let noise_is = c.requires in
+    let noise_is = c.requires.right in
     let exact = c.in-Ok.ensures.ok.2 (ap is_simple noise_is) in
     let free = sym (ap (λ (app : App). fault_of app texts) noise_is) ∙ c.in-Ok.ensures.kinds (ap is_simple_and_free noise_is) in
     let order_is : stated_in (subcommand_rows_of c.in-Ok.matches) ≡ None = search rules in
@@ -28,7 +28,7 @@ returns-in-Ok-clause-line c =
 pub returns-clause-line : goal.returns-clause-line
 returns-clause-line c =
     let texts = map string_bytes c.args.words.now in
-    let noise_is = c.requires in
+    let noise_is = c.requires.right in
     elim (c.in-Err.ensures.kinds (ap is_simple_and_free noise_is)) [
       | inl memory ↦ inl (c.line_fault.ensures.0 memory)
       | inr kind ↦

@@ -1,0 +1,59 @@
+//! What stands above a line of a vector file.
+
+use crate::position::line_at;
+use noise_names::{ProtocolName, fundamental};
+
+// The party whose line has to stand next.
+#[derive(Clone, Copy)]
+pub(crate) enum NeededRole {
+    Initiator,
+    Responder,
+}
+
+// The party whose keys have to stand in the line of this number.
+pub(crate) fn needed_role(text: &[u8], number: usize) -> NeededRole {
+    if has_above(text, number, b"initiator ".as_slice()) {
+        NeededRole::Responder
+    } else {
+        NeededRole::Initiator
+    }
+}
+
+pub(crate) fn is_after_datagrams(text: &[u8], number: usize) -> bool {
+    has_above(text, number, b"datagrams ".as_slice())
+}
+
+// Whether a line above the one of this number begins so.
+fn has_above(text: &[u8], number: usize, front: &[u8]) -> bool {
+    let mut above: usize = 1;
+    for line in text.split(|b| *b == b'\n') {
+        if above >= number {
+            return false;
+        }
+        if line.starts_with(front) {
+            return true;
+        }
+        above = above.saturating_add(1);
+    }
+    false
+}
+
+pub(crate) fn is_first_version(text: &[u8]) -> bool {
+    line_at(text, 1) == b"vector 1".as_slice()
+}
+
+// Whether the protocol's pattern isn't fundamental, so that the file has to spell it.
+pub(crate) fn is_own(text: &[u8]) -> bool {
+    let Some(name) = line_at(text, 2).strip_prefix(b"protocol ".as_slice()) else {
+        return false;
+    };
+    match ProtocolName::parse(name) {
+        Ok(name) => fundamental(name.base()).is_none(),
+        Err(_) => false,
+    }
+}
+
+pub(crate) fn has_end(text: &[u8]) -> bool {
+    text.split(|b| *b == b'\n')
+        .any(|line| line == b"end".as_slice())
+}

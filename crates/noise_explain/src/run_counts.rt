@@ -1,0 +1,144 @@
+//! What the parties of a vector file did in its run.
+
+use noise_names::Role;
+use std::alloc::{AllocError, Global};
+
+/// What a party does.
+#[derive(Clone, Copy, Debug, PartialEq, Eq)]
+pub enum Act {
+    /// It wrote a message.
+    Wrote,
+    /// It accepted a message.
+    Accepted,
+    /// It refused a transport message.
+    Dropped,
+    /// It sealed a datagram.
+    Sealed,
+    /// It opened a datagram.
+    Opened,
+    /// It refused a datagram.
+    Rejected,
+}
+
+// How often one party did what.
+#[derive(Clone, Copy)]
+pub(crate) struct PartyCounts {
+    // How many messages of the handshake have passed, as this party sees it.
+    pub passed: usize,
+    pub wrote: usize,
+    pub accepted: usize,
+    pub sent: usize,
+    pub received: usize,
+    pub dropped: usize,
+    pub sealed: usize,
+    pub opened: usize,
+    pub rejected: usize,
+    pub is_open: bool,
+}
+
+// A message of the handshake that a party refused, from 1 on, at which token, and why.
+#[derive(Clone, Copy)]
+pub(crate) struct Refusal {
+    pub role: Role,
+    pub message: usize,
+    pub token: u8,
+    pub cause: &'static str,
+}
+
+/// How often each party did what in a run, and what it refused of the handshake.
+#[derive(Drop)]
+pub struct RunCounts {
+    messages: usize,
+    pub(crate) initiator: PartyCounts,
+    pub(crate) responder: PartyCounts,
+    pub(crate) has_datagrams: bool,
+    pub(crate) refusals: Vec<Refusal>,
+}
+
+impl RunCounts {
+    /// Before a run whose handshake has so many messages.
+    pub fn new(alloc: Global, messages: usize) -> RunCounts {
+        RunCounts {
+            messages,
+            initiator: NONE,
+            responder: NONE,
+            has_datagrams: false,
+            refusals: Vec::new(alloc),
+        }
+    }
+
+    /// Counts what the party of this role did.
+    pub fn count(&mut self, role: Role, act: Act) {
+        match role {
+            Role::Initiator => self.initiator = self.initiator.after(act, self.messages),
+            Role::Responder => self.responder = self.responder.after(act, self.messages),
+        }
+    }
+
+    /// Notes that the party of this role refused a message of the handshake at this token.
+    pub fn refuse(&mut self, role: Role, token: u8, cause: &'static str) -> Result<(), AllocError> {
+        let passed = match role {
+            Role::Initiator => self.initiator.passed,
+            Role::Responder => self.responder.passed,
+        };
+        let message = more(passed);
+        self.refusals.push(Refusal {
+            role,
+            message,
+            token,
+            cause,
+        })?;
+        Ok(())
+    }
+
+    /// Notes that both parties went over to datagrams.
+    pub fn go_over(&mut self) {
+        self.has_datagrams = true;
+        self.end(true, true);
+    }
+
+    /// Notes for which party the session is open after the run.
+    pub fn end(&mut self, initiator: bool, responder: bool) {
+        self.initiator.is_open = initiator;
+        self.responder.is_open = responder;
+    }
+}
+
+const NONE: PartyCounts = PartyCounts {
+    passed: 0,
+    wrote: 0,
+    accepted: 0,
+    sent: 0,
+    received: 0,
+    dropped: 0,
+    sealed: 0,
+    opened: 0,
+    rejected: 0,
+    is_open: false,
+};
+
+impl PartyCounts {
+    // After one act more, of a handshake of so many messages.
+    fn after(self, act: Act, messages: usize) -> PartyCounts {
+        let mut counts = self;
+        let is_handshake = self.passed < messages;
+        match act {
+            Act::Wrote if is_handshake => counts.wrote = more(self.wrote),
+            Act::Wrote => counts.sent = more(self.sent),
+            Act::Accepted if is_handshake => counts.accepted = more(self.accepted),
+            Act::Accepted => counts.received = more(self.received),
+            Act::Dropped => counts.dropped = more(self.dropped),
+            Act::Sealed => counts.sealed = more(self.sealed),
+            Act::Opened => counts.opened = more(self.opened),
+            Act::Rejected => counts.rejected = more(self.rejected),
+        }
+        if is_handshake && (act == Act::Wrote || act == Act::Accepted) {
+            counts.passed = more(self.passed);
+        }
+        counts
+    }
+}
+
+fn more(count: usize) -> usize {
+    count.saturating_add(1)
+}

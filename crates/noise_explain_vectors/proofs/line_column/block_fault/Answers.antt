@@ -1,4 +1,0 @@
-use Rattle.noise_explain_vectors.proofs.line_column.block_fault.Goals as goal
-
-pub returns-in-Err : goal.returns-in-Err
-returns-in-Err c = (c.in_ok-block.block.now, c.in_ok-block.ensures, c.in-Err.ensures.reported)

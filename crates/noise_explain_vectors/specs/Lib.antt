@@ -1,2 +1,0 @@
-pub mod VectorColumns
-pub mod VectorExplained

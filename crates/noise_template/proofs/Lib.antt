@@ -1,4 +1,0 @@
-pub mod FileLemmas
-pub mod KeyLineLemmas
-pub mod PushLemmas
-pub mod ValueLemmas

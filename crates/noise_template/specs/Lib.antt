@@ -1,3 +1,0 @@
-pub mod KeyLines
-pub mod Template
-pub mod Values
