@@ -1,3 +1,4 @@
+use Rattle.std.proofs.Common.{Some}
 use Rattle.noise_tool.proofs.Common.{SayOnly, Any, IsPlain, selection_of, IsTraceOf}
 use Rattle.noise_words.specs.declared.orders.Chosen.TheVariants.{Talk, Replay, Trace}
 use Rattle.noise_tool.proofs.PrefixLemmas.{ran-prefix, template-prefix, unmet-known}
@@ -30,5 +31,5 @@ returns-in-Show-clause-fault g c = rw c.in-Show.is (rw c.as_str.ensures.value at
 
 pub returns-in-Show-clause-prefix : goal.returns-in-Show-clause-prefix
 returns-in-Show-clause-prefix g c =
-    rw c.in-Show.is (shown-prefix c.in-Show.word c.as_str.result.now (g.R.Read.remaining c.args.file.now) _ _ _ _ c.as_str.ensures.value
+    rw c.in-Show.is (shown-prefix c.in-Show.word c.as_str.result.now (Some c.args.text.now) _ _ _ _ c.as_str.ensures.value
     c.print_shown.ensures.prefix)
