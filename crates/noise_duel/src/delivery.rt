@@ -69,7 +69,7 @@ fn receive_piece<K: Keys>(
     entries: &mut Vec<(Role, Entry)>,
 ) -> Result<Option<(Idle, usize)>, AllocError>
     ensures most { IfOk result (λ left. IfSome left (λ l. l.1 ≤ length piece.now)) }
-    ensures stops { (s : Side) → EndMatches K.public_of K.agreement end.old s.state → IfOk result (λ left.
+    ensures left { (s : Side) → EndMatches K.public_of K.agreement end.old s.state → IfOk result (λ left.
         HasStopped K.public_of K.agreement s role piece.now left end.new entries.old.items entries.new.items) }
 {
     let mut rest = piece;

@@ -49,7 +49,7 @@ impl<A: Keys, B: Keys> Duel<A, B> {
     pub fn new(initiator: End<A>, responder: End<B>) -> Duel<A, B>
         requires first { role_of (progress initiator) ≡ Initiator }
         requires second { role_of (progress responder) ≡ Responder }
-        ensures { result ≡ record { initiator = initiator; responder = responder } }
+        ensures value { result ≡ record { initiator = initiator; responder = responder } }
     {
         Duel {
             initiator,
@@ -125,7 +125,7 @@ impl<A: Keys, B: Keys> Duel<A, B> {
     pub fn into_datagrams(self, window: Window) -> Result<DatagramDuel, Duel<A, B>>
         ensures when { IsOk result
             ↔ ((is_datagram_ready self.initiator ≡ true) × (is_datagram_ready self.responder ≡ true)) }
-        ensures begun { (v w : EndState)
+        ensures matches { (v w : EndState)
             → DuelMatches A.public_of A.agreement B.public_of B.agreement self (both_sides v w)
             → IfOk result (λ duel. DatagramDuelMatches duel (datagram_sides_of v w window)) }
         ensures back { IfErr result (λ duel. duel ≡ self) }

@@ -59,7 +59,7 @@ pub fn run_once()
 /// In every run of two new parties each is what the messages that it wrote and accepted made of it, and its frames are
 /// those of its own messages.
 pub fn ends_match()
-    ensures stand { EndsComeOfMessages }
+    ensures state { EndsComeOfMessages }
     ensures frame { EndsFrame }
 {}
 
@@ -79,7 +79,7 @@ pub fn ends_agree()
 /// all of them come through, and leave the parties that `end_after` computes of them.
 pub fn lines_come_through()
     ensures come { LinesComeThrough }
-    ensures leave { LinesLeave }
+    ensures ends { LinesLeave }
     ensures can { LinesRun }
 {
     laws_below();

@@ -20,7 +20,7 @@ pub struct Counted<T> {
 impl<T> Counted<T> {
     /// It counts from 0.
     pub fn new(inner: T) -> Counted<T>
-        ensures inner { inner_of result ≡ inner }
+        ensures value { inner_of result ≡ inner }
         ensures failures { failures_of result ≡ 0 }
     {
         Counted { inner, failures: 0 }

@@ -46,8 +46,8 @@ impl DatagramReceiver {
 
     // The half that opens by the key of this one, and never rekeys.
     pub(crate) fn new(mut receiver: Receiver, recent: Ring) -> DatagramReceiver
-        requires { is_ring recent ≡ true }
-        ensures { result ≡ datagram_receiver_value receiver recent }
+        requires ring { is_ring recent ≡ true }
+        ensures value { result ≡ datagram_receiver_value receiver recent }
     {
         receiver.half.interval = 0;
         DatagramReceiver { receiver, recent }
@@ -95,9 +95,9 @@ impl DatagramReceiver {
     // Why such bytes aren't opened, whatever message they have.
     fn refusal(&self, datagram: &[u8]) -> Option<DatagramFault>
         ensures value { result ≡ datagram_receiver_fault self.now datagram.now }
-        ensures bounds { IfNone result ((24 ≤ length datagram.now) × (length datagram.now ≤ 65543)
+        ensures bound { IfNone result ((24 ≤ length datagram.now) × (length datagram.now ≤ 65543)
             × (nonce_named datagram.now ≢ last_nonce)) }
-        ensures young { IfNone result
+        ensures window { IfNone result
             (self.now.recent.greatest < nonce_named datagram.now + width_of self.now.recent.window) }
     {
         if self.receiver.hears_nothing() {
@@ -155,8 +155,8 @@ impl DatagramReceiver {
 
 // The nonce that a datagram names.
 fn nonce_of(datagram: &[u8]) -> u64
-    requires { 8 ≤ length datagram.now }
-    ensures { result ≡ nonce_named datagram.now }
+    requires long { 8 ≤ length datagram.now }
+    ensures value { result ≡ nonce_named datagram.now }
 {
     let mut bytes = [0; NONCE_LEN];
     bytes.copy_from_slice(&datagram[..NONCE_LEN]);

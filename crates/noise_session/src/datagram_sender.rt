@@ -88,9 +88,9 @@ impl DatagramSender {
     /// `out` holds them where the payload has at most 65519 bytes. The faults are OneWay, TooLong and Exhausted, looked
     /// for in this order.
     pub fn seal(&mut self, payload: &[u8], out: &mut [u8]) -> Result<usize, SendFault>
-        requires { unsealed self.old.role self.old.one_way self.old.nonce (length payload.now) ≡ None
+        requires room { unsealed self.old.role self.old.one_way self.old.nonce (length payload.now) ≡ None
             → length payload.now + 24 ≤ length out.old }
-        ensures { DatagramSenderSeals self.old self.new (length payload.now) payload.now out.old out.new result }
+        ensures seals { DatagramSenderSeals self.old self.new (length payload.now) payload.now out.old out.new result }
     {
         let nonce = self.sender.nonce();
         if let Some(fault) = self.sender.refusal(payload.len()) {
@@ -111,9 +111,9 @@ impl DatagramSender {
         buffer: &mut [u8],
         payload_len: usize,
     ) -> Result<usize, SendFault>
-        requires { unsealed self.old.role self.old.one_way self.old.nonce payload_len ≡ None
+        requires room { unsealed self.old.role self.old.one_way self.old.nonce payload_len ≡ None
             → payload_len + 24 ≤ length buffer.old }
-        ensures { DatagramSenderSeals self.old self.new payload_len (take payload_len (drop 8 buffer.old))
+        ensures seals { DatagramSenderSeals self.old self.new payload_len (take payload_len (drop 8 buffer.old))
             buffer.old buffer.new result }
     {
         let nonce = self.sender.nonce();
@@ -136,7 +136,7 @@ fn put_nonce(out: &mut [u8], nonce: u64, len: usize) -> usize
     requires short { len ≤ 65535 }
     requires room { 8 + len ≤ length out.old }
     ensures len { (result ≡ 8 + len) × (result ≤ length out.new) }
-    ensures datagram { take result out.new ≡ to_be_bytes w64 nonce ++ take len (drop 8 out.old) }
+    ensures front { take result out.new ≡ to_be_bytes w64 nonce ++ take len (drop 8 out.old) }
     ensures beyond { drop 8 out.new ≡ drop 8 out.old }
 {
     out[..NONCE_LEN].copy_from_slice(&nonce.to_be_bytes());

@@ -64,8 +64,8 @@ impl Datagrams {
 
     // The datagrams of a transport that has sealed and opened nothing.
     pub(crate) fn after(transport: Transport, window: Window) -> Datagrams
-        requires { (transport.send_nonce ≡ 0) × (transport.receive_nonce ≡ 0) }
-        ensures { (v : TransportState) → TransportMatches transport v
+        requires fresh { (transport.send_nonce ≡ 0) × (transport.receive_nonce ≡ 0) }
+        ensures matches { (v : TransportState) → TransportMatches transport v
             → DatagramsMatch result (datagrams_after v window) }
     {
         let (sender, receiver) = transport.split();
@@ -100,9 +100,9 @@ impl Datagrams {
     /// for in this order.
     #[tactic(auto, using(crate::proofs::DatagramSplitting::datagrams_seal))]
     pub fn seal(&mut self, payload: &[u8], out: &mut [u8]) -> Result<usize, SendFault>
-        requires { unsealed self.old.role self.old.one_way self.old.send_nonce (length payload.now) ≡ None
+        requires room { unsealed self.old.role self.old.one_way self.old.send_nonce (length payload.now) ≡ None
             → length payload.now + 24 ≤ length out.old }
-        ensures { DatagramsSeal self.old self.new (length payload.now) payload.now out.old out.new result }
+        ensures seals { DatagramsSeal self.old self.new (length payload.now) payload.now out.old out.new result }
     {
         self.sender.seal(payload, out)
     }
@@ -117,9 +117,9 @@ impl Datagrams {
         buffer: &mut [u8],
         payload_len: usize,
     ) -> Result<usize, SendFault>
-        requires { unsealed self.old.role self.old.one_way self.old.send_nonce payload_len ≡ None
+        requires room { unsealed self.old.role self.old.one_way self.old.send_nonce payload_len ≡ None
             → payload_len + 24 ≤ length buffer.old }
-        ensures { DatagramsSeal self.old self.new payload_len (take payload_len (drop 8 buffer.old))
+        ensures seals { DatagramsSeal self.old self.new payload_len (take payload_len (drop 8 buffer.old))
             buffer.old buffer.new result }
     {
         self.sender.seal_in_place(buffer, payload_len)

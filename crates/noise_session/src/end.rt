@@ -1,6 +1,6 @@
 //! One party of a session.
 
-ghost use Rattle.std.specs.Prelude.{◌≡◌, ◌≤◌, [], length, true, false, IsSome, IfOk, IfSome};
+ghost use Rattle.std.specs.Prelude.{◌≡◌, ◌≤◌, [], length, true, false, IsSome, IsTrue, IfOk, IfSome};
 ghost use Rattle.std.specs.Option.{ForSome};
 ghost use Rattle.noise_handshake.specs.Party.{Party};
 ghost use Rattle.noise_handshake.specs.Matching.{Matches};
@@ -12,7 +12,7 @@ ghost use Rattle.std.specs.Io.KnownBytes.{IsAtEnd};
 
 use crate::counted::write_out;
 use crate::frame::zeros;
-use crate::phase::{DuePhase, Phase};
+use crate::phase::Phase;
 use crate::state::State;
 use crate::step::step_in;
 use crate::{Counted, Datagrams, ReceiveFault, SendFault, Stage, Step, Transport, Window};
@@ -58,6 +58,7 @@ impl<K: Keys> End<K> {
     ghost use Rattle.noise_session.specs.Outputs.{EndPuts, after_output};
     ghost use Rattle.noise_session.specs.Datagrams.{DatagramsMatch, datagrams_of};
     ghost use Rattle.noise_session.specs.EndDatagrams.{is_datagram_ready};
+    ghost use Rattle.noise_session.specs.inner.Phases.{is_due};
 
     /// A party of a session that begins with this handshake, which hasn't ended; it is open at once where all its
     /// messages have passed. In transport the key is rekeyed after each `interval` messages of a direction; 0 means
@@ -65,12 +66,12 @@ impl<K: Keys> End<K> {
     ///
     /// It reserves two buffers of 65537 bytes, which no later call grows. At Err the handshake is gone.
     pub fn new(alloc: Global, handshake: Handshake<K>, interval: u64) -> Result<End<K>, AllocError>
-        requires { handshake.ended ≡ false }
-        ensures { (v : Party) → Matches K.public_of K.agreement handshake v
+        requires going { handshake.ended ≡ false }
+        ensures matches { (v : Party) → Matches K.public_of K.agreement handshake v
             → IfOk result (λ end. EndMatches K.public_of K.agreement end (end_of v interval)) }
     {
         let phase = Phase::after(handshake, interval);
-        End::begin(alloc, DuePhase { phase })
+        End::begin(alloc, phase)
     }
 
     /// A party of a session that is open with this transport.
@@ -80,14 +81,15 @@ impl<K: Keys> End<K> {
         ensures { IfOk result (λ end. end ≡ record { phase = phases.Open transport; partial = [] }) }
     {
         let phase = Phase::Open(transport);
-        End::begin(alloc, DuePhase { phase })
+        End::begin(alloc, phase)
     }
 
-    // A new `End` of this party.
-    fn begin(alloc: Global, party: DuePhase<K>) -> Result<End<K>, AllocError>
-        ensures { IfOk result (λ end. end ≡ record { phase = party.phase; partial = [] }) }
+    // A new `End` in this phase.
+    fn begin(alloc: Global, phase: Phase<K>) -> Result<End<K>, AllocError>
+        requires due { IsTrue (is_due phase) }
+        ensures state { IfOk result (λ end. end ≡ record { phase = phase; partial = [] }) }
     {
-        let state = State::new(alloc, party)?;
+        let state = State::new(alloc, phase)?;
         let outgoing = zeros(alloc)?;
         Ok(End { state, outgoing })
     }
@@ -96,21 +98,21 @@ impl<K: Keys> End<K> {
     pub fn role(&self) -> Role
         ensures { result ≡ role_of (progress self.now) }
     {
-        self.state.party.phase.role()
+        self.state.phase.role()
     }
 
     /// Where the session stands.
     pub fn stage(&self) -> Stage
         ensures { result ≡ stage_of (progress self.now) }
     {
-        self.state.party.phase.stage()
+        self.state.phase.stage()
     }
 
     /// The hash of the whole handshake (Noise, 11.2), 32 bytes, once the session has opened, also after its end.
     pub fn hash(&self) -> Option<[u8; 32]>
         ensures { result ≡ hash_in self.now.phase }
     {
-        self.state.party.phase.hash()
+        self.state.phase.hash()
     }
 
     /// The other party's static public key, 32 bytes, as far as its pre-message and the messages that passed show it;
@@ -118,7 +120,7 @@ impl<K: Keys> End<K> {
     pub fn remote_static(&self) -> Option<[u8; 32]>
         ensures { result ≡ remote_static_in self.now.phase }
     {
-        self.state.party.phase.remote_static()
+        self.state.phase.remote_static()
     }
 
     /// How many bytes of an unfinished frame it holds: at most 65536, and none after the session's end.
@@ -171,7 +173,7 @@ impl<K: Keys> End<K> {
         ensures value { result ≡ frame_len_of (progress self.now) payload_len }
         ensures most { IfSome result (λ n. n ≤ 65537) }
     {
-        self.state.party.frame_len(payload_len)
+        self.state.phase.frame_len(payload_len)
     }
 
     /// Writes a payload as a frame, into the first bytes of `out`, and returns how many.
@@ -179,8 +181,8 @@ impl<K: Keys> End<K> {
     /// Where `frame_len` gives a length, `out` holds it. A DH of the handshake without a DH result ends the session,
     /// and leaves open what `out` holds; an exhausted nonce ends the session; the other faults change nothing.
     pub fn write_into(&mut self, payload: &[u8], out: &mut [u8]) -> Result<usize, SendFault>
-        requires { ForSome (frame_len_of (progress self.old) (length payload.now)) (λ n. n ≤ length out.old) }
-        ensures { WritesInto K.public_of K.agreement self.old payload.now out.old result out.new self.new }
+        requires room { ForSome (frame_len_of (progress self.old) (length payload.now)) (λ n. n ≤ length out.old) }
+        ensures writes { WritesInto K.public_of K.agreement self.old payload.now out.old result out.new self.new }
     {
         self.state.send(payload, out)
     }
@@ -196,7 +198,7 @@ impl<K: Keys> End<K> {
         out: &mut Counted<W>,
     ) -> Result<usize, SendFault>
         ensures failures { failures_of out.new ≡ after_output (failures_of out.old) result }
-        ensures puts { EndPuts K.public_of K.agreement self.old payload.now (W.contents (inner_of out.old)) result
+        ensures writes { EndPuts K.public_of K.agreement self.old payload.now (W.contents (inner_of out.old)) result
             (W.contents (inner_of out.new)) self.new }
     {
         let len = self.state.send(payload, &mut self.outgoing)?;
@@ -214,7 +216,7 @@ impl<K: Keys> End<K> {
     pub fn datagram_ready(&self) -> bool
         ensures { result ≡ is_datagram_ready self.now }
     {
-        match &self.state.party.phase {
+        match &self.state.phase {
             Phase::Open(transport) => {
                 let untouched = transport.send_nonce() == 0 && transport.receive_nonce() == 0;
                 untouched && self.state.incoming.held() == 0
@@ -226,13 +228,12 @@ impl<K: Keys> End<K> {
     /// The datagrams of its party, with this window (Noise, 11.4), where `datagram_ready` holds. Their keys are never
     /// rekeyed, whatever its interval is.
     pub fn into_datagrams(self, window: Window) -> Datagrams
-        requires { is_datagram_ready self ≡ true }
-        ensures { (v : EndState) → EndMatches K.public_of K.agreement self v
+        requires ready { is_datagram_ready self ≡ true }
+        ensures matches { (v : EndState) → EndMatches K.public_of K.agreement self v
             → DatagramsMatch result (datagrams_of v.party window) }
     {
         let state = self.state;
-        let party = state.party;
-        let phase = party.phase;
+        let phase = state.phase;
         match phase {
             Phase::Open(transport) => Datagrams::after(transport, window),
             _ => unreachable!(),

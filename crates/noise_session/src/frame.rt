@@ -71,7 +71,7 @@ impl Frame {
     pub(crate) fn clear(&mut self) -> usize
         ensures count { result ≡ self.old.partial }
         ensures empty { partial_of self.new ≡ [] }
-        ensures buffer { self.new.buffer ≡ self.old.buffer }
+        ensures unchanged { self.new.buffer ≡ self.old.buffer }
     {
         let partial = self.partial;
         self.partial = 0;
@@ -81,7 +81,7 @@ impl Frame {
 
     // How many bytes have come.
     pub(crate) fn held(&self) -> usize
-        requires { IsPartial (partial_of self.now) }
+        requires partial { IsPartial (partial_of self.now) }
         ensures count { result ≡ length (partial_of self.now) }
         ensures most { result ≤ 65536 }
     {
@@ -183,7 +183,7 @@ fn read_into<R: Read>(
 
 // Writes bytes into a buffer, from a place on.
 fn put(buffer: &mut Vec<u8>, from: usize, bytes: &[u8])
-    requires { from + length bytes.now ≤ length buffer.old.items }
+    requires within { from + length bytes.now ≤ length buffer.old.items }
     ensures room { length buffer.new.items ≡ length buffer.old.items }
     ensures fixed { vec_capacity buffer.new ≡ vec_capacity buffer.old }
     ensures front { take (from + length bytes.now) buffer.new.items ≡ take from buffer.old.items ++ bytes.now }
@@ -193,7 +193,7 @@ fn put(buffer: &mut Vec<u8>, from: usize, bytes: &[u8])
 
 // How long a frame is of which so many bytes have come: what was known, but where its length is whole just now.
 fn whole_after(buffer: &[u8], known: usize, end: usize) -> usize
-    requires { 2 ≤ length buffer.now }
+    requires long { 2 ≤ length buffer.now }
     ensures read { end ≡ 2 → (result ≡ frame_length (take 2 buffer.now)) × (result ≤ 65537)
         × (take 2 buffer.now ≡ big_bytes 2 (result - 2)) }
     ensures unchanged { end ≢ 2 → result ≡ known }

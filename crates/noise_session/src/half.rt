@@ -22,8 +22,8 @@ impl Half {
     ghost use Rattle.noise_session.specs.inner.Halves.{half_value};
 
     pub(crate) fn new(role: Role, one_way: bool, interval: u64, cipher: CipherState) -> Half
-        requires { IsSome (key_in cipher) }
-        ensures { half_value result ≡ record
+        requires keyed { IsSome (key_in cipher) }
+        ensures value { half_value result ≡ record
             { role = role; one_way = one_way; interval = interval; key = key_in cipher; nonce = nonce_in cipher } }
     {
         Half {

@@ -25,14 +25,16 @@ pub(crate) enum Phase<K: Keys> {
 
 impl<K: Keys> Phase<K> {
     ghost use Rattle.noise_handshake.specs.Matching.{Matches};
-    ghost use Rattle.noise_session.specs.Progress.{role_of, stage_of, idle_step};
+    ghost use Rattle.noise_session.specs.Progress.{role_of, stage_of, idle_step, frame_len_of};
     ghost use Rattle.noise_session.specs.Ends.{EndState, PhaseMatches, progress_in, hash_in, remote_static_in, is_ended};
     ghost use Rattle.noise_session.specs.Steps.{step_value};
+    ghost use Rattle.noise_session.specs.Taking.{Judges};
+    ghost use Rattle.noise_session.specs.inner.Places.{reported_in, MatchesIn};
     ghost use Rattle.noise_session.specs.inner.Phases.{IsHandshake, GoesOnAs, ended_in};
 
     // The phase after messages of a handshake: its transport, once all of them have passed.
     pub(crate) fn after(handshake: Handshake<K>, interval: u64) -> Phase<K>
-        requires { handshake.ended ≡ false }
+        requires going { handshake.ended ≡ false }
         ensures due { IsTrue (is_due result) }
         ensures going { is_ended result ≡ false }
         ensures matches { (v : EndState) → Matches K.public_of K.agreement handshake v.party → interval ≡ v.interval
@@ -50,7 +52,7 @@ impl<K: Keys> Phase<K> {
 
     // Goes on after a message of its handshake.
     pub(crate) fn settle(&mut self)
-        requires { IsHandshake self.old }
+        requires handshake { IsHandshake self.old }
         ensures due { IsTrue (is_due self.new) }
         ensures going { is_ended self.new ≡ false }
         ensures matches { (v : EndState) → GoesOnAs K.public_of K.agreement self.old v
@@ -142,26 +144,13 @@ impl<K: Keys> Phase<K> {
             Phase::Ended { .. } => Some(Step::Ended),
         }
     }
-}
-
-// The party of an `End`, in its phase.
-#[derive(Drop)]
-pub(crate) struct DuePhase<K: Keys> {
-    pub(crate) phase: Phase<K>,
-    ghost due: { IsTrue (is_due phase) },
-}
-
-impl<K: Keys> DuePhase<K> {
-    ghost use Rattle.noise_session.specs.Progress.{idle_step, frame_len_of};
-    ghost use Rattle.noise_session.specs.Ends.{EndState, PhaseMatches, progress_in};
-    ghost use Rattle.noise_session.specs.Taking.{Judges};
-    ghost use Rattle.noise_session.specs.inner.Places.{reported_in, MatchesIn};
 
     // The length of the frame that would be written now.
     pub(crate) fn frame_len(&self, payload_len: usize) -> Option<usize>
-        ensures { result ≡ frame_len_of (progress_in self.now.phase) payload_len }
+        requires due { IsTrue (is_due self.now) }
+        ensures len { result ≡ frame_len_of (progress_in self.now) payload_len }
     {
-        match &self.phase {
+        match self {
             Phase::Handshaking { handshake, .. } => Some(2 + handshake.message_len(payload_len)?),
             Phase::Open(transport) => match transport.refusal(payload_len) {
                 Some(_) => None,
@@ -173,21 +162,23 @@ impl<K: Keys> DuePhase<K> {
 
     // Reads a message in place, in a phase that listens.
     pub(crate) fn read(&mut self, message: &mut [u8]) -> Outcome
-        requires listens { idle_step (progress_in self.old.phase) ≡ None }
+        requires due { IsTrue (is_due self.old) }
+        requires listens { idle_step (progress_in self.old) ≡ None }
         requires short { length message.old ≤ 65535 }
+        ensures due { IsTrue (is_due self.new) }
         ensures place { MatchesIn message.new result }
-        ensures judges { (v : EndState) → PhaseMatches K.public_of K.agreement self.old.phase v
+        ensures judges { (v : EndState) → PhaseMatches K.public_of K.agreement self.old v
             → (next : EndState) × Judges v message.old (reported_in message.new result) next
-            × PhaseMatches K.public_of K.agreement self.new.phase next × (next.partial ≡ []) }
+            × PhaseMatches K.public_of K.agreement self.new next × (next.partial ≡ []) }
     {
-        match &mut self.phase {
+        match self {
             Phase::Handshaking { handshake, .. } => match handshake.read_within(message) {
                 Ok(place) => {
-                    self.phase.settle();
+                    self.settle();
                     Ok(place)
                 }
                 Err(ReadFault::Refused { token, cause }) => {
-                    self.phase.end();
+                    self.end();
                     Err(Step::Refused { token, cause })
                 }
                 Err(_) => unreachable!(),
@@ -197,7 +188,7 @@ impl<K: Keys> DuePhase<K> {
                 Err(OpenFault::Short) => Err(Step::Dropped(Cause::Short)),
                 Err(OpenFault::Tag) => Err(Step::Dropped(Cause::Tag)),
                 Err(OpenFault::Exhausted) => {
-                    self.phase.end();
+                    self.end();
                     Err(Step::Exhausted)
                 }
                 Err(OpenFault::OneWay) => unreachable!(),

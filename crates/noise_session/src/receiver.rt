@@ -93,7 +93,7 @@ impl Receiver {
     ///
     /// The message has at most 65535 bytes. At an `Err` its bytes are unchanged.
     pub fn open_within(&mut self, message: &mut [u8]) -> Result<usize, OpenFault>
-        requires { length message.old ≤ 65535 }
+        requires short { length message.old ≤ 65535 }
         ensures opens { ReceiverOpens self.old self.new message.old result (λ n. take n message.new) }
         ensures place { OpensInPlace message.old message.new result }
     {
@@ -116,7 +116,7 @@ impl Receiver {
     ///
     /// The message has at most 65535 bytes. At an `Err` its bytes are unchanged.
     pub fn open<'a>(&mut self, message: &'a mut [u8]) -> Result<&'a mut [u8], OpenFault>
-        requires { length message.old ≤ 65535 }
+        requires short { length message.old ≤ 65535 }
         ensures opens { ReceiverOpens self.old self.new message.old result (λ payload. payload.now) }
         ensures part { IfOk result
             (λ payload. (payload.ref_ptr ≡ message.entry.ref_ptr) × (length payload.now + 16 ≡ length message.old)) }

@@ -10,7 +10,7 @@ use noise_state::CipherState;
 
 // Rekeys where the nonce has come to a multiple of the interval.
 pub(crate) fn renew(cipher: &mut CipherState, interval: u64)
-    requires { IsSome (key_in cipher.old) }
+    requires keyed { IsSome (key_in cipher.old) }
     ensures nonce { nonce_in cipher.new ≡ nonce_in cipher.old }
     ensures keyed { IsSome (key_in cipher.new) }
     ensures renewed { key_in cipher.new ≡ renewed_key interval (nonce_in cipher.old) (key_in cipher.old) }

@@ -95,7 +95,7 @@ impl Sender {
     // Why a payload of this length isn't sealed now.
     pub(crate) fn refusal(&self, payload_len: usize) -> Option<SendFault>
         ensures fault { result ≡ sender_fault self.now payload_len }
-        ensures below { result ≡ None → self.now.nonce < last_nonce }
+        ensures nonce { result ≡ None → self.now.nonce < last_nonce }
     {
         if self.writes_nothing() {
             return Some(SendFault::OneWay);
@@ -114,8 +114,8 @@ impl Sender {
     /// `out` holds them where the payload has at most 65519 bytes. The faults are OneWay, TooLong and Exhausted, looked
     /// for in this order.
     pub fn seal(&mut self, payload: &[u8], out: &mut [u8]) -> Result<usize, SendFault>
-        requires { sender_fault self.old (length payload.now) ≡ None → length payload.now + 16 ≤ length out.old }
-        ensures { SenderSeals self.old self.new (length payload.now) payload.now out.old out.new result }
+        requires room { sender_fault self.old (length payload.now) ≡ None → length payload.now + 16 ≤ length out.old }
+        ensures seals { SenderSeals self.old self.new (length payload.now) payload.now out.old out.new result }
     {
         if let Some(fault) = self.refusal(payload.len()) {
             return Err(fault);
@@ -132,8 +132,8 @@ impl Sender {
         buffer: &mut [u8],
         payload_len: usize,
     ) -> Result<usize, SendFault>
-        requires { sender_fault self.old payload_len ≡ None → payload_len + 16 ≤ length buffer.old }
-        ensures { SenderSeals self.old self.new payload_len (take payload_len buffer.old) buffer.old buffer.new result }
+        requires room { sender_fault self.old payload_len ≡ None → payload_len + 16 ≤ length buffer.old }
+        ensures seals { SenderSeals self.old self.new payload_len (take payload_len buffer.old) buffer.old buffer.new result }
     {
         if let Some(fault) = self.refusal(payload_len) {
             return Err(fault);
@@ -146,8 +146,8 @@ impl Sender {
     ///
     /// `out` holds them where the payload has at most 65519 bytes. The faults are those of `seal`.
     pub fn seal_frame(&mut self, payload: &[u8], out: &mut [u8]) -> Result<usize, SendFault>
-        requires { sender_fault self.old (length payload.now) ≡ None → length payload.now + 18 ≤ length out.old }
-        ensures { SenderSealsFrame self.old self.new (length payload.now) payload.now out.old out.new result }
+        requires room { sender_fault self.old (length payload.now) ≡ None → length payload.now + 18 ≤ length out.old }
+        ensures seals { SenderSealsFrame self.old self.new (length payload.now) payload.now out.old out.new result }
     {
         if let Some(fault) = self.refusal(payload.len()) {
             return Err(fault);
@@ -160,7 +160,7 @@ impl Sender {
     fn seal_due(&mut self, payload: &[u8], out: &mut [u8]) -> usize
         requires due { sender_fault self.old (length payload.now) ≡ None }
         requires room { length payload.now + 16 ≤ length out.old }
-        ensures { SenderSeals self.old self.new (length payload.now) payload.now out.old out.new (Ok result) }
+        ensures seals { SenderSeals self.old self.new (length payload.now) payload.now out.old out.new (Ok result) }
     {
         out[..payload.len()].copy_from_slice(payload);
         self.encrypt_due(out, payload.len())
@@ -170,7 +170,7 @@ impl Sender {
     fn encrypt_due(&mut self, buffer: &mut [u8], payload_len: usize) -> usize
         requires due { sender_fault self.old payload_len ≡ None }
         requires room { payload_len + 16 ≤ length buffer.old }
-        ensures { SenderSeals self.old self.new payload_len (take payload_len buffer.old) buffer.old buffer.new (Ok result) }
+        ensures seals { SenderSeals self.old self.new payload_len (take payload_len buffer.old) buffer.old buffer.new (Ok result) }
     {
         match self.half.cipher.encrypt(&[], buffer, payload_len) {
             Ok(len) => {

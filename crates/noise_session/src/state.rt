@@ -13,44 +13,46 @@ ghost use Rattle.noise_session.specs.Sending.{EndSends, WritesInto, IsRefused};
 ghost use Rattle.noise_session.specs.Taking.{EndTakes, Judges};
 ghost use Rattle.noise_session.specs.inner.Partial.{partial_of};
 ghost use Rattle.noise_session.specs.inner.Places.{reported_in, received_in, MatchesIn};
-ghost use Rattle.noise_session.specs.inner.Phases.{ended_in};
+ghost use Rattle.noise_session.specs.inner.Phases.{ended_in, is_due};
 
 use crate::counted::Filling;
 use crate::frame::Frame;
 use crate::framing::frame_message;
-use crate::phase::{DuePhase, Phase};
+use crate::phase::Phase;
 use crate::step::Outcome;
 use crate::{Counted, ReceiveFault, SendFault, Step};
 use noise_handshake::{Keys, WriteFault};
 use std::alloc::{AllocError, Global};
 use std::io::Read;
 
-// The party of an `End`, and what has come of the next frame: less than a whole one, and nothing once the session has
-// ended.
+// What the party of an `End` goes through, and what has come of the next frame: less than a whole one, and nothing once
+// the session has ended. Messages are to come of its handshake.
 #[derive(Drop)]
 pub(crate) struct State<K: Keys> {
-    pub(crate) party: DuePhase<K>,
+    pub(crate) phase: Phase<K>,
     pub(crate) incoming: Frame,
+    ghost due: { IsTrue (is_due phase) },
     ghost partial: { IsPartial (partial_of incoming) },
-    ghost ended: { is_ended party.phase ≡ true → partial_of incoming ≡ [] },
+    ghost ended: { is_ended phase ≡ true → partial_of incoming ≡ [] },
 }
 
 impl<K: Keys> State<K> {
     ghost use Rattle.noise_session.specs.inner.States.{end_in, message_in, framed_in};
 
-    // That of a new `End` of this party.
-    pub(crate) fn new(alloc: Global, party: DuePhase<K>) -> Result<State<K>, AllocError>
-        ensures { IfOk result (λ state. end_in state ≡ record { phase = party.phase; partial = [] }) }
+    // That of a new `End` in this phase.
+    pub(crate) fn new(alloc: Global, phase: Phase<K>) -> Result<State<K>, AllocError>
+        requires due { IsTrue (is_due phase) }
+        ensures state { IfOk result (λ state. end_in state ≡ record { phase = phase; partial = [] }) }
     {
         let incoming = Frame::new(alloc)?;
-        Ok(State { party, incoming })
+        Ok(State { phase, incoming })
     }
 
     // Ends the session.
     pub(crate) fn end(&mut self)
-        ensures { end_in self.new ≡ record { phase = ended_in self.old.party.phase; partial = [] } }
+        ensures { end_in self.new ≡ record { phase = ended_in self.old.phase; partial = [] } }
     {
-        self.party.phase.end();
+        self.phase.end();
         self.incoming.clear();
     }
 
@@ -62,12 +64,12 @@ impl<K: Keys> State<K> {
         ensures takes { EndTakes K.public_of K.agreement (end_in self.old) piece.now result.0
             (reported_in (message_in self.new) result.1) (end_in self.new) }
     {
-        if let Some(step) = self.party.phase.idle() {
+        if let Some(step) = self.phase.idle() {
             return (0, Err(step));
         }
         match self.incoming.fill(piece) {
             None => (piece.len(), Err(Step::More)),
-            Some(count) => (count, read(&mut self.party, &mut self.incoming)),
+            Some(count) => (count, read(&mut self.phase, &mut self.incoming)),
         }
     }
 
@@ -77,17 +79,17 @@ impl<K: Keys> State<K> {
         from: &mut Counted<R>,
     ) -> Result<Option<Outcome>, ReceiveFault>
         ensures place { IfOk result (λ o. IfSome o (λ outcome. MatchesIn (message_in self.new) outcome)) }
-        ensures unread { IsSome (idle_step (progress_in self.old.party.phase)) → from.new ≡ from.old }
+        ensures unread { IsSome (idle_step (progress_in self.old.phase)) → from.new ≡ from.old }
         ensures end { is_end result ≡ true → IsAtEnd (R.remaining (inner_of from.new)) }
         ensures failures { failures_of from.new ≡ after_receiving (failures_of from.old) result }
         ensures receives { EndReceives K.public_of K.agreement (end_in self.old) (R.remaining (inner_of from.old))
             (received_in (message_in self.new) result) (R.remaining (inner_of from.new)) (end_in self.new) }
     {
-        if let Some(step) = self.party.phase.idle() {
+        if let Some(step) = self.phase.idle() {
             return Ok(Some(Err(step)));
         }
         match self.incoming.fill_from(from) {
-            Filling::Filled => Ok(Some(read(&mut self.party, &mut self.incoming))),
+            Filling::Filled => Ok(Some(read(&mut self.phase, &mut self.incoming))),
             Filling::End => {
                 if self.incoming.held() == 0 {
                     Ok(None)
@@ -101,28 +103,27 @@ impl<K: Keys> State<K> {
 
     // Writes a payload as a message into the first bytes of `out`, and returns how many.
     fn write(&mut self, payload: &[u8], out: &mut [u8]) -> Result<usize, SendFault>
-        requires { refusal (progress_in self.old.party.phase) (length payload.now) ≡ None
-            → message_length (progress_in self.old.party.phase) (length payload.now) ≤ length out.old }
-        ensures len { IfOk result (λ n. (refusal (progress_in self.old.party.phase) (length payload.now) ≡ None)
-            × (n ≡ message_length (progress_in self.old.party.phase) (length payload.now))
+        requires room { refusal (progress_in self.old.phase) (length payload.now) ≡ None
+            → message_length (progress_in self.old.phase) (length payload.now) ≤ length out.old }
+        ensures len { IfOk result (λ n. (refusal (progress_in self.old.phase) (length payload.now) ≡ None)
+            × (n ≡ message_length (progress_in self.old.phase) (length payload.now))
             × (n ≤ length out.new) × (n ≤ 65535)) }
         ensures beyond { IfOk result (λ n. drop n out.new ≡ drop n out.old) }
-        ensures refused { IsRefused (progress_in self.old.party.phase) payload.now out.old result out.new }
+        ensures refused { IsRefused (progress_in self.old.phase) payload.now out.old result out.new }
         ensures failures { IfErr result (λ fault. (failures : ℕ) → after_output failures (Err fault) ≡ failures) }
         ensures sends { EndSends K.public_of K.agreement (end_in self.old) payload.now (framed_in out.new result)
             (end_in self.new) }
     {
-        let party = &mut self.party;
-        match &mut party.phase {
+        match &mut self.phase {
             Phase::Handshaking { handshake, .. } => match handshake.write(payload, out) {
                 Ok(len) => {
-                    party.phase.settle();
+                    self.phase.settle();
                     Ok(len)
                 }
                 Err(WriteFault::NotYourTurn) => Err(SendFault::NotYourTurn),
                 Err(WriteFault::TooLong) => Err(SendFault::TooLong),
                 Err(WriteFault::Agreement { token }) => {
-                    party.phase.end();
+                    self.phase.end();
                     self.incoming.clear();
                     Err(SendFault::Agreement { token })
                 }
@@ -144,7 +145,7 @@ impl<K: Keys> State<K> {
 
     // Writes a payload as a frame into the first bytes of `out`, and returns how many.
     pub(crate) fn send(&mut self, payload: &[u8], out: &mut [u8]) -> Result<usize, SendFault>
-        requires { ForSome (frame_len_of (progress_in self.old.party.phase) (length payload.now))
+        requires room { ForSome (frame_len_of (progress_in self.old.phase) (length payload.now))
             (λ n. n ≤ length out.old) }
         ensures failures { IfErr result (λ fault. (failures : ℕ) → after_output failures (Err fault) ≡ failures) }
         ensures writes { WritesInto K.public_of K.agreement (end_in self.old) payload.now out.old result out.new
@@ -159,17 +160,19 @@ impl<K: Keys> State<K> {
 }
 
 // Reads the message of a whole frame. Nothing is held after it.
-fn read<K: Keys>(party: &mut DuePhase<K>, incoming: &mut Frame) -> Outcome
-    requires listens { idle_step (progress_in party.old.phase) ≡ None }
+fn read<K: Keys>(phase: &mut Phase<K>, incoming: &mut Frame) -> Outcome
+    requires due { IsTrue (is_due phase.old) }
+    requires listens { idle_step (progress_in phase.old) ≡ None }
     requires whole { IsWhole (partial_of incoming.old) }
+    ensures due { IsTrue (is_due phase.new) }
     ensures empty { partial_of incoming.new ≡ [] }
     ensures place { MatchesIn (drop 2 incoming.new.buffer.items) result }
     ensures spelled { partial_of incoming.old ≡ frame (drop 2 (partial_of incoming.old)) }
     ensures short { length (drop 2 (partial_of incoming.old)) ≤ 65535 }
-    ensures judges { (v : EndState) → PhaseMatches K.public_of K.agreement party.old.phase v → (next : EndState)
+    ensures judges { (v : EndState) → PhaseMatches K.public_of K.agreement phase.old v → (next : EndState)
         × Judges v (drop 2 (partial_of incoming.old)) (reported_in (drop 2 incoming.new.buffer.items) result) next
-        × PhaseMatches K.public_of K.agreement party.new.phase next × (next.partial ≡ []) }
+        × PhaseMatches K.public_of K.agreement phase.new next × (next.partial ≡ []) }
 {
     let end = incoming.clear();
-    party.read(&mut incoming.buffer[2..end])
+    phase.read(&mut incoming.buffer[2..end])
 }

@@ -34,8 +34,8 @@ pub(crate) type Outcome = Result<(usize, usize), Step<'static>>;
 
 // The step, with the payload's bytes from the message.
 pub(crate) fn step_in(message: &[u8], outcome: Outcome) -> Step<'_>
-    requires { MatchesIn message.now outcome }
-    ensures { step_value result ≡ reported_in message.now outcome.entry }
+    requires place { MatchesIn message.now outcome }
+    ensures value { step_value result ≡ reported_in message.now outcome.entry }
 {
     match outcome {
         Ok((from, to)) => Step::Payload(&message[from..to]),

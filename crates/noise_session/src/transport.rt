@@ -155,8 +155,8 @@ impl Transport {
     ///
     /// A nonce at which a message was sealed must not be set again for sealing.
     pub fn set_nonces(&mut self, send: u64, receive: u64)
-        requires { self.old.interval ≡ 0 }
-        ensures alone { self.new ≡ record self.old { send_nonce = send; receive_nonce = receive } }
+        requires interval { self.old.interval ≡ 0 }
+        ensures state { self.new ≡ record self.old { send_nonce = send; receive_nonce = receive } }
         ensures matches { (v : TransportState) → TransportMatches self.old v
             → TransportMatches self.new (record v { sent = send; received = receive }) }
     {
@@ -170,8 +170,8 @@ impl Transport {
     /// for in this order.
     #[tactic(auto, using(crate::proofs::Splitting::transport_seals))]
     pub fn seal(&mut self, payload: &[u8], out: &mut [u8]) -> Result<usize, SendFault>
-        requires { seal_fault self.old (length payload.now) ≡ None → length payload.now + 16 ≤ length out.old }
-        ensures { TransportSeals self.old self.new (length payload.now) payload.now out.old out.new result }
+        requires room { seal_fault self.old (length payload.now) ≡ None → length payload.now + 16 ≤ length out.old }
+        ensures seals { TransportSeals self.old self.new (length payload.now) payload.now out.old out.new result }
     {
         self.sender.seal(payload, out)
     }
@@ -186,8 +186,8 @@ impl Transport {
         buffer: &mut [u8],
         payload_len: usize,
     ) -> Result<usize, SendFault>
-        requires { seal_fault self.old payload_len ≡ None → payload_len + 16 ≤ length buffer.old }
-        ensures { TransportSeals self.old self.new payload_len (take payload_len buffer.old)
+        requires room { seal_fault self.old payload_len ≡ None → payload_len + 16 ≤ length buffer.old }
+        ensures seals { TransportSeals self.old self.new payload_len (take payload_len buffer.old)
             buffer.old buffer.new result }
     {
         self.sender.seal_in_place(buffer, payload_len)
@@ -199,7 +199,7 @@ impl Transport {
     /// The message has at most 65535 bytes. At an `Err` its bytes are unchanged.
     #[tactic(auto, using(crate::proofs::Splitting::transport_opens))]
     pub fn open_within(&mut self, message: &mut [u8]) -> Result<usize, OpenFault>
-        requires { length message.old ≤ 65535 }
+        requires short { length message.old ≤ 65535 }
         ensures opens { TransportOpens self.old self.new message.old result (λ n. take n message.new) }
         ensures place { OpensInPlace message.old message.new result }
     {
@@ -210,7 +210,7 @@ impl Transport {
     ///
     /// The message has at most 65535 bytes. At an `Err` its bytes are unchanged.
     pub fn open<'a>(&mut self, message: &'a mut [u8]) -> Result<&'a mut [u8], OpenFault>
-        requires { length message.old ≤ 65535 }
+        requires short { length message.old ≤ 65535 }
         ensures opens { TransportOpens self.old self.new message.old result (λ payload. payload.now) }
         ensures part { IfOk result
             (λ payload. (payload.ref_ptr ≡ message.entry.ref_ptr) × (length payload.now + 16 ≡ length message.old)) }

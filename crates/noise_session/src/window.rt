@@ -170,7 +170,7 @@ fn place(window: Window, block: u64) -> usize
 
 // Clears the words of the blocks after `top` up to `block`: each word once at most.
 fn clear(window: Window, words: &mut [u64; MOST_WORDS], top: u64, block: u64)
-    requires { top ≤ block }
+    requires order { top ≤ block }
     ensures fresh { (b : ℕ) → top < b → b ≤ block → block < b + bitmap_len window
         → slice_index words.new (b % bitmap_len window) ≡ 0 }
     ensures unchanged { (b : ℕ) → b ≤ top → block < b + bitmap_len window

@@ -9,7 +9,7 @@ use Rattle.noise_session.specs.inner.Partial.{partial_of}
 
 -- what the end holds
 abbrev pub end_in : {K : Type 0} {ghosts : Ghosts K} → State K ghosts → EndValue K
-end_in s = record { phase = s.party.phase; partial = partial_of s.incoming }
+end_in s = record { phase = s.phase; partial = partial_of s.incoming }
 
 -- the message of the last frame, with what the buffer holds after it
 abbrev pub message_in : {K : Type 0} {ghosts : Ghosts K} → State K ghosts → List ℕ

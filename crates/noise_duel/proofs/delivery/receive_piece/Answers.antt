@@ -7,8 +7,8 @@ pub returns-then-count-eq0-clause-most : goal.returns-then-count-eq0-clause-most
 returns-then-count-eq0-clause-most g c =
     left_of-most (step_value c.take.result.1) c.left_at.result (length c.loop-rest.rest.now) (length c.args.piece.now) c.left_at.ensures c.loop-rest.invariant.most
 
-pub returns-then-count-eq0-clause-stops : goal.returns-then-count-eq0-clause-stops
-returns-then-count-eq0-clause-stops g c s matches =
+pub returns-then-count-eq0-clause-left : goal.returns-then-count-eq0-clause-left
+returns-then-count-eq0-clause-left g c s matches =
     stopped-idle g.K.Keys.public_of g.K.Keys.agreement s c.args.role c.args.piece.now c.loop-rest.rest.now c.loop-rest.end c.take.follows.lender-at-none
     c.args.entries.now.items c.loop-rest.entries.items c.take.result.0 (step_value c.take.result.1) c.left_at.result (c.loop-rest.invariant.some s matches)
     c.take.follows.holds-at-none c.if-count-eq0.true

@@ -5,8 +5,8 @@ use Rattle.noise_duel.proofs.laws.lines_come_through.Goals as goal
 pub returns-clause-come : goal.returns-clause-come
 returns-clause-come c = lines-come-through c.laws_below.ensures
 
-pub returns-clause-leave : goal.returns-clause-leave
-returns-clause-leave c = lines-leave (lines-come-through c.laws_below.ensures) c.ends_match.ensures.stand c.ends_match.ensures.frame
+pub returns-clause-ends : goal.returns-clause-ends
+returns-clause-ends c = lines-leave (lines-come-through c.laws_below.ensures) c.ends_match.ensures.state c.ends_match.ensures.frame
 
 pub returns-clause-can : goal.returns-clause-can
 returns-clause-can c = lines-run c.laws_below.ensures

@@ -7,7 +7,7 @@ pub returns-clause-judges : goal.returns-clause-judges
 returns-clause-judges g c v s =
     let r = c.read.ensures.judges v s in
     let message : take (c.clear-end.result - 2) (drop 2 c.deref_mut.result.now) ≡ drop 2 (partial_of c.args.incoming.now) =
-    rw (c.clear-end.ensures.count, c.deref_mut.ensures.value, c.clear-end.ensures.buffer) (drop-front _ 2 _) in
+    rw (c.clear-end.ensures.count, c.deref_mut.ensures.value, c.clear-end.ensures.unchanged) (drop-front _ 2 _) in
     let long = c.deref_mut.ensures.len in
     let room = c.clear-end.new.self.room in (
       r.0,

@@ -9,4 +9,4 @@ pub returns-in-Ok-new-clause-fault : goal.returns-in-Ok-new-clause-fault
 returns-in-Ok-new-clause-fault g c = none-found _ c.new.result c.in-Ok.handshake c.in-Ok.is c.new.ensures.fault
 
 pub returns-in-Ok-new-clause-role : goal.returns-in-Ok-new-clause-role
-returns-in-Ok-new-clause-role g c = role-reported _ _ (c.end_is_reported.ensures c.in-Ok-new.end _ (c.in-Ok-new.ensures _ c.in-Ok.ensures.matches))
+returns-in-Ok-new-clause-role g c = role-reported _ _ (c.end_is_reported.ensures c.in-Ok-new.end _ (c.in-Ok-new.ensures.matches _ c.in-Ok.ensures.matches))

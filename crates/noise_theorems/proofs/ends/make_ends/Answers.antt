@@ -49,7 +49,7 @@ returns g c =
         none-reported _ _ none none-2,
         record {
           matches = subst (λ (d : DuelValue g.row.K.Denot g.row.K.Denot). DuelMatches g.K.Keys.public_of g.K.Keys.agreement g.K.Keys.public_of g.K.Keys.agreement d
-              (sides_at_start p a b c.args.interval c.args.interval)) (sym c.new.ensures) (record { initiator = first; responder = second });
+              (sides_at_start p a b c.args.interval c.args.interval)) (sym c.new.ensures.value) (record { initiator = first; responder = second });
           alike = record {
             initiator = none;
             responder = none-2;

@@ -7,7 +7,7 @@ returns c = fitting-lines-run (record {
   keys = c.tokens_match.ensures.keys;
   parts = c.alike_are_parts.ensures;
   come = c.lines_come_through.ensures.come;
-  leave = c.lines_come_through.ensures.leave;
+  leave = c.lines_come_through.ensures.ends;
   can = c.lines_come_through.ensures.can;
   turns = c.fitting_lines_take_turns.ensures;
 })

@@ -15,7 +15,7 @@ returns-in-Ok-clause-after c = λ d matches.
     let both : (is_datagram_ready c.args.duel.initiator ≡ true) × (is_datagram_ready c.args.duel.responder ≡ true) = search rules in
     let yes = both-ready c.args.duel d (c.end_is_reported.ensures c.args.duel.initiator d.initiator.state matches.initiator)
     (c.end_is_reported.ensures c.args.duel.responder d.responder.state matches.responder) both in
-    let begun = c.in-Ok.ensures.begun d.initiator.state d.responder.state (record { initiator = matches.initiator; responder = matches.responder }) in
+    let begun = c.in-Ok.ensures.matches d.initiator.state d.responder.state (record { initiator = matches.initiator; responder = matches.responder }) in
     after-ready c.args.datagrams c.in-Some.datagrams d c.push_datagrams.result (bytes_of c.args.lines.now.items) _ some yes
     (c.push_datagrams.ensures.after _ _ begun)
 

@@ -18,5 +18,5 @@ pub returns-clause-writes : goal.returns-clause-writes
 returns-clause-writes c v s matches =
     let w : WriterValue = record { half = c.self.inside.sender; ended = c.self.inside.ended } in
     ends-as w v c.if-self.false (ap (λ (h : WriterValue). writes_nothing h.half) c.self.view_is ∙ sym c.writes_nothing.ensures ∙ c.if-writes_nothing.false)
-    c.seal_frame.new.self [] (take c.in-Ok.written c.seal_frame.new.out) c.in-Ok.ensures.seals s c.in-Ok.ensures.below refl
+    c.seal_frame.new.self [] (take c.in-Ok.written c.seal_frame.new.out) c.in-Ok.ensures.seals.seals s c.in-Ok.ensures.seals.below refl
     (subst (λ (h : WriterValue). WriterMatches h v s) (sym c.self.view_is) matches)

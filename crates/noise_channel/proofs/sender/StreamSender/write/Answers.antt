@@ -35,9 +35,9 @@ returns-clause-writes c v s matches =
     let same : w.half.nonce ≡ c.args.self.now.half.nonce = ap (λ (h : WriterValue). h.half.nonce) c.self.view_is in
     let room : w.half.nonce + 1 < last_nonce =
     below-last w.half.nonce c.args.self.now.half.nonce c.only_end_is_left.result same c.only_end_is_left.ensures c.if-only_end_is_left.false
-    c.in-Ok.ensures.below in
+    c.in-Ok.ensures.seals.below in
     writes-as w v c.if-self.false
     (ap (λ (h : WriterValue). writes_nothing h.half) c.self.view_is ∙ sym c.writes_nothing.ensures ∙ c.if-writes_nothing.false)
-    c.seal_frame.new.self (take taken p) (take c.in-Ok.written c.seal_frame.new.out) c.in-Ok.ensures.seals s p taken
+    c.seal_frame.new.self (take taken p) (take c.in-Ok.written c.seal_frame.new.out) c.in-Ok.ensures.seals.seals s p taken
     (some-there p c.is_empty.result c.is_empty.ensures c.if-is_empty.false) room c.min-taken.ensures refl
     (subst (λ (h : WriterValue). WriterMatches h v s) (sym c.self.view_is) matches)

@@ -26,6 +26,6 @@ pub returns-clause-agrees : goal.returns-clause-agrees
 returns-clause-agrees g c p a b i j st =
     let left = returns-clause-reports g c (end_of (begun_as p Initiator a) i) (end_of (begun_as p Responder b) j) st in (
       left,
-      ends-agree c.ends_match.ensures.stand c.ends_match.ensures.frame c.ends_agree.ensures.seen c.ends_agree.ensures.back c.ends_agree.ensures.one
+      ends-agree c.ends_match.ensures.state c.ends_match.ensures.frame c.ends_agree.ensures.seen c.ends_agree.ensures.back c.ends_agree.ensures.one
           c.ends_agree.ensures.payloads p a b i j (events_of c.args.events.now) (notes_of c.loop-event.report.entries.items) left.last left.run,
     )

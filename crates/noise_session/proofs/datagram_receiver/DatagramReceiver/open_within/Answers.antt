@@ -34,7 +34,7 @@ returns-in-Some-clause-opens c =
 pub returns-in-Ok-clause-place : goal.returns-in-Ok-clause-place
 returns-in-Ok-clause-place c =
     let d = c.args.datagram.now in
-    let least : 24 ≤ length d = c.in_default.ensures.bounds.0 in
+    let least : 24 ≤ length d = c.in_default.ensures.bound.0 in
     let long : 8 ≤ length d = omega arith in
     record {
       len = search rules;
@@ -55,8 +55,8 @@ returns-in-Ok-clause-opens c =
     let same = key-only r c.set_nonce.new.self c.open_within.new.self c.nonce_of-nonce.result c.insert.new.self c.set_nonce.ensures o.counted o.renewed
     c.self.invariant.interval in
     let none : datagram_receiver_fault h d ≡ None = sym c.in_default.ensures.value in
-    let named : c.nonce_of-nonce.result ≡ nonce_named d = c.nonce_of-nonce.ensures in
-    let least : 24 ≤ length d = c.in_default.ensures.bounds.0 in
+    let named : c.nonce_of-nonce.result ≡ nonce_named d = c.nonce_of-nonce.ensures.value in
+    let least : 24 ≤ length d = c.in_default.ensures.bound.0 in
     let front = sym (after-front 8 d c.open_within.new.message (omega arith)) in
     let payload = take c.in-Ok.len (drop 8 (put_mid 8 (length d - 8) d c.open_within.new.message)) in
     let there : IsUnderKey h d payload =
@@ -93,8 +93,8 @@ returns-in-Err-clause-opens c =
     let set = c.set_nonce.new.self in
     let same = ap (λ (z : HalfValue). datagram_receiver_value z c.self.inside.recent) (o.unchanged ∙ c.set_nonce.ensures) ∙ c.self.view_is in
     let none : datagram_receiver_fault h d ≡ None = sym c.in_default.ensures.value in
-    let named = c.nonce_of-nonce.ensures in
-    let apart : set.nonce ≢ last_nonce = λ e. c.in_default.ensures.bounds.2 (sym named ∙ sym (ap (λ (z : HalfValue). z.nonce) c.set_nonce.ensures) ∙ e) in
+    let named = c.nonce_of-nonce.ensures.value in
+    let apart : set.nonce ≢ last_nonce = λ e. c.in_default.ensures.bound.2 (sym named ∙ sym (ap (λ (z : HalfValue). z.nonce) c.set_nonce.ensures) ∙ e) in
     let listens = half-listens set h d (ap (λ (z : HalfValue). z.role) c.set_nonce.ensures ∙ ap (λ (x : DatagramReceiverValue). x.role) c.self.view_is)
     (ap (λ (z : HalfValue). z.one_way) c.set_nonce.ensures ∙ ap (λ (x : DatagramReceiverValue). x.one_way) c.self.view_is) none apart in
     let never = λ (payload : List ℕ) (there : IsUnderKey h d payload). o.opened listens payload
@@ -109,4 +109,4 @@ returns-in-Err-clause-opens c =
     }
 
 pub nonce_of-nonce-requires : goal.nonce_of-nonce-requires
-nonce_of-nonce-requires c = has-nonce (length c.args.datagram.now) c.in_default.ensures.bounds.0
+nonce_of-nonce-requires c = record { long = has-nonce (length c.args.datagram.now) c.in_default.ensures.bound.0 }

@@ -11,8 +11,8 @@ use Rattle.noise_session.proofs.end.End.write_to.Goals as goal
 front-of : (out rest : List ℕ) (n len : ℕ) → n ≤ len → n ≤ length out → take n (take len (out ++ rest)) ≡ take n out
 front-of out rest n len f g = take-take n len (out ++ rest) f ∙ take-append-le n out rest g
 
-pub returns-in_err-len-clause-puts : goal.returns-in_err-len-clause-puts
-returns-in_err-len-clause-puts g c v s =
+pub returns-in_err-len-clause-writes : goal.returns-in_err-len-clause-writes
+returns-in_err-len-clause-writes g c v s =
     let t : EndMatches g.K.Keys.public_of g.K.Keys.agreement _ v = subst (λ u. EndMatches g.K.Keys.public_of g.K.Keys.agreement u v) (sym c.self.view_is) s in
     let e = c.in_err-len.ensures.writes.sends v t in
     let fault = c.in_err-len.field-0.0 in
@@ -26,8 +26,8 @@ returns-in_err-len-clause-puts g c v s =
       e.1,
     )
 
-pub returns-in-Ok-clause-puts : goal.returns-in-Ok-clause-puts
-returns-in-Ok-clause-puts g c v s =
+pub returns-in-Ok-clause-writes : goal.returns-in-Ok-clause-writes
+returns-in-Ok-clause-writes g c v s =
     let t : EndMatches g.K.Keys.public_of g.K.Keys.agreement _ v = subst (λ u. EndMatches g.K.Keys.public_of g.K.Keys.agreement u v) (sym c.self.view_is) s in
     let w = c.in_ok-len.ensures.writes.sends v t in
     let len = c.in_ok-len.len in
@@ -47,8 +47,8 @@ returns-in-Ok-clause-puts g c v s =
       w.2,
     )
 
-pub returns-in-Err-clause-puts : goal.returns-in-Err-clause-puts
-returns-in-Err-clause-puts g c v s =
+pub returns-in-Err-clause-writes : goal.returns-in-Err-clause-writes
+returns-in-Err-clause-writes g c v s =
     let t : EndMatches g.K.Keys.public_of g.K.Keys.agreement _ v = subst (λ u. EndMatches g.K.Keys.public_of g.K.Keys.agreement u v) (sym c.self.view_is) s in
     let w = c.in_ok-len.ensures.writes.sends v t in
     let len = c.in_ok-len.len in
@@ -64,7 +64,7 @@ returns-in-Err-clause-puts g c v s =
     let less : written < length frame = subst (λ (xs : List ℕ). written < length xs) handed c.in-Err.ensures.written.0 in
     let ended_party : EndMatches g.K.Keys.public_of g.K.Keys.agreement _ (ended_session w.0) =
     subst (λ e. EndMatches g.K.Keys.public_of g.K.Keys.agreement e (ended_session w.0)) (sym c.end.ensures)
-    (record { phase = phase-ended g.K.Keys.public_of g.K.Keys.agreement c.send.new.self.party.phase w.0 w.2.phase; partial = refl }) in (
+    (record { phase = phase-ended g.K.Keys.public_of g.K.Keys.agreement c.send.new.self.phase w.0 w.2.phase; partial = refl }) in (
       take written frame,
       ended_session w.0,
       broken v w.0 c.args.payload.now frame written w.1 less,

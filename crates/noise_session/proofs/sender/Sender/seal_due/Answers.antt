@@ -7,8 +7,8 @@ pub returns : goal.returns
 returns c =
     let payload = c.args.payload.now in
     let s = seals-of _ _ _ _ payload _ _ _ (copied-there payload c.copy_from_slice.new.self c.args.out.now c.copy_from_slice.ensures.after)
-    c.encrypt_due.ensures in
-    record {
+    c.encrypt_due.ensures.seals in
+    record { seals = record {
       fault = s.fault;
       below = s.below;
       len = s.len;
@@ -19,4 +19,4 @@ returns c =
       sealed = s.sealed;
       renewed = s.renewed;
       seals = s.seals;
-    }
+    } }

@@ -5,10 +5,10 @@ use Rattle.noise_session.proofs.sender.Sender.seal_frame.Goals as goal
 
 pub returns : goal.returns
 returns c =
-    let s = c.seal_due-len.ensures in
+    let s = c.seal_due-len.ensures.seals in
     let message = framed c.seal_due-len.result c.frame_message.result c.args.out.now c.seal_due-len.new.out c.frame_message.new.out (omega arith)
     c.frame_message.ensures.frame in
-    record {
+    record { seals = record {
       fault = search rules;
       below = search rules;
       len = search rules;
@@ -19,4 +19,4 @@ returns c =
       sealed = message ∙ ap frame s.sealed;
       renewed = search rules;
       seals = λ v p. (message ∙ ap frame (s.seals v p).0, (s.seals v p).1);
-    }
+    } }

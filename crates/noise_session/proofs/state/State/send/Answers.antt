@@ -15,18 +15,18 @@ due-fits : (p : Progress) (n room : ℕ) → ForSome (frame_len_of p n) (λ k. k
 due-fits p n room fits due = fits _ (due-len p n due)
 
 pub write-requires : goal.write-requires
-write-requires g c = λ due.
+write-requires g c =
     let n = length c.args.payload.now in
     let out = c.args.out.now in
-    let p = progress_in c.args.self.now.party.phase in
-    room-after 2 out (message_length p n) c.min-start.result (due-fits p n (length out) c.requires due) (omega arith)
+    let p = progress_in c.args.self.now.phase in
+    record { room = λ due. room-after 2 out (message_length p n) c.min-start.result (due-fits p n (length out) c.requires.room due) (omega arith) }
 
 pub frame_message-requires-clause-room : goal.frame_message-requires-clause-room
 frame_message-requires-clause-room g c =
     let n = length c.args.payload.now in
     let out = c.args.out.now in
     let len = c.in-Ok.len in
-    let room = due-fits (progress_in c.args.self.now.party.phase) n (length out) c.requires c.in-Ok.ensures.len.0 in
+    let room = due-fits (progress_in c.args.self.now.phase) n (length out) c.requires.room c.in-Ok.ensures.len.0 in
     let start : 2 ≡ c.min-start.result = omega arith in
     subst (λ (k : ℕ). len + 2 ≤ length (put_mid k (length out - k) out c.write.new.out)) start
     (room-left 2 len out c.write.new.out (omega arith) c.in-Ok.ensures.len.2)
@@ -34,14 +34,14 @@ frame_message-requires-clause-room g c =
 pub returns-in-Ok-clause-writes : goal.returns-in-Ok-clause-writes
 returns-in-Ok-clause-writes g c =
     let n = length c.args.payload.now in
-    let p = progress_in c.args.self.now.party.phase in
+    let p = progress_in c.args.self.now.phase in
     let out = c.args.out.now in
     let len = c.in-Ok.len in
     let whole = c.frame_message.result in
     let written = c.write.new.out in
     let new = c.frame_message.new.out in
     let due = c.in-Ok.ensures.len.0 in
-    let room = due-fits p n (length out) c.requires due in
+    let room = due-fits p n (length out) c.requires.room due in
     let start : c.min-start.result ≡ 2 = omega arith in
     let is : take whole new ≡ frame (take len (drop 2 (put_mid 2 (length out - 2) out written))) =
     subst (λ (k : ℕ). take whole new ≡ frame (take len (drop 2 (put_mid k (length out - k) out written)))) start c.frame_message.ensures.frame in

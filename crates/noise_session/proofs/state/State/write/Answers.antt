@@ -27,7 +27,7 @@ returns-in-Err-NotYourTurn-clause-sends g c v s =
     let h = as-handshake g.K.Keys.public_of g.K.Keys.agreement _ _ _ v c.in-Handshaking.is s.phase in
     let reported = rw c.in-Err-NotYourTurn.field-0-is at c.in-Err-NotYourTurn.ensures.fault in
     let unchanged = rw c.in-Err-NotYourTurn.field-0-is at c.in-Err-NotYourTurn.ensures.state in
-    let due = subst (λ (p : Phase g.row.K.Denot). IsTrue (is_due p)) c.in-Handshaking.is c.args.self.now.party.due in
+    let due = subst (λ (p : Phase g.row.K.Denot). IsTrue (is_due p)) c.in-Handshaking.is c.args.self.now.due in
     let why = refused-by g.K.Keys.public_of g.K.Keys.agreement _ _ v n _ s.phase c.in-Handshaking.is
     (not-turn c.in-Handshaking.handshake n c.args.out.now c.write.new.out due reported) in (
       refuses v c.args.payload.now fault.NotYourTurn why,
@@ -40,7 +40,7 @@ returns-in-Err-TooLong-clause-sends g c v s =
     let h = as-handshake g.K.Keys.public_of g.K.Keys.agreement _ _ _ v c.in-Handshaking.is s.phase in
     let reported = rw c.in-Err-TooLong.field-0-is at c.in-Err-TooLong.ensures.fault in
     let unchanged = rw c.in-Err-TooLong.field-0-is at c.in-Err-TooLong.ensures.state in
-    let due = subst (λ (p : Phase g.row.K.Denot). IsTrue (is_due p)) c.in-Handshaking.is c.args.self.now.party.due in
+    let due = subst (λ (p : Phase g.row.K.Denot). IsTrue (is_due p)) c.in-Handshaking.is c.args.self.now.due in
     let why = refused-by g.K.Keys.public_of g.K.Keys.agreement _ _ v n _ s.phase c.in-Handshaking.is
     (too-long c.in-Handshaking.handshake n c.args.out.now c.write.new.out due reported) in (
       refuses v c.args.payload.now fault.TooLong why,
@@ -73,25 +73,25 @@ pub returns-in-Ok-seal-clause-sends : goal.returns-in-Ok-seal-clause-sends
 returns-in-Ok-seal-clause-sends g c v s =
     let n = length c.args.payload.now in
     let o = as-open g.K.Keys.public_of g.K.Keys.agreement _ _ v c.in-Open.is s.phase in
-    let r = c.in-Ok-seal.ensures.half.seals (transport_in v) o.transport.sender in
+    let r = c.in-Ok-seal.ensures.seals.half.seals (transport_in v) o.transport.sender in
     let due = refused-by g.K.Keys.public_of g.K.Keys.agreement _ _ v n _ s.phase c.in-Open.is
-    (seal-due (seal_fault c.in-Open.transport n) c.in-Ok-seal.len c.in-Ok-seal.ensures.half.fault) in
+    (seal-due (seal_fault c.in-Open.transport n) c.in-Ok-seal.len c.in-Ok-seal.ensures.seals.half.fault) in
     let next : EndState = record v { sent = v.sent + 1 } in (
       next,
       subst (λ (m : List ℕ). Sends v c.args.payload.now (Ok (frame m)) next) (sym r.0)
           (sends_transport v c.args.payload.now due (is-open v c.in-Open.transport o)),
-      record { phase = record { going = o.going; all = o.all; transport = c.in-Ok-seal.ensures.matches (transport_in v) o.transport }; partial = s.partial },
+      record { phase = record { going = o.going; all = o.all; transport = c.in-Ok-seal.ensures.seals.matches (transport_in v) o.transport }; partial = s.partial },
     )
 
 pub returns-in-Err-Exhausted-clause-sends : goal.returns-in-Err-Exhausted-clause-sends
 returns-in-Err-Exhausted-clause-sends g c v s =
     let n = length c.args.payload.now in
     let o = as-open g.K.Keys.public_of g.K.Keys.agreement _ _ v c.in-Open.is s.phase in
-    let reported = rw c.in-Err-Exhausted.field-0-is at c.in-Err-Exhausted.ensures.half.fault in
+    let reported = rw c.in-Err-Exhausted.field-0-is at c.in-Err-Exhausted.ensures.seals.half.fault in
     let why = refused-by g.K.Keys.public_of g.K.Keys.agreement _ _ v n _ s.phase c.in-Open.is
     (seal-refused (seal_fault c.in-Open.transport n) fault.Exhausted reported) in
     let ended_party : EndedMatches c.seal.new.self.role (Some c.seal.new.self.hash) (ended_session v) =
-    subst (λ (t : TransportValue). EndedMatches t.role (Some t.hash) (ended_session v)) (sym c.in-Err-Exhausted.ensures.unchanged)
+    subst (λ (t : TransportValue). EndedMatches t.role (Some t.hash) (ended_session v)) (sym c.in-Err-Exhausted.ensures.seals.unchanged)
     (ended-open c.in-Open.transport v o []) in (
       refuses v c.args.payload.now fault.Exhausted why,
       subst (λ e. EndMatches g.K.Keys.public_of g.K.Keys.agreement e (ended_session v)) (sym c.end-in-Err-Exhausted.ensures) (record { phase = ended_party; partial = refl }),
@@ -101,20 +101,20 @@ pub returns-in-Err-OneWay-clause-sends : goal.returns-in-Err-OneWay-clause-sends
 returns-in-Err-OneWay-clause-sends g c v s =
     let n = length c.args.payload.now in
     let o = as-open g.K.Keys.public_of g.K.Keys.agreement _ _ v c.in-Open.is s.phase in
-    let reported = rw c.in-Err-OneWay.field-0-is at c.in-Err-OneWay.ensures.half.fault in
+    let reported = rw c.in-Err-OneWay.field-0-is at c.in-Err-OneWay.ensures.seals.half.fault in
     let why = refused-by g.K.Keys.public_of g.K.Keys.agreement _ _ v n _ s.phase c.in-Open.is
     (seal-refused (seal_fault c.in-Open.transport n) fault.OneWay reported) in (
       refuses v c.args.payload.now fault.OneWay why,
-      record { phase = subst (λ (t : TransportValue). OpenMatches t v) (sym c.in-Err-OneWay.ensures.unchanged) o; partial = s.partial },
+      record { phase = subst (λ (t : TransportValue). OpenMatches t v) (sym c.in-Err-OneWay.ensures.seals.unchanged) o; partial = s.partial },
     )
 
 pub returns-in-Err-TooLong-seal-clause-sends : goal.returns-in-Err-TooLong-seal-clause-sends
 returns-in-Err-TooLong-seal-clause-sends g c v s =
     let n = length c.args.payload.now in
     let o = as-open g.K.Keys.public_of g.K.Keys.agreement _ _ v c.in-Open.is s.phase in
-    let reported = rw c.in-Err-TooLong-seal.field-0-is at c.in-Err-TooLong-seal.ensures.half.fault in
+    let reported = rw c.in-Err-TooLong-seal.field-0-is at c.in-Err-TooLong-seal.ensures.seals.half.fault in
     let why = refused-by g.K.Keys.public_of g.K.Keys.agreement _ _ v n _ s.phase c.in-Open.is
     (seal-refused (seal_fault c.in-Open.transport n) fault.TooLong reported) in (
       refuses v c.args.payload.now fault.TooLong why,
-      record { phase = subst (λ (t : TransportValue). OpenMatches t v) (sym c.in-Err-TooLong-seal.ensures.unchanged) o; partial = s.partial },
+      record { phase = subst (λ (t : TransportValue). OpenMatches t v) (sym c.in-Err-TooLong-seal.ensures.seals.unchanged) o; partial = s.partial },
     )

@@ -5,7 +5,7 @@ use Rattle.noise_session.proofs.Parties.{no-hash, as-handshake, as-open, phase-p
 use Rattle.noise_session.proofs.Judging.{opened-as, dropped-as, exhausted-as, ended-open}
 use Rattle.noise_session.specs.declared.faults.OpenFault.TheVariants as unopened
 use Rattle.noise_session.specs.declared.phase.Phase.TheVariants as phase
-use Rattle.noise_session.proofs.phase.DuePhase.read.Goals as goal
+use Rattle.noise_session.proofs.phase.Phase.read.Goals as goal
 
 pub returns-in-Ok-clause-judges : goal.returns-in-Ok-clause-judges
 returns-in-Ok-clause-judges g c v s =
