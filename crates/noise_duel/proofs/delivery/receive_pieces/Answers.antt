@@ -6,7 +6,7 @@ pub returns-in-Some : goal.returns-in-Some
 returns-in-Some g c s matches =
     stopped-piece g.K.Keys.public_of g.K.Keys.agreement s c.args.role c.args.bytes.now c.loop-rest.rest.now c.split_at.result.0.now c.split_at.result.1.now
     c.loop-rest.end c.receive_piece.new.end c.args.entries.now.items c.loop-rest.entries.items c.receive_piece.new.entries.items c.in_ok-why.field-0
-    c.in-Some.why c.in-Some.left (c.loop-rest.invariant.some s matches) c.split_at.ensures.by_index.0 c.in-Some.is c.in_ok-why.ensures.stops
+    c.in-Some.why c.in-Some.left (c.loop-rest.invariant.some s matches) c.split_at.ensures.by_index.0 c.in-Some.is c.in_ok-why.ensures.left
 
 pub loop-rest-preserved : goal.loop-rest-preserved
 loop-rest-preserved g c =
@@ -19,5 +19,5 @@ loop-rest-preserved g c =
           received-piece g.K.Keys.public_of g.K.Keys.agreement s c.args.role c.args.bytes.now
           c.loop-rest.rest.now c.split_at.result.0.now c.split_at.result.1.now c.loop-rest.end c.receive_piece.new.end
           c.args.entries.now.items c.loop-rest.entries.items c.receive_piece.new.entries.items c.in_ok-why.field-0
-          (c.loop-rest.invariant.some s matches) c.split_at.ensures.by_index.0 c.in_default.is c.in_ok-why.ensures.stops;
+          (c.loop-rest.invariant.some s matches) c.split_at.ensures.by_index.0 c.in_default.is c.in_ok-why.ensures.left;
     }

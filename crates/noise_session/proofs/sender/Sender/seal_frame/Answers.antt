@@ -8,15 +8,17 @@ returns c =
     let s = c.seal_due-len.ensures.seals in
     let message = framed c.seal_due-len.result c.frame_message.result c.args.out.now c.seal_due-len.new.out c.frame_message.new.out (omega arith)
     c.frame_message.ensures.frame in
-    record { seals = record {
-      fault = search rules;
-      below = search rules;
-      len = search rules;
-      rest = rest-after 2 c.seal_due-len.result c.frame_message.result c.args.out.now c.seal_due-len.new.out c.frame_message.new.out (omega arith)
-          (omega arith) c.frame_message.ensures.beyond s.rest;
-      counted = search rules;
-      unchanged = search rules;
-      sealed = message ∙ ap frame s.sealed;
-      renewed = search rules;
-      seals = λ v p. (message ∙ ap frame (s.seals v p).0, (s.seals v p).1);
-    } }
+    record {
+      seals = record {
+        fault = search rules;
+        below = search rules;
+        len = search rules;
+        rest = rest-after 2 c.seal_due-len.result c.frame_message.result c.args.out.now c.seal_due-len.new.out c.frame_message.new.out (omega arith)
+            (omega arith) c.frame_message.ensures.beyond s.rest;
+        counted = search rules;
+        unchanged = search rules;
+        sealed = message ∙ ap frame s.sealed;
+        renewed = search rules;
+        seals = λ v p. (message ∙ ap frame (s.seals v p).0, (s.seals v p).1);
+      };
+    }
