@@ -56,7 +56,8 @@ module _ {allowed : AllowedEvents} {text : List ℕ} {file : VectorFile} (read :
 
   pub has-run : (before after : Option (List ℕ)) (result : Result Unit Fault) → OnOk result (Appends before after (lines_text printed))
       → OnOk result (IsMet (bytes_of outcome.expected.items) (bytes_of outcome.lines.items)) → OnOk result (HasRun Prints text before after)
-  has-run before after (Ok u) grown met = search (rules, printed-of)
+  has-run before after (Ok u) grown met =
+      printed-of AreMet before after grown (subst (λ (es : List (List ℕ)). IsMet es (bytes_of outcome.lines.items)) expected met)
   has-run before after (Err fault) grown met = tt
 
   pub no-run : (before after : Option (List ℕ)) (result : Result Unit Fault)
