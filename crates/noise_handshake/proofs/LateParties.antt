@@ -4,7 +4,7 @@ use Rattle.std.specs.Prelude.{Bool, true, false, not, is_none, is_some, if◌the
 use Rattle.noise_handshake.proofs.Common.{take-append-le, drop-append-le, ◌&&◌, ◌==◌, Option, Some, None, MatchOption, count_by, Token, is_psk, Own, Cause, Agreement, ReadFault, Err, Ok, MatchResult, Result, HandshakeValue, HasPsks, Advances, IsAgreement, ended_as, is_turn, read_fault, write_fault, WriteFault, E, S, Ephemeral, Static, IsLateWhole, IsSound, KnowsRemote, is_among, places_of, IsSupplied, Matches, MatchesWith, Plan, psks_of, with_later, WantsPskToRead, WantsPskToWrite, ValueMatches, DoesNotRead, DoesNotWrite, after_message, after_own, after_not_read, after_not_written, ended_party, Party, Accepts, BeginsAs, Listens, CanBegin, Refuses, Speaks, reader, tokens_at, tokens_now, LacksDhResultFor, WantsToRead, WantsToWrite, Writes, LacksDhResult, LacksDhResultAt, writer, IsPskAfter, BeginsBefore}
 use Rattle.noise_handshake.specs.Calls.{HasNotWritten, HasWrittenTo}
 use Rattle.noise_handshake.specs.HandshakeValue.{after_write_fault}
-use Rattle.noise_handshake.specs.Opening.{Opening, IsOpeningOf}
+use Rattle.noise_handshake.specs.Opening.{OpenedValue, IsOpenedOf}
 use Rattle.noise_handshake.specs.Parts.{IsWholeValue}
 use Rattle.noise_handshake.proofs.Fronts.{lacks-all, lacks-first, lacks-for-all}
 use Rattle.noise_handshake.proofs.Apart.{front-apart, reads-leads}
@@ -211,7 +211,7 @@ pub whole-late : {K : Type 0} (public_of : K → Own → Option (List ℕ)) (h :
     → IsWholeValue public_of h → IsWholeValue public_of (record h { psks = u })
 whole-late public_of h u e w = search
 
-pub opens-partial : (o : Opening) (v : Party) (u : List (List ℕ)) → IsOpeningOf o (holding v u) → IsOpeningOf o v
+pub opens-partial : (o : OpenedValue) (v : Party) (u : List (List ℕ)) → IsOpenedOf o (holding v u) → IsOpenedOf o v
 opens-partial o v u p = search
 
 -- ---- writing

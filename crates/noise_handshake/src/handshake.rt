@@ -66,7 +66,7 @@ impl<K: Keys> Handshake<K> {
     ghost use Rattle.noise_handshake.specs.Calls.{HasBegun, HasNotRead, HasNotWritten, HasRead, HasReadAt, HasWrittenTo, IsPlaceIn, IsSameAround, ReadingWants, WritingWants, speaks_now};
     ghost use Rattle.noise_handshake.specs.Late.{IsLateWhole, MatchesWith, late_fault, with_later};
     ghost use Rattle.noise_handshake.specs.Matching.{Matches, ValueMatches, DoesNotWrite, IsSupplied};
-    ghost use Rattle.noise_handshake.specs.Opening.{IsOpeningOf};
+    ghost use Rattle.noise_handshake.specs.Opening.{IsOpenedOf};
     ghost use Rattle.noise_handshake.specs.Parts.{held_of, HasProgress, IsWholeValue};
     ghost use Rattle.noise_handshake.specs.Setup.{party_at_start, psks_of, setup_fault};
     ghost use Rattle.noise_handshake.specs.Writing.{Writes, writer};
@@ -691,9 +691,9 @@ impl<K: Keys> Handshake<K> {
     /// What the handshake leaves once all messages have passed and it hasn't ended; else it comes back as it was.
     pub fn finish(self) -> Result<Opened, Handshake<K>>
         ensures when { IsOk result ↔ ((self.ended ≡ false) × (self.passed ≡ length self.pattern.messages)) }
-        ensures opened { (v : Party) → Matches K.public_of K.agreement self v → IfOk result (λ o. IsOpeningOf o v) }
+        ensures opened { (v : Party) → Matches K.public_of K.agreement self v → IfOk result (λ o. IsOpenedOf o v) }
         ensures late { (v : Party) (later : List (List ℕ)) → MatchesWith K.public_of K.agreement later self v
-            → IfOk result (λ o. IsOpeningOf o v) }
+            → IfOk result (λ o. IsOpenedOf o v) }
         ensures back { IfErr result (λ h. h ≡ self) }
     {
         if self.ended || (self.passed as usize) < self.pattern.pattern().messages().len() {

@@ -5,7 +5,7 @@ use Rattle.noise_theorems.proofs.transcript.talk.Goals as goal
 pub returns-clause-printed : goal.returns-clause-printed
 returns-clause-printed g c f p lines fits is =
     let laws : Once = record {
-      runs = c.fitting_lines_run.ensures;
+      runs = c.fitting_messages_run.ensures;
       once = c.file_run_once.ensures;
       unique = c.vector_texts_are_unique.ensures;
     } in
@@ -15,7 +15,7 @@ returns-clause-printed g c f p lines fits is =
 pub returns-clause-met : goal.returns-clause-met
 returns-clause-met g c f p lines fits is =
     let laws : Once = record {
-      runs = c.fitting_lines_run.ensures;
+      runs = c.fitting_messages_run.ensures;
       once = c.file_run_once.ensures;
       unique = c.vector_texts_are_unique.ensures;
     } in
@@ -25,7 +25,7 @@ returns-clause-met g c f p lines fits is =
 pub returns-clause-taken : goal.returns-clause-taken
 returns-clause-taken g c f p lines fits is =
     let laws : Once = record {
-      runs = c.fitting_lines_run.ensures;
+      runs = c.fitting_messages_run.ensures;
       once = c.file_run_once.ensures;
       unique = c.vector_texts_are_unique.ensures;
     } in
@@ -35,7 +35,7 @@ returns-clause-taken g c f p lines fits is =
 pub returns-clause-prefix : goal.returns-clause-prefix
 returns-clause-prefix g c f p lines fits is =
     let laws : Once = record {
-      runs = c.fitting_lines_run.ensures;
+      runs = c.fitting_messages_run.ensures;
       once = c.file_run_once.ensures;
       unique = c.vector_texts_are_unique.ensures;
     } in
