@@ -4,9 +4,10 @@ pub use Rattle.std.proofs.lemmas.Bool.{and_from, and_parts, cases_lt, eqb-false,
 pub use Rattle.std.proofs.lemmas.Bool.Decides.{nat_tests}
 pub use Rattle.std.specs.Prelude.{Bool, IfOk, IfSome, IsOk, MatchOption, None, Option, Result, Some, cond, count_by, find, if◌then◌else◌, is_some, max, nat_eq, nat_lt, ◌==◌, ◌||◌}
 pub use Rattle.noise_handshake.specs.Counterparts.{is_dh}
-pub use Rattle.noise_handshake.specs.HandshakeValue.{HandshakeValue, IsAgreement, ended_as, length_unless, message_len_of, write_fault}
-pub use Rattle.noise_handshake.specs.Late.{IsLateOfTurn, IsLateWant, IsLateWhole, LeavesLateUnread, LeavesLateUnwritten, WantsLate, WantsPskToRead, WantsPskToWrite, after_late_declined, after_late_unread, with_later}
-pub use Rattle.noise_handshake.specs.Matching.{DoesNotRead, Matches, after_message, after_not_read, after_own}
+pub use Rattle.noise_handshake.specs.Asking.{LeavesUnread, LeavesUnwritten, Wants, WantsPskToRead, WantsPskToWrite, after_asked}
+pub use Rattle.noise_handshake.specs.HandshakeValue.{HandshakeValue, IsAgreement, IsOfTurn, IsWant, after_unread, ended_as, length_unless, message_len_of, write_fault}
+pub use Rattle.noise_handshake.specs.Late.{IsLateWhole, with_later}
+pub use Rattle.noise_handshake.specs.Matching.{DoesNotRead, ValueMatches, after_message, after_not_read, after_own}
 pub use Rattle.noise_handshake.specs.Party.{Accepts, BeginsAs, CanBegin, Fit, Fits, Party, Reader, Reads, Refuses, Stops, cause_at, cause_of, dh_result_of, first_psk, known_after, own_at, psks_after, reader, remote_after, remote_at, tokens_at, tokens_now}
 pub use Rattle.noise_handshake.specs.Setup.{party_at_start, psks_of, setup_fault}
 pub use Rattle.noise_handshake.specs.Wanting.{LacksDhResultFor, StopsFor, WantsToRead, WantsToWrite}
@@ -14,7 +15,7 @@ pub use Rattle.noise_handshake.specs.Writing.{Given, Gives, LacksDhResultAt, Wri
 pub use Rattle.noise_handshake.specs.declared.faults.Cause.{Cause}
 pub use Rattle.noise_handshake.specs.declared.faults.Cause.TheVariants.{Agreement, Short, Tag}
 pub use Rattle.noise_handshake.specs.declared.faults.ReadFault.{ReadFault}
-pub use Rattle.noise_handshake.specs.declared.late_faults.Want.{Want}
+pub use Rattle.noise_handshake.specs.declared.faults.Want.{Want}
 pub use Rattle.noise_handshake.specs.declared.remote.Remote.{Remote}
 pub use Rattle.noise_keys.specs.Table.{Table, TableEntry, dh_result_in, is_for, same_own}
 pub use Rattle.noise_keys.specs.declared.keys.Own.{Own}

@@ -7,7 +7,7 @@ use Rattle.std.specs.Prelude.{map, take}
 use Rattle.std.proofs.lemmas.List.{map-append, take_all}
 use Rattle.noise_c.specs.HandshakeStructs.{entry_in}
 use Rattle.noise_c.specs.declared.structs.NoiseAnswer.{NoiseAnswer}
-use Rattle.noise_c.proofs.Common.{Plan, HandshakeValue, with_later, IsLateWhole, Party, Table, NoiseHandshake, psks_of, Matches, IsValid, public_in, agreement_in, text_from_c, handshake_from_c, IsGiven, IsPatternOf, IsUsable, KeepsParty}
+use Rattle.noise_c.proofs.Common.{Plan, HandshakeValue, with_later, IsLateWhole, Party, Table, NoiseHandshake, psks_of, ValueMatches, IsValid, public_in, agreement_in, text_from_c, handshake_from_c, IsGiven, IsPatternOf, IsUsable, KeepsParty}
 use Rattle.noise_handshake.specs.Parts.{IsWholeValue}
 
 set-first : {X : Type 0} (ws : List X) (y : X) → length ws ≡ 1 → slice_set ws 0 y ≡ y ∷ []
@@ -48,7 +48,7 @@ matches-later old new psk p v later g e k =
     record {
       pattern = subst (λ (z : List ℕ). IsPatternOf z p) (sym g.text) k.pattern;
       later = later;
-      matches = subst (λ (z : HandshakeValue Table). Matches public_in agreement_in z v) same k.matches;
+      matches = subst (λ (z : HandshakeValue Table). ValueMatches public_in agreement_in z v) same k.matches;
     }
 
 -- where a psk lacks, one more may be there

@@ -9,10 +9,10 @@ use borrow.Rule.Slice.PartMut.{mid_of, put_mid, same_len_mid}
 use Rattle.noise_session.specs.declared.faults.OpenFault.{OpenFault}
 use Rattle.noise_session.specs.declared.faults.OpenFault.TheVariants.{Short, Tag, Exhausted, OneWay}
 use Rattle.noise_session.specs.TransportValue.{TransportState, transport_of}
-use Rattle.noise_channel.specs.Halves.{ReaderMatches, ReaderValue}
+use Rattle.noise_channel.specs.Halves.{StreamReceiverMatches, StreamReceiverValue}
 use Rattle.noise_channel.specs.Streams.{Direction, incoming}
-use Rattle.noise_channel.specs.Reading.{ReaderState, NextValue, ChannelReads}
-use Rattle.noise_channel.specs.Reading.ReaderState.{Listens}
+use Rattle.noise_channel.specs.Reading.{StreamReceiverState, NextValue, ChannelReads}
+use Rattle.noise_channel.specs.Reading.StreamReceiverState.{Listens}
 use Rattle.noise_channel.specs.Reading.NextValue.{Wants, Payload, End, Refused, Closed}
 use Rattle.noise_channel.specs.Reading.ChannelReads.{wants, gives, ends, refuses, closed_at_end, closed_broken}
 use Rattle.noise_channel.specs.Runs.{Rests, uses, payloads}
@@ -32,7 +32,7 @@ IsStill (End used) = ⊥
 IsStill (Refused cause) = Unit {0}
 IsStill Closed = Unit {0}
 
-still-rests : (d : Direction) (s t : ReaderState) (came : List ℕ) (g : NextValue) → ChannelReads d s came g t → IsStill g → Rests d t came
+still-rests : (d : Direction) (s t : StreamReceiverState) (came : List ℕ) (g : NextValue) → ChannelReads d s came g t → IsStill g → Rests d t came
 still-rests d s t came g (wants _ n _ partial) still = (_, _, wants d n came partial, tt)
 still-rests d s t came g (gives _ _ _ p listens f some) still = absurd still
 still-rests d s t came g (ends _ _ _ listens f) still = absurd still
@@ -54,12 +54,12 @@ refusal-is Exhausted code e = (omega (arith, e), omega (arith, e))
 refusal-is OneWay code e = (omega (arith, e), omega (arith, e))
 
 -- what the struct holds after a call
-abbrev pub Gave : TransportState → ReaderState → List ℕ → ℕ → NoiseStreamResult → List ℕ → NoiseStreamReceiver → Type 0
+abbrev pub Gave : TransportState → StreamReceiverState → List ℕ → ℕ → NoiseStreamResult → List ℕ → NoiseStreamReceiver → Type 0
 Gave v s buffer code results after new =
-    (g : NextValue) × (t : ReaderState) × ReportsGiven code results after g × ChannelReads (incoming v) s buffer g t
-    × ReaderMatches (stream_receiver_from_c new) v t
+    (g : NextValue) × (t : StreamReceiverState) × ReportsGiven code results after g × ChannelReads (incoming v) s buffer g t
+    × StreamReceiverMatches (stream_receiver_from_c new) v t
 
-module _ (v : TransportState) (s : ReaderState) (buffer after before : List ℕ) (results : NoiseStreamResult) (new : NoiseStreamReceiver) where
+module _ (v : TransportState) (s : StreamReceiverState) (buffer after before : List ℕ) (results : NoiseStreamResult) (new : NoiseStreamReceiver) where
   payload-given : (g : NextValue) → ReportsGiven 0 results after g
       → (results.used ≡ uses g) × (slice_range after results.from (results.from + results.len) ≡ concat (payloads g))
   payload-given (Payload payload used) h = (h.1, sym h.2 ∙ sym (append-nil payload))
@@ -157,7 +157,7 @@ handed-or writer came before after (Ok whole) (inr f) = inr f
 handed-or writer came before after (Err e) h = tt
 
 -- each state that the handshake matches is that of a reader
-pub all-read : (k : NoiseHandshake) (interval : ℕ) (came before after : List ℕ) (receiver : ReaderValue) (r : Result Bool AllocError)
+pub all-read : (k : NoiseHandshake) (interval : ℕ) (came before after : List ℕ) (receiver : StreamReceiverValue) (r : Result Bool AllocError)
     → ((p : Plan) (v : Party) → KeepsParty k p v
     → IfOk r (λ whole. ReadsToEnd (transport_of v interval) (Listens 0) came before after receiver whole))
     → IfOk r (λ whole. ReadsAfter k interval came before after whole)

@@ -8,18 +8,18 @@ use Rattle.std.specs.List.{concat}
 use Rattle.std.proofs.lemmas.List.{take_all}
 use Rattle.noise_session.specs.TransportValue.{TransportState}
 use Rattle.noise_channel.specs.Streams.{Direction, outgoing}
-use Rattle.noise_channel.specs.Writing.{ChannelWrites, WriterState, has_ended, payload_in}
+use Rattle.noise_channel.specs.Writing.{ChannelWrites, StreamSenderState, has_ended, payload_in}
 use Rattle.noise_channel.specs.Writing.Asked.{ToEnd, ToWrite}
 use Rattle.noise_channel.specs.Writing.ChannelWrites.{ends}
 use Rattle.noise_channel.specs.Writing.Put.{Wrote}
-use Rattle.noise_channel.specs.Writing.WriterState.{Speaks}
+use Rattle.noise_channel.specs.Writing.StreamSenderState.{Speaks}
 use Rattle.noise_channel.specs.Writing.WritesAll.{goes_on, stops}
 use Rattle.noise_channel.specs.Receiving.{HandsOutAll}
 use Rattle.noise_c.specs.FinishedPrograms.{IsStreamOf}
 use Rattle.noise_c.proofs.Common.{nat_tests}
 use Rattle.noise_c.proofs.Received.{part-after}
 
-ends-it : (d : Direction) (s t : WriterState) (bytes : List ℕ) → ChannelWrites d s ToEnd (Wrote 0 bytes) t → has_ended t ≡ true
+ends-it : (d : Direction) (s t : StreamSenderState) (bytes : List ℕ) → ChannelWrites d s ToEnd (Wrote 0 bytes) t → has_ended t ≡ true
 ends-it d s t bytes (ends _ n speaks more) = refl
 
 one-part : (none : Bool) (n : ℕ) (text : List ℕ) → none ≡ false → concat (if none then [] else take n text ∷ []) ≡ take n text
@@ -50,7 +50,7 @@ joined-front at k b part within long =
 
 module _ (v : TransportState) (text : List ℕ) where
   -- the frame of a text that fits into one, and the end
-  pub stream-of : (t u : WriterState) (used : ℕ) (first last : List ℕ) → ChannelWrites (outgoing v) (Speaks 0) (ToWrite text) (Wrote used first) t
+  pub stream-of : (t u : StreamSenderState) (used : ℕ) (first last : List ℕ) → ChannelWrites (outgoing v) (Speaks 0) (ToWrite text) (Wrote used first) t
       → ChannelWrites (outgoing v) t ToEnd (Wrote 0 last) u → used ≡ length text → IsStreamOf v text (first ++ last)
   stream-of t u used first last one end all =
       let d = outgoing v in

@@ -9,11 +9,11 @@ use Rattle.noise_handshake.specs.Counterparts.{Counterparts}
 use Rattle.noise_handshake.specs.Party.{Party}
 use Rattle.noise_session.specs.Windows.{Recalls}
 use Rattle.noise_session.specs.TransportValue.{TransportState, transport_of}
-use Rattle.noise_channel.specs.Halves.{ReaderValue}
-use Rattle.noise_channel.specs.Reading.ReaderState.{Listens}
+use Rattle.noise_channel.specs.Halves.{StreamReceiverValue}
+use Rattle.noise_channel.specs.Reading.StreamReceiverState.{Listens}
 use Rattle.noise_channel.specs.Streams.{outgoing}
-use Rattle.noise_channel.specs.Writing.{Call, WriterState, WritesAll, bytes_put, has_ended, payloads_taken}
-use Rattle.noise_channel.specs.Writing.WriterState.{Speaks}
+use Rattle.noise_channel.specs.Writing.{Call, StreamSenderState, WritesAll, bytes_put, has_ended, payloads_written}
+use Rattle.noise_channel.specs.Writing.StreamSenderState.{Speaks}
 use Rattle.noise_duel.specs.Agreement.{IsSetUp, KeysAgree}
 use Rattle.noise_duel.specs.Messages.{HandshakeMessage, Start}
 use Rattle.noise_channel.specs.Finished.{HaveFinished}
@@ -97,14 +97,14 @@ ProgramsFinish = (p : Plan) (g h : Program) → HaveTalked p g h
 -- The half that the handshake leaves has read all that came, and it is said to be whole just where the end came and
 -- nothing is left.
 abbrev pub ReadsAfter : NoiseHandshake → ℕ → List ℕ → List ℕ → List ℕ → Bool → Type 0
-ReadsAfter k interval came before after whole = ForParty k (λ _ v. (r : ReaderValue)
+ReadsAfter k interval came before after whole = ForParty k (λ _ v. (r : StreamReceiverValue)
     × ReadsToEnd (transport_of v interval) (Listens 0) came before after r whole)
 
 -- The bytes are all that calls of a writer put out, which took this text, joined, and the end.
 pub record IsStreamOf (v : TransportState) (text bytes : List ℕ) : Type 0 where
   pub calls : List Call
-  pub state : WriterState
+  pub state : StreamSenderState
   pub writes : WritesAll (outgoing v) (Speaks 0) calls state
   pub put : bytes_put calls ≡ bytes
-  pub taken : concat (payloads_taken calls) ≡ text
+  pub taken : concat (payloads_written calls) ≡ text
   pub ended : has_ended state ≡ true

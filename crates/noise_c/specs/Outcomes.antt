@@ -2,7 +2,7 @@
 use Rattle.std.specs.Prelude.{◌≡◌, Bool, ℕ, ◌+◌, ◌<◌, ◌≤◌, ◌⊎◌, List, Option, length, take, drop, replicate, slice_range, Some}
 use Rattle.noise_names.specs.Plan.{Plan}
 use Rattle.noise_handshake.specs.HandshakeValue.{message_len_of}
-use Rattle.noise_handshake.specs.Late.{WantsPskToRead, WantsPskToWrite}
+use Rattle.noise_handshake.specs.Asking.{WantsPskToRead, WantsPskToWrite}
 use Rattle.noise_handshake.specs.Party.{Party}
 use Rattle.noise_handshake.specs.Wanting.{WantsToRead, WantsToWrite}
 use Rattle.noise_c.specs.declared.codes.numbers.TheConstants.{AGREEMENT, DONE, ENDED, LENGTH, NOT_YOUR_TURN, OK, ROOM, STRUCT, TAG, WANTED, WANTED_PSK}

@@ -3,17 +3,17 @@ use Rattle.std.specs.Prelude.{◌≡◌, ◌≢◌, ◌↔◌, ◌⊎◌, ◌≤
 use Rattle.noise_channel.specs.declared.fault.StreamFault.{StreamFault}
 use Rattle.noise_channel.specs.declared.next.StreamState.{StreamState}
 use Rattle.noise_channel.specs.declared.next.StreamState.TheVariants.{Open, Ended, Broken}
-use Rattle.noise_channel.specs.Halves.{WriterValue, ReaderValue, WriterMatches, ReaderMatches, is_writer, is_reader, writer_fault, end_fault, Counted}
+use Rattle.noise_channel.specs.Halves.{StreamSenderValue, StreamReceiverValue, StreamSenderMatches, StreamReceiverMatches, is_writer, is_reader, writer_fault, end_fault, Counted}
 use Rattle.noise_session.specs.TransportValue.{TransportState}
 use Rattle.noise_session.specs.Frames.{frame, frame_length, IsPartial}
 use Rattle.noise_channel.specs.Framing.{Begins}
 use Rattle.noise_channel.specs.Streams.{incoming, outgoing}
-use Rattle.noise_channel.specs.Writing.{Asked, ChannelWrites, WriterState}
+use Rattle.noise_channel.specs.Writing.{Asked, ChannelWrites, StreamSenderState}
 use Rattle.noise_channel.specs.Writing.Asked.{ToWrite, ToEnd}
-use Rattle.noise_channel.specs.Writing.WriterState.{Speaks}
+use Rattle.noise_channel.specs.Writing.StreamSenderState.{Speaks}
 use Rattle.noise_channel.specs.Writing.Put.{Wrote}
-use Rattle.noise_channel.specs.Reading.{NextValue, ReaderState, ChannelReads}
-use Rattle.noise_channel.specs.Reading.ReaderState.{Listens}
+use Rattle.noise_channel.specs.Reading.{NextValue, StreamReceiverState, ChannelReads}
+use Rattle.noise_channel.specs.Reading.StreamReceiverState.{Listens}
 use Rattle.noise_channel.specs.Reading.NextValue.{Wants, Payload, End, Refused, Closed}
 use Rattle.noise_c.specs.declared.structs.NoiseStreamSender.{NoiseStreamSender}
 use Rattle.noise_c.specs.declared.structs.NoiseStreamReceiver.{NoiseStreamReceiver}
@@ -23,7 +23,7 @@ use Rattle.noise_c.specs.HalfStructs.{is_half, half_from_c, IsAround}
 use Rattle.noise_c.specs.TransportCodes.{open_code, stream_code}
 
 -- the writer, and the reader
-abbrev pub stream_sender_from_c : NoiseStreamSender → WriterValue
+abbrev pub stream_sender_from_c : NoiseStreamSender → StreamSenderValue
 stream_sender_from_c k = record { half = half_from_c k.half; ended = not (k.ended == 0) }
 
 abbrev pub is_state : ℕ → Bool
@@ -32,7 +32,7 @@ is_state state = nat_lt state 3
 abbrev pub state_in : ℕ → StreamState
 state_in state = if state == 0 then Open else if state == 1 then Ended else Broken
 
-abbrev pub stream_receiver_from_c : NoiseStreamReceiver → ReaderValue
+abbrev pub stream_receiver_from_c : NoiseStreamReceiver → StreamReceiverValue
 stream_receiver_from_c k = record { half = half_from_c k.half; state = state_in k.state }
 
 -- A call has left this as a half of a stream: its mark is that of the kind in this layout, it is of one of the two
@@ -104,16 +104,17 @@ pub record LeavesReader (code : ℕ) (old new : NoiseStreamReceiver) : Type 0 wh
 
 -- nothing is written, or read, yet
 abbrev pub BeginsToWrite : NoiseStreamSender → TransportState → Type 0
-BeginsToWrite k v = WriterMatches (stream_sender_from_c k) v (Speaks 0)
+BeginsToWrite k v = StreamSenderMatches (stream_sender_from_c k) v (Speaks 0)
 
 abbrev pub BeginsToRead : NoiseStreamReceiver → TransportState → Type 0
-BeginsToRead k v = ReaderMatches (stream_receiver_from_c k) v (Listens 0)
+BeginsToRead k v = StreamReceiverMatches (stream_receiver_from_c k) v (Listens 0)
 
 -- asked for this, the half writes these bytes, of so many first bytes of the payload
 abbrev pub WritesNext : NoiseStreamSender → Asked → ℕ → List ℕ → NoiseStreamSender → Type 0
 WritesNext old asked taken bytes new =
-    (v : TransportState) (s : WriterState) → WriterMatches (stream_sender_from_c old) v s → (t : WriterState)
-    × ChannelWrites (outgoing v) s asked (Wrote taken bytes) t × WriterMatches (stream_sender_from_c new) v t
+    (v : TransportState) (s : StreamSenderState) → StreamSenderMatches (stream_sender_from_c old) v s
+    → (t : StreamSenderState)
+    × ChannelWrites (outgoing v) s asked (Wrote taken bytes) t × StreamSenderMatches (stream_sender_from_c new) v t
 
 -- one frame more, and whether the stream is ended
 abbrev pub CountsFrame : NoiseStreamSender → NoiseStreamSender → Bool → Type 0
@@ -123,9 +124,10 @@ CountsFrame old new ended =
 -- the half reads what stands at the start of these bytes, and that is reported
 abbrev pub ReadsNext : NoiseStreamReceiver → List ℕ → ℕ → NoiseStreamResult → List ℕ → NoiseStreamReceiver → Type 0
 ReadsNext old buffer code results after new =
-    (v : TransportState) (s : ReaderState) → ReaderMatches (stream_receiver_from_c old) v s
-    → (g : NextValue) × (t : ReaderState) × ReportsGiven code results after g × ChannelReads (incoming v) s buffer g t
-    × ReaderMatches (stream_receiver_from_c new) v t
+    (v : TransportState) (s : StreamReceiverState) → StreamReceiverMatches (stream_receiver_from_c old) v s
+    → (g : NextValue) × (t : StreamReceiverState) × ReportsGiven code results after g
+    × ChannelReads (incoming v) s buffer g t
+    × StreamReceiverMatches (stream_receiver_from_c new) v t
 
 -- the numbers of writing and of reading
 abbrev pub IsStreamCode : ℕ → Type 0

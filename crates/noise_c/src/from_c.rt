@@ -10,7 +10,7 @@ use crate::codes::numbers::HANDSHAKE;
 use crate::patterns::pattern_of;
 use crate::structs::NoiseHandshake;
 use crate::supplied_keys::{SuppliedKeys, key_of, key_to_c};
-use noise_handshake::{LateHandshake, Parts, Progress, Remote};
+use noise_handshake::{Handshake, Parts, Progress, Remote};
 use noise_names::{Role, ValidPattern};
 use noise_state::StateParts;
 
@@ -61,7 +61,7 @@ fn parts_of<'a>(handshake: &'a NoiseHandshake, pattern: ValidPattern) -> Parts<S
 fn restored<'a>(
     handshake: &'a NoiseHandshake,
     pattern: ValidPattern,
-) -> Option<LateHandshake<SuppliedKeys<'a>>>
+) -> Option<Handshake<SuppliedKeys<'a>>>
     requires answers { handshake.now.answer_count ≤ 8 }
     requires psks { handshake.now.psk_count ≤ 9 }
     ensures whole { IsSome result ↔ IsLateWhole public_in (handshake_from_c pattern handshake.now) }
@@ -69,13 +69,13 @@ fn restored<'a>(
     ensures count { IfSome result (λ h. length h.psks ≡ handshake.now.psk_count) }
 {
     let psks = &handshake.psks[9 - handshake.psk_count as usize..];
-    LateHandshake::from_parts(parts_of(handshake, pattern), psks)
+    Handshake::from_parts(parts_of(handshake, pattern), psks)
 }
 
 // The handshake of the struct, if a call has left it.
 pub(crate) fn handshake_from_c<'a>(
     handshake: &'a NoiseHandshake,
-) -> Option<LateHandshake<SuppliedKeys<'a>>>
+) -> Option<Handshake<SuppliedKeys<'a>>>
     ensures usable { IsSome result ↔ IsUsable handshake.now }
     ensures named { IfSome result (λ h. IsPatternOf (text_from_c handshake.now) h.pattern) }
     ensures one { IfSome result (λ h. (q : Plan) → IsPatternOf (text_from_c handshake.now) q → q ≡ h.pattern) }

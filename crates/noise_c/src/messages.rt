@@ -12,7 +12,7 @@ use crate::codes::{read_code, some_or, write_code};
 use crate::from_c::{handshake_from_c, store_progress};
 use crate::structs::{NoiseHandshake, NoiseResult};
 use crate::supplied_keys::{key_to_c, own_to_c};
-use noise_handshake::{LateUnread, LateUnwritten, ReadFault, Want, WriteFault};
+use noise_handshake::{ReadFault, Unread, Unwritten, Want, WriteFault};
 use noise_state::limits::MAX_LEN;
 
 // Reports what is wanted, and returns the number of that.
@@ -82,8 +82,8 @@ pub extern "C" fn noise_write(
             store_progress(&state.progress(), left, handshake);
             OK
         }
-        Err(LateUnwritten::Wants(want)) => report_want(want, results),
-        Err(LateUnwritten::Withheld(fault)) => withhold(fault, out),
+        Err(Unwritten::Wants(want)) => report_want(want, results),
+        Err(Unwritten::Withheld(fault)) => withhold(fault, out),
     }
 }
 
@@ -149,8 +149,8 @@ fn read_next(handshake: &mut NoiseHandshake, message: &mut [u8], results: &mut N
             store_progress(&state.progress(), left, handshake);
             OK
         }
-        Err(LateUnread::Wants(want)) => report_want(want, results),
-        Err(LateUnread::Declined(fault)) => {
+        Err(Unread::Wants(want)) => report_want(want, results),
+        Err(Unread::Declined(fault)) => {
             let code = read_code(fault);
             if let ReadFault::Refused { token, .. } = fault {
                 results.token = token;

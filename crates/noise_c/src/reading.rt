@@ -5,11 +5,11 @@ ghost use Rattle.std.specs.Prelude.{◌≡◌, ◌↔◌, ◌≤◌, ◌+◌, �
 ghost use Rattle.noise_names.specs.Plan.{Plan};
 ghost use Rattle.noise_handshake.specs.Party.{Party};
 ghost use Rattle.noise_session.specs.TransportValue.{TransportState, transport_of};
-ghost use Rattle.noise_channel.specs.Halves.{ReaderMatches};
+ghost use Rattle.noise_channel.specs.Halves.{StreamReceiverMatches};
 ghost use Rattle.noise_channel.specs.declared.next.StreamState.TheVariants as states;
 ghost use Rattle.noise_channel.specs.Streams.{incoming, outgoing};
-ghost use Rattle.noise_channel.specs.Reading.{ReaderState};
-ghost use Rattle.noise_channel.specs.Reading.ReaderState.{Listens};
+ghost use Rattle.noise_channel.specs.Reading.{StreamReceiverState};
+ghost use Rattle.noise_channel.specs.Reading.StreamReceiverState.{Listens};
 ghost use Rattle.noise_duel.specs.Messages.{HandshakeMessage, Start};
 ghost use Rattle.noise_channel.specs.Finished.{ForgedOrTwice, HaveFinished};
 ghost use Rattle.noise_channel.specs.Receiving.{HandsOut, HandsOutAll, ReadsOnce, ReadsTo, ReadsToEnd};
@@ -39,7 +39,8 @@ fn read_frame_to(stream: &mut NoiseStreamReceiver, buffer: &mut [u8], out: &mut 
     ensures used { result ≤ length buffer.old }
     ensures rest { drop result buffer.new ≡ drop result buffer.old }
     ensures room { vec_len out.new + (length buffer.old - result) ≤ vec_capacity out.new }
-    ensures reads { (v : TransportState) (s : ReaderState) → ReaderMatches (stream_receiver_from_c stream.old) v s
+    ensures reads { (v : TransportState) (s : StreamReceiverState)
+        → StreamReceiverMatches (stream_receiver_from_c stream.old) v s
         → ReadsOnce v s buffer.old result out.old.items out.new.items (stream_receiver_from_c stream.new) }
 {
     let mut results = NoiseStreamResult {
@@ -82,7 +83,8 @@ pub fn read_stream_to(
         (λ left. drop (length came.old - left) came.new ≡ drop (length came.old - left) came.old) }
     ensures unchanged { OnErr result
         ((stream.new ≡ stream.old) × (came.new ≡ came.old) × (out.new.items ≡ out.old.items)) }
-    ensures reads { (v : TransportState) (s : ReaderState) → ReaderMatches (stream_receiver_from_c stream.old) v s
+    ensures reads { (v : TransportState) (s : StreamReceiverState)
+        → StreamReceiverMatches (stream_receiver_from_c stream.old) v s
         → IfOk result (λ left. ReadsTo v s came.old (length came.old - left) out.old.items out.new.items
         (stream_receiver_from_c stream.new)) }
 {
@@ -110,14 +112,15 @@ pub fn read_stream_to_end(
     requires { is_stream_receiver stream.old ≡ true }
     ensures unchanged { OnErr result
         ((stream.new ≡ stream.old) × (came.new ≡ came.old) × (out.new.items ≡ out.old.items)) }
-    ensures reads { (v : TransportState) (s : ReaderState) → ReaderMatches (stream_receiver_from_c stream.old) v s
+    ensures reads { (v : TransportState) (s : StreamReceiverState)
+        → StreamReceiverMatches (stream_receiver_from_c stream.old) v s
         → IfOk result (λ whole. ReadsToEnd v s came.old out.old.items out.new.items
         (stream_receiver_from_c stream.new) whole) }
     ensures front { (v w : TransportState) → IsWholeOrForged v w
-        → ReaderMatches (stream_receiver_from_c stream.old) w (Listens 0)
+        → StreamReceiverMatches (stream_receiver_from_c stream.old) w (Listens 0)
         → IfOk result (λ whole. HandsOut v came.old out.old.items out.new.items whole) }
     ensures all { (v w : TransportState) → outgoing v ≡ incoming w
-        → ReaderMatches (stream_receiver_from_c stream.old) w (Listens 0)
+        → StreamReceiverMatches (stream_receiver_from_c stream.old) w (Listens 0)
         → IfOk result (λ whole. HandsOutAll v came.old out.old.items out.new.items whole) }
 {
     read_is_front();

@@ -3,7 +3,7 @@
 
 ghost use Rattle.std.specs.Prelude.{◌≡◌, ◌↔◌, ◌<◌, IfOk, IfErr, MatchResult, true, false};
 ghost use Rattle.noise_handshake.specs.Party.{Party};
-ghost use Rattle.noise_handshake.specs.Opening.{IsOpeningOf};
+ghost use Rattle.noise_handshake.specs.Opening.{IsOpenedOf};
 ghost use Rattle.noise_c.specs.HandshakeStructs.{ForParty, IsUsable};
 ghost use Rattle.noise_c.specs.Finishing.{AreCiphersOf, AreDatagramHalvesOf, AreHalvesOf, AreStreamHalvesOf, Finishes, UsesUp, used_up};
 ghost use Rattle.noise_c.specs.DatagramStructs.{is_window};
@@ -26,7 +26,7 @@ fn opened_of(handshake: &NoiseHandshake) -> Result<Opened, u32>
     ensures code { MatchResult result (λ _. Finishes handshake.now OK) (λ code. Finishes handshake.now code) }
     ensures fault { IfErr result (λ code. OK < code) }
     ensures usable { IfOk result (λ _. IsUsable handshake.now) }
-    ensures opens { IfOk result (λ opened. ForParty handshake.now (λ _ v. IsOpeningOf opened v)) }
+    ensures opens { IfOk result (λ opened. ForParty handshake.now (λ _ v. IsOpenedOf opened v)) }
 {
     let state = some_or!(handshake_from_c(handshake), Err(STRUCT));
     match state.finish() {
@@ -54,7 +54,7 @@ fn finished(handshake: &mut NoiseHandshake) -> Result<Opened, u32>
     ensures uses { MatchResult result (λ _. UsesUp handshake.old handshake.new OK)
         (λ code. UsesUp handshake.old handshake.new code) }
     ensures fault { IfErr result (λ code. OK < code) }
-    ensures opens { IfOk result (λ opened. ForParty handshake.old (λ _ v. IsOpeningOf opened v)) }
+    ensures opens { IfOk result (λ opened. ForParty handshake.old (λ _ v. IsOpenedOf opened v)) }
 {
     let opened = opened_of(handshake)?;
     use_up(handshake);
@@ -140,8 +140,8 @@ pub extern "C" fn noise_finish_ciphers(
 
 // The two cipher states as C has them, the sending one first.
 fn ciphers_to_c(opened: Opened) -> (NoiseCipher, NoiseCipher)
-    ensures sends { (v : Party) → IsOpeningOf opened v → result.0 ≡ sending_cipher v }
-    ensures receives { (v : Party) → IsOpeningOf opened v → result.1 ≡ receiving_cipher v }
+    ensures sends { (v : Party) → IsOpenedOf opened v → result.0 ≡ sending_cipher v }
+    ensures receives { (v : Party) → IsOpenedOf opened v → result.1 ≡ receiving_cipher v }
     ensures marks { (result.0.mark ≡ SENDING_CIPHER) × (result.1.mark ≡ RECEIVING_CIPHER) }
 {
     let one_way = opened.one_way();

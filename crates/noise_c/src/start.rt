@@ -3,7 +3,7 @@
 ghost use Rattle.std.specs.Prelude.{◌≡◌, ◌≤◌, ◌<◌, ◌↔◌, ◌⊎◌, ℕ, List, length, MatchOption, IsOk, IfOk, Err};
 ghost use Rattle.noise_names.specs.Plan.{Plan};
 ghost use Rattle.noise_names.specs.Validity.{IsValid};
-ghost use Rattle.noise_handshake.specs.Matching.{Matches};
+ghost use Rattle.noise_handshake.specs.Matching.{ValueMatches};
 ghost use Rattle.noise_handshake.specs.Late.{with_later};
 ghost use Rattle.noise_c.specs.HandshakeStructs.{role_in, public_in, agreement_in, table_of, psks_in, begun_in, fault_in, start_code, IsBlank, IsNoName, IsNoText, IsNotValid, IsPatternOf, IsStartCode, IsStarted, StoresStart};
 ghost use Rattle.noise_c.specs.declared.codes.numbers.TheConstants.{NAME, OK, PATTERN};
@@ -14,7 +14,7 @@ use crate::from_c::{role_of, store_progress};
 use crate::patterns::pattern_of;
 use crate::structs::{NoiseHandshake, NoiseSetup};
 use crate::supplied_keys::{NO_DH_RESULT, SuppliedKeys, key_of};
-use noise_handshake::{LateHandshake, Remote, SetupFault};
+use noise_handshake::{Handshake, Remote, SetupFault};
 use noise_names::ValidPattern;
 use noise_state::limits::MAX_LEN;
 
@@ -23,11 +23,11 @@ fn begin<'a>(
     pattern: ValidPattern,
     prologue: &[u8],
     setup: &'a NoiseSetup,
-) -> Result<LateHandshake<SuppliedKeys<'a>>, SetupFault>
+) -> Result<Handshake<SuppliedKeys<'a>>, SetupFault>
     requires len { length prologue.now ≤ 65535 }
     requires count { setup.now.psk_count ≤ 9 }
     ensures fault { MatchOption (fault_in pattern setup.now) (IsOk result) (λ fault. result ≡ Err fault) }
-    ensures matches { IfOk result (λ h. (later : List (List ℕ)) → Matches public_in agreement_in (with_later h later)
+    ensures matches { IfOk result (λ h. (later : List (List ℕ)) → ValueMatches public_in agreement_in (with_later h later)
         (begun_in pattern prologue.now setup.now later)) }
     ensures pattern { IfOk result (λ h. h.pattern ≡ pattern) }
     ensures role { IfOk result (λ h. h.role ≡ role_in setup.now.responder) }
@@ -45,7 +45,7 @@ fn begin<'a>(
     };
     let role = role_of(setup.responder);
     let psks = &setup.psks[..setup.psk_count as usize];
-    LateHandshake::new(pattern, role, prologue, keys, remote, psks)
+    Handshake::with_fewer_psks(pattern, role, prologue, keys, remote, psks)
 }
 
 // Stores what a handshake doesn't change: the text, the role, the keys of its own, with no DH result yet, and the psks.

@@ -8,15 +8,15 @@ use Rattle.noise_handshake.specs.Matching.{after_message, after_own}
 use Rattle.noise_session.specs.TransportValue.{TransportState, transport_of}
 use Rattle.noise_session.specs.Transport.{last_nonce}
 use Rattle.noise_channel.specs.Streams.{Direction, incoming, outgoing}
-use Rattle.noise_channel.specs.Writing.{WriterState, Call, WritesAll, payloads_taken, has_ended}
-use Rattle.noise_channel.specs.Writing.WriterState.{Speaks}
-use Rattle.noise_channel.specs.Reading.{ReaderState}
-use Rattle.noise_channel.specs.Reading.ReaderState.{Listens}
-use Rattle.noise_channel.specs.Runs.{ReaderRun, PrefixOrForged}
+use Rattle.noise_channel.specs.Writing.{StreamSenderState, Call, WritesAll, payloads_written, has_ended}
+use Rattle.noise_channel.specs.Writing.StreamSenderState.{Speaks}
+use Rattle.noise_channel.specs.Reading.{StreamReceiverState}
+use Rattle.noise_channel.specs.Reading.StreamReceiverState.{Listens}
+use Rattle.noise_channel.specs.Runs.{StreamReceiverRun, PrefixOrForged}
 use Rattle.noise_channel.specs.Agreement.{EndAlike, IsWholeOrForged}
 use Rattle.noise_channel.specs.Finished.{FinishedIsOne, ForgedOrTwice, HaveFinished}
 use Rattle.noise_duel.specs.Agreement.{KeysReport}
-use Rattle.noise_duel.specs.Collision.{Collision}
+use Rattle.noise_duel.specs.HashedTexts.{ClashAt}
 use Rattle.noise_duel.specs.Messages.{HandshakeMessage, Exchanged, Start, begun_as}
 use Rattle.noise_duel.specs.Messages.Exchanged.{none, wrote, took}
 
@@ -33,12 +33,12 @@ passes-role v w ps (took _ _ p more accepts rest) = passes-role (after_message v
 module _
     (directions : (v w : TransportState) → w.role ≡ other v.role → w.history ≡ v.history → w.interval ≡ v.interval → w.one_way ≡ v.one_way
     → (outgoing v ≡ incoming w) × (outgoing w ≡ incoming v))
-    (prefix : (d : Direction) (n : ℕ) (calls : List Call) (u : WriterState) (came left : List ℕ) (out : List (List ℕ)) (t : ReaderState) → n < last_nonce
-    → WritesAll d (Speaks n) calls u → ReaderRun d (Listens n) [] came out t left → PrefixOrForged d n (payloads_taken calls) (has_ended u) came out t) where
+    (prefix : (d : Direction) (n : ℕ) (calls : List Call) (u : StreamSenderState) (came left : List ℕ) (out : List (List ℕ)) (t : StreamReceiverState) → n < last_nonce
+    → WritesAll d (Speaks n) calls u → StreamReceiverRun d (Listens n) [] came out t left → PrefixOrForged d n (payloads_written calls) (has_ended u) came out t) where
   reads-whole : (v w : TransportState) → outgoing v ≡ incoming w → IsWholeOrForged v w
   reads-whole v w same calls u came left out t all run =
       prefix (outgoing v) 0 calls u came left out t (omega arith) all
-      (subst (λ (d : Direction). ReaderRun d (Listens 0) [] came out t left) (sym same) run)
+      (subst (λ (d : Direction). StreamReceiverRun d (Listens 0) [] came out t left) (sym same) run)
 
   pub one-agrees : (p : Plan) (a b : Start) (ps qs : List HandshakeMessage) (v w : Party) (interval : ℕ) → Exchanged (begun_as p Initiator a) ps v
       → Exchanged (begun_as p Responder b) qs w → v.history ≡ w.history
@@ -56,11 +56,11 @@ module _
 
   pub channel-agrees : KeysReport → (p : Plan) (a b : Start) (ps qs : List HandshakeMessage) (v w : Party) (interval : ℕ) → EndAlike p a b ps qs v w
       → (IsWholeOrForged (transport_of v interval) (transport_of w interval) × IsWholeOrForged (transport_of w interval) (transport_of v interval))
-      ⊎ ((i : ℕ) × Collision v.history w.history i)
+      ⊎ ((i : ℕ) × ClashAt v.history w.history i)
   channel-agrees report p a b ps qs v w interval h =
       elim (report p a b ps qs v w h.initiator h.responder h.wrote_and_took h.took_and_wrote h.passed h.hashes h.psks h.keys) [
         | inl one ↦ inl (one-agrees p a b ps qs v w interval h.wrote_and_took h.took_and_wrote one.1)
-        | inr collision ↦ inr collision
+        | inr clash_there ↦ inr clash_there
       ]
 
   pub finished-agree : FinishedIsOne → (p : Plan) (a b : Start) (ps qs : List HandshakeMessage) (v w : Party) (interval : ℕ) → HaveFinished p a b ps qs v w

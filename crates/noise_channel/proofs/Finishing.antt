@@ -61,7 +61,7 @@ module _ (report : KeysReport) (p : Plan) (a b : Start) (ps qs : List HandshakeM
     | inl e ↦
         elim (report p a b ps qs v w h.initiator h.responder h.wrote_and_took h.took_and_wrote (h.passed ∙ sym h.passed_too) (one-hash e) h.psks h.keys) [
           | inl one ↦ inl one
-          | inr collision ↦ inr (inr (inr collision))
+          | inr clash_there ↦ inr (inr (inr clash_there))
         ]
     | inr differ ↦
         let text : List ℕ = ciphertext l.left_before l.left.payload in

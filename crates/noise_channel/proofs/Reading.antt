@@ -8,26 +8,26 @@ use Rattle.std.specs.List.{concat}
 use Rattle.noise_session.specs.TransportValue.{TransportState}
 use Rattle.noise_channel.specs.declared.next.Next.{Next}
 use Rattle.noise_channel.specs.declared.next.Next.TheVariants as next
-use Rattle.noise_channel.specs.Halves.{ReaderValue, ReaderMatches}
+use Rattle.noise_channel.specs.Halves.{StreamReceiverValue, StreamReceiverMatches}
 use Rattle.noise_channel.specs.Streams.{Direction, incoming}
-use Rattle.noise_channel.specs.Reading.{ReaderState, NextValue, ChannelReads, Leaves, given}
+use Rattle.noise_channel.specs.Reading.{StreamReceiverState, NextValue, ChannelReads, Leaves, given}
 use Rattle.noise_channel.specs.Reading.ChannelReads.{wants, gives, ends, refuses, closed_at_end, closed_broken}
-use Rattle.noise_channel.specs.Runs.{ReaderRun, Rests, uses, payloads}
-use Rattle.noise_channel.specs.Runs.ReaderRun.{arrives, calls, stops}
+use Rattle.noise_channel.specs.Runs.{StreamReceiverRun, Rests, uses, payloads}
+use Rattle.noise_channel.specs.Runs.StreamReceiverRun.{arrives, calls, stops}
 use Rattle.noise_channel.specs.Receiving.{ReadsSome, ReadsOnce, ReadsTo}
 
 -- one run after another
-runs-on : (d : Direction) (s t u : ReaderState) (partial came mid left : List ℕ) (out more : List (List ℕ)) → ReaderRun d s partial came out t mid
-    → ReaderRun d t mid [] more u left → ReaderRun d s partial came (out ++ more) u left
+runs-on : (d : Direction) (s t u : StreamReceiverState) (partial came mid left : List ℕ) (out more : List (List ℕ)) → StreamReceiverRun d s partial came out t mid
+    → StreamReceiverRun d t mid [] more u left → StreamReceiverRun d s partial came (out ++ more) u left
 runs-on d s t u partial came mid left out more (stops _ _ _) on = on
 runs-on d s t u partial came mid left out more (arrives _ _ _ _ piece rest _ _ run) on =
     arrives d s u partial piece rest left (out ++ more) (runs-on d s t u (partial ++ piece) rest mid left out more run on)
 runs-on d s t u partial came mid left out more (calls _ _ between _ _ _ _ g later reads run) on =
-    subst (λ (ps : List (List ℕ)). ReaderRun d s partial came ps u left) (sym (append_assoc (payloads g) later more))
+    subst (λ (ps : List (List ℕ)). StreamReceiverRun d s partial came ps u left) (sym (append_assoc (payloads g) later more))
     (calls d s between u partial came left g (later ++ more) reads (runs-on d between t u (drop (uses g) partial) came mid left later more run on))
 
 -- nothing is read yet
-pub reads-none : (v : TransportState) (s : ReaderState) (came before after : List ℕ) (r : ReaderValue) → ReaderMatches r v s → after ≡ before
+pub reads-none : (v : TransportState) (s : StreamReceiverState) (came before after : List ℕ) (r : StreamReceiverValue) → StreamReceiverMatches r v s → after ≡ before
     → ReadsSome v s came 0 before after r
 reads-none v s came before after r matches same = record {
   payloads = [];
@@ -38,14 +38,14 @@ reads-none v s came before after r matches same = record {
 }
 
 -- a call more
-module _ (v : TransportState) (s : ReaderState) (came : List ℕ) (at used : ℕ) (before mid after : List ℕ) (r next : ReaderValue) where
-  pub reads-more : ReadsSome v s came at before mid r → ((t : ReaderState) → ReaderMatches r v t → ReadsOnce v t (drop at came) used mid after next)
+module _ (v : TransportState) (s : StreamReceiverState) (came : List ℕ) (at used : ℕ) (before mid after : List ℕ) (r next : StreamReceiverValue) where
+  pub reads-more : ReadsSome v s came at before mid r → ((t : StreamReceiverState) → StreamReceiverMatches r v t → ReadsOnce v t (drop at came) used mid after next)
       → ReadsSome v s came (at + used) before after next
   reads-more h step =
       let f = step h.state h.matches in
       let left : drop (uses f.gives) (drop at came) ≡ drop (at + used) came =
       ap (λ (k : ℕ). drop k (drop at came)) (sym f.used_is) ∙ drop-drop used at came in
-      let one : ReaderRun (incoming v) h.state (drop at came) [] (payloads f.gives ++ []) f.state (drop (uses f.gives) (drop at came)) =
+      let one : StreamReceiverRun (incoming v) h.state (drop at came) [] (payloads f.gives ++ []) f.state (drop (uses f.gives) (drop at came)) =
       calls (incoming v) h.state f.state f.state (drop at came) [] (drop (uses f.gives) (drop at came)) f.gives [] f.reads
       (stops (incoming v) f.state (drop (uses f.gives) (drop at came))) in
       record {
@@ -53,9 +53,9 @@ module _ (v : TransportState) (s : ReaderState) (came : List ℕ) (at used : ℕ
         state = f.state;
         run =
             runs-on (incoming v) s h.state f.state came [] (drop at came) (drop (at + used) came) h.payloads (payloads f.gives) h.run
-            (subst (λ (ps : List (List ℕ)). ReaderRun (incoming v) h.state (drop at came) [] ps f.state (drop (at + used) came))
+            (subst (λ (ps : List (List ℕ)). StreamReceiverRun (incoming v) h.state (drop at came) [] ps f.state (drop (at + used) came))
             (append-nil (payloads f.gives))
-            (subst (λ (bytes : List ℕ). ReaderRun (incoming v) h.state (drop at came) [] (payloads f.gives ++ []) f.state bytes) left one));
+            (subst (λ (bytes : List ℕ). StreamReceiverRun (incoming v) h.state (drop at came) [] (payloads f.gives ++ []) f.state bytes) left one));
         appended =
             f.appended ∙ ap (λ (bytes : List ℕ). bytes ++ concat (payloads f.gives)) h.appended
             ∙ append_assoc before (concat h.payloads) (concat (payloads f.gives))
@@ -65,7 +65,7 @@ module _ (v : TransportState) (s : ReaderState) (came : List ℕ) (at used : ℕ
 
   -- and it used nothing
   pub reads-all : used ≡ 0 → ReadsSome v s came at before mid r
-      → ((t : ReaderState) → ReaderMatches r v t → ReadsOnce v t (drop at came) used mid after next) → ReadsTo v s came at before after next
+      → ((t : StreamReceiverState) → StreamReceiverMatches r v t → ReadsOnce v t (drop at came) used mid after next) → ReadsTo v s came at before after next
   unfolding reads-more
   reads-all none h step =
       let f = step h.state h.matches in
@@ -73,14 +73,14 @@ module _ (v : TransportState) (s : ReaderState) (came : List ℕ) (at used : ℕ
       let m = reads-more h step in record {
         payloads = m.payloads;
         state = f.state;
-        run = subst (λ (k : ℕ). ReaderRun (incoming v) s came [] m.payloads f.state (drop k came)) same m.run;
+        run = subst (λ (k : ℕ). StreamReceiverRun (incoming v) s came [] m.payloads f.state (drop k came)) same m.run;
         rests = f.rests none;
         appended = m.appended;
         matches = f.matches;
       }
 
 -- a call that uses nothing leaves nothing that the next one uses
-idle-next : (d : Direction) (s t : ReaderState) (came new : List ℕ) (r : Next) → ((from to used : ℕ) → r ≡ next.Payload from to used → ⊥)
+idle-next : (d : Direction) (s t : StreamReceiverState) (came new : List ℕ) (r : Next) → ((from to used : ℕ) → r ≡ next.Payload from to used → ⊥)
     → ((used : ℕ) → r ≡ next.End used → ⊥) → (g : NextValue) → g ≡ given new r → ChannelReads d s came g t → Rests d t came
 idle-next d s t came new r some end g is (wants _ n _ partial) = (_, _, wants d n came partial, tt)
 idle-next d s t came new (next.Payload from to used) some end g is (gives _ _ _ p listens f nonempty) = absurd (some from to used refl)
@@ -106,9 +106,9 @@ stays-idle came new (next.Refused cause) some end left = left
 stays-idle came new next.Closed some end left = left
 
 -- a call that gives no payload and no end
-pub reads-idle : (v : TransportState) (s : ReaderState) (came new before : List ℕ) (after : ReaderValue) (r : Next)
+pub reads-idle : (v : TransportState) (s : StreamReceiverState) (came new before : List ℕ) (after : StreamReceiverValue) (r : Next)
     → ((from to used : ℕ) → r ≡ next.Payload from to used → ⊥) → ((used : ℕ) → r ≡ next.End used → ⊥)
-    → (t : ReaderState) × ChannelReads (incoming v) s came (given new r) t × ReaderMatches after v t → ReadsOnce v s came 0 before before after
+    → (t : StreamReceiverState) × ChannelReads (incoming v) s came (given new r) t × StreamReceiverMatches after v t → ReadsOnce v s came 0 before before after
 reads-idle v s came new before after r some end call = record {
   gives = given new r;
   state = call.0;

@@ -8,16 +8,16 @@ use Rattle.noise_session.specs.TransportValue.{TransportState, SenderMatches, ne
 use Rattle.noise_session.specs.Transport.{last_nonce}
 use Rattle.noise_channel.specs.declared.fault.StreamFault.TheVariants as fault
 use Rattle.noise_channel.specs.Streams.{outgoing, frame_at}
-use Rattle.noise_channel.specs.Writing.{WriterState, Asked, Put, ChannelWrites, taken_from}
-use Rattle.noise_channel.specs.Writing.WriterState.{Speaks, HasEnded}
+use Rattle.noise_channel.specs.Writing.{StreamSenderState, Asked, Put, ChannelWrites, first_part_len}
+use Rattle.noise_channel.specs.Writing.StreamSenderState.{Speaks, HasEnded}
 use Rattle.noise_channel.specs.Writing.Asked.{ToWrite, ToEnd}
 use Rattle.noise_channel.specs.Writing.Put.{Wrote, Failed}
 use Rattle.noise_channel.specs.Writing.ChannelWrites.{skips, writes, ends, one_way, exhausted, over}
-use Rattle.noise_channel.specs.Halves.{WriterValue, WriterMatches}
+use Rattle.noise_channel.specs.Halves.{StreamSenderValue, StreamSenderMatches}
 
 -- what a call came to, and what the writer matches after it
-abbrev pub Comes : TransportState → WriterState → Asked → Put → WriterValue → Type 0
-Comes v s asked put after = (t : WriterState) × ChannelWrites (outgoing v) s asked put t × WriterMatches after v t
+abbrev pub Comes : TransportState → StreamSenderState → Asked → Put → StreamSenderValue → Type 0
+Comes v s asked put after = (t : StreamSenderState) × ChannelWrites (outgoing v) s asked put t × StreamSenderMatches after v t
 
 both : (b : Bool) → b ≡ true → b ≡ false → ⊥
 both b on off = let e : true ≡ false = sym on ∙ off in cc
@@ -48,8 +48,8 @@ asks-some p some e = some cc
 pub end-is-some : ToEnd ≢ ToWrite []
 end-is-some e = cc
 
-module _ (w : WriterValue) (v : TransportState) where
-  pub over-as : (s : WriterState) (asked : Asked) → w.ended ≡ true → WriterMatches w v s → Comes v s asked (Failed fault.Ended) w
+module _ (w : StreamSenderValue) (v : TransportState) where
+  pub over-as : (s : StreamSenderState) (asked : Asked) → w.ended ≡ true → StreamSenderMatches w v s → Comes v s asked (Failed fault.Ended) w
   over-as (Speaks n) asked ended matches = absurd (both w.ended ended matches.0)
   over-as HasEnded asked ended matches = (HasEnded, over (outgoing v) asked, matches)
 
@@ -58,18 +58,18 @@ module _ (w : WriterValue) (v : TransportState) where
   same-silent n s = rw (s.role, s.one_way) refl
 
   module _ (open_now : w.ended ≡ false) where
-    pub skips-as : (s : WriterState) (p : List ℕ) → p ≡ [] → WriterMatches w v s → Comes v s (ToWrite p) (Wrote 0 []) w
+    pub skips-as : (s : StreamSenderState) (p : List ℕ) → p ≡ [] → StreamSenderMatches w v s → Comes v s (ToWrite p) (Wrote 0 []) w
     skips-as (Speaks n) p none matches =
         subst (λ (xs : List ℕ). Comes v (Speaks n) (ToWrite xs) (Wrote 0 []) w) (sym none) (Speaks n, skips (outgoing v) n, matches)
     skips-as HasEnded p none matches = absurd (both w.ended matches open_now)
 
-    pub mute-as : (s : WriterState) (asked : Asked) → asked ≢ ToWrite [] → writes_nothing w.half ≡ true → WriterMatches w v s
+    pub mute-as : (s : StreamSenderState) (asked : Asked) → asked ≢ ToWrite [] → writes_nothing w.half ≡ true → StreamSenderMatches w v s
         → Comes v s asked (Failed fault.OneWay) w
     mute-as (Speaks n) asked some mute matches = (Speaks n, one_way (outgoing v) n asked some (same-silent n matches.1 ∙ mute), matches)
     mute-as HasEnded asked some mute matches = absurd (both w.ended matches open_now)
 
     module _ (heard : writes_nothing w.half ≡ false) where
-      pub exhausted-as : (s : WriterState) (p : List ℕ) → p ≢ [] → w.half.nonce + 1 ≡ last_nonce → WriterMatches w v s
+      pub exhausted-as : (s : StreamSenderState) (p : List ℕ) → p ≢ [] → w.half.nonce + 1 ≡ last_nonce → StreamSenderMatches w v s
           → Comes v s (ToWrite p) (Failed fault.Exhausted) w
       exhausted-as (Speaks n) p some last matches =
           let here : w.half.nonce ≡ n = matches.1.nonce in
@@ -80,16 +80,16 @@ module _ (w : WriterValue) (v : TransportState) where
       -- a frame was sealed
       module _ (half : HalfValue) (q bytes : List ℕ)
           (seals : (x : TransportState) → SenderMatches w.half x → (bytes ≡ frame (next_message x q)) × SenderMatches half (record x { sent = x.sent + 1 })) where
-        pub writes-as : (s : WriterState) (p : List ℕ) (taken : ℕ) → p ≢ [] → w.half.nonce + 1 < last_nonce → taken ≡ taken_from p
-            → q ≡ take taken p → WriterMatches w v s → Comes v s (ToWrite p) (Wrote taken bytes) (record { half = half; ended = w.ended })
+        pub writes-as : (s : StreamSenderState) (p : List ℕ) (taken : ℕ) → p ≢ [] → w.half.nonce + 1 < last_nonce → taken ≡ first_part_len p
+            → q ≡ take taken p → StreamSenderMatches w v s → Comes v s (ToWrite p) (Wrote taken bytes) (record { half = half; ended = w.ended })
         writes-as (Speaks n) p taken some room is part matches =
             let o = seals (record v { sent = n }) matches.1 in
             let here : w.half.nonce ≡ n = matches.1.nonce in
             let below : n + 1 < last_nonce = subst (λ (k : ℕ). k + 1 < last_nonce) here room in
-            let framed : frame_at (outgoing v) n (take (taken_from p) p) ≡ bytes =
+            let framed : frame_at (outgoing v) n (take (first_part_len p) p) ≡ bytes =
             sym (o.0 ∙ ap (frame_at (outgoing v) n) (part ∙ ap (λ (k : ℕ). take k p) is)) in
-            let call : ChannelWrites (outgoing v) (Speaks n) (ToWrite p) (Wrote (taken_from p) bytes) (Speaks (n + 1)) =
-            subst (λ (bs : List ℕ). ChannelWrites (outgoing v) (Speaks n) (ToWrite p) (Wrote (taken_from p) bs) (Speaks (n + 1))) framed
+            let call : ChannelWrites (outgoing v) (Speaks n) (ToWrite p) (Wrote (first_part_len p) bytes) (Speaks (n + 1)) =
+            subst (λ (bs : List ℕ). ChannelWrites (outgoing v) (Speaks n) (ToWrite p) (Wrote (first_part_len p) bs) (Speaks (n + 1))) framed
             (writes (outgoing v) n p some (same-silent n matches.1 ∙ heard) below) in (
               Speaks (n + 1),
               subst (λ (k : ℕ). ChannelWrites (outgoing v) (Speaks n) (ToWrite p) (Wrote k bytes) (Speaks (n + 1))) (sym is) call,
@@ -97,7 +97,7 @@ module _ (w : WriterValue) (v : TransportState) where
             )
         writes-as HasEnded p taken some room is part matches = absurd (both w.ended matches open_now)
 
-        pub ends-as : (s : WriterState) → w.half.nonce < last_nonce → q ≡ [] → WriterMatches w v s
+        pub ends-as : (s : StreamSenderState) → w.half.nonce < last_nonce → q ≡ [] → StreamSenderMatches w v s
             → Comes v s ToEnd (Wrote 0 bytes) (record { half = half; ended = true })
         ends-as (Speaks n) room none matches =
             let o = seals (record v { sent = n }) matches.1 in

@@ -6,7 +6,7 @@ use Rattle.noise_aead.specs.Sealing.{sealed, nonce_of}
 use Rattle.noise_state.specs.History.{History, Ciphertext, and_then, cipher_key, hash, nonce}
 use Rattle.noise_handshake.specs.Party.{Party}
 use Rattle.noise_duel.specs.Agreement.{IsSetUp, KeysAgree}
-use Rattle.noise_duel.specs.Collision.{Collision}
+use Rattle.noise_duel.specs.HashedTexts.{ClashAt}
 use Rattle.noise_duel.specs.Messages.{HandshakeMessage, Exchanged, Start, begun_as, messages_of}
 
 -- Two parties of one pattern, each made without a fault, with equal psks and keys that agree, have finished: each has
@@ -50,11 +50,11 @@ pub record OpensTwice (r s : History) : Type 0 where
   pub differ : hash left.before ≢ hash right.before
 
 -- what stands in place of one history: at the last place a message was forged, or its last text opens twice, or two
--- hashed texts collide
+-- hashed texts clash
 abbrev pub ForgedOrTwice : Plan → List HandshakeMessage → List HandshakeMessage → History → History → Type 0
 ForgedOrTwice p ps qs r s =
     ((place : ℕ) × (place + 1 ≡ length p.messages) × IsForgedMessage ps qs place)
-    ⊎ OpensTwice r s ⊎ ((i : ℕ) × Collision r s i)
+    ⊎ OpensTwice r s ⊎ ((i : ℕ) × ClashAt r s i)
 
 -- Two parties that have finished have all of the conversation in common, what travelled encrypted too, and one history.
 abbrev pub FinishedIsOne : Type 0

@@ -7,9 +7,9 @@ use Rattle.noise_channel.specs.declared.fault.StreamFault.TheVariants as fault
 use Rattle.noise_channel.specs.Streams.{Direction, frame_at}
 
 -- how far a writer has come: its next message has this nonce, or it has ended the stream
-pub data WriterState : Type 0 where
-  Speaks : ℕ → WriterState
-  HasEnded : WriterState
+pub data StreamSenderState : Type 0 where
+  Speaks : ℕ → StreamSenderState
+  HasEnded : StreamSenderState
 
 -- what a call asks for: that a payload be written, or the end
 pub data Asked : Type 0 where
@@ -22,18 +22,19 @@ pub data Put : Type 0 where
   Failed : StreamFault → Put
 
 -- how many first bytes of a payload one message takes
-abbrev pub taken_from : List ℕ → ℕ
-taken_from payload = min (length payload) 65519
+abbrev pub first_part_len : List ℕ → ℕ
+first_part_len payload = min (length payload) 65519
 
 abbrev pub first_part : List ℕ → List ℕ
-first_part payload = take (taken_from payload) payload
+first_part payload = take (first_part_len payload) payload
 
 -- One call. An empty payload is nothing, and no end; each other one, and the end, is a frame at the next nonce, of
 -- which the last is left for the end.
-pub data ChannelWrites : Direction → WriterState → Asked → Put → WriterState → Type 0 where
+pub data ChannelWrites : Direction → StreamSenderState → Asked → Put → StreamSenderState → Type 0 where
   skips : (d : Direction) (n : ℕ) → ChannelWrites d (Speaks n) (ToWrite []) (Wrote 0 []) (Speaks n)
   writes : (d : Direction) (n : ℕ) (payload : List ℕ) → payload ≢ [] → d.silent ≡ false → n + 1 < last_nonce
-      → ChannelWrites d (Speaks n) (ToWrite payload) (Wrote (taken_from payload) (frame_at d n (first_part payload)))
+      → ChannelWrites d (Speaks n) (ToWrite payload)
+      (Wrote (first_part_len payload) (frame_at d n (first_part payload)))
       (Speaks (n + 1))
   ends : (d : Direction) (n : ℕ) → d.silent ≡ false → n < last_nonce
       → ChannelWrites d (Speaks n) ToEnd (Wrote 0 (frame_at d n [])) HasEnded
@@ -58,9 +59,9 @@ pub record Call : Type 0 where
   pub put : Put
 
 -- Calls of one writer, in order.
-pub data WritesAll : Direction → WriterState → List Call → WriterState → Type 0 where
-  stops : (d : Direction) (s : WriterState) → WritesAll d s [] s
-  goes_on : (d : Direction) (s t u : WriterState) (asked : Asked) (put : Put) (more : List Call)
+pub data WritesAll : Direction → StreamSenderState → List Call → StreamSenderState → Type 0 where
+  stops : (d : Direction) (s : StreamSenderState) → WritesAll d s [] s
+  goes_on : (d : Direction) (s t u : StreamSenderState) (asked : Asked) (put : Put) (more : List Call)
       → ChannelWrites d s asked put t → WritesAll d t more u
       → WritesAll d s (record { asked = asked; put = put } ∷ more) u
 
@@ -79,10 +80,10 @@ payload_in (Wrote taken bytes) (ToWrite payload) = if taken == 0 then [] else ta
 payload_in (Wrote taken bytes) ToEnd = []
 payload_in (Failed why) asked = []
 
-abbrev pub payloads_taken : List Call → List (List ℕ)
-payloads_taken [] = []
-payloads_taken (one ∷ more) = payload_in one.put one.asked ++ payloads_taken more
+abbrev pub payloads_written : List Call → List (List ℕ)
+payloads_written [] = []
+payloads_written (one ∷ more) = payload_in one.put one.asked ++ payloads_written more
 
-abbrev pub has_ended : WriterState → Bool
+abbrev pub has_ended : StreamSenderState → Bool
 has_ended HasEnded = true
 has_ended _ = false

@@ -5,9 +5,9 @@ ghost use Rattle.noise_names.specs.Plan.{Plan};
 ghost use Rattle.noise_handshake.specs.Matching.{Matches};
 ghost use Rattle.noise_handshake.specs.Party.{Party};
 ghost use Rattle.noise_session.specs.TransportValue.{transport_of};
-ghost use Rattle.noise_channel.specs.Halves.{ReaderMatches, WriterMatches};
-ghost use Rattle.noise_channel.specs.Reading.ReaderState.{Listens};
-ghost use Rattle.noise_channel.specs.Writing.WriterState.{Speaks};
+ghost use Rattle.noise_channel.specs.Halves.{StreamReceiverMatches, StreamSenderMatches};
+ghost use Rattle.noise_channel.specs.Reading.StreamReceiverState.{Listens};
+ghost use Rattle.noise_channel.specs.Writing.StreamSenderState.{Speaks};
 ghost use Rattle.noise_duel.specs.Messages.{HandshakeMessage, Start};
 ghost use Rattle.noise_channel.specs.Finished.{ForgedOrTwice, HaveFinished};
 ghost use Rattle.noise_channel.specs.Receiving.{HandsOut};
@@ -26,8 +26,8 @@ pub fn streams<K: Keys>(
     ensures when { IsSome result
         ↔ ((handshake.ended ≡ false) × (handshake.passed ≡ length handshake.pattern.messages)) }
     ensures matches { (v : Party) → Matches K.public_of K.agreement handshake v → IfSome result
-        (λ r. WriterMatches r.0 (transport_of v interval) (Speaks 0)
-        × ReaderMatches r.1 (transport_of v interval) (Listens 0)) }
+        (λ r. StreamSenderMatches r.0 (transport_of v interval) (Speaks 0)
+        × StreamReceiverMatches r.1 (transport_of v interval) (Listens 0)) }
 {
     match handshake.finish() {
         Ok(opened) => {

@@ -3,9 +3,9 @@
 ghost use Rattle.std.specs.Prelude.{◌≡◌, ◌↔◌, ◌≤◌, ◌+◌, ◌-◌, ℕ, length, drop, vec_len, vec_capacity, true, IfOk, OnErr};
 ghost use Rattle.noise_session.specs.TransportValue.{TransportState};
 ghost use Rattle.noise_channel.specs.Streams.{incoming, outgoing};
-ghost use Rattle.noise_channel.specs.Reading.{ReaderState};
-ghost use Rattle.noise_channel.specs.Reading.ReaderState.{Listens};
-ghost use Rattle.noise_channel.specs.Halves.{ReaderMatches};
+ghost use Rattle.noise_channel.specs.Reading.{StreamReceiverState};
+ghost use Rattle.noise_channel.specs.Reading.StreamReceiverState.{Listens};
+ghost use Rattle.noise_channel.specs.Halves.{StreamReceiverMatches};
 ghost use Rattle.noise_channel.specs.declared.next.StreamState.TheVariants as states;
 ghost use Rattle.noise_channel.specs.Agreement.{IsWholeOrForged};
 ghost use Rattle.noise_channel.specs.Receiving.{HandsOut, HandsOutAll, ReadsOnce, ReadsTo, ReadsToEnd};
@@ -21,7 +21,7 @@ fn read_frame_to(receiver: &mut StreamReceiver, buffer: &mut [u8], out: &mut Vec
     ensures used { result ≤ length buffer.old }
     ensures rest { drop result buffer.new ≡ drop result buffer.old }
     ensures room { vec_len out.new + (length buffer.old - result) ≤ vec_capacity out.new }
-    ensures reads { (v : TransportState) (s : ReaderState) → ReaderMatches receiver.old v s
+    ensures reads { (v : TransportState) (s : StreamReceiverState) → StreamReceiverMatches receiver.old v s
         → ReadsOnce v s buffer.old result out.old.items out.new.items receiver.new }
 {
     match receiver.read(buffer) {
@@ -49,7 +49,7 @@ pub fn read_to(
         (λ left. drop (length came.old - left) came.new ≡ drop (length came.old - left) came.old) }
     ensures unchanged { OnErr result
         ((receiver.new ≡ receiver.old) × (came.new ≡ came.old) × (out.new.items ≡ out.old.items)) }
-    ensures reads { (v : TransportState) (s : ReaderState) → ReaderMatches receiver.old v s
+    ensures reads { (v : TransportState) (s : StreamReceiverState) → StreamReceiverMatches receiver.old v s
         → IfOk result (λ left. ReadsTo v s came.old (length came.old - left) out.old.items out.new.items receiver.new) }
 {
     out.reserve(came.len())?;
@@ -74,11 +74,11 @@ pub fn read_to_end(
 ) -> Result<bool, AllocError>
     ensures unchanged { OnErr result
         ((receiver.new ≡ receiver.old) × (came.new ≡ came.old) × (out.new.items ≡ out.old.items)) }
-    ensures reads { (v : TransportState) (s : ReaderState) → ReaderMatches receiver.old v s
+    ensures reads { (v : TransportState) (s : StreamReceiverState) → StreamReceiverMatches receiver.old v s
         → IfOk result (λ whole. ReadsToEnd v s came.old out.old.items out.new.items receiver.new whole) }
-    ensures front { (v w : TransportState) → IsWholeOrForged v w → ReaderMatches receiver.old w (Listens 0)
+    ensures front { (v w : TransportState) → IsWholeOrForged v w → StreamReceiverMatches receiver.old w (Listens 0)
         → IfOk result (λ whole. HandsOut v came.old out.old.items out.new.items whole) }
-    ensures all { (v w : TransportState) → outgoing v ≡ incoming w → ReaderMatches receiver.old w (Listens 0)
+    ensures all { (v w : TransportState) → outgoing v ≡ incoming w → StreamReceiverMatches receiver.old w (Listens 0)
         → IfOk result (λ whole. HandsOutAll v came.old out.old.items out.new.items whole) }
 {
     read_is_front();

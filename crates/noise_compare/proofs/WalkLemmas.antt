@@ -74,9 +74,9 @@ one-taken : (role : Bool) (line : Line) (more right rest left : List Line) → i
 one-taken role line more right rest left e is h =
     subst (λ (lines : List Line). AreMatched lines right left) (sym (one-more role line more e)) (rest, after_match-is line right rest is, h)
 
-one-passed : (role : Bool) (line : Line) (more right left : List Line) → is_of_responder line ≡ not role
+one-skipped : (role : Bool) (line : Line) (more right left : List Line) → is_of_responder line ≡ not role
     → AreMatched (of_role role more) right left → AreMatched (of_role role (line ∷ more)) right left
-one-passed role line more right left e h = subst (λ (lines : List Line). AreMatched lines right left) (sym (one-other role line more e)) h
+one-skipped role line more right left e h = subst (λ (lines : List Line). AreMatched lines right left) (sym (one-other role line more e)) h
 
 pub walked : (log : List Line) (from to : Left) → fold left_after_logged (Some from) log ≡ Some to → (role : Bool)
     → AreMatched (of_role role log) (left_of role from) (left_of role to)
@@ -100,12 +100,12 @@ walked (line ∷ more) from to e role = at (λ next. walked more next to) (is_of
     at here true b (Some rest) r i is true =
         one-taken true line more from.responder rest to.responder b r (here (both from.initiator rest) (goes (both from.initiator rest) (rw (b, r) refl)) true)
     at here true b (Some rest) r i is false =
-        one-passed false line more from.initiator to.initiator b (here (both from.initiator rest) (goes (both from.initiator rest) (rw (b, r) refl)) false)
+        one-skipped false line more from.initiator to.initiator b (here (both from.initiator rest) (goes (both from.initiator rest) (rw (b, r) refl)) false)
     at here false b r is None i role = absurd (stops (rw (b, i) refl))
     at here false b r is (Some rest) i false =
         one-taken false line more from.initiator rest to.initiator b i (here (both rest from.responder) (goes (both rest from.responder) (rw (b, i) refl)) false)
     at here false b r is (Some rest) i true =
-        one-passed true line more from.responder to.responder b (here (both rest from.responder) (goes (both rest from.responder) (rw (b, i) refl)) true)
+        one-skipped true line more from.responder to.responder b (here (both rest from.responder) (goes (both rest from.responder) (rw (b, i) refl)) true)
 
 -- a log whose lines are all matched agrees
 pub walked-agrees : (right log : List Line) (to : Left) → left_by right log ≡ Some to → Agrees right log

@@ -66,8 +66,8 @@ abbrev pub opening_mistakes : List Mistake
 opening_mistakes = Key key.Exchanged ∷ Key key.SplitOfHash ∷ Key key.SplitOfZeros ∷ Key key.SplitInputs
     ∷ Key key.NonceFromOne ∷ Key key.EarlierHash ∷ []
 
-abbrev pub renewal_mistakes : List Mistake
-renewal_mistakes = Key key.NonceSetBack ∷ Key key.RekeyLeftOut ∷ Key key.RekeyByNonce ∷ Key key.RekeyByZero
+abbrev pub rekey_mistakes : List Mistake
+rekey_mistakes = Key key.NonceSetBack ∷ Key key.RekeyLeftOut ∷ Key key.RekeyByNonce ∷ Key key.RekeyByZero
     ∷ Key key.RekeyByOnes ∷ Key key.RekeyLastBytes ∷ Key key.Exchanged ∷ []
 
 abbrev pub transport_mistakes : List Mistake
@@ -82,7 +82,7 @@ mistakes_of kind.Agreement = agreement_mistakes
 mistakes_of kind.Secret = psk_mistakes
 mistakes_of kind.Text = text_mistakes
 mistakes_of kind.Opening = opening_mistakes
-mistakes_of kind.Renewal = renewal_mistakes
+mistakes_of kind.Rekeyed = rekey_mistakes
 mistakes_of kind.Transport = transport_mistakes
 
 -- the log has no line for a step before this one: each step of a handshake changes the hash or the chaining key

@@ -46,9 +46,9 @@ is_written text = nat_lt 0 (count_by (λ b. not (b == 32) && not (b == 9) && not
 abbrev pub written_lines : List ℕ → ℕ
 written_lines text = count_by is_written (slice_split (λ b. b == 10) text)
 
-unfoldable pub passed_line : ℕ → List ℕ
-passed_line count = codes "lines passed over: " ++ ended (decimal count)
+unfoldable pub skipped_line : ℕ → List ℕ
+skipped_line count = codes "lines passed over: " ++ ended (decimal count)
 
 -- how many lines are passed over, if any are
-abbrev pub passed_text : ℕ → List ℕ
-passed_text count = if count == 0 then [] else passed_line count
+abbrev pub skipped_text : ℕ → List ℕ
+skipped_text count = if count == 0 then [] else skipped_line count

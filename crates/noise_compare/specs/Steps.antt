@@ -47,7 +47,7 @@ hashes_in states = hashes_of (take (length states - 1) states)
 
 unfoldable pub is_of_key : Kind → Bool
 is_of_key kind.Opening = true
-is_of_key kind.Renewal = true
+is_of_key kind.Rekeyed = true
 is_of_key other = false
 
 abbrev pub one_key : Option (List ℕ) → List (List ℕ)

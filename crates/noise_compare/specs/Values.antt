@@ -67,7 +67,7 @@ start_kind name = if bytes_eq name (codes "name") then kind.Name
     else (if bytes_eq name (codes "responder-e") then kind.Ephemeral else kind.Data)))
 
 abbrev pub transport_kind : List ℕ → Kind
-transport_kind name = if bytes_eq name (codes "renewed") then kind.Renewal else kind.Transport
+transport_kind name = if bytes_eq name (codes "renewed") then kind.Rekeyed else kind.Transport
 
 abbrev pub agreement_or_text : List ℕ → Kind
 agreement_or_text name = if bytes_eq name (codes "ee") then kind.Agreement

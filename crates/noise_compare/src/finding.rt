@@ -136,7 +136,7 @@ pub fn mistakes_of(kind: Kind) -> &'static [Mistake]
         Kind::Secret => &PSK,
         Kind::Text => &TEXT,
         Kind::Opening => &OPENING,
-        Kind::Renewal => &RENEWAL,
+        Kind::Rekeyed => &RENEWAL,
         Kind::Transport => &TRANSPORT,
     }
 }

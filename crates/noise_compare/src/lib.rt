@@ -31,4 +31,4 @@ pub use difference::{Difference, first_difference};
 pub use facts::Facts;
 pub use line::Line;
 pub use log::{LogFault, push_schedule, read_log};
-pub use plain::{plain_text, push_passed, written_lines};
+pub use plain::{plain_text, push_skipped, written_lines};

@@ -2,7 +2,7 @@
 
 ghost use Rattle.std.specs.Prelude.{◌≡◌, ◌≤◌, ◌==◌, ◌&&◌, ◌++◌, not, IfOk, OnOk, count_by, drop, length, map, slice_range};
 ghost use Rattle.std.specs.List.{filter, slice_split};
-ghost use Rattle.noise_compare.specs.Plain.{add_word, begins, from_trace, is_written, passed_line, passed_text, plain_byte, plain_line, plain_text, plain_word, spaced, without, written_lines};
+ghost use Rattle.noise_compare.specs.Plain.{add_word, begins, from_trace, is_written, skipped_line, skipped_text, plain_byte, plain_line, plain_text, plain_word, spaced, without, written_lines};
 
 use crate::line::parts;
 use std::alloc::{AllocError, Global};
@@ -110,26 +110,26 @@ fn plain_word(alloc: Global, word: &[u8]) -> Result<Vec<u8>, AllocError>
 }
 
 /// Appends how many lines of a log are passed over, if any are.
-pub fn push_passed(alloc: Global, count: usize, text: &mut Vec<u8>) -> Result<(), AllocError>
-    ensures { OnOk result (text.new.items ≡ text.old.items ++ passed_text count) }
+pub fn push_skipped(alloc: Global, count: usize, text: &mut Vec<u8>) -> Result<(), AllocError>
+    ensures { OnOk result (text.new.items ≡ text.old.items ++ skipped_text count) }
 {
-    let line = passed_text(alloc, count)?;
+    let line = skipped_text(alloc, count)?;
     text.extend_from_slice(&line)
 }
 
-fn passed_text(alloc: Global, count: usize) -> Result<Vec<u8>, AllocError>
-    ensures { IfOk result (λ text. text.items ≡ passed_text count) }
+fn skipped_text(alloc: Global, count: usize) -> Result<Vec<u8>, AllocError>
+    ensures { IfOk result (λ text. text.items ≡ skipped_text count) }
 {
     if count == 0 {
         Ok(Vec::new(alloc))
     } else {
-        passed_line(alloc, count)
+        skipped_line(alloc, count)
     }
 }
 
-#[tactic(auto, unfolding(crate::specs::Plain::passed_line))]
-fn passed_line(alloc: Global, count: usize) -> Result<Vec<u8>, AllocError>
-    ensures { IfOk result (λ text. text.items ≡ passed_line count) }
+#[tactic(auto, unfolding(crate::specs::Plain::skipped_line))]
+fn skipped_line(alloc: Global, count: usize) -> Result<Vec<u8>, AllocError>
+    ensures { IfOk result (λ text. text.items ≡ skipped_line count) }
 {
     let line = format!(in alloc; "lines passed over: {count}\n")?;
     Vec::from_slice(alloc, line.as_bytes())

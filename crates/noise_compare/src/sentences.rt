@@ -139,7 +139,7 @@ fn next_of_role<'a, 'b>(
     let mut passed = before.is_none();
     for line in right {
         if line.word(1) == logged.word(1) {
-            if passed && !is_renewal_before(line, logged) {
+            if passed && !is_rekey_before(line, logged) {
                 next = Some(line);
                 passed = false;
             }
@@ -154,7 +154,7 @@ fn next_of_role<'a, 'b>(
 }
 
 // A Rekey isn't what is due for a message that is dropped.
-fn is_renewal_before(line: &Line<'_>, logged: &Line<'_>) -> bool {
+fn is_rekey_before(line: &Line<'_>, logged: &Line<'_>) -> bool {
     logged.word(4) == b"dropped".as_slice() && line.word(4) == b"renewed".as_slice()
 }
 

@@ -33,7 +33,7 @@ pub enum Kind {
     /// A key of Split.
     Opening,
     /// A key after Rekey.
-    Renewal,
+    Rekeyed,
     /// A transport message.
     Transport,
 }

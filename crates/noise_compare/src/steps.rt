@@ -124,7 +124,7 @@ fn is_of_key(kind: Kind) -> bool
     ensures { result ≡ is_of_key kind }
 {
     match kind {
-        Kind::Opening | Kind::Renewal => true,
+        Kind::Opening | Kind::Rekeyed => true,
         _ => false,
     }
 }

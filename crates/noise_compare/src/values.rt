@@ -199,7 +199,7 @@ fn of_transport(name: &[u8]) -> Kind
     ensures { result ≡ transport_kind name.now }
 {
     if name == b"renewed".as_slice() {
-        Kind::Renewal
+        Kind::Rekeyed
     } else {
         Kind::Transport
     }

@@ -3,7 +3,7 @@ use Rattle.std.proofs.Common.{rules, ◌≡◌, ℕ, ◌+◌, List, ◌∷◌, d
 use Rattle.std.specs.Prelude.{Bool, true, false, Option, Some}
 use Rattle.noise_duel.proofs.Common.{not, Role, Initiator, Responder, Token, E, S, Ee, Es, Se, Ss, Psk, is_psk, same_role, turn_from, other, Plan, has_psk, History, ciphertext, ciphertext-same, Own, Ephemeral, Static, Remote, token_bytes, after_token, after_tokens, after_payload, Party, Reader, Fit, Fits, reader, known_after, remote_after, psks_after, tokens_at, tokens_now, dh_result_of, own_at, remote_at, Writer, Given, Gives, after_own, after_message, HandshakeMessage, Exchanged, Start, none, wrote, took, KeysAgree, Knows, same_role-other, cons-same}
 use Rattle.noise_duel.proofs.HashedTexts.{Alike}
-use Rattle.noise_duel.proofs.HashedMessages.{AreLines, AllAlike}
+use Rattle.noise_duel.proofs.HashedMessages.{AreMessages, AllAlike}
 use Rattle.noise_duel.proofs.Forward.{PskAt, PsksFit, UsePsks, message-same}
 
 -- ---- what a party's texts are, whether it wrote them or not
@@ -163,7 +163,7 @@ module _ (a b : Start) (agrees : KeysAgree a b) where
 
   pub all-agree : (p : Plan) (n : ℕ) (ka kb : Remote) (psks : List (List ℕ)) (r : History) (ps qs : List HandshakeMessage) → Knows ka b.own → Knows kb a.own
       → UsesAll p Initiator a.own a.agree n ka ps → UsesAll p Responder b.own b.agree n kb qs → UsePsks p n psks ps → UsePsks p n psks qs
-      → AreLines p n r ps → AreLines p n r qs → AllAlike p n r r ps qs → ps ≡ qs
+      → AreMessages p n r ps → AreMessages p n r qs → AllAlike p n r r ps qs → ps ≡ qs
   all-agree p n ka kb psks r [] [] f g u w m k c d h = refl
   all-agree p n ka kb psks r (x ∷ xs) (y ∷ ys) f g u w m k c d h =
       let ts : List Token = tokens_at p.messages n in
@@ -181,6 +181,6 @@ module _ (a b : Start) (agrees : KeysAgree a b) where
       (all-agree p (n + 1) (known_after_all mine ka ts x.carried) (known_after_all (not mine) kb ts y.carried) (drop (count_by is_psk ts) psks)
       (after_payload (has_psk p) r ts x.carried x.payload) xs ys
       here.left here.right u.1 turned.1 m.1 k.1 c.1
-      (subst (λ (s : History). AreLines p (n + 1) s ys) (sym after) d.1)
+      (subst (λ (s : History). AreMessages p (n + 1) s ys) (sym after) d.1)
       (subst (λ (s : History). AllAlike p (n + 1) (after_payload (has_psk p) r ts x.carried x.payload) s xs ys) (sym after) h.1))
   all-agree p n ka kb psks r _ _ f g u w m k c d h = absurd h

@@ -2,8 +2,8 @@
 use Rattle.std.proofs.Common.{rules, ◌≡◌, ◌≢◌, ◌≤◌, ◌+◌, ℕ, zero, suc, List, ◌∷◌, refl, arith, inl, inr, []}
 use Rattle.std.specs.Prelude.{Bool, true, false, Some, if◌then◌else◌}
 use Rattle.std.proofs.lemmas.Slice.Eq.{bytes_eq-Decides}
-use Rattle.noise_duel.proofs.Common.{not, bytes_eq, sha256, hash_texts, CollisionAt, HashesReport, and_parts, same_Some}
-use Rattle.noise_duel.specs.Clash.{clash, first_clash, clash_position, ClashIsCollision, ClashFound, ClashReported}
+use Rattle.noise_duel.proofs.Common.{not, bytes_eq, sha256, hash_texts, TextsClashAt, HashesReport, and_parts, same_Some}
+use Rattle.noise_duel.specs.Clash.{clash, first_clash, clash_position, FoundIsClash, ClashFound, ClashReported}
 
 not-both : (b : Bool) → not b ≡ true → b ≡ true → ⊥
 not-both true e f = cc
@@ -15,11 +15,11 @@ clash-differs x y h e = not-both (bytes_eq x y) (and_parts (not (bytes_eq x y)) 
 clash-same : (x y : List ℕ) → clash x y ≡ true → sha256 x ≡ sha256 y
 clash-same x y h = (bytes_eq-Decides (sha256 x) (sha256 y)).0 (and_parts (not (bytes_eq x y)) (bytes_eq (sha256 x) (sha256 y)) h).1
 
-later : (x y : List ℕ) (xs ys : List (List ℕ)) (k : ℕ) → CollisionAt xs ys k → CollisionAt (x ∷ xs) (y ∷ ys) (suc k)
+later : (x y : List ℕ) (xs ys : List (List ℕ)) (k : ℕ) → TextsClashAt xs ys k → TextsClashAt (x ∷ xs) (y ∷ ys) (suc k)
 later x y xs ys k c = record { left = c.left; right = c.right; at_left = c.at_left; at_right = c.at_right; differ = c.differ; same = c.same }
 
 abbrev MatchesFrom : ℕ → ℕ → List (List ℕ) → List (List ℕ) → Type 0
-MatchesFrom n i xs ys = (k : ℕ) × (i ≡ n + k) × CollisionAt xs ys k
+MatchesFrom n i xs ys = (k : ℕ) × (i ≡ n + k) × TextsClashAt xs ys k
 
 matches-by : (b : Bool) (n i : ℕ) (x y : List ℕ) (xs ys : List (List ℕ)) → clash x y ≡ b
     → (if b then Some n else first_clash (n + 1) xs ys) ≡ Some i → (first_clash (n + 1) xs ys ≡ Some i → MatchesFrom (n + 1) i xs ys)
@@ -39,8 +39,8 @@ matches-from n i _ _ e = absurd (cc)
 abbrev FoundFrom : ℕ → ℕ → List (List ℕ) → List (List ℕ) → Type 0
 FoundFrom n k xs ys = (j : ℕ) × (first_clash n xs ys ≡ Some j) × (j ≤ n + k)
 
-found-by : (b : Bool) (n k : ℕ) (x y : List ℕ) (xs ys : List (List ℕ)) → clash x y ≡ b → CollisionAt (x ∷ xs) (y ∷ ys) k
-    → ((m : ℕ) → CollisionAt xs ys m → FoundFrom (n + 1) m xs ys)
+found-by : (b : Bool) (n k : ℕ) (x y : List ℕ) (xs ys : List (List ℕ)) → clash x y ≡ b → TextsClashAt (x ∷ xs) (y ∷ ys) k
+    → ((m : ℕ) → TextsClashAt xs ys m → FoundFrom (n + 1) m xs ys)
     → (j : ℕ) × ((if b then Some n else first_clash (n + 1) xs ys) ≡ Some j) × (j ≤ n + k)
 found-by true n k x y xs ys c at more = (n, refl, omega arith)
 found-by false n zero x y xs ys c at more = search rules
@@ -50,12 +50,12 @@ found-by false n (suc k) x y xs ys c at more =
     let low : r.0 ≤ (n + 1) + k = r.2 in
     (r.0, r.1, omega arith)
 
-found-from : (n k : ℕ) (xs ys : List (List ℕ)) → CollisionAt xs ys k → FoundFrom n k xs ys
+found-from : (n k : ℕ) (xs ys : List (List ℕ)) → TextsClashAt xs ys k → FoundFrom n k xs ys
 found-from n k [] ys c = absurd (let e = c.at_left in cc)
 found-from n k (x ∷ xs) [] c = absurd (let e = c.at_right in cc)
 found-from n k (x ∷ xs) (y ∷ ys) c = found-by (clash x y) n k x y xs ys refl c (λ m. found-from (n + 1) m xs ys)
 
-pub clash-matches : ClashIsCollision
+pub clash-matches : FoundIsClash
 unfolding clash_position
 clash-matches r s i e = search (rules, matches-from)
 

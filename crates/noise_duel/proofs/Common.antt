@@ -41,14 +41,14 @@ pub use Rattle.noise_session.specs.Sending.Sends.{lacks_dh_result, refuses, send
 pub use Rattle.noise_session.specs.Steps.{StepValue, step_value}
 pub use Rattle.noise_session.specs.Taking.{Judges, Takes}
 pub use Rattle.noise_session.specs.Taking.Judges.{accepted, dropped, exhausted}
-pub use Rattle.noise_session.specs.Transport.{last_nonce, renewals, split_key, transport_message}
+pub use Rattle.noise_session.specs.Transport.{last_nonce, rekeys, split_key, transport_message}
 pub use Rattle.noise_session.specs.declared.faults.SendFault.{SendFault}
 pub use Rattle.noise_state.specs.Ciphertexts.{ciphertext-same, length-ciphertext}
 pub use Rattle.noise_state.specs.History.{Ciphertext, History, MixHash, MixKey, MixKeyAndHash, and_then, chaining_key, chaining_key_of, cipher_key, ciphertext, ciphertext_under, hash, hash_of, nonce, rekeyed_times, start_value}
 pub use Rattle.noise_duel.specs.Agreement.{HashReports, IsSetUp, KeysAgree, KeysReport, KnowEachOther, Knows, PsksReport, VisiblyEqual, VisiblyEqualIsOne}
 pub use Rattle.noise_duel.specs.Below.{LawsBelow}
-pub use Rattle.noise_duel.specs.Collision.{Collision, CollisionAt, hash_texts, hash_texts_of, hashed, hashed_of}
-pub use Rattle.noise_duel.specs.Conversation.{ComeThrough, HaveParts, InTurn, IsPart, KeyMaterial, LinesComeThrough, LinesLeave, LinesRun, after_conversation, carried_by, conversation, end_after, frames_by, history_in, in_turn, lines_by, notes_of_lines, payloads_in, public_keys_in, say_events, sides_at_start, start_in, transport_messages_of}
+pub use Rattle.noise_duel.specs.HashedTexts.{ClashAt, TextsClashAt, hash_texts, hash_texts_of, hashed, hashed_of}
+pub use Rattle.noise_duel.specs.Conversation.{ComeThrough, HaveParts, InTurn, IsPart, KeyMaterial, MessagesComeThrough, MessagesLeave, MessagesRun, after_conversation, carried_by, conversation, end_after, frames_by, history_in, in_turn, messages_by, notes_of_messages, payloads_in, public_keys_in, say_events, sides_at_start, start_in, transport_messages_of}
 pub use Rattle.noise_duel.specs.DatagramNotes.{DatagramNote, Rejected, SealFault, Sealed}
 pub use Rattle.noise_duel.specs.DatagramReports.{DatagramDuelMatches, DatagramDuelValue, DatagramReports, datagram_note_of, datagram_notes_of}
 pub use Rattle.noise_duel.specs.DatagramRuns.{DatagramHappens, DatagramRun, DatagramRunOnce, PartyOpens, PartySeals}
@@ -61,10 +61,10 @@ pub use Rattle.noise_duel.specs.Entries.{note_of, notes_of, step_of, written_not
 pub use Rattle.noise_duel.specs.Invariant.{AreTransportMessages, ComesOfMessages, EndsComeOfMessages}
 pub use Rattle.noise_duel.specs.Messages.{Exchanged, HandshakeMessage, OneEach, Start, begun_as, clear_keys, clear_keys_from, dh_results, dh_results_from, keys_before, messages_of, pre_keys}
 pub use Rattle.noise_duel.specs.Messages.Exchanged.{none, took, wrote}
-pub use Rattle.noise_duel.specs.Networks.{HashesReport, HaveOneHash, HaveOneHistory, HistoriesCollide, PayloadsAgree, PayloadsCome, PsksMakeOne, SharePsks, VisiblyEqualGivesOne}
+pub use Rattle.noise_duel.specs.Networks.{HashesReport, HaveOneHash, HaveOneHistory, HaveClash, PayloadsAgree, PayloadsCome, PsksMakeOne, SharePsks, VisiblyEqualGivesOne}
 pub use Rattle.noise_duel.specs.Notes.{Judged, Left, Missing, Note, WriteFault, Wrote, held_note, left_note, noted_by}
 pub use Rattle.noise_duel.specs.OneDatagram.{DatagramHappened, DatagramsHaveComeTo, HasFound, HasOpened, HasSealed, SealedMatch}
-pub use Rattle.noise_duel.specs.OneEvent.{HasComeTo, HasHappened, HasTaken, RoleWrote}
+pub use Rattle.noise_duel.specs.OneEvent.{HasComeTo, HasHappened, HasDelivered, RoleWrote}
 pub use Rattle.noise_duel.specs.OwnFrames.{EndsFrame, FramesAreOwn, own_messages}
 pub use Rattle.noise_duel.specs.Receiving.{AreLeft, HasReceivedSome, HasStopped, left_of, note_of_left, step_note}
 pub use Rattle.noise_duel.specs.Runs.{GivesNoPayload, Happens, Run, RunOnce, SideReads, SideReceives, SideWrites}

@@ -2,7 +2,7 @@
 use Rattle.std.proofs.Common.{rules, ◌≡◌, ℕ, ◌+◌, List, ◌∷◌, ◌++◌, length, drop, count_by, refl, ap, sym, subst, ◌∙◌, append_assoc, []}
 use Rattle.std.specs.Prelude.{Bool, if◌then◌else◌}
 use Rattle.noise_duel.proofs.Common.{is_some, Initiator, Responder, Token, E, S, Psk, is_psk, Plan, has_psk, pre_of, name_bytes, History, MixHash, and_then, cipher_key, ciphertext, length-ciphertext, ciphertext-same, token_bytes, after_token, before_payload, after_tokens, after_payload, Carry, Carries, Party, psks_after, tokens_at, with_premessage, after_own, after_message, public_keys, LawsBelow, HandshakeMessage, Exchanged, begun_as, dh_results, dh_results_from, messages_of, none, wrote, took, VisiblyEqualIsOne, heads, tails, split-apart, cons-same}
-use Rattle.noise_duel.proofs.HashedMessages.{after_all, AreLines, passes-lines}
+use Rattle.noise_duel.proofs.HashedMessages.{after_all, AreMessages, passes-messages}
 use Rattle.noise_duel.proofs.Forward.{PskAt, PsksFit, UsePsks, passes-psks, message-same, pre-same}
 
 -- each message carries keys of 32 bytes
@@ -47,7 +47,7 @@ front-equal has_psks r psks _ _ _ p q others rest c d f g h e = absurd d
 
 all-equal : (p : Plan) (n : ℕ) (r : History) (psks : List (List ℕ)) (ps qs : List HandshakeMessage) → messages_of ps ≡ messages_of qs → AllCarry p n ps
     → AllCarry p n qs
-    → AreLines p n r ps → AreLines p n r qs → UsePsks p n psks ps → UsePsks p n psks qs → dh_results_from p n ps ≡ dh_results_from p n qs → ps ≡ qs
+    → AreMessages p n r ps → AreMessages p n r qs → UsePsks p n psks ps → UsePsks p n psks qs → dh_results_from p n ps ≡ dh_results_from p n qs → ps ≡ qs
 all-equal p n r psks [] [] a k l b c f g h = refl
 all-equal p n r psks (m ∷ ms) (q ∷ qs) a k l b c f g h =
     let ts : List Token = tokens_at p.messages n in
@@ -63,7 +63,7 @@ all-equal p n r psks (m ∷ ms) (q ∷ qs) a k l b c f g h =
     cons-same one
     (all-equal p (n + 1) (after_payload (has_psk p) r ts m.carried m.payload) (drop (count_by is_psk ts) psks) ms qs
     (tails m.message q.message (messages_of ms) (messages_of qs) a) k.1 l.1 b.1
-    (subst (λ (s : History). AreLines p (n + 1) s qs) (sym after) c.1) f.1 g.1 here.2)
+    (subst (λ (s : History). AreMessages p (n + 1) s qs) (sym after) c.1) f.1 g.1 here.2)
 all-equal p n r psks _ _ a k l b c f g h = cc
 
 pub visibly-equal-is-one : LawsBelow → VisiblyEqualIsOne
@@ -78,11 +78,11 @@ visibly-equal-is-one laws p a b ps qs v w left right prologue before messages ps
     (with_premessage (has_psk p) b.remote (pre_of Initiator p) s)
     (pre-same (has_psk p) (public_keys a.own) b.remote (pre_of Initiator p) r s
     (ap (λ (z : List ℕ). and_then (record { name = name; entries = [] }) (MixHash z)) prologue) (before Initiator)) (before Responder) in
-    let l = passes-lines (begun_as p Initiator a) v ps left in
-    let m = passes-lines (begun_as p Responder b) w qs right in
+    let l = passes-messages (begun_as p Initiator a) v ps left in
+    let m = passes-messages (begun_as p Responder b) w qs right in
     let one : ps ≡ qs = all-equal p 0 r0 a.psks ps qs messages
     (passes-carry laws (begun_as p Initiator a) v ps left) (passes-carry laws (begun_as p Responder b) w qs right) l.lines
-    (subst (λ (z : History). AreLines p 0 z qs) (sym first) m.lines)
+    (subst (λ (z : History). AreMessages p 0 z qs) (sym first) m.lines)
     (passes-psks (begun_as p Initiator a) v ps left)
     (subst (λ (z : List (List ℕ)). UsePsks p 0 z qs) (sym psks) (passes-psks (begun_as p Responder b) w qs right)) computed in
     (one, l.history ∙ ap (λ (z : History). after_all p 0 z ps) first ∙ ap (after_all p 0 s0) one ∙ sym m.history)

@@ -4,7 +4,7 @@ use Rattle.std.specs.Prelude.{false}
 use Rattle.noise_duel.proofs.Common.{IsTrue, is_some, Role, Initiator, Responder, other, same_role, turn_from, is_psk, Plan, has_psk, is_one_way, has_key, overhead_of, IsValid, History, cipher_key, Own, Carry, message_bytes, after_payload, passed_places, Party, Speaks, tokens_at, tokens_now, Given, writer, after_own, after_message, Counterparts, counterpart, IsEquipped, LawsBelow, frame, transport_message, last_nonce, HandshakeMessage, TransportMessage, Side, Sides, side, wrote_handshake, accepted_handshake, wrote_transport, accepted_transport, Say, Note, Wrote, Judged, Happens, KeyMaterial, carried_by, transport_messages_of, frames_by, false_from_ne_true, and_left, and_right}
 use Rattle.noise_session.specs.Steps.StepValue.{Payload}
 use Rattle.noise_duel.proofs.Parts.{HasMaterial, equipped, given-carried, true-dh-result}
-use Rattle.noise_duel.proofs.Lines.{say-happens}
+use Rattle.noise_duel.proofs.OneMessage.{say-happens}
 use Rattle.noise_duel.proofs.Steps.{HandshakeStep, step-handshake, TransportStep, step-transport, below-too, not-both}
 
 -- ---- two ends that have come equally far
@@ -42,7 +42,7 @@ abbrev pub after_due : KeyMaterial → Party → List ℕ → History
 after_due w v payload = after_payload (has_psk v.pattern) v.history (tokens_now v) (carried_by w (turn_from Initiator v.passed) v.psks (tokens_now v)) payload
 
 -- what a line leaves
-pub record AfterLine (w : KeyMaterial) (n : ℕ) (role : Role) (payload : List ℕ) (d e : Sides) : Type 0 where
+pub record AfterSaid (w : KeyMaterial) (n : ℕ) (role : Role) (payload : List ℕ) (d e : Sides) : Type 0 where
   pub frames : length (side e role).frames ≡ length (side d role).frames + 1
   pub others : (side e (other role)).frames ≡ (side d (other role)).frames
   pub interval : e.initiator.state.interval ≡ d.initiator.state.interval
@@ -93,9 +93,9 @@ frames-on Responder Responder d e message rest f g = search (rules, append_assoc
 
 module _ (laws : LawsBelow) (w : KeyMaterial) (long : (role : Role) (k : Own) → length (w.public role k) ≡ 32) where
   -- a line of the handshake
-  pub record HandshakeLine (n : ℕ) (role : Role) (payload : List ℕ) (d e : Sides) (notes : List (Role × Note)) : Type 0 where
+  pub record SaidInHandshake (n : ℕ) (role : Role) (payload : List ℕ) (d e : Sides) (notes : List (Role × Note)) : Type 0 where
     pub noted : notes ≡ (role, Wrote (length (side d role).frames)) ∷ (other role, Judged (Payload payload)) ∷ []
-    pub past_line : AfterLine w n role payload d e
+    pub past_message : AfterSaid w n role payload d e
     pub handshake : InHandshake w payload d e
 
   pub handshake-at : (n : ℕ) (role : Role) (payload : List ℕ) (d : Sides) → EquallyFar w n d → n < length d.initiator.state.party.pattern.messages
@@ -135,11 +135,11 @@ module _ (laws : LawsBelow) (w : KeyMaterial) (long : (role : Role) (k : Own) �
       let fits : overhead_of u.pattern (u.passed + 1) + length payload ≤ 65535 = search rules in
       step-handshake laws s t payload valid turned has speaks keyed fits a.partial
 
-  pub handshake-line : (n : ℕ) (role : Role) (payload : List ℕ) (d e : Sides) (notes : List (Role × Note)) → EquallyFar w n d
+  pub handshake-said : (n : ℕ) (role : Role) (payload : List ℕ) (d e : Sides) (notes : List (Role × Note)) → EquallyFar w n d
       → n < length d.initiator.state.party.pattern.messages
       → role ≡ turn_from Initiator n → overhead_of d.initiator.state.party.pattern (n + 1) + length payload ≤ 65535 → Happens d (Say role payload) notes e
-      → HandshakeLine n role payload d e notes
-  handshake-line n Initiator payload d e notes a more turn room does =
+      → SaidInHandshake n role payload d e notes
+  handshake-said n Initiator payload d e notes a more turn room does =
       let s : Side = d.initiator in
       let t : Side = d.responder in
       let v : Party = s.state.party in
@@ -177,7 +177,7 @@ module _ (laws : LawsBelow) (w : KeyMaterial) (long : (role : Role) (k : Own) �
         back = a.back;
       } in
       let same : m ≡ due_of w v payload = search message-same in
-      let past_line : AfterLine w n Initiator payload d after =
+      let past_message : AfterSaid w n Initiator payload d after =
       record { frames = length-append s.frames (frame sp.message ∷ []); others = refl; interval = refl; equally_far = equally_far } in
       let handshake : InHandshake w payload d after = record {
         pattern = refl;
@@ -191,10 +191,10 @@ module _ (laws : LawsBelow) (w : KeyMaterial) (long : (role : Role) (k : Own) �
       } in
       record {
         noted = out.0;
-        past_line = subst (λ (z : Sides). AfterLine w n Initiator payload d z) (sym out.1) past_line;
+        past_message = subst (λ (z : Sides). AfterSaid w n Initiator payload d z) (sym out.1) past_message;
         handshake = subst (λ (z : Sides). InHandshake w payload d z) (sym out.1) handshake;
       }
-  handshake-line n Responder payload d e notes a more turn room does =
+  handshake-said n Responder payload d e notes a more turn room does =
       let s : Side = d.responder in
       let t : Side = d.initiator in
       let v : Party = t.state.party in
@@ -239,7 +239,7 @@ module _ (laws : LawsBelow) (w : KeyMaterial) (long : (role : Role) (k : Own) �
         back = a.back;
       } in
       let same : m ≡ due_of w v payload = search message-same in
-      let past_line : AfterLine w n Responder payload d after =
+      let past_message : AfterSaid w n Responder payload d after =
       record { frames = length-append s.frames (frame sp.message ∷ []); others = refl; interval = refl; equally_far = equally_far } in
       let handshake : InHandshake w payload d after = record {
         pattern = refl;
@@ -253,7 +253,7 @@ module _ (laws : LawsBelow) (w : KeyMaterial) (long : (role : Role) (k : Own) �
       } in
       record {
         noted = out.0;
-        past_line = subst (λ (z : Sides). AfterLine w n Responder payload d z) (sym out.1) past_line;
+        past_message = subst (λ (z : Sides). AfterSaid w n Responder payload d z) (sym out.1) past_message;
         handshake = subst (λ (z : Sides). InHandshake w payload d z) (sym out.1) handshake;
       }
 
@@ -263,9 +263,9 @@ abbrev pub with_payload : List ℕ → List ℕ → TransportMessage
 with_payload message payload = record { message = message; payload = payload }
 
 module _ (w : KeyMaterial) where
-  pub record TransportLine (n : ℕ) (role : Role) (payload : List ℕ) (d e : Sides) (notes : List (Role × Note)) : Type 0 where
+  pub record SaidInTransport (n : ℕ) (role : Role) (payload : List ℕ) (d e : Sides) (notes : List (Role × Note)) : Type 0 where
     pub noted : notes ≡ (role, Wrote (length (side d role).frames)) ∷ (other role, Judged (Payload payload)) ∷ []
-    pub past_line : AfterLine w n role payload d e
+    pub past_message : AfterSaid w n role payload d e
     pub transport : InTransport role payload d e
 
   pub transport-at : (n : ℕ) (role : Role) (payload : List ℕ) (d : Sides) → EquallyFar w n d → length d.initiator.state.party.pattern.messages ≤ n
@@ -307,11 +307,11 @@ module _ (w : KeyMaterial) where
       going_s going short (below-too s.state.sent n last_nonce a.few_there low) a.came_back (sym (ap (λ (z : Party). z.history) a.counterparts.there))
       (sym a.interval) (ap other a.role ∙ sym role_s) a.partial
 
-  pub transport-line : (n : ℕ) (role : Role) (payload : List ℕ) (d e : Sides) (notes : List (Role × Note)) → EquallyFar w n d
+  pub transport-said : (n : ℕ) (role : Role) (payload : List ℕ) (d e : Sides) (notes : List (Role × Note)) → EquallyFar w n d
       → length d.initiator.state.party.pattern.messages ≤ n
       → (IsTrue (is_one_way d.initiator.state.party.pattern) → role ≡ Initiator) → length payload ≤ 65519 → n < last_nonce → Happens d (Say role payload) notes e
-      → TransportLine n role payload d e notes
-  transport-line n Initiator payload d e notes a ended_party one short low does =
+      → SaidInTransport n role payload d e notes
+  transport-said n Initiator payload d e notes a ended_party one short low does =
       let s : Side = d.initiator in
       let t : Side = d.responder in
       let v : Party = s.state.party in
@@ -345,7 +345,7 @@ module _ (w : KeyMaterial) where
       } in
       record {
         noted = out.0;
-        past_line = subst (λ (z : Sides). AfterLine w n Initiator payload d z) (sym out.1)
+        past_message = subst (λ (z : Sides). AfterSaid w n Initiator payload d z) (sym out.1)
             (record { frames = length-append s.frames (frame sp.message ∷ []); others = refl; interval = refl; equally_far = equally_far });
         transport = subst (λ (z : Sides). InTransport Initiator payload d z) (sym out.1) (record {
           party = refl;
@@ -356,7 +356,7 @@ module _ (w : KeyMaterial) where
               ∙ frames-on Initiator r d after sp.message (transport_messages_of v.history s.state.interval (s.state.sent + 1) t.state.sent lines) refl refl;
         });
       }
-  transport-line n Responder payload d e notes a ended_party one short low does =
+  transport-said n Responder payload d e notes a ended_party one short low does =
       let s : Side = d.responder in
       let t : Side = d.initiator in
       let v : Party = t.state.party in
@@ -391,7 +391,7 @@ module _ (w : KeyMaterial) where
       } in
       record {
         noted = out.0;
-        past_line = subst (λ (z : Sides). AfterLine w n Responder payload d z) (sym out.1)
+        past_message = subst (λ (z : Sides). AfterSaid w n Responder payload d z) (sym out.1)
             (record { frames = length-append s.frames (frame sp.message ∷ []); others = refl; interval = refl; equally_far = equally_far });
         transport = subst (λ (z : Sides). InTransport Responder payload d z) (sym out.1) (record {
           party = refl;

@@ -3,7 +3,7 @@ use Rattle.std.proofs.Common.{rules, ◌≡◌, ℕ, ◌+◌, List, ◌∷◌, �
 use Rattle.std.specs.Prelude.{Bool}
 use Rattle.noise_duel.proofs.Common.{unwrap_or, Initiator, Responder, Token, E, S, Psk, is_psk, Plan, has_psk, pre_of, name_bytes, History, MixHash, and_then, ciphertext, ciphertext-same, Remote, token_bytes, after_token, after_tokens, after_payload, with_ephemeral, Party, Reader, Fit, Fits, known_after, psks_after, first_psk, tokens_at, with_premessage, start, Writer, Given, Gives, after_own, after_message, public_keys, hashed, HandshakeMessage, Exchanged, begun_as, dh_results, dh_results_from, pre_keys, none, wrote, took, PsksReport, heads, tails, cons-same}
 use Rattle.noise_duel.proofs.HashedTexts.{Alike, pre-back}
-use Rattle.noise_duel.proofs.HashedMessages.{after_all, AreLines, AllAlike, passes-lines}
+use Rattle.noise_duel.proofs.HashedMessages.{after_all, AreMessages, AllAlike, passes-messages}
 use Rattle.noise_duel.proofs.HashReports.{SameBytes, bytes-or}
 
 -- ---- psks
@@ -69,8 +69,8 @@ module _ (has_psks : Bool) where
 pub message-same : (m q : HandshakeMessage) → m.message ≡ q.message → m.carried ≡ q.carried → m.payload ≡ q.payload → m ≡ q
 message-same m q e f g = search rules
 
-all-on : (p : Plan) (n : ℕ) (r : History) (psks : List (List ℕ)) (ps qs : List HandshakeMessage) → AllAlike p n r r ps qs → AreLines p n r ps
-    → AreLines p n r qs
+all-on : (p : Plan) (n : ℕ) (r : History) (psks : List (List ℕ)) (ps qs : List HandshakeMessage) → AllAlike p n r r ps qs → AreMessages p n r ps
+    → AreMessages p n r qs
     → UsePsks p n psks ps → UsePsks p n psks qs → dh_results_from p n ps ≡ dh_results_from p n qs → ps ≡ qs
 all-on p n r psks [] [] a b c f g h = refl
 all-on p n r psks (m ∷ ms) (q ∷ qs) a b c f g h =
@@ -84,7 +84,7 @@ all-on p n r psks (m ∷ ms) (q ∷ qs) a b c f g h =
     let after : after_payload (has_psk p) r ts m.carried m.payload ≡ after_payload (has_psk p) r ts q.carried q.payload = search in
     let later = all-on p (n + 1) (after_payload (has_psk p) r ts m.carried m.payload) (drop (count_by is_psk ts) psks) ms qs
     (subst (λ (s : History). AllAlike p (n + 1) (after_payload (has_psk p) r ts m.carried m.payload) s ms qs) (sym after) a.1) b.1
-    (subst (λ (s : History). AreLines p (n + 1) s qs) (sym after) c.1) f.1 g.1 here.1 in
+    (subst (λ (s : History). AreMessages p (n + 1) s qs) (sym after) c.1) f.1 g.1 here.1 in
     cons-same one later
 all-on p n r psks _ _ a b c f g h = absurd a
 
@@ -129,12 +129,12 @@ psks-report p a b ps qs v w left right count e psks computed =
         let name : List ℕ = name_bytes (record { base = p.base; places = p.places }) in
         let r0 : History = (begun_as p Initiator a).history in
         let s0 : History = (begun_as p Responder b).history in
-        let l = passes-lines (begun_as p Initiator a) v ps left in
-        let m = passes-lines (begun_as p Responder b) w qs right in
+        let l = passes-messages (begun_as p Initiator a) v ps left in
+        let m = passes-messages (begun_as p Responder b) w qs right in
         let first : r0 ≡ s0 = starts-same name p a.prologue b.prologue (public_keys a.own) a.remote b.remote (public_keys b.own) h.start in
         let one : ps ≡ qs = all-on p 0 r0 a.psks ps qs
         (subst (λ (s : History). AllAlike p 0 r0 s ps qs) (sym first) h.lines) l.lines
-        (subst (λ (s : History). AreLines p 0 s qs) (sym first) m.lines)
+        (subst (λ (s : History). AreMessages p 0 s qs) (sym first) m.lines)
         (passes-psks (begun_as p Initiator a) v ps left)
         (subst (λ (z : List (List ℕ)). UsePsks p 0 z qs) (sym psks) (passes-psks (begun_as p Responder b) w qs right)) computed in
         (one, l.history ∙ ap (λ (s : History). after_all p 0 s ps) first ∙ ap (after_all p 0 s0) one ∙ sym m.history)

@@ -1,7 +1,7 @@
 -- What comes of events, in code, from what comes of one end's part of them.
 use Rattle.std.proofs.Common.{rules, ◌≡◌, ℕ, List, ◌∷◌, ◌++◌, length, map, refl, ap, sym, subst, ◌∙◌, append_assoc, append-nil, Option, Some, None, Result, Ok, Err, slice_get, Vec, Global, []}
 use Rattle.std.specs.Result.{result_ok}
-use Rattle.noise_duel.proofs.Common.{map-append, Role, Initiator, Responder, other, Own, SendFault, frame, EndValue, note_of, notes_of, written_note, Event, Write, Say, Deliver, Note, Wrote, Missing, held_note, noted_by, DuelValue, DuelMatches, HasFrames, HasTaken, RoleWrote, HasHappened, HasComeTo, SideWrites, SideReceives, Happens, Run, writes_handshake, writes_transport, writes, says_nothing, says, delivers, misses, injects, Side, Sides, side, with_side, same_Some, get-last}
+use Rattle.noise_duel.proofs.Common.{map-append, Role, Initiator, Responder, other, Own, SendFault, frame, EndValue, note_of, notes_of, written_note, Event, Write, Say, Deliver, Note, Wrote, Missing, held_note, noted_by, DuelValue, DuelMatches, HasFrames, HasDelivered, RoleWrote, HasHappened, HasComeTo, SideWrites, SideReceives, Happens, Run, writes_handshake, writes_transport, writes, says_nothing, says, delivers, misses, injects, Side, Sides, side, with_side, same_Some, get-last}
 use Rattle.noise_duel.specs.declared.entry.Entry.{Entry}
 use Rattle.noise_duel.specs.declared.report.Report.{Report}
 use Rattle.noise_events.specs.Events.{Raw}
@@ -167,7 +167,7 @@ module _ {A B : Type 0} (public_a : A → Own → Option (List ℕ)) (agreement_
       → role ≡ Initiator → slice_get d.responder.frames n ≡ found
       → DuelMatches public_a agreement_a public_b agreement_b duel d → HasFrames before d
       → before.initiator ≡ after.initiator → before.responder ≡ after.responder
-      → HasTaken public_a agreement_a d.initiator role n found end before.entries.items after.entries.items
+      → HasDelivered public_a agreement_a d.initiator role n found end before.entries.items after.entries.items
       → HasHappened public_a agreement_a public_b agreement_b d (Deliver role n) (record { initiator = end; responder = duel.responder }) before after
   took-initiator d Responder n found duel end before after is got st fr one two h = cc
   took-initiator d Initiator n (Some bytes) duel end before after is got st fr one two h =
@@ -188,7 +188,7 @@ module _ {A B : Type 0} (public_a : A → Own → Option (List ℕ)) (agreement_
       → role ≡ Responder → slice_get d.initiator.frames n ≡ found
       → DuelMatches public_a agreement_a public_b agreement_b duel d → HasFrames before d
       → before.initiator ≡ after.initiator → before.responder ≡ after.responder
-      → HasTaken public_b agreement_b d.responder role n found end before.entries.items after.entries.items
+      → HasDelivered public_b agreement_b d.responder role n found end before.entries.items after.entries.items
       → HasHappened public_a agreement_a public_b agreement_b d (Deliver role n) (record { initiator = duel.initiator; responder = end }) before after
   took-responder d Initiator n found duel end before after is got st fr one two h = cc
   took-responder d Responder n (Some bytes) duel end before after is got st fr one two h =

@@ -1,8 +1,8 @@
--- Keys that agree and equal psks: one conversation and one history, or two hashed texts collide.
+-- Keys that agree and equal psks: one conversation and one history, or two hashed texts clash.
 use Rattle.std.proofs.Common.{◌≡◌, ℕ, List, ◌∷◌, length, ap, sym, subst, ◌∙◌, inl, inr, []}
 use Rattle.std.specs.Prelude.{true, Option, Some}
 use Rattle.noise_duel.proofs.Common.{is_some, unwrap_or, Role, Initiator, Responder, Token, E, S, other, Plan, pre_of, name_bytes, History, Ephemeral, Static, Remote, Own, public_keys, has_before, has_token, token_of, LawsBelow, Start, begun_as, pre_keys, IsSetUp, KeysReport, Knows, heads, tails}
-use Rattle.noise_duel.proofs.HashedMessages.{after_all, AreLines, AllAlike, passes-lines}
+use Rattle.noise_duel.proofs.HashedMessages.{after_all, AreMessages, AllAlike, passes-messages}
 use Rattle.noise_duel.proofs.HashReports.{SameBytes, bytes-or, starts-back}
 use Rattle.noise_duel.proofs.Forward.{UsePsks, passes-psks, starts-same}
 use Rattle.noise_duel.proofs.Agreeing.{all-agree, passes-uses}
@@ -51,8 +51,8 @@ keys-report laws p a b ps qs v w sa sb left right count e psks agrees =
         let name : List ℕ = name_bytes (record { base = p.base; places = p.places }) in
         let r0 : History = (begun_as p Initiator a).history in
         let s0 : History = (begun_as p Responder b).history in
-        let l = passes-lines (begun_as p Initiator a) v ps left in
-        let m = passes-lines (begun_as p Responder b) w qs right in
+        let l = passes-messages (begun_as p Initiator a) v ps left in
+        let m = passes-messages (begun_as p Responder b) w qs right in
         let first : r0 ≡ s0 = starts-same name p a.prologue b.prologue (public_keys a.own) a.remote b.remote (public_keys b.own) h.start in
         let keys = starts-back name p a.prologue b.prologue (public_keys a.own) a.remote b.remote (public_keys b.own) h.start in
         let ka : Knows a.remote b.own = knows-first laws p Initiator a b sa sb keys.2 in
@@ -62,6 +62,6 @@ keys-report laws p a b ps qs v w sa sb left right count e psks agrees =
         (passes-psks (begun_as p Initiator a) v ps left)
         (subst (λ (z : List (List ℕ)). UsePsks p 0 z qs) (sym psks) (passes-psks (begun_as p Responder b) w qs right))
         l.lines
-        (subst (λ (s : History). AreLines p 0 s qs) (sym first) m.lines)
+        (subst (λ (s : History). AreMessages p 0 s qs) (sym first) m.lines)
         (subst (λ (s : History). AllAlike p 0 r0 s ps qs) (sym first) h.lines) in
         (one, l.history ∙ ap (λ (s : History). after_all p 0 s ps) first ∙ ap (after_all p 0 s0) one ∙ sym m.history)

@@ -2,7 +2,7 @@
 use Rattle.std.proofs.Common.{rules, ◌≡◌, ◌∙◌, refl, ap, ap₂, sym, ℕ, zero, suc, ◌+◌, ◌<◌, min, List, ◌∷◌, ◌++◌, length, map, take, drop, arith, append_assoc, length-append, count_by, drop-drop, []}
 use Rattle.std.specs.Prelude.{Bool, true, false, if◌then◌else◌}
 use Rattle.std.proofs.lemmas.List.Sums.{sum_by-cons}
-use Rattle.noise_duel.proofs.Common.{cond, length-map, length-take, Role, Initiator, Responder, Token, Plan, is_psk, other, History, counterpart, shown_after, after_message, after_own, psks_of, Party, tokens_at, tokens_now, EndState, frame, ComeThrough, LinesComeThrough, LinesLeave, conversation, end_after, frames_by, history_in, in_turn, lines_by, transport_messages_of, payloads_in, start_in, ComesOfMessages, EndsComeOfMessages, Exchanged, HandshakeMessage, Start, begun_as, messages_of, none, wrote, took, EndsFrame, FramesAreOwn, own_messages, Side, TransportMessage}
+use Rattle.noise_duel.proofs.Common.{cond, length-map, length-take, Role, Initiator, Responder, Token, Plan, is_psk, other, History, counterpart, shown_after, after_message, after_own, psks_of, Party, tokens_at, tokens_now, EndState, frame, ComeThrough, MessagesComeThrough, MessagesLeave, conversation, end_after, frames_by, history_in, in_turn, messages_by, transport_messages_of, payloads_in, start_in, ComesOfMessages, EndsComeOfMessages, Exchanged, HandshakeMessage, Start, begun_as, messages_of, none, wrote, took, EndsFrame, FramesAreOwn, own_messages, Side, TransportMessage}
 
 -- ---- how many transport messages a role has sent
 
@@ -24,7 +24,7 @@ one-or-none true f fs = omega arith
 one-or-none false f fs = omega arith
 
 transport_messages-by : (role : Role) (r : History) (interval i j : ℕ) (lines : List (Role × List ℕ))
-    → length (frames_by role (transport_messages_of r interval i j lines)) ≡ lines_by role lines
+    → length (frames_by role (transport_messages_of r interval i j lines)) ≡ messages_by role lines
 transport_messages-by role r interval i j [] = refl
 transport_messages-by role r interval i j ((Initiator, payload) ∷ lines) =
     search (one-or-none, sum_by-cons, (transport_messages-by role r interval (i + 1) j lines))
@@ -97,7 +97,7 @@ module _ (p : Plan) (role : Role) (s theirs : Start) (interval : ℕ) (r : Histo
 
   end-is : (side : Side) (u : Party) → ComesOfMessages (begun_as p role s) interval side → side.state.party ≡ counterpart u side.state.party.own side.state.party.agree
       → u.pattern ≡ p → u.role ≡ other role → u.own ≡ theirs.own → u.passed ≡ many → u.history ≡ r
-      → length side.sent ≡ lines_by role (drop (length p.messages) lines) → length side.received ≡ lines_by (other role) (drop (length p.messages) lines)
+      → length side.sent ≡ messages_by role (drop (length p.messages) lines) → length side.received ≡ messages_by (other role) (drop (length p.messages) lines)
       → side.state.partial ≡ [] → side.state ≡ end_after p role s theirs interval r lines
   end-is side u made faces pattern turned own passed history sent received partial =
       let v : Party = side.state.party in
@@ -125,8 +125,8 @@ module _ (p : Plan) (role : Role) (s theirs : Start) (interval : ℕ) (r : Histo
 
 -- ---- both
 
-pub lines-leave : LinesComeThrough → EndsComeOfMessages → EndsFrame → LinesLeave
-lines-leave come stand framed w p prologue a b interval lines notes d parts turns run =
+pub messages-leave : MessagesComeThrough → EndsComeOfMessages → EndsFrame → MessagesLeave
+messages-leave come stand framed w p prologue a b interval lines notes d parts turns run =
     let it : ComeThrough w p prologue interval lines d = (come w p prologue a b interval lines notes d parts turns run).1 in
     let made = stand p a b interval interval _ notes d run in
     let own = framed p a b interval interval _ notes d run in
@@ -140,9 +140,9 @@ lines-leave come stand framed w p prologue a b interval lines notes d parts turn
     let u : Party = d.responder.state.party in
     let role : v.role ≡ Initiator = ap (λ (z : Party). z.role) made.0.party ∙ k.role in
     let role-there : u.role ≡ Responder = ap (λ (z : Party). z.role) made.1.party ∙ l.role in
-    let sent : length d.initiator.sent ≡ lines_by Initiator rest =
+    let sent : length d.initiator.sent ≡ messages_by Initiator rest =
     sent-count d.initiator Initiator ms transport_messages own.0 role it.initiator (it.frames Initiator) ∙ transport_messages-by Initiator r interval 0 0 rest in
-    let sent-there : length d.responder.sent ≡ lines_by Responder rest =
+    let sent-there : length d.responder.sent ≡ messages_by Responder rest =
     sent-count d.responder Responder ms transport_messages own.1 role-there (it.responder ∙ it.initiator) (it.frames Responder)
     ∙ transport_messages-by Responder r interval 0 0 rest in
     let count : v.passed ≡ min (length p.messages) (length lines) = search (rules, length-map, length-take) in

@@ -13,7 +13,7 @@ pub mod Agreeing
 pub mod KeysReport
 pub mod Converse
 pub mod Known
-pub mod Lines
+pub mod OneMessage
 pub mod Parts
 pub mod Steps
 pub mod EquallyFar

@@ -123,7 +123,7 @@ pub receives-nothing : (s : Side) → IsPartial s.state.partial → SideReceives
 receives-nothing s partial = nothing-at s (idle_step (progress_of s.state)) refl partial
 
 -- one take, with what comes after the piece
-pub record HasTaken (s : Side) (piece : List ℕ) (n : ℕ) (step : StepValue) (next : EndState) : Type 0 where
+pub record HasDelivered (s : Side) (piece : List ℕ) (n : ℕ) (step : StepValue) (next : EndState) : Type 0 where
   pub after : Side
   pub state : after.state ≡ next
   pub frames : after.frames ≡ s.frames
@@ -157,7 +157,7 @@ rest-taken partial piece message rest n e count =
     sym (drop-append-add partial piece n) ∙ ap (λ (k : ℕ). drop k (partial ++ piece)) long ∙ ap (drop (length (frame message))) e
     ∙ drop-append_seam (frame message) rest
 
-pub takes-taken : (s : Side) (piece : List ℕ) (n : ℕ) (step : StepValue) (next : EndState) → Takes s.state piece n step next → HasTaken s piece n step next
+pub takes-taken : (s : Side) (piece : List ℕ) (n : ℕ) (step : StepValue) (next : EndState) → Takes s.state piece n step next → HasDelivered s piece n step next
 takes-taken s piece n step next (idles _ _ _ e) = record {
   after = s;
   state = refl;

@@ -2,7 +2,7 @@
 use Rattle.std.proofs.Common.{rules, ◌≡◌, ℕ, zero, suc, ◌+◌, List, ◌∷◌, ◌++◌, length, take, refl, ap, sym, subst, ◌∙◌, append_assoc, Option, Some, None, []}
 use Rattle.std.specs.Prelude.{Bool, true, false, ◌&&◌, if◌then◌else◌}
 use Rattle.std.specs.List.{list_any}
-use Rattle.noise_duel.proofs.Common.{◌||◌, Role, Initiator, Responder, Token, other, same_role, Plan, Place, first_places, message_places, places_of, token_places, transport_places, is_among, is_at, hash, Own, Counterparts, counterpart, passed_places, token_of, Party, EndState, EndMatches, EndValue, IsReportedBy, KeyMaterial, HaveParts, InTurn, LinesComeThrough, LinesLeave, sides_at_start, payloads_in, say_events, notes_of, Event, Note, DuelValue, EndsComeOfMessages, Start, HashesReport, PayloadsCome, PsksMakeOne, VisiblyEqualGivesOne, EndsFrame, Run, Sides}
+use Rattle.noise_duel.proofs.Common.{◌||◌, Role, Initiator, Responder, Token, other, same_role, Plan, Place, first_places, message_places, places_of, token_places, transport_places, is_among, is_at, hash, Own, Counterparts, counterpart, passed_places, token_of, Party, EndState, EndMatches, EndValue, IsReportedBy, KeyMaterial, HaveParts, InTurn, MessagesComeThrough, MessagesLeave, sides_at_start, payloads_in, say_events, notes_of, Event, Note, DuelValue, EndsComeOfMessages, Start, HashesReport, PayloadsCome, PsksMakeOne, VisiblyEqualGivesOne, EndsFrame, Run, Sides}
 use Rattle.noise_duel.specs.declared.report.Report.{Report}
 use Rattle.noise_duel.specs.Reports.{EndsAgree, HaveComeThrough, Reports, static_shown}
 
@@ -57,7 +57,7 @@ known-static w p party n v u c pattern role passed own = search (rules, passed-a
 
 module _ {A B : Type 0} (public_a : A → Own → Option (List ℕ)) (agreement_a : A → Own → List ℕ → Option (List ℕ))
     (public_b : B → Own → Option (List ℕ)) (agreement_b : B → Own → List ℕ → Option (List ℕ)) where
-  pub all-through : LinesComeThrough → LinesLeave → EndsComeOfMessages
+  pub all-through : MessagesComeThrough → MessagesLeave → EndsComeOfMessages
       → ((e : EndValue A) (v : EndState) → EndMatches public_a agreement_a e v → IsReportedBy v e)
       → ((e : EndValue B) (v : EndState) → EndMatches public_b agreement_b e v → IsReportedBy v e)
       → (w : KeyMaterial) (p : Plan) (prologue : List ℕ) (a b : Start) (interval : ℕ) (lines : List (Role × List ℕ))

@@ -7,7 +7,7 @@ use Rattle.noise_session.specs.Taking.Judges.{opened}
 use Rattle.noise_duel.specs.Runs.Run.{ends, begins}
 use Rattle.noise_duel.proofs.Invariant.{all-passed}
 use Rattle.noise_duel.proofs.Prefixes.{transport_message-same}
-use Rattle.noise_duel.proofs.Lines.{writes-no-fault}
+use Rattle.noise_duel.proofs.OneMessage.{writes-no-fault}
 
 abbrev refused_with : SendFault → Result (List ℕ) SendFault
 refused_with why = Err why

@@ -1,13 +1,13 @@
 -- A message from one end to the other one, which listens: in the handshake, and in transport.
 use Rattle.std.proofs.Common.{rules, ◌≡◌, ◌≢◌, ℕ, ◌+◌, ◌<◌, ◌≤◌, List, ◌∷◌, length, refl, ap, sym, subst, ◌∙◌, arith, None, []}
 use Rattle.std.specs.Prelude.{true, false, ◌&&◌, ◌==◌}
-use Rattle.noise_duel.proofs.Common.{nat_tests, nat_lt, IsTrue, is_some, Role, Initiator, Responder, other, same_role, turn_from, is_one_way, has_key, overhead_of, IsValid, cipher_key, rekeyed_times, passed_places, Party, Accepts, Listens, Speaks, Writes, after_own, after_message, Counterparts, IsEquipped, SendFault, frame, transport_message, last_nonce, renewals, split_key, Progress, is_open, idle_step, refusal, Handshaking, LawsBelow, EndState, progress_of, Side, wrote_handshake, accepted_handshake, wrote_transport, accepted_transport, Note, Wrote, WriteFault, Judged, SideWrites, SideReceives, writes_handshake, writes_transport, accepts_handshake, accepts_transport, same_role-self}
+use Rattle.noise_duel.proofs.Common.{nat_tests, nat_lt, IsTrue, is_some, Role, Initiator, Responder, other, same_role, turn_from, is_one_way, has_key, overhead_of, IsValid, cipher_key, rekeyed_times, passed_places, Party, Accepts, Listens, Speaks, Writes, after_own, after_message, Counterparts, IsEquipped, SendFault, frame, transport_message, last_nonce, rekeys, split_key, Progress, is_open, idle_step, refusal, Handshaking, LawsBelow, EndState, progress_of, Side, wrote_handshake, accepted_handshake, wrote_transport, accepted_transport, Note, Wrote, WriteFault, Judged, SideWrites, SideReceives, writes_handshake, writes_transport, accepts_handshake, accepts_transport, same_role-self}
 use Rattle.noise_aead.specs.Sealing.{nonce_of}
 use Rattle.noise_aead.specs.Sealed.{length-sealed}
 use Rattle.noise_session.specs.Steps.StepValue.{Payload}
 use Rattle.noise_session.specs.Progress.Progress.{Open}
 use Rattle.noise_duel.proofs.Invariant.{all-passed}
-use Rattle.noise_duel.proofs.Lines.{writes-no-fault, writes-message, writes-transport_message, reads-message, reads-transport_message, receives-one, receives-can}
+use Rattle.noise_duel.proofs.OneMessage.{writes-no-fault, writes-message, writes-transport_message, reads-message, reads-transport_message, receives-one, receives-can}
 use Rattle.std.proofs.lemmas.Bool.{eq-eqb}
 
 -- ---- no refusal, and not idle
@@ -121,7 +121,7 @@ step-transport s t payload all all_t ones onet going going_t short low count his
     let q : progress_of t.state ≡ Open t.state.party.role (is_one_way t.state.party.pattern) t.state.sent t.state.received = opened-now t.state going_t all_t in
     let es : is_open (progress_of s.state) ≡ true = ap is_open p in
     let et : is_open (progress_of t.state) ≡ true = ap is_open q in
-    let key : List ℕ = rekeyed_times (renewals s.state.interval s.state.sent) (split_key s.state.party.history s.state.party.role) in
+    let key : List ℕ = rekeyed_times (rekeys s.state.interval s.state.sent) (split_key s.state.party.history s.state.party.role) in
     let m : List ℕ = transport_message s.state.party.history s.state.party.role s.state.interval s.state.sent payload in
     let free : refusal (progress_of s.state) (length payload) ≡ None = search rules in
     let idle : idle_step (progress_of t.state) ≡ None = search in

@@ -1,13 +1,13 @@
 -- Lines in turn between two parties with their parts of one key material come through.
 use Rattle.std.proofs.Common.{rules, ◌≡◌, ℕ, zero, suc, ◌+◌, ◌-◌, ◌<◌, ◌≤◌, List, ◌∷◌, ◌++◌, length, take, drop, map, count_by, refl, ap, sym, subst, ◌∙◌, arith, append-nil, append_assoc, Some, None, []}
 use Rattle.std.specs.Prelude.{Bool, true, false, Option, if◌then◌else◌}
-use Rattle.noise_duel.proofs.Common.{nat_lt, IsTrue, MatchBool, unwrap_or, Role, Initiator, Responder, Token, E, S, Ee, Es, Se, Ss, Psk, other, same_role, turn_from, is_psk, Plan, places_of, has_psk, is_one_way, overhead_of, is_among, IsValid, name_bytes, History, MixHash, and_then, Own, Ephemeral, Static, Remote, with_ephemeral, Party, tokens_now, with_premessage, has_before, has_token, token_of, party_at_start, public_keys, Counterparts, shown_before, LawsBelow, last_nonce, HandshakeMessage, Start, begun_as, messages_of, TransportMessage, Side, Sides, side, with_side, wrote_handshake, accepted_handshake, wrote_transport, accepted_transport, Say, Note, Wrote, Judged, Happens, Run, KeyMaterial, conversation, after_conversation, public_keys_in, start_in, IsPart, InTurn, notes_of_lines, say_events, sides_at_start, in_turn, transport_messages_of, frames_by, payloads_in, LinesComeThrough, LinesRun, ltb-true, ltb-false}
+use Rattle.noise_duel.proofs.Common.{nat_lt, IsTrue, MatchBool, unwrap_or, Role, Initiator, Responder, Token, E, S, Ee, Es, Se, Ss, Psk, other, same_role, turn_from, is_psk, Plan, places_of, has_psk, is_one_way, overhead_of, is_among, IsValid, name_bytes, History, MixHash, and_then, Own, Ephemeral, Static, Remote, with_ephemeral, Party, tokens_now, with_premessage, has_before, has_token, token_of, party_at_start, public_keys, Counterparts, shown_before, LawsBelow, last_nonce, HandshakeMessage, Start, begun_as, messages_of, TransportMessage, Side, Sides, side, with_side, wrote_handshake, accepted_handshake, wrote_transport, accepted_transport, Say, Note, Wrote, Judged, Happens, Run, KeyMaterial, conversation, after_conversation, public_keys_in, start_in, IsPart, InTurn, notes_of_messages, say_events, sides_at_start, in_turn, transport_messages_of, frames_by, payloads_in, MessagesComeThrough, MessagesRun, ltb-true, ltb-false}
 use Rattle.noise_names.specs.Limits.{IsPattern}
 use Rattle.noise_session.specs.Steps.StepValue.{Payload}
 use Rattle.noise_duel.specs.Runs.Run.{ends, begins}
 use Rattle.noise_duel.proofs.Parts.{HasMaterial, dh-results-agree}
-use Rattle.noise_duel.proofs.Lines.{say-can}
-use Rattle.noise_duel.proofs.EquallyFar.{EquallyFar, due_of, after_due, handshake_message, HandshakeLine, handshake-at, handshake-line, with_payload, TransportLine, transport-at, transport-line}
+use Rattle.noise_duel.proofs.OneMessage.{say-can}
+use Rattle.noise_duel.proofs.EquallyFar.{EquallyFar, due_of, after_due, handshake_message, SaidInHandshake, handshake-at, handshake-said, with_payload, SaidInTransport, transport-at, transport-said}
 
 -- ---- all lines
 
@@ -22,11 +22,11 @@ drop-none (suc k) = refl
 noted-on : (role : Role) (payload : List ℕ) (d next : Sides) (now later : List (Role × Note)) (lines : List (Role × List ℕ))
     → now ≡ (role, Wrote (length (side d role).frames)) ∷ (other role, Judged (Payload payload)) ∷ []
     → length (side next role).frames ≡ length (side d role).frames + 1 → (side next (other role)).frames ≡ (side d (other role)).frames
-    → later ≡ notes_of_lines (length next.initiator.frames) (length next.responder.frames) lines
+    → later ≡ notes_of_messages (length next.initiator.frames) (length next.responder.frames) lines
     → now ++ later ≡ (if same_role role Initiator
-    then (Initiator, Wrote (length d.initiator.frames)) ∷ (Responder, Judged (Payload payload)) ∷ notes_of_lines (length d.initiator.frames + 1)
+    then (Initiator, Wrote (length d.initiator.frames)) ∷ (Responder, Judged (Payload payload)) ∷ notes_of_messages (length d.initiator.frames + 1)
     (length d.responder.frames) lines
-    else (Responder, Wrote (length d.responder.frames)) ∷ (Initiator, Judged (Payload payload)) ∷ notes_of_lines (length d.initiator.frames)
+    else (Responder, Wrote (length d.responder.frames)) ∷ (Initiator, Judged (Payload payload)) ∷ notes_of_messages (length d.initiator.frames)
     (length d.responder.frames + 1) lines)
 noted-on Initiator payload d next now later lines e f g h = search
 noted-on Responder payload d next now later lines e f g h = search
@@ -57,8 +57,8 @@ module _ (laws : LawsBelow) (w : KeyMaterial) where
       → p ≡ q → n ≡ m → s ≡ t → r ≡ u → k ≡ l → i ≡ j → x ≡ y → xs ≡ ys → vs ≡ ws → coming p n s r k i x xs vs ≡ coming q m t u l j y ys ws
   coming-same p q n m s t r u k l i j x y xs ys vs ws a b c d e f g h o = cc
 
-  record AfterLines (n : ℕ) (lines : List (Role × List ℕ)) (d e : Sides) (notes : List (Role × Note)) : Type 0 where
-    noted : notes ≡ notes_of_lines (length d.initiator.frames) (length d.responder.frames) lines
+  record AfterAllSaid (n : ℕ) (lines : List (Role × List ℕ)) (d e : Sides) (notes : List (Role × Note)) : Type 0 where
+    noted : notes ≡ notes_of_messages (length d.initiator.frames) (length d.responder.frames) lines
     passed : e.initiator.passed ≡ d.initiator.passed ++ from d.initiator.state.party (payloads_in (left d.initiator.state.party) lines)
     history : e.initiator.state.party.history ≡ beyond d.initiator.state.party (payloads_in (left d.initiator.state.party) lines)
     frames : (r : Role) → (side e r).frames ≡ (side d r).frames ++ frames_by r (to_come d lines)
@@ -76,7 +76,7 @@ module _ (laws : LawsBelow) (w : KeyMaterial) where
 
   module _ (long : (role : Role) (k : Own) → length (w.public role k) ≡ 32) where
     come : (lines : List (Role × List ℕ)) (n : ℕ) (d e : Sides) (notes : List (Role × Note)) → EquallyFar w n d
-        → InTurn d.initiator.state.party.pattern n lines → Run d (say_events lines) notes e → AfterLines n lines d e notes
+        → InTurn d.initiator.state.party.pattern n lines → Run d (say_events lines) notes e → AfterAllSaid n lines d e notes
     come [] n d e notes a h (ends _) =
         let v : Party = d.initiator.state.party in
         let none : payloads_in (left v) [] ≡ [] = ap (λ (ls : List (Role × List ℕ)). map (λ l. l.1) ls) (take-none (left v)) in
@@ -97,8 +97,8 @@ module _ (laws : LawsBelow) (w : KeyMaterial) where
     come (l ∷ lines) n d e notes a h (begins _ next _ _ _ now later does run) =
         go (nat_lt n (length d.initiator.state.party.pattern.messages)) refl h.0 (come lines (n + 1) next e later) run does
       where
-        hand : n < length d.initiator.state.party.pattern.messages → HandshakeLine laws w long n l.0 l.1 d next now → AfterLines (n + 1) lines next e later
-            → AfterLines n (l ∷ lines) d e (now ++ later)
+        hand : n < length d.initiator.state.party.pattern.messages → SaidInHandshake laws w long n l.0 l.1 d next now → AfterAllSaid (n + 1) lines next e later
+            → AfterAllSaid n (l ∷ lines) d e (now ++ later)
         hand more step ih =
             let u : Party = next.initiator.state.party in
             let o : Party = d.initiator.state.party in
@@ -111,7 +111,7 @@ module _ (laws : LawsBelow) (w : KeyMaterial) where
             let all : payloads_in (left o) (l ∷ lines) ≡ l.1 ∷ ps = ap (λ (k : ℕ). payloads_in k (l ∷ lines)) one in
             let same : payloads_in (left u) lines ≡ ps = ap (λ (k : ℕ). payloads_in k lines) rest in
             record {
-              noted = noted-on l.0 l.1 d next now later lines step.noted step.past_line.frames step.past_line.others ih.noted;
+              noted = noted-on l.0 l.1 d next now later lines step.noted step.past_message.frames step.past_message.others ih.noted;
               passed =
                   ih.passed
                   ∙ ap (λ (ms : List HandshakeMessage). ms ++ from u (payloads_in (left u) lines)) hs.passed
@@ -132,7 +132,7 @@ module _ (laws : LawsBelow) (w : KeyMaterial) where
                   (after_due w o l.1) next.initiator.state.interval d.initiator.state.interval
                   next.initiator.state.sent d.initiator.state.sent next.responder.state.sent d.responder.state.sent (payloads_in (left u) lines) ps
                   (drop (left u) lines) (drop (length o.pattern.messages - (o.passed + 1)) lines)
-                  hs.pattern hs.count hs.psks hs.history step.past_line.interval hs.sent hs.sent_there same (ap (λ (k : ℕ). drop k lines) rest))
+                  hs.pattern hs.count hs.psks hs.history step.past_message.interval hs.sent hs.sent_there same (ap (λ (k : ℕ). drop k lines) rest))
                   ∙ sym (hs.frames r (coming o.pattern (o.passed + 1) (drop (count_by is_psk (tokens_now o)) o.psks) (after_due w o l.1)
                   d.initiator.state.interval d.initiator.state.sent d.responder.state.sent ps (drop (length o.pattern.messages - (o.passed + 1)) lines)))
                   ∙ sym (ap (λ (k : ℕ). (side d r).frames ++ frames_by r
@@ -143,8 +143,8 @@ module _ (laws : LawsBelow) (w : KeyMaterial) where
               equally_far = ih.equally_far;
             }
 
-        open-on : length d.initiator.state.party.pattern.messages ≤ n → TransportLine w n l.0 l.1 d next now → AfterLines (n + 1) lines next e later
-            → AfterLines n (l ∷ lines) d e (now ++ later)
+        open-on : length d.initiator.state.party.pattern.messages ≤ n → SaidInTransport w n l.0 l.1 d next now → AfterAllSaid (n + 1) lines next e later
+            → AfterAllSaid n (l ∷ lines) d e (now ++ later)
         open-on ended_party step ih =
             let o : Party = d.initiator.state.party in
             let u : Party = next.initiator.state.party in
@@ -153,7 +153,7 @@ module _ (laws : LawsBelow) (w : KeyMaterial) where
             let none : payloads_in (left o) lines ≡ payloads_in (left o) (l ∷ lines) =
             ap (λ (k : ℕ). payloads_in k lines) zero_left ∙ sym (ap (λ (k : ℕ). payloads_in k (l ∷ lines)) zero_left) in
             record {
-              noted = noted-on l.0 l.1 d next now later lines step.noted step.past_line.frames step.past_line.others ih.noted;
+              noted = noted-on l.0 l.1 d next now later lines step.noted step.past_message.frames step.past_message.others ih.noted;
               passed =
                   ih.passed ∙ ap (λ (ms : List HandshakeMessage). ms ++ from next.initiator.state.party (payloads_in (left next.initiator.state.party) lines))
                   tr.passed
@@ -180,16 +180,16 @@ module _ (laws : LawsBelow) (w : KeyMaterial) where
             → MatchBool b ((l.0 ≡ turn_from Initiator n) × (overhead_of d.initiator.state.party.pattern (n + 1) + length l.1 ≤ 65535))
             ((IsTrue (is_one_way d.initiator.state.party.pattern) → l.0 ≡ Initiator) × (length l.1 ≤ 65519) × (n < last_nonce))
             → (EquallyFar w (n + 1) next → InTurn next.initiator.state.party.pattern (n + 1) lines → Run next (say_events lines) later e
-            → AfterLines (n + 1) lines next e later) → Run next (say_events lines) later e → Happens d (Say l.0 l.1) now next
-            → AfterLines n (l ∷ lines) d e (now ++ later)
+            → AfterAllSaid (n + 1) lines next e later) → Run next (say_events lines) later e → Happens d (Say l.0 l.1) now next
+            → AfterAllSaid n (l ∷ lines) d e (now ++ later)
         go true is m rest run does =
             let more : n < length d.initiator.state.party.pattern.messages = ltb-true n (length d.initiator.state.party.pattern.messages) is in
-            let step = handshake-line laws w long n l.0 l.1 d next now a more m.0 m.1 does in
-            hand more step (rest step.past_line.equally_far (subst (λ (q : Plan). InTurn q (n + 1) lines) (sym step.handshake.pattern) h.1) run)
+            let step = handshake-said laws w long n l.0 l.1 d next now a more m.0 m.1 does in
+            hand more step (rest step.past_message.equally_far (subst (λ (q : Plan). InTurn q (n + 1) lines) (sym step.handshake.pattern) h.1) run)
         go false is m rest run does =
             let ended_party : length d.initiator.state.party.pattern.messages ≤ n = ltb-false n (length d.initiator.state.party.pattern.messages) is in
-            let step = transport-line w n l.0 l.1 d next now a ended_party m.0 m.1 m.2 does in
-            open-on ended_party step (rest step.past_line.equally_far
+            let step = transport-said w n l.0 l.1 d next now a ended_party m.0 m.1 m.2 does in
+            open-on ended_party step (rest step.past_message.equally_far
             (subst (λ (q : Plan). InTurn q (n + 1) lines) (sym (ap (λ (z : Party). z.pattern) step.transport.party)) h.1) run)
 
 -- ---- there is a run of them
@@ -217,8 +217,8 @@ module _ (laws : LawsBelow) (w : KeyMaterial) (long : (role : Role) (k : Own) �
           let heard : Side = accepted_handshake (side d (other l.0)) passed in
           let next : Sides = with_side (with_side d l.0 after) (other l.0) heard in
           let does = say-can d l.0 l.1 sp.message after heard sp.can_write refl sp.can_receive in
-          let step = handshake-line laws w long n l.0 l.1 d next _ a more m.0 m.1 does in
-          first next _ does (rest next step.past_line.equally_far (subst (λ (q : Plan). InTurn q (n + 1) lines) (sym step.handshake.pattern) h.1))
+          let step = handshake-said laws w long n l.0 l.1 d next _ a more m.0 m.1 does in
+          first next _ does (rest next step.past_message.equally_far (subst (λ (q : Plan). InTurn q (n + 1) lines) (sym step.handshake.pattern) h.1))
       go false is m rest =
           let ended_party : length d.initiator.state.party.pattern.messages ≤ n = ltb-false n (length d.initiator.state.party.pattern.messages) is in
           let sp = transport-at w n l.0 l.1 d a ended_party m.0 m.1 m.2 in
@@ -227,8 +227,8 @@ module _ (laws : LawsBelow) (w : KeyMaterial) (long : (role : Role) (k : Own) �
           let heard : Side = accepted_transport (side d (other l.0)) sent in
           let next : Sides = with_side (with_side d l.0 after) (other l.0) heard in
           let does = say-can d l.0 l.1 sp.message after heard sp.can_write refl sp.can_receive in
-          let step = transport-line w n l.0 l.1 d next _ a ended_party m.0 m.1 m.2 does in
-          first next _ does (rest next step.past_line.equally_far
+          let step = transport-said w n l.0 l.1 d next _ a ended_party m.0 m.1 m.2 does in
+          first next _ does (rest next step.past_message.equally_far
           (subst (λ (q : Plan). InTurn q (n + 1) lines) (sym (ap (λ (z : Party). z.pattern) step.transport.party)) h.1))
 
 -- ---- the start
@@ -318,8 +318,8 @@ module _ (laws : LawsBelow) (w : KeyMaterial) (p : Plan) (prologue : List ℕ) (
     back = refl;
   }
 
-pub lines-come-through : LawsBelow → LinesComeThrough
-lines-come-through laws w p prologue a b interval lines notes d parts turns run =
+pub messages-come-through : LawsBelow → MessagesComeThrough
+messages-come-through laws w p prologue a b interval lines notes d parts turns run =
     let i : IsPart w p Initiator prologue a = parts.initiator in
     let j : IsPart w p Responder prologue b = parts.responder in
     let c = come laws w parts.long lines 0 (sides_at_start p a b interval interval) d notes
@@ -352,7 +352,7 @@ lines-come-through laws w p prologue a b interval lines notes d parts turns run 
     none-yet Initiator = refl
     none-yet Responder = refl
 
-pub lines-run : LawsBelow → LinesRun
-lines-run laws w p prologue a b interval lines parts turns =
+pub messages-run : LawsBelow → MessagesRun
+messages-run laws w p prologue a b interval lines parts turns =
     can laws w parts.long lines 0 (sides_at_start p a b interval interval)
     (equally-far-first laws w p prologue a b parts.initiator parts.responder interval parts.pattern parts.valid) turns

@@ -105,12 +105,12 @@ InTurn p n (l ∷ lines) =
     × InTurn p (n + 1) lines
 
 -- what is noted of lines that all come through, when each party has written so many frames
-abbrev pub notes_of_lines : ℕ → ℕ → List (Role × List ℕ) → List (Role × Note)
-notes_of_lines i j [] = []
-notes_of_lines i j (l ∷ lines) =
+abbrev pub notes_of_messages : ℕ → ℕ → List (Role × List ℕ) → List (Role × Note)
+notes_of_messages i j [] = []
+notes_of_messages i j (l ∷ lines) =
     (if same_role l.0 Initiator
-    then (Initiator, Wrote i) ∷ (Responder, Judged (Payload l.1)) ∷ notes_of_lines (i + 1) j lines
-    else (Responder, Wrote j) ∷ (Initiator, Judged (Payload l.1)) ∷ notes_of_lines i (j + 1) lines)
+    then (Initiator, Wrote i) ∷ (Responder, Judged (Payload l.1)) ∷ notes_of_messages (i + 1) j lines
+    else (Responder, Wrote j) ∷ (Initiator, Judged (Payload l.1)) ∷ notes_of_messages i (j + 1) lines)
 
 -- a Say event for each line
 abbrev pub say_events : List (Role × List ℕ) → List Event
@@ -179,8 +179,8 @@ pub record ComeThrough (w : KeyMaterial) (p : Plan) (prologue : List ℕ) (inter
   pub back : d.initiator.received ≡ d.responder.sent
 
 -- how many lines are a role's
-abbrev pub lines_by : Role → List (Role × List ℕ) → ℕ
-lines_by role lines = count_by (λ l. same_role l.0 role) lines
+abbrev pub messages_by : Role → List (Role × List ℕ) → ℕ
+messages_by role lines = count_by (λ l. same_role l.0 role) lines
 
 -- The end of a role that starts from this, and faces a party that starts from that, once lines have come through and
 -- this is the history: so many messages of the handshake have passed, the psks after theirs are to come, and the other
@@ -202,8 +202,8 @@ end_after p role s theirs interval r lines =
         ended = false;
       };
       interval = interval;
-      sent = lines_by role rest;
-      received = lines_by (other role) rest;
+      sent = messages_by role rest;
+      received = messages_by (other role) rest;
       partial = [];
     }
 
@@ -216,16 +216,16 @@ pub record HaveParts (w : KeyMaterial) (p : Plan) (prologue : List ℕ) (a b : S
   pub responder : IsPart w p Responder prologue b
 
 -- Lines in turn between two such parties come through.
-abbrev pub LinesComeThrough : Type 0
-LinesComeThrough = (w : KeyMaterial) (p : Plan) (prologue : List ℕ) (a b : Start) (interval : ℕ)
+abbrev pub MessagesComeThrough : Type 0
+MessagesComeThrough = (w : KeyMaterial) (p : Plan) (prologue : List ℕ) (a b : Start) (interval : ℕ)
     (lines : List (Role × List ℕ)) (notes : List (Role × Note)) (d : Sides)
     → HaveParts w p prologue a b → InTurn p 0 lines
     → Run (sides_at_start p a b interval interval) (say_events lines) notes d
-    → (notes ≡ notes_of_lines 0 0 lines) × ComeThrough w p prologue interval lines d
+    → (notes ≡ notes_of_messages 0 0 lines) × ComeThrough w p prologue interval lines d
 
 -- The two ends left are those after the lines.
-abbrev pub LinesLeave : Type 0
-LinesLeave = (w : KeyMaterial) (p : Plan) (prologue : List ℕ) (a b : Start) (interval : ℕ)
+abbrev pub MessagesLeave : Type 0
+MessagesLeave = (w : KeyMaterial) (p : Plan) (prologue : List ℕ) (a b : Start) (interval : ℕ)
     (lines : List (Role × List ℕ)) (notes : List (Role × Note)) (d : Sides)
     → HaveParts w p prologue a b → InTurn p 0 lines
     → Run (sides_at_start p a b interval interval) (say_events lines) notes d
@@ -233,8 +233,9 @@ LinesLeave = (w : KeyMaterial) (p : Plan) (prologue : List ℕ) (a b : Start) (i
     × (d.responder.state ≡ end_after p Responder b a interval (history_in w p prologue lines) lines)
 
 -- There is such a run.
-abbrev pub LinesRun : Type 0
-LinesRun = (w : KeyMaterial) (p : Plan) (prologue : List ℕ) (a b : Start) (interval : ℕ) (lines : List (Role × List ℕ))
+abbrev pub MessagesRun : Type 0
+MessagesRun = (w : KeyMaterial) (p : Plan) (prologue : List ℕ) (a b : Start) (interval : ℕ)
+    (lines : List (Role × List ℕ))
     → HaveParts w p prologue a b → InTurn p 0 lines
     → (notes : List (Role × Note)) × (d : Sides)
     × Run (sides_at_start p a b interval interval) (say_events lines) notes d

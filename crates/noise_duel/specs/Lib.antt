@@ -1,5 +1,5 @@
 pub mod Below
-pub mod Collision
+pub mod HashedTexts
 pub mod Messages
 pub mod Notes
 pub mod Acts

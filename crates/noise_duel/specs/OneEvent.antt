@@ -18,10 +18,10 @@ use Rattle.noise_duel.specs.Sides.{Side, Sides, side, with_side}
 module _ {K : Type 0} (public_of : K → Own → Option (List ℕ)) (agreement : K → Own → List ℕ → Option (List ℕ)) where
   -- A frame comes to this side, or none of that number was written: then the end is as it was, and the entries are
   -- reported so.
-  abbrev pub HasTaken : Side → Role → ℕ → Option (List ℕ) → EndValue K → List (Role × Entry) → List (Role × Entry)
+  abbrev pub HasDelivered : Side → Role → ℕ → Option (List ℕ) → EndValue K → List (Role × Entry) → List (Role × Entry)
       → Type 0
-  HasTaken s role n (Some bytes) end before after = HasReceived public_of agreement s role bytes end before after
-  HasTaken s role n None end before after =
+  HasDelivered s role n (Some bytes) end before after = HasReceived public_of agreement s role bytes end before after
+  HasDelivered s role n None end before after =
       EndMatches public_of agreement end s.state × (notes_of after ≡ notes_of before ++ (role, Missing n) ∷ [])
 
 module _ {A B : Type 0} (public_a : A → Own → Option (List ℕ)) (agreement_a : A → Own → List ℕ → Option (List ℕ))

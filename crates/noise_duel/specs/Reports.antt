@@ -13,14 +13,14 @@ use Rattle.noise_session.specs.declared.phase.Phase.TheVariants as phase
 use Rattle.noise_session.specs.Ends.{EndState, EndMatches, hash_in, remote_static_in}
 use Rattle.noise_duel.specs.declared.report.Report.{Report}
 use Rattle.noise_duel.specs.Agreement.{VisiblyEqual}
-use Rattle.noise_duel.specs.Conversation.{KeyMaterial, ComeThrough, HaveParts, InTurn, end_after, sides_at_start, frames_by, handshake_payloads, history_in, notes_of_lines, transcript}
+use Rattle.noise_duel.specs.Conversation.{KeyMaterial, ComeThrough, HaveParts, InTurn, end_after, sides_at_start, frames_by, handshake_payloads, history_in, notes_of_messages, transcript}
 use Rattle.noise_names.specs.Lists.{bytes_of}
 use Rattle.noise_duel.specs.Entries.{notes_of}
 use Rattle.noise_events.specs.Events.{Event}
 use Rattle.noise_duel.specs.DuelValue.{DuelValue, DuelMatches, HasFrames, both_sides}
 use Rattle.noise_duel.specs.Invariant.{ComesOfMessages}
 use Rattle.noise_duel.specs.Messages.{Start, begun_as, HaveSameKeysBefore, messages_of}
-use Rattle.noise_duel.specs.Networks.{HaveOneHash, HaveOneHistory, HistoriesCollide, PayloadsAgree, SharePsks, UsedSamePsks}
+use Rattle.noise_duel.specs.Networks.{HaveOneHash, HaveOneHistory, HaveClash, PayloadsAgree, SharePsks, UsedSamePsks}
 use Rattle.noise_duel.specs.OwnFrames.{FramesAreOwn}
 use Rattle.noise_duel.specs.Runs.{Run}
 use Rattle.noise_duel.specs.Sides.{Sides}
@@ -33,19 +33,19 @@ pub record EndsAgree (p : Plan) (a b : Start) (i j : ℕ) (last : Sides) : Type 
   pub responder : ComesOfMessages (begun_as p Responder b) j last.responder
   pub initiator_frames : FramesAreOwn last.initiator
   pub responder_frames : FramesAreOwn last.responder
-  -- with equal hashes: the conversation is the same as far as it can be seen, or two hashed texts collide
-  pub seen : HaveOneHash last → VisiblyEqual p a b last.initiator.passed last.responder.passed ⊎ HistoriesCollide last
+  -- with equal hashes: the conversation is the same as far as it can be seen, or two hashed texts clash
+  pub seen : HaveOneHash last → VisiblyEqual p a b last.initiator.passed last.responder.passed ⊎ HaveClash last
   -- Conversely: where it is the same as far as it can be seen, with the same psks and DH results, there is one history,
   -- and so one hash.
   pub back : a.prologue ≡ b.prologue → HaveSameKeysBefore p a b
       → messages_of last.initiator.passed ≡ messages_of last.responder.passed
       → UsedSamePsks p a b last → HaveOneHistory last
   -- With equal hashes and the same psks: all of the conversation is the same, what travelled encrypted too, or two
-  -- hashed texts collide.
-  pub one : HaveOneHash last → SharePsks p a b last → HaveOneHistory last ⊎ HistoriesCollide last
+  -- hashed texts clash.
+  pub one : HaveOneHash last → SharePsks p a b last → HaveOneHistory last ⊎ HaveClash last
   -- And with equal intervals: each end's accepted payloads are the first of those that the other wrote, in order, up to
   -- a forged message.
-  pub payloads : i ≡ j → HaveOneHash last → SharePsks p a b last → PayloadsAgree i last ⊎ HistoriesCollide last
+  pub payloads : i ≡ j → HaveOneHash last → SharePsks p a b last → PayloadsAgree i last ⊎ HaveClash last
 
 -- a party's static key, where its pre-message or one of the first so many messages has it
 abbrev pub static_shown : KeyMaterial → Plan → Role → ℕ → Option (List ℕ)
@@ -86,7 +86,7 @@ module _ {A B : Type 0} (public_a : A → Own → Option (List ℕ)) (agreement_
   -- and keys, and each knows the other's static key once it was shown.
   pub record HaveComeThrough (w : KeyMaterial) (p : Plan) (prologue : List ℕ) (a b : Start) (interval : ℕ)
       (lines : List (Role × List ℕ)) (duel : DuelValue A B) (report : Report) : Type 0 where
-    pub entries : notes_of report.entries.items ≡ notes_of_lines 0 0 lines
+    pub entries : notes_of report.entries.items ≡ notes_of_messages 0 0 lines
     pub initiator_frames : bytes_of report.initiator.items
         ≡ frames_by Initiator (transcript w p prologue interval lines)
     pub responder_frames : bytes_of report.responder.items

@@ -30,13 +30,13 @@ pub(crate) fn receive<K: Keys>(
         → OnOk result
         (HasReceived K.public_of K.agreement s role bytes.now end.new entries.old.items entries.new.items) }
 {
-    let left = receive_pieces(alloc, role, end, bytes, cuts, entries)?;
+    let left = receive_chunks(alloc, role, end, bytes, cuts, entries)?;
     report_left(role, left, entries)?;
     report_partial(role, end.held(), entries)
 }
 
 // Hands bytes over in these pieces, and returns how many are left, and why, where the party takes none of them.
-fn receive_pieces<K: Keys>(
+fn receive_chunks<K: Keys>(
     alloc: Global,
     role: Role,
     end: &mut End<K>,
@@ -51,7 +51,7 @@ fn receive_pieces<K: Keys>(
     let mut index = 0;
     while !rest.is_empty() {
         let (piece, after) = rest.split_at(cuts.piece_len(index, rest.len()));
-        if let Some((why, left)) = receive_piece(alloc, role, end, piece, entries)? {
+        if let Some((why, left)) = receive_chunk(alloc, role, end, piece, entries)? {
             return Ok(Some((why, left + after.len())));
         }
         rest = after;
@@ -61,7 +61,7 @@ fn receive_pieces<K: Keys>(
 }
 
 // Hands one piece over, and returns how many of its bytes are left, and why, where the party takes none of them.
-fn receive_piece<K: Keys>(
+fn receive_chunk<K: Keys>(
     alloc: Global,
     role: Role,
     end: &mut End<K>,

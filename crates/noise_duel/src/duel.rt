@@ -11,14 +11,14 @@ ghost use Rattle.noise_duel.specs.Conversation.{say_events};
 ghost use Rattle.noise_duel.specs.DatagramReports.{DatagramDuelMatches, datagram_sides_of};
 ghost use Rattle.noise_names.specs.Lists.{bytes_of};
 ghost use Rattle.noise_duel.specs.DuelValue.{DuelMatches, both_sides};
-ghost use Rattle.noise_duel.specs.OneEvent.{Applies, HasTaken, RoleWrites};
+ghost use Rattle.noise_duel.specs.OneEvent.{Applies, HasDelivered, RoleWrites};
 ghost use Rattle.noise_duel.specs.Reports.{AgreesInRun, AllComeThrough, ReportsRun};
 ghost use Rattle.noise_duel.specs.Sides.{Side};
 
 use crate::datagram_duel::DatagramDuel;
 use crate::delivery::receive;
 use crate::entry::Entry;
-use crate::laws::{ends_agree, ends_match, lines_come_through};
+use crate::laws::{ends_agree, ends_match, messages_come_through};
 use crate::report::Report;
 use crate::writer::write;
 use noise_events::{Cuts, Event};
@@ -114,7 +114,7 @@ impl<A: Keys, B: Keys> Duel<A, B> {
             self.say(alloc, *role, payload.as_slice(), cuts, &mut report)?;
         }
         ends_match();
-        lines_come_through();
+        messages_come_through();
         end_is_reported::<A>();
         end_is_reported::<B>();
         Ok((self, report))
@@ -289,7 +289,7 @@ fn take_frame<K: Keys>(
     entries: &mut Vec<(Role, Entry)>,
 ) -> Result<(), AllocError>
     ensures { (s : Side) → EndMatches K.public_of K.agreement end.old s.state
-        → OnOk result (HasTaken K.public_of K.agreement s role number
+        → OnOk result (HasDelivered K.public_of K.agreement s role number
         (slice_get (bytes_of frames.now) number) end.new entries.old.items entries.new.items) }
 {
     match frames.get(number) {

@@ -2,11 +2,11 @@
 
 ghost use Rattle.noise_duel.specs.Agreement.{HashReports, PsksReport, KeysReport, KnowEachOther, VisiblyEqualIsOne};
 ghost use Rattle.noise_duel.specs.Below.{LawsBelow};
-ghost use Rattle.noise_duel.specs.Clash.{ClashIsCollision, ClashFound, ClashReported};
+ghost use Rattle.noise_duel.specs.Clash.{FoundIsClash, ClashFound, ClashReported};
 ghost use Rattle.noise_duel.specs.Invariant.{EndsComeOfMessages};
 ghost use Rattle.noise_duel.specs.DatagramAgreement.{DatagramRunsAgree, RunsMakeOneBeginning};
 ghost use Rattle.noise_duel.specs.DatagramRuns.{DatagramRunOnce};
-ghost use Rattle.noise_duel.specs.Conversation.{LinesComeThrough, LinesLeave, LinesRun};
+ghost use Rattle.noise_duel.specs.Conversation.{MessagesComeThrough, MessagesLeave, MessagesRun};
 ghost use Rattle.noise_duel.specs.OwnFrames.{EndsFrame};
 ghost use Rattle.noise_duel.specs.Runs.{RunOnce};
 ghost use Rattle.noise_duel.specs.SetUpAlike.{AlikeAreParts};
@@ -77,10 +77,10 @@ pub fn ends_agree()
 
 /// For lines in turn that fit, between two new parties with their parts of one key material, there is a run; and in it
 /// all of them come through, and leave the parties that `end_after` computes of them.
-pub fn lines_come_through()
-    ensures come { LinesComeThrough }
-    ensures ends { LinesLeave }
-    ensures can { LinesRun }
+pub fn messages_come_through()
+    ensures come { MessagesComeThrough }
+    ensures ends { MessagesLeave }
+    ensures can { MessagesRun }
 {
     laws_below();
     ends_match();
@@ -97,7 +97,7 @@ pub fn alike_are_parts()
 /// `clash_position` is a position at which two histories hashed different texts with one digest, and there is one where
 /// two of their texts collide, and so where two parties that have finished have one hash and different conversations.
 pub fn clash_reported()
-    ensures matches { ClashIsCollision }
+    ensures matches { FoundIsClash }
     ensures found { ClashFound }
     ensures reported { ClashReported }
 {

@@ -10,7 +10,7 @@ use Rattle.noise_names.specs.Overhead.{has_key}
 use Rattle.noise_names.specs.Pieces.{tokens_of}
 use Rattle.noise_names.specs.Plan.{Plan, first_places}
 use Rattle.noise_explain.specs.FactWords.{has_dh, own_text, taker_text, ways_text, with_psks, writer_text}
-use Rattle.noise_explain.specs.Facts.{answers_text, origin_text, tagged_text, token_text, tokens_text, written_text}
+use Rattle.noise_explain.specs.Facts.{responder_messages_text, origin_text, tagged_text, token_text, tokens_text, written_text}
 use Rattle.noise_explain.specs.MixedKeys.{add_token, mixed_after, mixed_before, tokens_after}
 use Rattle.noise_explain.specs.declared.mixed.Mixed.{Mixed}
 use Rattle.noise_explain.specs.declared.mixed.Psks.{Psks}
@@ -86,10 +86,10 @@ origin-is p n has is = ap (λ (b : Bool). codes "    it can be written by " ++ w
 
 -- of a pattern that isn't one-way
 pub answers-are : (p q : Plan) (one_way : Bool) (ms : List (List Token)) → one_way ≡ false → ms ≡ q.messages → q ≡ p
-    → answers_text one_way p ≡ codes "    the responder's can be written by " ++ tagged_text p Responder (length ms)
-unfolding answers_text
+    → responder_messages_text one_way p ≡ codes "    the responder's can be written by " ++ tagged_text p Responder (length ms)
+unfolding responder_messages_text
 answers-are p q one_way ms both same is =
-    ap (λ (b : Bool). answers_text b p) both
+    ap (λ (b : Bool). responder_messages_text b p) both
     ∙ ap (λ (l : List (List Token)). codes "    the responder's can be written by " ++ tagged_text p Responder (length l))
     (sym (same ∙ ap (λ (r : Plan). r.messages) is))
 

@@ -135,15 +135,15 @@ says-text : (g : List Given) (right : AreRight g) (v : Vec ℕ Global) (turns : 
 says-text g right v [] = refl
 says-text g right v (t ∷ ts) = ap (line_then (say_words g t)) (says-text g right v ts)
 
-no-renewal : decimal 0 ≡ 48 ∷ []
+no-rekey : decimal 0 ≡ 48 ∷ []
 unfolding digits
-no-renewal = refl
+no-rekey = refl
 
 whole : (n b prologue psks first second last : List ℕ)
     → (codes "vector 1\nprotocol " ++ n ++ codes "\n" ++ b ++ codes "prologue " ++ prologue ++ codes "\ninterval 0\n") ++ psks ++ first ++ second ++ last
     ≡ line_then (codes "vector 1") (line_then (codes "protocol " ++ n)
     (b ++ line_then (codes "prologue " ++ prologue) (line_then (codes "interval " ++ decimal 0) (psks ++ (first ++ (second ++ last))))))
-whole n b prologue psks first second last = rw no-renewal (simp append_assoc)
+whole n b prologue psks first second last = rw no-rekey (simp append_assoc)
 
 text-made : (g : List Given) (right : AreRight g) (p : Plan) (v : Vec ℕ Global) (few : length (says g right v (speakers p.messages)) < 2 ^ 63)
     → template_text g p ≡ file_text (made g right p v few)

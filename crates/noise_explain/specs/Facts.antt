@@ -100,9 +100,10 @@ transport_line true = codes "  transport, of the initiator alone\n    key of a r
 transport_line false = codes "  transport, of both parties\n    key of a recording: "
 
 -- the responder's, unless the pattern is one-way (7.4)
-unfoldable pub answers_text : Bool → Plan → List ℕ
-answers_text true p = []
-answers_text false p = codes "    the responder's can be written by " ++ tagged_text p Responder (length p.messages)
+unfoldable pub responder_messages_text : Bool → Plan → List ℕ
+responder_messages_text true p = []
+responder_messages_text false p = codes "    the responder's can be written by "
+    ++ tagged_text p Responder (length p.messages)
 
 unfoldable pub recording_text : Plan → List ℕ
 recording_text p = key_text (mixed_before p (length p.messages) 0) Responder Neither
@@ -111,7 +112,7 @@ unfoldable pub transport_text : Plan → List ℕ
 transport_text p =
     transport_line (is_one_way p) ++ recording_text p ++ codes "    the initiator's can be written by "
     ++ tagged_text p Initiator (length p.messages)
-    ++ answers_text (is_one_way p) p
+    ++ responder_messages_text (is_one_way p) p
 
 -- ---- the whole
 

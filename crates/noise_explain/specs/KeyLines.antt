@@ -57,9 +57,9 @@ abbrev pub plain_line : List ℕ → List ℕ
 plain_line line = map to_ascii_lowercase (filter (λ b. not (is_space b)) line)
 
 -- a line that says nothing: a blank one, or a comment, which begins with `#` (35)
-abbrev pub is_passed : List ℕ → Bool
-is_passed [] = true
-is_passed (b ∷ rest) = b == 35
+abbrev pub is_skipped : List ℕ → Bool
+is_skipped [] = true
+is_skipped (b ∷ rest) = b == 35
 
 -- what a line for a place begins with
 abbrev pub front_of : Place → List ℕ
@@ -75,7 +75,7 @@ word_after place plain = drop (length (front_of place)) plain
 
 -- the line gives this for one of these places
 pub record IsGivenIn (places : List Place) (line : List ℕ) (given : Given) : Type 0 where
-  pub said : is_passed (plain_line line) ≡ false
+  pub said : is_skipped (plain_line line) ≡ false
   pub place : place_in places (plain_line line) ≡ Some given.place
   pub word : word_after given.place (plain_line line) ≡ hex_of given.value.items
   pub right : IsValueOf given.place given.value.items
@@ -90,7 +90,7 @@ is_given given place = list_any (λ g. same_place g.place place) given
 pub data AreLines (places : List Place) : List (List ℕ) → List Given → Type 0 where
   none : AreLines places [] []
   passed : (lines : List (List ℕ)) (given : List Given) (line : List ℕ) → AreLines places lines given
-      → is_passed (plain_line line) ≡ true → AreLines places (lines ++ line ∷ []) given
+      → is_skipped (plain_line line) ≡ true → AreLines places (lines ++ line ∷ []) given
   gives : (lines : List (List ℕ)) (given : List Given) (line : List ℕ) (one : Given) → AreLines places lines given
       → IsGivenIn places line one → is_given given one.place ≡ false
       → AreLines places (lines ++ line ∷ []) (given ++ one ∷ [])
@@ -124,10 +124,10 @@ IsWrong places given plain (NoValue place) =
 
 -- what comes of a line after lines that give this
 abbrev pub IsRead : List Place → List Given → List ℕ → Reading → Type 0
-IsRead places given line Nothing = is_passed (plain_line line) ≡ true
+IsRead places given line Nothing = is_skipped (plain_line line) ≡ true
 IsRead places given line (Value one) = IsGivenIn places line one × (is_given given one.place ≡ false)
 IsRead places given line (Wrong why) =
-    (is_passed (plain_line line) ≡ false) × IsWrong places given (plain_line line) why
+    (is_skipped (plain_line line) ≡ false) × IsWrong places given (plain_line line) why
 
 -- the line of this number is the first that is wrong
 pub record IsWrongFile (p : Plan) (text : List ℕ) (number : ℕ) (why : LineFault) : Type 0 where
@@ -138,7 +138,7 @@ pub record IsWrongFile (p : Plan) (text : List ℕ) (number : ℕ) (why : LineFa
   pub number_is : number ≡ length before + 1
   pub given : List Given
   pub right : AreLines (pattern_places p) before given
-  pub said : is_passed (plain_line line) ≡ false
+  pub said : is_skipped (plain_line line) ≡ false
   pub wrong : IsWrong (pattern_places p) given (plain_line line) why
 
 -- the fault is that a line is wrong, and then this holds of it

@@ -3,7 +3,7 @@
 ghost use Rattle.std.specs.Prelude.{◌≡◌, ◌≤◌, ◌<◌, ◌++◌, IfOk, OnOk, codes, length};
 ghost use Rattle.noise_names.specs.Overhead.{has_key};
 ghost use Rattle.noise_names.specs.Pieces.{places_to, tokens_of};
-ghost use Rattle.noise_explain.specs.Facts.{answers_text, computed_text, either, elsewhere, facts_text, if_keyed, key_text, meaning, meaning_text, message_text, origin_text, payload_text, recording_text, replay_text, rest_of, source_text, tagged_text, token_text, tokens_text, transport_line, transport_text, unjudged, unmixed_line, unmixed_text, untagged_text, written_text};
+ghost use Rattle.noise_explain.specs.Facts.{responder_messages_text, computed_text, either, elsewhere, facts_text, if_keyed, key_text, meaning, meaning_text, message_text, origin_text, payload_text, recording_text, replay_text, rest_of, source_text, tagged_text, token_text, tokens_text, transport_line, transport_text, unjudged, unmixed_line, unmixed_text, untagged_text, written_text};
 ghost use Rattle.noise_names.specs.declared.token.Role.TheVariants.{Initiator, Responder};
 ghost use Rattle.noise_names.specs.declared.token.Token.TheVariants.{S};
 
@@ -300,7 +300,7 @@ fn push_transport(
     push_recording(alloc, pattern, text)?;
     push("    the initiator's can be written by ", text)?;
     push_tagged(alloc, pattern, Role::Initiator, count, text)?;
-    push_answers(alloc, pattern, pattern.one_way(), text)
+    push_responder_messages(alloc, pattern, pattern.one_way(), text)
 }
 
 // Who can compute the keys of a recording, later.
@@ -328,14 +328,14 @@ fn transport_line(one_way: bool) -> &'static str
 }
 
 // The responder's, after all messages.
-#[tactic(auto, unfolding(crate::specs::Facts::answers_text))]
-fn push_answers(
+#[tactic(auto, unfolding(crate::specs::Facts::responder_messages_text))]
+fn push_responder_messages(
     alloc: Global,
     pattern: &ValidPattern,
     one_way: bool,
     text: &mut Vec<u8>,
 ) -> Result<(), AllocError>
-    ensures { OnOk result (text.new.items ≡ text.old.items ++ answers_text one_way pattern.now) }
+    ensures { OnOk result (text.new.items ≡ text.old.items ++ responder_messages_text one_way pattern.now) }
 {
     if one_way {
         Ok(())

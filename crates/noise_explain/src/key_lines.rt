@@ -3,7 +3,7 @@
 ghost use Rattle.std.specs.Prelude.{◌≡◌, ◌++◌, ◌∷◌, [], IfErr, IfOk, OnOk, drop, map};
 ghost use Rattle.std.specs.Bool.{nat_eq};
 ghost use Rattle.std.specs.List.{starts_with};
-ghost use Rattle.noise_explain.specs.KeyLines.{IfLine, IsGivenBy, IsRead, IsValueIn, IsWrongFile, front_of, is_given, is_passed, is_space, lines_in, place_in, plain_line, word_after};
+ghost use Rattle.noise_explain.specs.KeyLines.{IfLine, IsGivenBy, IsRead, IsValueIn, IsWrongFile, front_of, is_given, is_skipped, is_space, lines_in, place_in, plain_line, word_after};
 ghost use Rattle.noise_explain.specs.Values.{AreRight, fits};
 ghost use Rattle.noise_explain.specs.declared.key_lines.KeyFileFault.TheVariants.{Memory};
 
@@ -89,7 +89,7 @@ fn read_line(
     ensures { IfOk result (λ reading. IsRead places.now given.now line.now reading) }
 {
     let plain = plain_line(alloc, line)?;
-    if is_passed(&plain) {
+    if is_skipped(&plain) {
         return Ok(Reading::Nothing);
     }
     let Some(place) = place_in(alloc, places, &plain)? else {
@@ -133,8 +133,8 @@ fn is_space(b: u8) -> bool
 }
 
 // Whether a line says nothing.
-fn is_passed(plain: &[u8]) -> bool
-    ensures { result ≡ is_passed plain.now }
+fn is_skipped(plain: &[u8]) -> bool
+    ensures { result ≡ is_skipped plain.now }
 {
     match plain.first() {
         None => true,

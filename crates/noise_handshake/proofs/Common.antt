@@ -26,10 +26,11 @@ pub use Rattle.noise_state.specs.Symmetric.{after_ciphertext, ciphertext_now, mi
 pub use Rattle.noise_state.specs.Standing.{StateMatches, keyed, nonce_now}
 pub use Rattle.noise_state.specs.declared.symmetric.SymmetricState.{SymmetricState}
 pub use Rattle.noise_handshake.specs.Counterparts.{Counterparts, DhResultsAgree, DhResultsAlike, IsEquipped, counterpart, is_dh, keys_if, shown_after, shown_before, xor_agreement, xor_public}
-pub use Rattle.noise_handshake.specs.HandshakeValue.{Advances, HandshakeValue, IsAgreement, ended_as, is_turn, length_now, length_unless, message_len_of, read_fault, write_fault}
-pub use Rattle.noise_handshake.specs.Late.{IsLateWhole, WantsLate, WantsPskToRead, WantsPskToWrite, with_later}
+pub use Rattle.noise_handshake.specs.HandshakeValue.{Advances, HandshakeValue, HasPsks, IsAgreement, ended_as, is_turn, length_now, length_unless, message_len_of, read_fault, write_fault}
+pub use Rattle.noise_handshake.specs.Asking.{LeavesUnread, LeavesUnwritten, Wants, WantsPskToRead, WantsPskToWrite, after_asked}
+pub use Rattle.noise_handshake.specs.Late.{IsLateWhole, MatchesWith, with_later}
 pub use Rattle.noise_handshake.specs.Length.{Carries, Carry, added_width, keyed_after, keyed_after_tokens, tag_width, token_width, tokens_width}
-pub use Rattle.noise_handshake.specs.Matching.{DoesNotRead, DoesNotWrite, IsKeyed, Matches, after_message, after_not_read, after_not_written, after_own, ended_party}
+pub use Rattle.noise_handshake.specs.Matching.{DoesNotRead, DoesNotWrite, IsKeyed, IsSupplied, Matches, ValueMatches, after_message, after_not_read, after_not_written, after_own, ended_party}
 pub use Rattle.noise_handshake.specs.Message.{after_payload, after_token, after_tokens, before_payload, message_bytes, token_bytes, with_ephemeral}
 pub use Rattle.noise_handshake.specs.Nonces.{nonce_after, nonce_after_message, nonce_after_messages, nonce_after_tokens, nonce_due}
 pub use Rattle.noise_handshake.specs.Party.{Accepts, BeginsAs, CanBegin, Fit, Fits, Listens, Party, Reader, Reads, Refuses, Speaks, Stops, cause_at, cause_of, dh_result_of, first_psk, known_after, other_psks, own_at, psks_after, reader, remote_after, remote_at, start, tokens_at, tokens_now, with_premessage}
@@ -47,7 +48,7 @@ pub use Rattle.noise_handshake.specs.declared.remote.Remote.{Remote}
 pub use Rattle.noise_handshake.specs.inner.Kept.{IsKept, held_in}
 pub use Rattle.noise_handshake.specs.inner.Keying.{Keying, keying_after, keying_of}
 pub use Rattle.noise_handshake.specs.inner.Known.{KnowsRemote, are_known, has_after, has_after_tokens, is_known, remote_known}
-pub use Rattle.noise_handshake.specs.inner.Late.{IsPskAfter, without_last}
+pub use Rattle.noise_handshake.specs.inner.Late.{IsPskAfter}
 pub use Rattle.noise_handshake.specs.inner.Layout.{ArePlaced, IsLaid, LaysNext, placed_from, tokens_of}
 pub use Rattle.noise_handshake.specs.inner.Listening.{BeginsBefore, Fails, Listening, StopsKnowing, width_of_key}
 pub use Rattle.noise_handshake.specs.inner.Means.{reader_of, writer_of}

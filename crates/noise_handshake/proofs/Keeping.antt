@@ -6,12 +6,8 @@ use Rattle.noise_handshake.proofs.Places.{has_key-passed}
 
 module _ {K : Type 0} (public_of : K → Own → Option (List ℕ)) (h : HandshakeValue K) (s : IsSound public_of h) (tokens : List Token)
     (e : tokens ≡ tokens_at h.pattern.messages h.passed) (due : h.passed < length h.pattern.messages) where
-  counted : length h.psks ≡ count_by is_psk tokens + psks_of (drop (suc h.passed) h.pattern.messages)
+  counted : psks_of (drop h.passed h.pattern.messages) ≡ count_by is_psk tokens + psks_of (drop (suc h.passed) h.pattern.messages)
   counted = search rules
-
-  -- there is a psk for each psk token
-  pub enough : count_by is_psk tokens ≤ length h.psks
-  enough = omega (arith, counted)
 
   -- there is a key after it exactly where the pattern says so
   pub key-after : (state : SymmetricState) (passed : ℕ) → passed ≡ h.passed + 1
@@ -31,8 +27,14 @@ module _ {K : Type 0} (public_of : K → Own → Option (List ℕ)) (h : Handsha
   sound-after remote state psks passed p d k short u = record {
     within = omega (arith, due, p);
     few = s.few;
-    psks = ap length d ∙ length-drop (count_by is_psk tokens) h.psks ∙ left _ _ _ counted
-        ∙ ap (λ (i : ℕ). psks_of (drop i h.pattern.messages)) (next ∙ sym p);
+    psks = omega (
+      arith,
+      ap length d,
+      length-drop (count_by is_psk tokens) h.psks,
+      counted,
+      s.psks,
+      ap (λ (i : ℕ). psks_of (drop i h.pattern.messages)) (next ∙ sym p),
+    );
     has_e = s.has_e;
     has_s = s.has_s;
     keyed = key-after state passed p k;
@@ -40,8 +42,5 @@ module _ {K : Type 0} (public_of : K → Own → Option (List ℕ)) (h : Handsha
     bound = subst (λ (i : ℕ). nonce_now state ≤ 11 * i) (sym p) (bound-after h.passed (nonce_now h.state) (nonce_now state) (length tokens) s.bound
         (omega (arith, u, message-most (has_psk h.pattern) (keyed h.state) (nonce_now h.state) tokens)) short);
   } where
-    left : (a b c : ℕ) → a ≡ b + c → a - b ≡ c
-    left a b c h = omega arith
-
     next : suc h.passed ≡ h.passed + 1
     next = omega arith

@@ -1,7 +1,7 @@
 -- Which DH result the next message lacks: writing.
 use Rattle.std.proofs.Common.{rules, ◌≡◌, ℕ, zero, suc, ◌<◌, ◌≤◌, List, [], ◌∷◌, length, take, refl, ap, sym, subst, ◌∙◌, arith}
 use Rattle.std.specs.Prelude.{Bool, true, false, not, is_some}
-use Rattle.noise_handshake.proofs.Common.{◌&&◌, ◌==◌, Option, Some, None, IsTrue, MatchOption, nat_tests, Token, Role, Initiator, turn_from, Plan, has_psk, Own, Remote, HandshakeValue, is_turn, Matches, Party, Speaks, own_at, remote_at, psks_after, tokens_now, LacksDhResultFor, WantsToWrite, Writer, writer, Gives, Given, LacksDhResultAt, LacksDhResult, remote_known, Speaking, same-same_role, same_role-true}
+use Rattle.noise_handshake.proofs.Common.{◌&&◌, ◌==◌, Option, Some, None, IsTrue, MatchOption, nat_tests, Token, Role, Initiator, turn_from, Plan, has_psk, Own, Remote, HandshakeValue, is_turn, ValueMatches, Party, Speaks, own_at, remote_at, psks_after, tokens_now, LacksDhResultFor, WantsToWrite, Writer, writer, Gives, Given, LacksDhResultAt, LacksDhResult, remote_known, Speaking, same-same_role, same_role-true}
 use Rattle.noise_handshake.proofs.Giving.{lacks-later}
 use Rattle.noise_handshake.proofs.Knowing.{is_some-remote}
 use Rattle.noise_handshake.proofs.Wrote.{for-view}
@@ -98,7 +98,7 @@ module _ {K : Type 0} (h : HandshakeValue K) where
   pub due-turn : is-due ≡ true → turn_from Initiator h.passed ≡ h.role
   due-turn e = same_role-true (turn_from Initiator h.passed) h.role (tests-of h.ended (h.passed == length h.pattern.messages) (is_turn h.role h.passed) e).2
 
-  module _ (public_of : K → Own → Option (List ℕ)) (agreement : K → Own → List ℕ → Option (List ℕ)) (v : Party) (s : Matches public_of agreement h v) where
+  module _ (public_of : K → Own → Option (List ℕ)) (agreement : K → Own → List ℕ → Option (List ℕ)) (v : Party) (s : ValueMatches public_of agreement h v) where
     pub due-here : Speaks v → is-due ≡ true
     due-here l =
         let less : h.passed < length h.pattern.messages =

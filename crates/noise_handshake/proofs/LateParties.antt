@@ -1,12 +1,13 @@
--- A handshake that was filled up, for the parties whose psks begin with those that were handed in.
-use Rattle.std.proofs.Common.{rules, ◌≡◌, ℕ, suc, ◌+◌, ◌-◌, ◌<◌, ◌≤◌, List, [], ◌∷◌, ◌++◌, length, take, drop, set, refl, ap, sym, subst, ◌∙◌, arith, take-take, length-take, length-drop, take_all, length-append}
-use Rattle.std.specs.Prelude.{Bool, true, false, not, if◌then◌else◌}
-use Rattle.noise_handshake.proofs.Common.{take-append-le, drop-append-le, drop-take, drop_all, refill, ◌&&◌, ◌==◌, Option, Some, None, MatchOption, count_by, Token, is_psk, Own, Cause, Agreement, ReadFault, HandshakeValue, Advances, IsAgreement, ended_as, is_turn, read_fault, write_fault, WriteFault, with_later, WantsPskToRead, WantsPskToWrite, Matches, DoesNotRead, DoesNotWrite, after_message, after_own, after_not_read, after_not_written, ended_party, Party, Accepts, BeginsAs, Listens, CanBegin, Refuses, Speaks, reader, tokens_at, tokens_now, LacksDhResultFor, WantsToRead, WantsToWrite, Writes, LacksDhResult, LacksDhResultAt, writer, without_last, IsPskAfter, BeginsBefore, take-append-add}
-use Rattle.noise_handshake.specs.Opening.{Opening, IsOpeningOf}
+-- A handshake for the parties whose psks begin with those that were handed in.
+use Rattle.std.proofs.Common.{rules, ◌≡◌, ℕ, zero, suc, ◌+◌, ◌-◌, ◌<◌, ◌≤◌, List, [], ◌∷◌, ◌++◌, length, take, drop, set, refl, ap, sym, subst, ◌∙◌, arith, take-take, length-take, length-drop, take_all, length-append}
+use Rattle.std.specs.Prelude.{Bool, true, false, not, is_none, is_some, if◌then◌else◌}
+use Rattle.noise_handshake.proofs.Common.{take-append-le, drop-append-le, ◌&&◌, ◌==◌, Option, Some, None, MatchOption, count_by, Token, is_psk, Own, Cause, Agreement, ReadFault, Err, Ok, MatchResult, Result, HandshakeValue, HasPsks, Advances, IsAgreement, ended_as, is_turn, read_fault, write_fault, WriteFault, E, S, Ephemeral, Static, IsLateWhole, IsSound, KnowsRemote, is_among, places_of, IsSupplied, Matches, MatchesWith, Plan, psks_of, with_later, WantsPskToRead, WantsPskToWrite, ValueMatches, DoesNotRead, DoesNotWrite, after_message, after_own, after_not_read, after_not_written, ended_party, Party, Accepts, BeginsAs, Listens, CanBegin, Refuses, Speaks, reader, tokens_at, tokens_now, LacksDhResultFor, WantsToRead, WantsToWrite, Writes, LacksDhResult, LacksDhResultAt, writer, IsPskAfter, BeginsBefore}
+use Rattle.noise_handshake.specs.Calls.{HasNotWritten, HasWrittenTo}
+use Rattle.noise_handshake.specs.HandshakeValue.{after_write_fault}
+use Rattle.noise_handshake.specs.Opening.{OpenedValue, IsOpenedOf}
 use Rattle.noise_handshake.specs.Parts.{IsWholeValue}
 use Rattle.noise_handshake.proofs.Fronts.{lacks-all, lacks-first, lacks-for-all}
 use Rattle.noise_handshake.proofs.Apart.{front-apart, reads-leads}
-use Rattle.noise_handshake.specs.declared.late_faults.Want.{Want}
 use Rattle.noise_handshake.specs.declared.stop.Stop.{Stop}
 use Rattle.noise_handshake.proofs.Standing.{listens, tokens-are}
 use Rattle.noise_handshake.proofs.Later.{count-take, count-less, given-same, leads-same, reads-same, stops-same, stops-for-same, lacks-same, lacks-for-same}
@@ -14,11 +15,6 @@ use Rattle.noise_handshake.proofs.Once.{refuses-one}
 use Rattle.noise_handshake.proofs.PskPlaces.{no-psk, psk-place}
 use Rattle.noise_handshake.specs.declared.faults.ReadFault.TheVariants as read
 use Rattle.noise_handshake.specs.declared.faults.WriteFault.TheVariants as write
-
--- ---- a psk put in its place
-
-pub refilled : (items now : List (List ℕ)) (i : ℕ) (x : List ℕ) → now ≡ items → refill (length items) items (set now i x) ≡ set items i x
-refilled items now i x e = search (rules, drop_all, take_all)
 
 -- a party with other psks
 abbrev pub holding : Party → List (List ℕ) → Party
@@ -99,79 +95,115 @@ psk-none v m n remote c w = no-psk (tokens_now v) w.before w.later n c w.tokens 
 
 -- ---- the psks that were handed in
 
-module _ (s later : List (List ℕ)) (lacking : ℕ) (w : lacking ≤ length s) where
-  abbrev given : ℕ
-  given = length s - lacking
+module _ {K : Type 0} (public_of : K → Own → Option (List ℕ)) (agreement : K → Own → List ℕ → Option (List ℕ)) (h : HandshakeValue K) (v : Party)
+    (later : List (List ℕ)) (s : MatchesWith public_of agreement later h v) where
+  pub matches-given : ValueMatches public_of agreement h (holding v h.psks)
+  matches-given = record {
+    pattern = s.pattern;
+    role = s.role;
+    psks = refl;
+    own = s.own;
+    agree = s.agree;
+    remote = s.remote;
+    passed = s.passed;
+    ended = s.ended;
+    history = s.history;
+  }
 
-  pub length-given : length (take given s) ≡ given
-  length-given = omega (arith, length-take given s)
-
-  pub same-given : (vs : List (List ℕ)) → take given s ++ later ≡ vs → take given s ≡ take given vs
-  same-given vs e = search (rules, take-take, take-append-le)
+  pub agrees : take (length h.psks) h.psks ≡ take (length h.psks) v.psks
+  agrees = sym (take-append-le (length h.psks) h.psks later (omega arith)) ∙ ap (take (length h.psks)) s.psks
 
   -- after c psk tokens
-  pub after-given : (vs snew : List (List ℕ)) (c : ℕ) → c ≤ given → snew ≡ drop c s → take given s ++ later ≡ vs
-      → take (length snew - lacking) snew ++ later ≡ drop c vs
-  after-given vs snew c h n e =
-      let count : length snew - lacking ≡ given - c = omega (arith, ap length n, length-drop c s) in
-      let whole : c + (given - c) ≡ given = omega (arith, h) in
-      ap (λ (z : List (List ℕ)). z ++ later)
-      (ap (λ (k : ℕ). take k snew) count ∙ ap (take (given - c)) n ∙ sym (drop-take c (given - c) s) ∙ ap (λ (k : ℕ). drop c (take k s)) whole)
-      ∙ sym (drop-append-le c (take given s) later (omega (arith, h, length-given))) ∙ ap (drop c) e
+  after-given : (c : ℕ) → c ≤ length h.psks → drop c h.psks ++ later ≡ drop c v.psks
+  after-given c few = sym (drop-append-le c h.psks later few) ∙ ap (drop c) s.psks
 
--- ---- the party of what was filled up, where g is what the handshake holds without the last psks
+  pub after-read : (h2 : HandshakeValue K) (xs : List (List ℕ)) (payload : List ℕ) → count_by is_psk (tokens_now v) ≤ length h.psks
+      → ValueMatches public_of agreement h2 (after_message (holding v h.psks) xs payload)
+      → MatchesWith public_of agreement later h2 (after_message v xs payload)
+  after-read h2 xs payload c t = record {
+    pattern = t.pattern;
+    role = t.role;
+    psks = ap (λ (z : List (List ℕ)). z ++ later) t.psks ∙ after-given (count_by is_psk (tokens_now v)) c;
+    own = t.own;
+    agree = t.agree;
+    remote = t.remote;
+    passed = t.passed;
+    ended = t.ended;
+    history = t.history;
+  }
 
-module _ {K : Type 0} (h : HandshakeValue K) (lacking : ℕ) (w : lacking ≤ length h.psks) (g : HandshakeValue K) (seen : without_last lacking h ≡ g) where
-  given-is : length g.psks ≡ length h.psks - lacking
-  given-is = ap (λ (z : HandshakeValue K). length z.psks) (sym seen) ∙ length-given h.psks [] lacking w
+  pub after-written : (h2 : HandshakeValue K) (xs : List (List ℕ)) (payload : List ℕ) → count_by is_psk (tokens_now v) ≤ length h.psks
+      → ValueMatches public_of agreement h2 (after_own (holding v h.psks) xs payload)
+      → MatchesWith public_of agreement later h2 (after_own v xs payload)
+  after-written h2 xs payload c t = record {
+    pattern = t.pattern;
+    role = t.role;
+    psks = ap (λ (z : List (List ℕ)). z ++ later) t.psks ∙ after-given (count_by is_psk (tokens_now v)) c;
+    own = t.own;
+    agree = t.agree;
+    remote = t.remote;
+    passed = t.passed;
+    ended = t.ended;
+    history = t.history;
+  }
 
-module _ {K : Type 0} (public_of : K → Own → Option (List ℕ)) (agreement : K → Own → List ℕ → Option (List ℕ)) (h : HandshakeValue K) (lacking : ℕ)
-    (w : lacking ≤ length h.psks) (g : HandshakeValue K) (seen : without_last lacking h ≡ g) (v : Party) (later : List (List ℕ))
-    (s : Matches public_of agreement (with_later g later) v) where
-  begins : Matches public_of agreement (with_later (without_last lacking h) later) v
-  begins = subst (λ (z : HandshakeValue K). Matches public_of agreement (with_later z later) v) (sym seen) s
+-- ---- a handshake that has all psks
 
-  pub matches-filled : Matches public_of agreement h (holding v h.psks)
-  matches-filled = search begins
+module _ {K : Type 0} (public_of : K → Own → Option (List ℕ)) (agreement : K → Own → List ℕ → Option (List ℕ)) (h : HandshakeValue K) (v : Party) where
+  pub value-of : Matches public_of agreement h v → ValueMatches public_of agreement h v
+  value-of s = record {
+    pattern = s.pattern;
+    role = s.role;
+    psks = s.psks;
+    own = s.own;
+    agree = s.agree;
+    remote = s.remote;
+    passed = s.passed;
+    ended = s.ended;
+    history = s.history;
+  }
 
-  pub agrees : take (length g.psks) h.psks ≡ take (length g.psks) v.psks
-  agrees = search (rules, same-given)
+  pub matches-of : ValueMatches public_of agreement h v → IsSupplied h → Matches public_of agreement h v
+  matches-of s all = record {
+    pattern = s.pattern;
+    role = s.role;
+    psks = s.psks;
+    own = s.own;
+    agree = s.agree;
+    remote = s.remote;
+    passed = s.passed;
+    ended = s.ended;
+    history = s.history;
+    supplied = all;
+  }
 
-  pub after-read : (h2 : HandshakeValue K) (xs : List (List ℕ)) (payload : List ℕ) → count_by is_psk (tokens_now v) ≤ length g.psks
-      → Matches public_of agreement h2 (after_message (holding v h.psks) xs payload)
-      → Matches public_of agreement (with_later (without_last lacking h2) later) (after_message v xs payload)
-  after-read h2 xs payload c t = search (rules, after-given)
+psks-from : (ms : List (List Token)) (n : ℕ) → n < length ms → psks_of (drop n ms) ≡ count_by is_psk (tokens_at ms n) + psks_of (drop (suc n) ms)
+psks-from [] n h = absurd (omega (arith, h))
+psks-from (ts ∷ ms) zero h = refl
+psks-from (ts ∷ ms) (suc n) h = psks-from ms n (omega (arith, h))
 
-  pub after-written : (h2 : HandshakeValue K) (xs : List (List ℕ)) (payload : List ℕ) → count_by is_psk (tokens_now v) ≤ length g.psks
-      → Matches public_of agreement h2 (after_own (holding v h.psks) xs payload)
-      → Matches public_of agreement (with_later (without_last lacking h2) later) (after_own v xs payload)
-  after-written h2 xs payload c t = search (rules, after-given)
+module _ {K : Type 0} (h : HandshakeValue K) (less : h.passed < length h.pattern.messages) (all : IsSupplied h) where
+  next-count : length h.psks ≡ count_by is_psk (tokens_at h.pattern.messages h.passed) + psks_of (drop (h.passed + 1) h.pattern.messages)
+  next-count =
+      let next : suc h.passed ≡ h.passed + 1 = omega arith in
+      all ∙ psks-from h.pattern.messages h.passed less
+      ∙ ap (λ (i : ℕ). count_by is_psk (tokens_at h.pattern.messages h.passed) + psks_of (drop i h.pattern.messages)) next
 
--- ---- what a message leaves
+  -- none is lacking for the next message
+  pub supplied-now : HasPsks h
+  supplied-now = omega (arith, next-count)
 
-late-advances : {K : Type 0} (h h2 : HandshakeValue K) (lacking : ℕ) → lacking ≤ length h2.psks → Advances h h2
-    → Advances (without_last lacking h) (without_last lacking h2)
-late-advances h h2 lacking w a =
-    let count : length h.psks - lacking ≡ length a.taken + (length h2.psks - lacking) = search (rules, length-append) in
-    record {
-      pattern = a.pattern;
-      role = a.role;
-      keys = a.keys;
-      passed = a.passed;
-      ended = a.ended;
-      taken = a.taken;
-      count = a.count;
-      psks = search (rules, take-append-add);
-    }
+  pub supplied-not : (k : ℕ) → IsPskAfter (tokens_at h.pattern.messages h.passed) (length h.psks) k → ⊥
+  supplied-not k a =
+      no-psk (tokens_at h.pattern.messages h.passed) (take k (tokens_at h.pattern.messages h.passed)) (drop (suc k) (tokens_at h.pattern.messages h.passed))
+      (length h.psks) supplied-now a.tokens a.count
 
-module _ {K : Type 0} (h : HandshakeValue K) (lacking : ℕ) (w : lacking ≤ length h.psks) (g : HandshakeValue K) (seen : without_last lacking h ≡ g)
-    (few : count_by is_psk (tokens_at h.pattern.messages h.passed) ≤ length g.psks) (h2 : HandshakeValue K) (a : Advances h h2) where
-  -- the missing psks are still to come
-  pub left-after : lacking ≤ length h2.psks
-  left-after = omega (arith, few, given-is h lacking w g seen, a.count, ap length a.psks, length-append a.taken h2.psks, w)
-
-  pub advances-after : Advances g (without_last lacking h2)
-  advances-after = subst (λ (z : HandshakeValue K). Advances z (without_last lacking h2)) seen (late-advances h h2 lacking left-after a)
+  -- nor after it
+  pub supplied-after : (h2 : HandshakeValue K) → Advances h h2 → IsSupplied h2
+  supplied-after h2 a =
+      let rest : psks_of (drop h2.passed h2.pattern.messages) ≡ psks_of (drop (h.passed + 1) h.pattern.messages) =
+      ap (λ (p : Plan). psks_of (drop h2.passed p.messages)) a.pattern ∙ ap (λ (n : ℕ). psks_of (drop n h.pattern.messages)) a.passed in
+      omega (arith, next-count, a.count, ap length a.psks, length-append a.taken h2.psks, rest)
 
 -- ---- what a handshake may hold
 
@@ -179,7 +211,7 @@ pub whole-late : {K : Type 0} (public_of : K → Own → Option (List ℕ)) (h :
     → IsWholeValue public_of h → IsWholeValue public_of (record h { psks = u })
 whole-late public_of h u e w = search
 
-pub opens-partial : (o : Opening) (v : Party) (u : List (List ℕ)) → IsOpeningOf o (holding v u) → IsOpeningOf o v
+pub opens-partial : (o : OpenedValue) (v : Party) (u : List (List ℕ)) → IsOpenedOf o (holding v u) → IsOpenedOf o v
 opens-partial o v u p = search
 
 -- ---- writing
@@ -187,17 +219,16 @@ opens-partial o v u p = search
 wants-all : (v : Party) (own : Own) (key : List ℕ) (w : WantsToWrite v own key) → suc (length w.lacks.before) ≤ length (tokens_now v)
 wants-all v own key w = omega (arith, w.lacks.lacks.within)
 
-module _ {K : Type 0} (public_of : K → Own → Option (List ℕ)) (agreement : K → Own → List ℕ → Option (List ℕ)) (h : HandshakeValue K) (lacking : ℕ)
-    (w : lacking ≤ length h.psks) (g : HandshakeValue K) (seen : without_last lacking h ≡ g) (v : Party) (later : List (List ℕ))
-    (s : Matches public_of agreement (with_later g later) v) where
+module _ {K : Type 0} (public_of : K → Own → Option (List ℕ)) (agreement : K → Own → List ℕ → Option (List ℕ)) (h : HandshakeValue K) (v : Party) (later : List (List ℕ))
+    (s : MatchesWith public_of agreement later h v) where
   abbrev n : ℕ
-  n = length g.psks
+  n = length h.psks
 
-  filled : Matches public_of agreement h (holding v h.psks)
-  filled = matches-filled public_of agreement h lacking w g seen v later s
+  given : ValueMatches public_of agreement h (holding v h.psks)
+  given = matches-given public_of agreement h v later s
 
   pub same-tokens : tokens_at h.pattern.messages h.passed ≡ tokens_now v
-  same-tokens = tokens-are public_of agreement h (holding v h.psks) filled
+  same-tokens = tokens-are public_of agreement h (holding v h.psks) given
 
   pub few-now : count_by is_psk (tokens_at h.pattern.messages h.passed) ≤ n → count_by is_psk (tokens_now v) ≤ n
   few-now c = subst (λ (us : List Token). count_by is_psk us ≤ n) same-tokens c
@@ -205,23 +236,23 @@ module _ {K : Type 0} (public_of : K → Own → Option (List ℕ)) (agreement :
   pub write-none : count_by is_psk (tokens_at h.pattern.messages h.passed) ≤ n → ((token : ℕ) → LacksDhResult (holding v h.psks) token → ⊥)
       → (token : ℕ) → LacksDhResult v token → ⊥
   write-none c f token l =
-      f token (lacks-back v h.psks n (agrees public_of agreement h lacking w g seen v later s) token
+      f token (lacks-back v h.psks n (agrees public_of agreement h v later s) token
       (omega (arith, few-now c, count-take (tokens_now v) (suc token))) l)
 
   pub write-dh-result : (own : Own) (key : List ℕ) → count_by is_psk (tokens_at h.pattern.messages h.passed) ≤ n
       → WantsToWrite (holding v h.psks) own key → WantsToWrite v own key
   write-dh-result own key c a =
-      wants-write-partial v h.psks n (agrees public_of agreement h lacking w g seen v later s) own key (length (tokens_now v))
+      wants-write-partial v h.psks n (agrees public_of agreement h v later s) own key (length (tokens_now v))
       (omega (arith, few-now c, count-take (tokens_now v) (length (tokens_now v)))) a (wants-all (holding v h.psks) own key a)
 
-  module _ (count : ℕ) (e : count ≡ n) (k : ℕ) (at : IsPskAfter (tokens_at h.pattern.messages h.passed) count k) where
+  module _ (k : ℕ) (at : IsPskAfter (tokens_at h.pattern.messages h.passed) n k) where
     pub at-now : IsPskAfter (tokens_now v) n k
-    at-now = subst (λ (us : List Token). IsPskAfter us n k) same-tokens (subst (λ (i : ℕ). IsPskAfter (tokens_at h.pattern.messages h.passed) i k) e at)
+    at-now = subst (λ (us : List Token). IsPskAfter us n k) same-tokens at
 
     first-dh-result : (own : Own) (key : List ℕ) → LacksDhResultFor (writer v) v.remote h.psks (take k (tokens_now v)) own key
         → LacksDhResultFor (writer v) v.remote v.psks (take k (tokens_now v)) own key
     first-dh-result own key l =
-        lacks-for-same (writer v) v.remote h.psks v.psks n (agrees public_of agreement h lacking w g seen v later s) (take k (tokens_now v)) own key l
+        lacks-for-same (writer v) v.remote h.psks v.psks n (agrees public_of agreement h v later s) (take k (tokens_now v)) own key l
         (omega (arith, at-now.count, count-take (take k (tokens_now v)) (suc (length l.before))))
 
     pub write-before : (own : Own) (key : List ℕ) → Speaks (holding v h.psks) → LacksDhResultFor (writer v) v.remote h.psks (take k (tokens_now v)) own key
@@ -245,7 +276,7 @@ module _ {K : Type 0} (public_of : K → Own → Option (List ℕ)) (agreement :
       tokens = at-now.tokens;
       count = at-now.count;
       computed = λ j less l.
-          f j (lacks-same (writer v) v.remote v.psks h.psks n (sym (agrees public_of agreement h lacking w g seen v later s)) (take k (tokens_now v)) j
+          f j (lacks-same (writer v) v.remote v.psks h.psks n (sym (agrees public_of agreement h v later s)) (take k (tokens_now v)) j
           (omega (arith, at-now.count, count-take (take k (tokens_now v)) (suc j)))
           (lacks-first (writer v) v.remote v.psks (tokens_now v) k j (omega (arith, less, length-take k (tokens_now v))) l.lacks));
     }
@@ -264,34 +295,30 @@ module _ (v : Party) (m : List ℕ) (o : Option (Own × List ℕ))
   pub wants-none : o ≡ None → (token : ℕ) → Refuses v m token Agreement → ⊥
   wants-none e = search rules
 
-module _ {K : Type 0} (public_of : K → Own → Option (List ℕ)) (agreement : K → Own → List ℕ → Option (List ℕ)) (h : HandshakeValue K) (lacking : ℕ)
-    (w : lacking ≤ length h.psks) (g : HandshakeValue K) (seen : without_last lacking h ≡ g) (v : Party) (later : List (List ℕ))
-    (s : Matches public_of agreement (with_later g later) v)
+module _ {K : Type 0} (public_of : K → Own → Option (List ℕ)) (agreement : K → Own → List ℕ → Option (List ℕ)) (h : HandshakeValue K) (v : Party) (later : List (List ℕ))
+    (s : MatchesWith public_of agreement later h v)
     (m : List ℕ) where
   abbrev given-now : ℕ
-  given-now = length g.psks
-
-  first : Matches public_of agreement (with_later (without_last lacking h) later) v
-  first = begins public_of agreement h lacking w g seen v later s
+  given-now = length h.psks
 
   abbrev alike : take given-now h.psks ≡ take given-now v.psks
-  alike = agrees public_of agreement h lacking w g seen v later s
+  alike = agrees public_of agreement h v later s
 
   -- nothing has changed
-  pub matches-same : (h2 : HandshakeValue K) → Matches public_of agreement h2 (holding v h.psks)
-      → Matches public_of agreement (with_later (without_last lacking h2) later) v
+  pub matches-same : (h2 : HandshakeValue K) → ValueMatches public_of agreement h2 (holding v h.psks)
+      → ValueMatches public_of agreement (with_later h2 later) v
   matches-same h2 t = search
 
   -- or it has ended
-  matches-ended_party : (h2 : HandshakeValue K) → Matches public_of agreement h2 (ended_party (holding v h.psks))
-      → Matches public_of agreement (with_later (without_last lacking h2) later) (ended_party v)
+  matches-ended_party : (h2 : HandshakeValue K) → ValueMatches public_of agreement h2 (ended_party (holding v h.psks))
+      → ValueMatches public_of agreement (with_later h2 later) (ended_party v)
   matches-ended_party h2 t = search
 
-  pub matches-ended : (h2 : HandshakeValue K) → h2 ≡ ended_as h → Matches public_of agreement (with_later (without_last lacking h2) later) (ended_party v)
+  pub matches-ended : (h2 : HandshakeValue K) → h2 ≡ ended_as h → ValueMatches public_of agreement (with_later h2 later) (ended_party v)
   matches-ended h2 e = search rules
 
-  pub matches-declined : (h2 : HandshakeValue K) (fault : ReadFault) → Matches public_of agreement h2 (after_not_read (holding v h.psks) fault)
-      → Matches public_of agreement (with_later (without_last lacking h2) later) (after_not_read v fault)
+  pub matches-declined : (h2 : HandshakeValue K) (fault : ReadFault) → ValueMatches public_of agreement h2 (after_not_read (holding v h.psks) fault)
+      → ValueMatches public_of agreement (with_later h2 later) (after_not_read v fault)
   matches-declined h2 read.Ended t = matches-same h2 t
   matches-declined h2 read.Done t = matches-same h2 t
   matches-declined h2 read.NotYourTurn t = matches-same h2 t
@@ -299,10 +326,10 @@ module _ {K : Type 0} (public_of : K → Own → Option (List ℕ)) (agreement :
 
   module _ (few : count_by is_psk (tokens_at h.pattern.messages h.passed) ≤ given-now) where
     few-here : (k : ℕ) → count_by is_psk (take k (tokens_now v)) ≤ given-now
-    few-here k = omega (arith, few-now public_of agreement h lacking w g seen v later s few, count-take (tokens_now v) k)
+    few-here k = omega (arith, few-now public_of agreement h v later s few, count-take (tokens_now v) k)
 
     pub read-accepts : (xs : List (List ℕ)) (p : List ℕ) → Accepts (holding v h.psks) m xs p → Accepts v m xs p
-    read-accepts xs p a = accepts-partial v h.psks given-now alike m xs p (few-now public_of agreement h lacking w g seen v later s few) a
+    read-accepts xs p a = accepts-partial v h.psks given-now alike m xs p (few-now public_of agreement h v later s few) a
 
     pub read-dh-result : (own : Own) (key : List ℕ) → WantsToRead (holding v h.psks) m own key → WantsToRead v m own key
     read-dh-result own key a =
@@ -328,11 +355,11 @@ module _ {K : Type 0} (public_of : K → Own → Option (List ℕ)) (agreement :
     )
 
     pub read-none : (remote : Option (List ℕ)) → WantsPskToRead v given-now m remote → ⊥
-    read-none remote x = psk-none v m given-now remote (few-now public_of agreement h lacking w g seen v later s few) x
+    read-none remote x = psk-none v m given-now remote (few-now public_of agreement h v later s few) x
 
-  module _ (count : ℕ) (same : count ≡ given-now) (k : ℕ) (at : IsPskAfter (tokens_at h.pattern.messages h.passed) count k) where
+  module _ (k : ℕ) (at : IsPskAfter (tokens_at h.pattern.messages h.passed) given-now k) where
     at-read : IsPskAfter (tokens_now v) given-now k
-    at-read = at-now public_of agreement h lacking w g seen v later s count same k at
+    at-read = at-now public_of agreement h v later s k at
 
     few-before : (j : ℕ) → j ≤ k → count_by is_psk (take j (tokens_now v)) ≤ given-now
     few-before j less = omega (arith, at-read.count, count-less (tokens_now v) j k less)
@@ -379,18 +406,6 @@ module _ {K : Type 0} (public_of : K → Own → Option (List ℕ)) (agreement :
           (record { listens = a.listens; stops = a.stops.stops }) stops.1 in
           wants-partial v h.psks given-now alike m want.0 want.1 k (few-before k (omega arith)) a (omega (arith, one.0, stops.0))
 
--- the psk token that lacks its psk, as both see it
-module _ {K : Type 0} (h : HandshakeValue K) (lacking : ℕ) (g : HandshakeValue K) (seen : without_last lacking h ≡ g) where
-  pub psk-here : (count k : ℕ) → count ≡ length g.psks → IsPskAfter (tokens_at h.pattern.messages h.passed) count k
-      → IsPskAfter (tokens_at g.pattern.messages g.passed) (length g.psks) k
-  psk-here count k e at =
-      subst (λ (n : ℕ). IsPskAfter (tokens_at g.pattern.messages g.passed) n k) e
-      (subst (λ (z : HandshakeValue K). IsPskAfter (tokens_at z.pattern.messages z.passed) count k) seen at)
-
-  pub psk-there : (k : ℕ) → IsPskAfter (tokens_at g.pattern.messages g.passed) (length g.psks) k
-      → IsPskAfter (tokens_at h.pattern.messages h.passed) (length g.psks) k
-  psk-there k at = subst (λ (z : HandshakeValue K). IsPskAfter (tokens_at z.pattern.messages z.passed) (length g.psks) k) (sym seen) at
-
 -- ---- faults
 
 -- why no message is written is no want of a DH result
@@ -427,14 +442,6 @@ withholds-partial v u payload write.NotYourTurn n w = listens-partial v u w
 withholds-partial v u payload write.TooLong n w = (speaks-partial v u w.0, w.1)
 withholds-partial v u payload (write.Agreement token) n w = absurd (n tt)
 
--- where it lacks neither a DH result nor a psk, the psks that were handed in suffice
-module _ {K : Type 0} (h : HandshakeValue K) (lacking : ℕ) (w : lacking ≤ length h.psks) (g : HandshakeValue K) (seen : without_last lacking h ≡ g) (payload : ℕ)
-    (none : write_fault h payload ≡ None) (o : Option Want) (clear : o ≡ None) where
-  pub taken-within : ((not g.ended && not (g.passed == length g.pattern.messages) && is_turn g.role g.passed) ≡ true → o ≡ None
-      → count_by is_psk (tokens_at g.pattern.messages g.passed) ≤ length g.psks)
-      → count_by is_psk (tokens_at h.pattern.messages h.passed) ≤ length g.psks
-  taken-within few = search rules
-
 pub lacks-partial : (v : Party) (u : List (List ℕ)) (n : ℕ) → take n u ≡ take n v.psks → (k : ℕ) → count_by is_psk (take (suc k) (tokens_now v)) ≤ n
     → LacksDhResult (holding v u) k → LacksDhResult v k
 lacks-partial v u n e k c a = search lacks-same
@@ -445,3 +452,66 @@ withheld-view v write.Done n = refl
 withheld-view v write.NotYourTurn n = refl
 withheld-view v write.TooLong n = refl
 withheld-view v (write.Agreement token) n = absurd (n tt)
+
+-- ---- the psks that are missing
+
+pub some-psks : (n : ℕ) → (xs : List (List ℕ)) × (length xs ≡ n)
+some-psks zero = ([], refl)
+some-psks (suc n) = ([] ∷ (some-psks n).0, ap suc (some-psks n).1)
+
+not-lacked : (b : Bool) (o : Option (List ℕ)) → (b ≡ true → is_some o ≡ true) → (b && is_none o) ≡ false
+not-lacked false o h = refl
+not-lacked true (Some x) h = refl
+not-lacked true None h = let e = h refl in absurd (cc)
+
+pub whole-of : {K : Type 0} (public_of : K → Own → Option (List ℕ)) (h : HandshakeValue K) → IsSound public_of h → KnowsRemote h → IsLateWhole public_of h
+whole-of public_of h s k =
+    let missing = some-psks (psks_of (drop h.passed h.pattern.messages) - length h.psks) in (
+      missing.0,
+      record {
+        within = s.within;
+        psks = omega (arith, s.psks, missing.1, length-append h.psks missing.0);
+        own_e = not-lacked (is_among h.role E (places_of h.pattern)) (public_of h.keys Ephemeral) s.has_e;
+        own_s = not-lacked (is_among h.role S (places_of h.pattern)) (public_of h.keys Static) s.has_s;
+        remote_e = k.e;
+        remote_s = k.s;
+        key = s.keyed;
+        nonce = s.nonce;
+      },
+    )
+
+-- ---- writing with all psks
+
+due-of : (ended all ours long : Bool)
+    → (if ended then Some write.Ended else if all then Some write.Done else if not ours then Some write.NotYourTurn
+    else if long then Some write.TooLong else None) ≡ None
+    → (not ended && not all && ours) ≡ true
+due-of true all ours long e = absurd (cc)
+due-of false true ours long e = absurd (cc)
+due-of false false false long e = absurd (cc)
+due-of false false true true e = absurd (cc)
+due-of false false true false e = refl
+
+-- where no fault is found before, a message of this party is due
+pub speaks-due : {K : Type 0} (h : HandshakeValue K) (payload : ℕ) → write_fault h payload ≡ None
+    → (not h.ended && not (h.passed == length h.pattern.messages) && is_turn h.role h.passed) ≡ true
+speaks-due h payload e = search due-of
+
+supplied-fault : {K : Type 0} (h : HandshakeValue K) (fault : WriteFault) → IsSupplied h → IsSupplied (after_write_fault h fault)
+supplied-fault h write.Ended all = all
+supplied-fault h write.Done all = all
+supplied-fault h write.NotYourTurn all = all
+supplied-fault h write.TooLong all = all
+supplied-fault h (write.Agreement token) all = all
+
+module _ {K : Type 0} (public_of : K → Own → Option (List ℕ)) (agreement : K → Own → List ℕ → Option (List ℕ)) (h h2 : HandshakeValue K)
+    (less : h.passed < length h.pattern.messages) (all : IsSupplied h) (v : Party) (payload : List ℕ) where
+  pub writes-supplied : (bytes : List ℕ) (result : Result ℕ WriteFault)
+      → MatchResult result (λ _. Advances h h2) (λ fault. h2 ≡ after_write_fault h fault)
+      → MatchResult result (HasWrittenTo (ValueMatches public_of agreement) v payload bytes h2)
+      (HasNotWritten (ValueMatches public_of agreement) v (length payload) h2)
+      → MatchResult result (HasWrittenTo (Matches public_of agreement) v payload bytes h2)
+      (HasNotWritten (Matches public_of agreement) v (length payload) h2)
+  writes-supplied bytes (Ok n) a w = (w.0, w.1, matches-of public_of agreement h2 _ w.2 (supplied-after h less all h2 a))
+  writes-supplied bytes (Err fault) a w =
+      (w.0, matches-of public_of agreement h2 _ w.1 (subst (λ (z : HandshakeValue K). IsSupplied z) (sym a) (supplied-fault h fault all)))

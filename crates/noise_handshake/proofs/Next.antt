@@ -1,10 +1,10 @@
 -- The next message of a handshake: what its fields give a reader or a writer, and what they hold after it.
 use Rattle.std.proofs.Common.{rules, ◌≡◌, ℕ, ◌+◌, ◌-◌, ◌<◌, ◌≤◌, ◌^◌, List, Bool, true, false, length, take, drop, sym, ap, subst, refl, ◌∙◌, arith, length-drop, drop-drop}
 use Rattle.std.specs.Prelude.{is_some, not}
-use Rattle.noise_handshake.proofs.Common.{length-take-le, None, Option, Some, count_by, ◌&&◌, ◌==◌, list_all, Token, E, S, Initiator, is_psk, other, turn_from, Plan, has_psk, has_key, overhead_of, StateMatches, keyed, nonce_now, SymmetricState, Own, MessageLayout, PlacedToken, Remote, HandshakeValue, Advances, is_turn, message_len_of, read_fault, write_fault, added_width, keyed_after_tokens, after_payload, nonce_after_message, Matches, after_message, after_own, passed_places, Party, remote_after, tokens_at, tokens_now, held_in, IsKept, KnowsRemote, are_known, is_known, has_after_tokens, tokens_of, ArePlaced, LaysNext, Listening, Speaking, has_own}
+use Rattle.noise_handshake.proofs.Common.{length-take-le, None, Option, Some, count_by, ◌&&◌, ◌==◌, list_all, Token, E, S, Initiator, is_psk, other, turn_from, Plan, has_psk, has_key, overhead_of, StateMatches, keyed, nonce_now, SymmetricState, Own, MessageLayout, PlacedToken, Remote, HandshakeValue, HasPsks, Advances, is_turn, message_len_of, read_fault, write_fault, added_width, keyed_after_tokens, after_payload, nonce_after_message, ValueMatches, after_message, after_own, passed_places, Party, remote_after, tokens_at, tokens_now, held_in, IsKept, IsPskAfter, KnowsRemote, are_known, is_known, has_after_tokens, tokens_of, ArePlaced, LaysNext, Listening, Speaking, has_own}
 use Rattle.noise_handshake.specs.declared.handshake.Handshake.TheInside.{Inside}
 use Rattle.noise_handshake.proofs.Advancing.{advanced, unended-read, unended-write}
-use Rattle.noise_handshake.proofs.Keeping.{enough, key-after, sound-after}
+use Rattle.noise_handshake.proofs.Keeping.{key-after, sound-after}
 use Rattle.noise_handshake.proofs.Knowing.{knows-read, knows-wrote, reading-known, writing-known}
 use Rattle.noise_handshake.proofs.Lacked.{due-speaking, due-turn, due-within}
 use Rattle.noise_handshake.proofs.Layouts.{length-tokens_of, places-laid, tokens-laid}
@@ -82,12 +82,50 @@ module _ {K : Type 0} (public_of : K → Own → Option (List ℕ)) (a : Inside 
   places-next state e =
       places-laid a.pattern a.passed a.next (i.4 less) placed d a.means.has_psks (keyed state) i.0 (ap (λ (z : SymmetricState). keyed z) e ∙ i.2.keyed)
 
-  enough-next : count_by is_psk (tokens_of placed) ≤ length (drop a.used a.psks.items)
-  enough-next = enough public_of (held_in a) i.2 (tokens_of placed) tokens-next less
+  taken-next : a.next.psks ≡ count_by is_psk (tokens_of placed)
+  taken-next = (i.4 less).psks ∙ ap (λ (ts : List Token). count_by is_psk ts) (sym tokens-next)
 
-  pub psks-next : (ds : List (List ℕ)) → ds ≡ a.psks.items
-      → count_by is_psk (tokens_of placed) ≤ length (take (length ds - a.used) (drop a.used ds))
-  psks-next ds e = search (rules, items-from, enough-next)
+  -- there is a psk for each psk token
+  module _ (h : HandshakeValue K) (seen : held_in a ≡ h) where
+    pub psks-before : (k : ℕ) → count_by is_psk (take k (tokens_at h.pattern.messages h.passed)) ≤ length h.psks
+        → (ds : List (List ℕ)) → ds ≡ a.psks.items
+        → count_by is_psk (take k (tokens_of placed)) ≤ length (take (length ds - a.used) (drop a.used ds))
+    psks-before k has ds e =
+        let here : count_by is_psk (take k (tokens_at a.pattern.messages a.passed)) ≤ length (drop a.used a.psks.items) =
+        subst (λ (z : HandshakeValue K). count_by is_psk (take k (tokens_at z.pattern.messages z.passed)) ≤ length z.psks) (sym seen) has in
+        omega (arith, here, ap length (items-from ds a.psks.items a.used e), ap (λ (ts : List Token). count_by is_psk (take k ts)) tokens-next)
+
+    -- which psk token lacks its psk, if one does
+    pub lacks-next : (len k : ℕ) → len ≡ length a.psks.items → IsPskAfter (tokens_of placed) (len - a.used) k
+        → IsPskAfter (tokens_at h.pattern.messages h.passed) (length h.psks) k
+    lacks-next len k e at =
+        let count : len - a.used ≡ length (drop a.used a.psks.items) = omega (arith, e, length-drop a.used a.psks.items) in
+        subst (λ (z : HandshakeValue K). IsPskAfter (tokens_at z.pattern.messages z.passed) (length z.psks) k) seen
+        (subst (λ (ts : List Token). IsPskAfter ts (length (drop a.used a.psks.items)) k) tokens-next
+        (subst (λ (n : ℕ). IsPskAfter (tokens_of placed) n k) count at))
+
+    pub has-next : (len : ℕ) → len ≡ length a.psks.items → count_by is_psk (tokens_of placed) ≤ len - a.used → HasPsks h
+    has-next len e few =
+        let count : len - a.used ≡ length (drop a.used a.psks.items) = omega (arith, e, length-drop a.used a.psks.items) in
+        subst (λ (z : HandshakeValue K). count_by is_psk (tokens_at z.pattern.messages z.passed) ≤ length z.psks) seen
+        (omega (arith, few, count, ap (count_by is_psk) tokens-next))
+
+    module _ (has : HasPsks h) where
+      enough-next : count_by is_psk (tokens_of placed) ≤ length (drop a.used a.psks.items)
+      enough-next =
+          let here : count_by is_psk (tokens_at a.pattern.messages a.passed) ≤ length (drop a.used a.psks.items) =
+          subst (λ (z : HandshakeValue K). count_by is_psk (tokens_at z.pattern.messages z.passed) ≤ length z.psks) (sym seen) has in
+          omega (arith, here, ap (count_by is_psk) tokens-next)
+
+      pub psks-next : (ds : List (List ℕ)) → ds ≡ a.psks.items
+          → count_by is_psk (tokens_of placed) ≤ length (take (length ds - a.used) (drop a.used ds))
+      psks-next ds e = omega (arith, enough-next, ap length (items-from ds a.psks.items a.used e))
+
+      used-within : a.used + a.next.psks ≤ length a.psks.items
+      used-within = omega (arith, enough-next, length-drop a.used a.psks.items, taken-next, i.1)
+
+      pub used-next : length a.psks.items ≤ 9 → a.used + a.next.psks ≤ 9
+      used-next few = omega (arith, used-within, few)
 
   pub nonces-next : (state : SymmetricState) → state ≡ a.state → length placed ≤ 10
       → nonce_now state + length (tokens_of placed) < 2 ^ 64 - 1
@@ -102,15 +140,6 @@ module _ {K : Type 0} (public_of : K → Own → Option (List ℕ)) (a : Inside 
 
   pub own-ours : turn_from Initiator a.passed ≡ a.means.role → list_all (has_own (public_of a.means.keys)) (tokens_of placed) ≡ true
   own-ours turn = search (tokens-next, owned)
-
-  taken-next : a.next.psks ≡ count_by is_psk (tokens_of placed)
-  taken-next = (i.4 less).psks ∙ ap (λ (ts : List Token). count_by is_psk ts) (sym tokens-next)
-
-  used-within : a.used + a.next.psks ≤ length a.psks.items
-  used-within = omega (arith, enough-next, length-drop a.used a.psks.items, taken-next, i.1)
-
-  pub used-next : length a.psks.items ≤ 9 → a.used + a.next.psks ≤ 9
-  used-next few = omega (arith, used-within, few)
 
   left-next : drop (a.used + a.next.psks) a.psks.items ≡ drop (count_by is_psk (tokens_of placed)) (drop a.used a.psks.items)
   left-next = search (taken-next, drop-drop)
@@ -128,7 +157,8 @@ module _ {K : Type 0} (public_of : K → Own → Option (List ℕ)) (a : Inside 
 
     module _ (counted : nonce_now new ≡ nonce_after_message a.means.has_psks (keyed state) (nonce_now state) (tokens_of placed))
         (few : length placed ≤ 10)
-        (plan : Plan) (same : plan ≡ a.pattern) (laid : MessageLayout) (lays : LaysNext plan (a.passed + 1) laid) where
+        (plan : Plan) (same : plan ≡ a.pattern) (laid : MessageLayout) (lays : LaysNext plan (a.passed + 1) laid)
+        (h : HandshakeValue K) (seen : held_in a ≡ h) (has : HasPsks h) where
       counted-in : nonce_now new ≡ nonce_after_message (has_psk a.pattern) (keyed a.state) (nonce_now a.state) (tokens_of placed)
       counted-in =
           counted ∙ ap (λ (z : SymmetricState). nonce_after_message a.means.has_psks (keyed z) (nonce_now z) (tokens_of placed)) e
@@ -139,7 +169,7 @@ module _ {K : Type 0} (public_of : K → Own → Option (List ℕ)) (a : Inside 
           → IsKept public_of (record a { used = a.used + a.next.psks; passed = a.passed + 1; next = laid; state = new; remote = known })
       unchanged-next known knows = (
         i.0,
-        used-within,
+        used-within h seen has,
         sound-after public_of (held_in a) i.2 (tokens_of placed) tokens-next less known new (drop (a.used + a.next.psks) a.psks.items)
             (a.passed + 1) refl left-next key-in (omega (arith, length-tokens_of placed, few)) counted-in,
         knows,
@@ -160,9 +190,9 @@ module _ {K : Type 0} (public_of : K → Own → Option (List ℕ)) (a : Inside 
       unchanged-wrote turn = unchanged-next a.remote (knows-wrote (held_in a) i.3 less new (drop (a.used + a.next.psks) a.psks.items) turn)
 
   -- for the parties of the handshake
-  module _ (agreement : K → Own → List ℕ → Option (List ℕ)) (h : HandshakeValue K) (seen : held_in a ≡ h) (v : Party) (s : Matches public_of agreement h v) where
-    matches-in : Matches public_of agreement (held_in a) v
-    matches-in = subst (λ (z : HandshakeValue K). Matches public_of agreement z v) (sym seen) s
+  module _ (agreement : K → Own → List ℕ → Option (List ℕ)) (h : HandshakeValue K) (seen : held_in a ≡ h) (v : Party) (s : ValueMatches public_of agreement h v) where
+    matches-in : ValueMatches public_of agreement (held_in a) v
+    matches-in = subst (λ (z : HandshakeValue K). ValueMatches public_of agreement z v) (sym seen) s
 
     here : tokens_of placed ≡ tokens_now v
     here = tokens-next ∙ tokens-are public_of agreement (held_in a) v matches-in
@@ -192,14 +222,14 @@ module _ {K : Type 0} (public_of : K → Own → Option (List ℕ)) (a : Inside 
 
     pub after-read : (xs : List (List ℕ)) (payload : List ℕ) (new : SymmetricState) (known : Remote) (laid : MessageLayout)
         → StateMatches new (after_payload a.means.has_psks v.history (tokens_of placed) xs payload) → known ≡ remote_after a.remote (tokens_of placed) xs
-        → Matches public_of agreement
+        → ValueMatches public_of agreement
         (held_in (record a { used = a.used + a.next.psks; passed = a.passed + 1; next = laid; state = new; remote = known }))
         (after_message v xs payload)
     after-read xs payload new known laid t k = search (rules, here, left-next)
 
     pub after-wrote : (len : ℕ) → write_fault h len ≡ None → (xs : List (List ℕ)) (payload : List ℕ) (new : SymmetricState) (laid : MessageLayout)
         → StateMatches new (after_payload a.means.has_psks v.history (tokens_of placed) xs payload)
-        → Matches public_of agreement (held_in (record a { used = a.used + a.next.psks; passed = a.passed + 1; next = laid; state = new }))
+        → ValueMatches public_of agreement (held_in (record a { used = a.used + a.next.psks; passed = a.passed + 1; next = laid; state = new }))
         (after_own v xs payload)
     after-wrote len none xs payload new laid t = search (rules, here, left-next)
 
@@ -208,12 +238,14 @@ module _ {K : Type 0} (public_of : K → Own → Option (List ℕ)) (a : Inside 
 
 -- one message more has passed
 module _ {K : Type 0} (public_of : K → Own → Option (List ℕ)) (a : Inside K) (i : IsKept public_of a) (less : a.passed < length a.pattern.messages)
-    (h : HandshakeValue K) (seen : held_in a ≡ h) (going : a.ended ≡ false) (known : Remote) (new : SymmetricState) (laid : MessageLayout) where
+    (h : HandshakeValue K) (seen : held_in a ≡ h) (has : HasPsks h) (going : a.ended ≡ false) (known : Remote) (new : SymmetricState) (laid : MessageLayout) where
   taken-count : length (take a.next.psks (drop a.used a.psks.items)) ≡ count_by is_psk (tokens_at a.pattern.messages a.passed)
   taken-count =
       let n = (i.4 less).psks in
+      let here : count_by is_psk (tokens_at a.pattern.messages a.passed) ≤ length (drop a.used a.psks.items) =
+      subst (λ (z : HandshakeValue K). count_by is_psk (tokens_at z.pattern.messages z.passed) ≤ length z.psks) (sym seen) has in
       length-take-le a.next.psks (drop a.used a.psks.items)
-      (omega (arith, n, enough public_of (held_in a) i.2 (tokens_at a.pattern.messages a.passed) refl less)) ∙ n
+      (omega (arith, n, here)) ∙ n
 
   pub advances-next : Advances h (held_in (record a { used = a.used + a.next.psks; passed = a.passed + 1; next = laid; state = new; remote = known }))
   advances-next = search (rules, advanced, taken-count)

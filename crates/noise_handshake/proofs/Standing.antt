@@ -1,7 +1,7 @@
 -- What a handshake matches, and what follows for a message.
 use Rattle.std.proofs.Common.{rules, ◌≡◌, ℕ, ◌+◌, ◌<◌, ◌≤◌, List, Bool, true, false, length, drop, sym, ap, subst, refl, ◌∙◌}
 use Rattle.std.specs.Prelude.{if◌then◌else◌}
-use Rattle.noise_handshake.proofs.Common.{Option, None, Some, count_by, ◌==◌, Token, Role, Initiator, is_psk, other, same_role, turn_from, Plan, has_psk, StateMatches, SymmetricState, Own, Remote, Cause, ReadFault, after_payload, Party, Reader, reader, Listens, Reads, Stops, Accepts, Refuses, remote_after, tokens_at, tokens_now, Listening, HandshakeValue, read_fault, is_turn, Matches, DoesNotRead, after_not_read, after_message, ended_party, same_role-true}
+use Rattle.noise_handshake.proofs.Common.{Option, None, Some, count_by, ◌==◌, Token, Role, Initiator, is_psk, other, same_role, turn_from, Plan, has_psk, StateMatches, SymmetricState, Own, Remote, Cause, ReadFault, after_payload, Party, Reader, reader, Listens, Reads, Stops, Accepts, Refuses, remote_after, tokens_at, tokens_now, Listening, HandshakeValue, read_fault, is_turn, ValueMatches, DoesNotRead, after_not_read, after_message, ended_party, same_role-true}
 use Rattle.noise_handshake.specs.declared.faults.ReadFault.TheVariants as read
 
 -- whose turn it is
@@ -35,7 +35,7 @@ pub reads-turn : {K : Type 0} (h : HandshakeValue K) → read_fault h ≡ None �
 reads-turn h e = search rules
 
 module _ {K : Type 0} (public_of : K → Own → Option (List ℕ)) (agreement : K → Own → List ℕ → Option (List ℕ)) (h : HandshakeValue K) (v : Party)
-    (s : Matches public_of agreement h v) where
+    (s : ValueMatches public_of agreement h v) where
   going : h.ended ≡ false → v.ended ≡ false
   going e = sym s.ended ∙ e
 
@@ -58,12 +58,12 @@ module _ {K : Type 0} (public_of : K → Own → Option (List ℕ)) (agreement :
 
   -- where there is a fault the message is declined for it
   pub faulted : (fault : ReadFault) (m : List ℕ) → h.passed ≤ length h.pattern.messages → read_fault h ≡ Some fault
-      → DoesNotRead v m fault × Matches public_of agreement h (after_not_read v fault)
+      → DoesNotRead v m fault × ValueMatches public_of agreement h (after_not_read v fault)
   faulted fault m w e = search rules
     where
       declined : (fault : ReadFault) (m : List ℕ) → h.passed ≤ length h.pattern.messages
           → Reported h.ended (h.passed == length h.pattern.messages) (is_turn h.role h.passed) (Some fault)
-          → DoesNotRead v m fault × Matches public_of agreement h (after_not_read v fault)
+          → DoesNotRead v m fault × ValueMatches public_of agreement h (after_not_read v fault)
       declined read.Ended m w t = (going-to t, s) where
         going-to : h.ended ≡ true → v.ended ≡ true
         going-to e = sym s.ended ∙ e
@@ -98,7 +98,7 @@ module _ {K : Type 0} (public_of : K → Own → Option (List ℕ)) (agreement :
       (psks : List (List ℕ)) (passed : ℕ) → has_psks ≡ has_psk h.pattern → tokens ≡ tokens_now v
       → psks ≡ drop (count_by is_psk tokens) h.psks → passed ≡ h.passed + 1 → StateMatches state (after_payload has_psks v.history tokens xs payload)
       → remote ≡ remote_after v.remote tokens xs
-      → Matches public_of agreement (record h { state = state; remote = remote; psks = psks; passed = passed }) (after_message v xs payload)
+      → ValueMatches public_of agreement (record h { state = state; remote = remote; psks = psks; passed = passed }) (after_message v xs payload)
   after has_psks tokens xs payload state remote psks passed b e u n k m = record {
     pattern = s.pattern;
     role = s.role;
@@ -113,7 +113,7 @@ module _ {K : Type 0} (public_of : K → Own → Option (List ℕ)) (agreement :
   }
 
   -- with other psks
-  pub with-psks : (u us : List (List ℕ)) → u ≡ us → Matches public_of agreement (record h { psks = u }) (record v { psks = us })
+  pub with-psks : (u us : List (List ℕ)) → u ≡ us → ValueMatches public_of agreement (record h { psks = u }) (record v { psks = us })
   with-psks u us e = record {
     pattern = s.pattern;
     role = s.role;
@@ -127,7 +127,7 @@ module _ {K : Type 0} (public_of : K → Own → Option (List ℕ)) (agreement :
   }
 
   -- it has ended
-  pub ends : (b : Bool) → b ≡ true → Matches public_of agreement (record h { ended = b }) (ended_party v)
+  pub ends : (b : Bool) → b ≡ true → ValueMatches public_of agreement (record h { ended = b }) (ended_party v)
   ends b e = record {
     pattern = s.pattern;
     role = s.role;

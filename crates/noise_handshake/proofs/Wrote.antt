@@ -1,7 +1,7 @@
 -- What a handshake that writes asks and leaves.
 use Rattle.std.proofs.Common.{rules, ◌≡◌, ℕ, ◌+◌, ◌<◌, ◌≤◌, List, Bool, true, false, length, drop, sym, ap, subst, refl, ◌∙◌, arith, not}
 use Rattle.std.specs.Prelude.{nat_lt, if◌then◌else◌}
-use Rattle.noise_handshake.proofs.Common.{nat_tests, Option, None, Some, count_by, ◌==◌, IsTrue, list_all, Token, Role, Initiator, is_psk, turn_from, Plan, has_psk, has_key, overhead_of, StateMatches, keyed, SymmetricState, Own, WriteFault, Remote, Writer, writer, Given, LacksDhResultAt, Writes, LacksDhResult, message_bytes, after_payload, added_width, Party, Speaks, tokens_at, tokens_now, Speaking, has_own, HandshakeValue, write_fault, is_turn, length_now, length_unless, message_len_of, IsSound, passed_places, Matches, after_own, same_role-true}
+use Rattle.noise_handshake.proofs.Common.{nat_tests, Option, None, Some, count_by, ◌==◌, IsTrue, list_all, Token, Role, Initiator, is_psk, turn_from, Plan, has_psk, has_key, overhead_of, StateMatches, keyed, SymmetricState, Own, WriteFault, Remote, Writer, writer, Given, LacksDhResultAt, Writes, LacksDhResult, message_bytes, after_payload, added_width, Party, Speaks, tokens_at, tokens_now, Speaking, has_own, HandshakeValue, write_fault, is_turn, length_now, length_unless, message_len_of, IsSound, passed_places, ValueMatches, after_own, same_role-true}
 use Rattle.noise_handshake.proofs.Owned.{owned}
 use Rattle.noise_handshake.proofs.Places.{overhead-is}
 use Rattle.noise_handshake.specs.declared.faults.WriteFault.TheVariants as write
@@ -54,7 +54,7 @@ module _ {K : Type 0} (public_of : K → Own → Option (List ℕ)) (h : Handsha
         subst (λ (ts : List Token). IsTrue (list_all (has_own (public_of h.keys)) ts)) (sym e)
         (owned (public_of h.keys) h.pattern h.role h.passed writes-turn s.has_e s.has_s)
 
-  module _ (agreement : K → Own → List ℕ → Option (List ℕ)) (v : Party) (t : Matches public_of agreement h v) where
+  module _ (agreement : K → Own → List ℕ → Option (List ℕ)) (v : Party) (t : ValueMatches public_of agreement h v) where
     speaks : Speaks v
     speaks = record {
       going = sym t.ended ∙ clear-now.going;
@@ -84,7 +84,7 @@ module _ {K : Type 0} (public_of : K → Own → Option (List ℕ)) (h : Handsha
     pub wrote : (has_psks : Bool) (tokens : List Token) (xs : List (List ℕ)) (payload : List ℕ) (state : SymmetricState) (psks : List (List ℕ))
         (passed : ℕ) → has_psks ≡ has_psk h.pattern → tokens ≡ tokens_now v
         → psks ≡ drop (count_by is_psk tokens) h.psks → passed ≡ h.passed + 1 → StateMatches state (after_payload has_psks v.history tokens xs payload)
-        → Matches public_of agreement (record h { state = state; psks = psks; passed = passed }) (after_own v xs payload)
+        → ValueMatches public_of agreement (record h { state = state; psks = psks; passed = passed }) (after_own v xs payload)
     wrote has_psks tokens xs payload state psks passed b e u n k = record {
       pattern = t.pattern;
       role = t.role;

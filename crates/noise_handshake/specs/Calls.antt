@@ -5,9 +5,12 @@ use Rattle.noise_names.specs.Plan.{Plan}
 use Rattle.noise_keys.specs.declared.keys.Own.{Own}
 use Rattle.noise_handshake.specs.declared.faults.Cause.TheVariants.{Agreement}
 use Rattle.noise_handshake.specs.declared.faults.ReadFault.{ReadFault}
+use Rattle.noise_handshake.specs.declared.faults.Unread.{Unread}
+use Rattle.noise_handshake.specs.declared.faults.Unwritten.{Unwritten}
 use Rattle.noise_handshake.specs.declared.faults.WriteFault.{WriteFault}
 use Rattle.noise_handshake.specs.HandshakeValue.{HandshakeValue, is_turn}
-use Rattle.noise_handshake.specs.Matching.{Matches, DoesNotRead, DoesNotWrite, after_message, after_not_read, after_not_written, after_own}
+use Rattle.noise_handshake.specs.Asking.{LeavesUnread, LeavesUnwritten, after_asked}
+use Rattle.noise_handshake.specs.Matching.{DoesNotRead, DoesNotWrite, after_message, after_not_read, after_not_written, after_own}
 use Rattle.noise_handshake.specs.Party.{Party, Accepts, Refuses}
 use Rattle.noise_handshake.specs.Wanting.{WantsToRead, WantsToWrite}
 use Rattle.noise_handshake.specs.Writing.{LacksDhResult, Writes}
@@ -37,29 +40,38 @@ ReadingWants v message want =
 abbrev pub WritingWants : Party → Option (Own × List ℕ) → Type 0
 WritingWants v want = MatchOption want ((token : ℕ) → LacksDhResult v token → ⊥) (λ w. WantsToWrite v w.0 w.1)
 
-module _ {K : Type 0} (public_of : K → Own → Option (List ℕ)) (agreement : K → Own → List ℕ → Option (List ℕ)) where
+-- These go by the relation of a handshake to its party.
+module _ {K : Type 0} (M : HandshakeValue K → Party → Type 0) where
   -- The party accepts the message as this payload, and the handshake matches the party after it.
   abbrev pub HasRead : Party → List ℕ → List ℕ → HandshakeValue K → Type 0
   HasRead v message payload h = (xs : List (List ℕ)) × Accepts v message xs payload
-      × Matches public_of agreement h (after_message v xs payload)
+      × M h (after_message v xs payload)
 
   -- It is read as the bytes at a place of these.
   abbrev pub HasReadAt : Party → List ℕ → List ℕ → HandshakeValue K → ℕ × ℕ → Type 0
   HasReadAt v message bytes h place = HasRead v message (slice_range bytes place.0 place.1) h
 
   -- The party doesn't read the message for this fault, and the handshake matches the party after it.
-  abbrev pub HasNotRead : Party → List ℕ → ReadFault → HandshakeValue K → Type 0
-  HasNotRead v message fault h = DoesNotRead v message fault × Matches public_of agreement h (after_not_read v fault)
+  abbrev pub HasNotRead : Party → List ℕ → HandshakeValue K → ReadFault → Type 0
+  HasNotRead v message h fault = DoesNotRead v message fault × M h (after_not_read v fault)
+
+  -- The same where what is lacking is asked for, and the handshake had so many psks.
+  abbrev pub IsLeftUnread : Party → ℕ → List ℕ → HandshakeValue K → Unread → Type 0
+  IsLeftUnread v n message h reason = LeavesUnread v n message reason × M h (after_asked v reason)
 
   -- The party writes the payload as this message, and the handshake matches the party after it.
   abbrev pub HasWritten : Party → List ℕ → List ℕ → HandshakeValue K → Type 0
   HasWritten v payload message h = (xs : List (List ℕ)) × Writes v payload xs message
-      × Matches public_of agreement h (after_own v xs payload)
+      × M h (after_own v xs payload)
 
   -- It is written as so many of these bytes.
   abbrev pub HasWrittenTo : Party → List ℕ → List ℕ → HandshakeValue K → ℕ → Type 0
   HasWrittenTo v payload bytes h n = HasWritten v payload (take n bytes) h
 
   -- The party doesn't write a payload of this length for this fault, and the handshake matches the party after it.
-  abbrev pub HasNotWritten : Party → ℕ → WriteFault → HandshakeValue K → Type 0
-  HasNotWritten v len fault h = DoesNotWrite v len fault × Matches public_of agreement h (after_not_written v fault)
+  abbrev pub HasNotWritten : Party → ℕ → HandshakeValue K → WriteFault → Type 0
+  HasNotWritten v len h fault = DoesNotWrite v len fault × M h (after_not_written v fault)
+
+  -- The same where what is lacking is asked for: the party is as before.
+  abbrev pub IsLeftUnwritten : Party → ℕ → ℕ → HandshakeValue K → Unwritten → Type 0
+  IsLeftUnwritten v n len h reason = LeavesUnwritten v n len reason × M h v

@@ -1,5 +1,5 @@
 -- What a handshake holds, and why it doesn't read or write now.
-use Rattle.std.specs.Prelude.{◌≡◌, ℕ, ◌+◌, ◌++◌, ◌==◌, nat_lt, List, length, Bool, true, false, not, Option, count_by, Some, None, if◌then◌else◌}
+use Rattle.std.specs.Prelude.{◌≡◌, ℕ, ◌+◌, ◌≤◌, ◌++◌, ◌==◌, nat_lt, List, length, Bool, true, false, not, Option, count_by, Some, None, if◌then◌else◌}
 use Rattle.noise_names.specs.declared.token.Role.{Role}
 use Rattle.noise_names.specs.declared.token.Role.TheVariants.{Initiator}
 use Rattle.noise_names.specs.Tokens.{is_psk, same_role, turn_from}
@@ -12,6 +12,8 @@ use Rattle.noise_handshake.specs.declared.faults.ReadFault.{ReadFault}
 use Rattle.noise_handshake.specs.declared.faults.ReadFault.TheVariants as read
 use Rattle.noise_handshake.specs.declared.faults.Unread.{Unread}
 use Rattle.noise_handshake.specs.declared.faults.Unread.TheVariants as unread
+use Rattle.noise_handshake.specs.declared.faults.Unwritten.{Unwritten}
+use Rattle.noise_handshake.specs.declared.faults.Unwritten.TheVariants as unwritten
 use Rattle.noise_handshake.specs.declared.faults.WriteFault.{WriteFault}
 use Rattle.noise_handshake.specs.declared.faults.WriteFault.TheVariants as write
 
@@ -21,10 +23,14 @@ pub record HandshakeValue (K : Type 0) : Type 0 where
   pub role : Role
   pub keys : K
   pub remote : Remote  -- as far as the pre-message and the messages that passed show it
-  pub psks : List (List ℕ)  -- of the psk tokens that are still to come
+  pub psks : List (List ℕ)  -- of the psk tokens that are still to come, as far as they were handed in
   pub passed : ℕ  -- messages
   pub ended : Bool
   pub state : SymmetricState
+
+-- a psk is there for each psk token of the next message
+abbrev pub HasPsks : {K : Type 0} → HandshakeValue K → Type 0
+HasPsks h = count_by is_psk (tokens_at h.pattern.messages h.passed) ≤ length h.psks
 
 -- whether the party writes the message after so many
 abbrev pub is_turn : Role → ℕ → Bool
@@ -79,9 +85,9 @@ abbrev pub after_read_fault : {K : Type 0} → HandshakeValue K → ReadFault �
 after_read_fault h (read.Refused token cause) = ended_as h
 after_read_fault h _ = h
 
--- what a message leaves that isn't read, where a lacking DH result is asked for
+-- what a message leaves that isn't read, where what is lacking is asked for
 abbrev pub after_unread : {K : Type 0} → HandshakeValue K → Unread → HandshakeValue K
-after_unread h (unread.Wanted own key) = h
+after_unread h (unread.Wants want) = h
 after_unread h (unread.Declined fault) = after_read_fault h fault
 
 -- what a fault of writing leaves
@@ -89,16 +95,31 @@ abbrev pub after_write_fault : {K : Type 0} → HandshakeValue K → WriteFault 
 after_write_fault h (write.Agreement token) = ended_as h
 after_write_fault h _ = h
 
+-- the same where it isn't written
+abbrev pub after_unwritten : {K : Type 0} → HandshakeValue K → Unwritten → HandshakeValue K
+after_unwritten h (unwritten.Wants want) = h
+after_unwritten h (unwritten.Withheld fault) = after_write_fault h fault
+
 -- the fault of a message that was due
 abbrev pub IsRefusal : ReadFault → Type 0
 IsRefusal (read.Refused token cause) = Unit {0}
 IsRefusal _ = ⊥
 
--- the same, or the DH result that it wants
+-- the same, or what it wants
 abbrev pub IsOfDue : Unread → Type 0
-IsOfDue (unread.Wanted own key) = Unit {0}
+IsOfDue (unread.Wants want) = Unit {0}
 IsOfDue (unread.Declined fault) = IsRefusal fault
 
 abbrev pub IsAgreement : WriteFault → Type 0
 IsAgreement (write.Agreement token) = Unit {0}
 IsAgreement _ = ⊥
+
+-- the same, or what it wants
+abbrev pub IsOfTurn : Unwritten → Type 0
+IsOfTurn (unwritten.Wants want) = Unit {0}
+IsOfTurn (unwritten.Withheld fault) = IsAgreement fault
+
+-- it wants a DH result or a psk
+abbrev pub IsWant : Unwritten → Type 0
+IsWant (unwritten.Wants want) = Unit {0}
+IsWant (unwritten.Withheld fault) = ⊥

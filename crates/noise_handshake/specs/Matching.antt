@@ -13,6 +13,7 @@ use Rattle.noise_handshake.specs.declared.faults.WriteFault.TheVariants as write
 use Rattle.noise_handshake.specs.Message.{after_payload}
 use Rattle.noise_handshake.specs.Passed.{passed_places}
 use Rattle.noise_handshake.specs.Party.{Party, Listens, Refuses, Speaks, remote_after, tokens_now}
+use Rattle.noise_handshake.specs.Setup.{psks_of}
 use Rattle.noise_handshake.specs.Writing.{LacksDhResult}
 use Rattle.noise_handshake.specs.HandshakeValue.{HandshakeValue}
 
@@ -45,9 +46,26 @@ IsKeyedAt p passed r = is_some (cipher_key r) ≡ has_key p (passed_places p pas
 abbrev pub IsKeyed : Party → Type 0
 IsKeyed v = IsKeyedAt v.pattern v.passed v.history
 
--- The handshake matches the party, by the meaning of its keys.
+-- a psk has been handed in for each psk token that is still to come
+abbrev pub IsSupplied : {K : Type 0} → HandshakeValue K → Type 0
+IsSupplied h = length h.psks ≡ psks_of (drop h.passed h.pattern.messages)
+
+-- The handshake matches the party, by the meaning of its keys, and it has all psks.
 module _ {K : Type 0} (public_of : K → Own → Option (List ℕ)) (agreement : K → Own → List ℕ → Option (List ℕ)) where
   pub record Matches (h : HandshakeValue K) (v : Party) : Type 0 where
+    pub pattern : h.pattern ≡ v.pattern
+    pub role : h.role ≡ v.role
+    pub psks : h.psks ≡ v.psks
+    pub own : public_of h.keys ≡ v.own
+    pub agree : agreement h.keys ≡ v.agree
+    pub remote : h.remote ≡ v.remote
+    pub passed : h.passed ≡ v.passed
+    pub ended : h.ended ≡ v.ended
+    pub history : StateMatches h.state v.history
+    pub supplied : IsSupplied h
+
+  -- The same of a handshake that may lack psks: the party has no others than those that were handed in.
+  pub record ValueMatches (h : HandshakeValue K) (v : Party) : Type 0 where
     pub pattern : h.pattern ≡ v.pattern
     pub role : h.role ≡ v.role
     pub psks : h.psks ≡ v.psks

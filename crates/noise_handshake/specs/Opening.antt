@@ -8,7 +8,7 @@ use Rattle.noise_state.specs.History.{hash, initiator_key, responder_key}
 use Rattle.noise_handshake.specs.Party.{Party}
 
 -- the parts that it leaves; the cipher states are those of the messages that the initiator and the responder write
-pub record Opening : Type 0 where
+pub record OpenedValue : Type 0 where
   pub role : Role
   pub one_way : Bool
   pub hash : List ℕ
@@ -22,7 +22,7 @@ pub record IsFresh (c : CipherState) : Type 0 where
   pub nonce : nonce_in c ≡ 0
 
 -- they are those of the party, of which all messages have passed and none was refused
-pub record IsOpeningOf (o : Opening) (v : Party) : Type 0 where
+pub record IsOpenedOf (o : OpenedValue) (v : Party) : Type 0 where
   pub going : v.ended ≡ false
   pub whole : v.passed ≡ length v.pattern.messages
   pub role : o.role ≡ v.role

@@ -11,7 +11,8 @@ pub enum WriteFault {
     TooLong,
     /// All messages have passed.
     Done,
-    /// The keys give no DH result at this DH token, counted from 0. The handshake has ended.
+    /// The keys give no DH result at this DH token, counted from 0, or the psk of this psk token isn't there. The
+    /// handshake has ended.
     Agreement { token: u8 },
     /// The handshake has ended.
     Ended,
@@ -30,13 +31,32 @@ pub enum ReadFault {
     Refused { token: u8, cause: Cause },
 }
 
-/// Why a message isn't read, where a DH result that is lacking is no refusal.
+/// What the next message lacks of what a caller hands in.
+#[derive(Clone, Copy, Debug, PartialEq, Eq)]
+pub enum Want {
+    /// The DH result of this key pair of the party to this public key of the other.
+    DhResult { own: Own, key: [u8; 32] },
+    /// The psk of a psk token. `remote` is the other party's static key as it is known before that token: the
+    /// message that is read may have shown it.
+    Psk { remote: Option<[u8; 32]> },
+}
+
+/// Why a message isn't read, where what is lacking is asked for.
 #[derive(Clone, Copy, Debug, PartialEq, Eq)]
 pub enum Unread {
-    /// Reading lacks the DH result of this key pair of the party to this public key of the other. Nothing has changed.
-    Wanted { own: Own, key: [u8; 32] },
+    /// Reading lacks this. Nothing has changed.
+    Wants(Want),
     /// The message isn't read for this fault, which is never `Refused` with the cause `Agreement`.
     Declined(ReadFault),
+}
+
+/// Why a message isn't written, where what is lacking is asked for.
+#[derive(Clone, Copy, Debug, PartialEq, Eq)]
+pub enum Unwritten {
+    /// Writing lacks this. Nothing has changed.
+    Wants(Want),
+    /// The message isn't written for this fault.
+    Withheld(WriteFault),
 }
 
 /// Why reading stopped at a token.
@@ -46,6 +66,6 @@ pub enum Cause {
     Short,
     /// The tag is wrong.
     Tag,
-    /// The keys give no DH result.
+    /// The keys give no DH result, or the psk isn't there.
     Agreement,
 }

@@ -1,18 +1,17 @@
 //! A handshake of one party.
 
-ghost use Rattle.std.specs.Prelude.{◌≡◌, ◌≤◌, ◌<◌, ◌+◌, ◌-◌, ◌*◌, true, false, ℕ, ◌↔◌, length, take, drop, Some, None, IsOk, IfOk, IfErr, OnErr, MatchResult, MatchOption, IsSome, IfSome, ◌&&◌, ◌==◌, count_by, set};
+ghost use Rattle.std.specs.Prelude.{◌≡◌, ◌≤◌, ◌<◌, ◌+◌, ◌-◌, ◌*◌, ◌∷◌, ◌++◌, [], true, false, ℕ, List, ◌↔◌, length, take, drop, Some, None, IsOk, IfOk, IfErr, OnErr, MatchResult, MatchOption, IsSome, IfSome, IsTrue, count_by};
+ghost use Rattle.noise_names.specs.Tokens.{is_psk};
 ghost use Rattle.std.specs.Option.{ForSome};
 
 use crate::layout::{MessageLayout, lay_next, psk_after};
 use crate::own_keys::public_keys;
 use crate::reader::{lacked, read_before, read_lacking, read_message};
-use crate::setup::{setup_fault, start};
+use crate::setup::{psk_total, setup_fault, start};
 use crate::stop::Stop;
 use crate::tokens::Means;
 use crate::writer::{write_lacking, write_lacking_before, write_message};
-use crate::{
-    Keys, Opened, Own, Parts, Progress, ReadFault, Remote, SetupFault, Unread, WriteFault,
-};
+use crate::{Cause, Keys, Opened, Own, Parts, Progress, ReadFault, Remote, SetupFault, WriteFault};
 use arrayvec::ArrayVec;
 use noise_names::{Role, ValidPattern};
 use noise_state::SymmetricState;
@@ -24,6 +23,11 @@ use std::marker::Model;
 /// Messages are written and read in turn, the initiator's first. A message goes on in a trial of the symmetric state,
 /// so that a fault leaves what the messages before it made. Each message is laid out once, when the one before it has
 /// passed.
+///
+/// It may have fewer psks than psk tokens are to come (Noise, 9): `read_or_ask` and `write_or_ask` ask for the others
+/// when their tokens come, and `put_psk` hands them in. So a responder can choose the psk when it knows the other
+/// party. It runs as a handshake that had all psks from the start: what its calls do holds for each party whose psks
+/// begin with those that were handed in. No message is read or written whose psk tokens lack a psk.
 #[derive(Drop)]
 pub struct Handshake<K: Keys> {
     pattern: ValidPattern,
@@ -52,26 +56,24 @@ impl<K: Keys> Model for Handshake<K> {
 impl<K: Keys> Handshake<K> {
     ghost use Rattle.noise_names.specs.Limits.{IsPattern};
     ghost use Rattle.noise_names.specs.Validity.{IsValid};
-    ghost use Rattle.noise_state.specs.History.{hash};
     ghost use Rattle.noise_names.specs.Plan.{has_psk};
     ghost use Rattle.noise_names.specs.Overhead.{has_key, overhead_of};
+    ghost use Rattle.noise_state.specs.History.{hash};
     ghost use Rattle.noise_handshake.specs.Passed.{passed_places};
-    ghost use Rattle.noise_handshake.specs.inner.Layout.{IsLaid};
     ghost use Rattle.noise_handshake.specs.Party.{Party, Refuses, Speaks, reader, tokens_at, tokens_now};
-    ghost use Rattle.noise_handshake.specs.inner.Late.{IsPskAfter};
-    ghost use Rattle.noise_handshake.specs.inner.Listening.{BeginsBefore, StopsBefore};
-    ghost use Rattle.noise_names.specs.Tokens.{is_psk};
     ghost use Rattle.noise_handshake.specs.HandshakeValue.{is_turn, read_fault, after_read_fault, write_fault, after_write_fault, message_len_of, IsRefusal};
-    ghost use Rattle.noise_handshake.specs.HandshakeValue.{IsAgreement, Advances, IsOfDue, after_unread, ended_as};
-    ghost use Rattle.noise_handshake.specs.Asking.{LeavesUnread, after_asked};
+    ghost use Rattle.noise_handshake.specs.HandshakeValue.{IsAgreement, HasPsks, Advances, ended_as};
     ghost use Rattle.noise_handshake.specs.Calls.{HasBegun, HasNotRead, HasNotWritten, HasRead, HasReadAt, HasWrittenTo, IsPlaceIn, IsSameAround, ReadingWants, WritingWants, speaks_now};
-    ghost use Rattle.noise_handshake.specs.inner.Speaking.{WriterWants};
-    ghost use Rattle.noise_handshake.specs.declared.faults.Unread.{Unread};
-    ghost use Rattle.noise_handshake.specs.Opening.{IsOpeningOf};
+    ghost use Rattle.noise_handshake.specs.Late.{IsLateWhole, MatchesWith, late_fault, with_later};
+    ghost use Rattle.noise_handshake.specs.Matching.{Matches, ValueMatches, DoesNotWrite, IsSupplied};
+    ghost use Rattle.noise_handshake.specs.Opening.{IsOpenedOf};
     ghost use Rattle.noise_handshake.specs.Parts.{held_of, HasProgress, IsWholeValue};
     ghost use Rattle.noise_handshake.specs.Setup.{party_at_start, psks_of, setup_fault};
     ghost use Rattle.noise_handshake.specs.Writing.{Writes, writer};
-    ghost use Rattle.noise_handshake.specs.Matching.{Matches, DoesNotWrite};
+    ghost use Rattle.noise_handshake.specs.inner.Late.{IsPskAfter};
+    ghost use Rattle.noise_handshake.specs.inner.Layout.{IsLaid};
+    ghost use Rattle.noise_handshake.specs.inner.Listening.{BeginsBefore, StopsBefore};
+    ghost use Rattle.noise_handshake.specs.inner.Speaking.{WriterWants};
 
     /// The handshake of one party before its first message.
     ///
@@ -103,8 +105,38 @@ impl<K: Keys> Handshake<K> {
         Ok(Handshake::begin(pattern, role, prologue, keys, remote, due))
     }
 
-    // The handshake before its first message, of a setup without a fault.
-    pub(crate) fn begin(
+    /// The same, where `psks` has the psks of the first psk tokens, in their order, and may have fewer than there are
+    /// psk tokens.
+    pub fn with_fewer_psks(
+        pattern: ValidPattern,
+        role: Role,
+        prologue: &[u8],
+        keys: K,
+        remote: Remote,
+        psks: &[[u8; 32]],
+    ) -> Result<Handshake<K>, SetupFault>
+        requires { length prologue.now ≤ 65535 }
+        ensures fault { MatchOption (late_fault pattern role (K.public_of keys) remote (length psks.now)) (IsOk result)
+            (λ fault. result ≡ Err fault) }
+        ensures matches { IfOk result (λ h. (later : List (List ℕ)) → MatchesWith K.public_of K.agreement later h
+            (party_at_start pattern role prologue.now (K.public_of keys) (K.agreement keys)
+            remote (psks.now ++ later))) }
+        ensures parts { IfOk result (HasBegun pattern role keys) }
+        ensures psks { IfOk result (λ h. h.psks ≡ psks.now) }
+        ensures valid { IsPattern pattern × IsValid pattern }
+    {
+        let plan = pattern.pattern();
+        let count = psks.len().max(psk_total(plan.messages()));
+        if let Some(fault) = setup_fault(plan, role, &keys, &remote, count) {
+            return Err(fault);
+        }
+        let mut given = ArrayVec::new();
+        given.try_extend_from_slice(psks).unwrap();
+        Ok(Handshake::begin(pattern, role, prologue, keys, remote, given))
+    }
+
+    // The handshake before its first message, of a setup without a fault but that psks may be missing.
+    fn begin(
         pattern: ValidPattern,
         role: Role,
         prologue: &[u8],
@@ -113,8 +145,9 @@ impl<K: Keys> Handshake<K> {
         psks: ArrayVec<[u8; 32], 9>,
     ) -> Handshake<K>
         requires len { length prologue.now ≤ 65535 }
-        requires right { setup_fault pattern role (K.public_of keys) remote (length psks.items) ≡ None }
-        ensures matches { Matches K.public_of K.agreement result
+        requires right { setup_fault pattern role (K.public_of keys) remote (psks_of pattern.messages) ≡ None }
+        requires few { length psks.items ≤ psks_of pattern.messages }
+        ensures matches { ValueMatches K.public_of K.agreement result
             (party_at_start pattern role prologue.now (K.public_of keys) (K.agreement keys) remote psks.items) }
         ensures parts { HasBegun pattern role keys result }
         ensures psks { result.psks ≡ psks.items }
@@ -140,12 +173,42 @@ impl<K: Keys> Handshake<K> {
         }
     }
 
-    /// The psks of the psk tokens that are still to come, in their order.
+    /// The psks that were handed in for psk tokens that are still to come, in their order.
     pub fn psks(&self) -> &[[u8; 32]]
         ensures value { result.now ≡ self.now.psks }
         ensures few { length result.now ≤ 9 }
     {
         &self.psks[self.used..]
+    }
+
+    // How many psk tokens are still to come.
+    fn psks_to_come(&self) -> usize
+        ensures count { result ≡ psks_of (drop self.now.passed self.now.pattern.messages) }
+        ensures few { result ≤ 9 }
+    {
+        psk_total(&self.pattern.pattern().messages()[self.passed as usize..])
+    }
+
+    /// Hands in the psk of the first psk token that lacks one. False where none does; then nothing changes.
+    pub fn put_psk(&mut self, psk: [u8; 32]) -> bool
+        ensures lacks { IsTrue result
+            ↔ (length self.old.psks < psks_of (drop self.old.passed self.old.pattern.messages)) }
+        ensures put { IsTrue result → self.new ≡ with_later self.old (psk ∷ []) }
+        ensures unchanged { result ≡ false → self.new ≡ self.old }
+        ensures matches { IsTrue result → (v : Party) (later : List (List ℕ))
+            → MatchesWith K.public_of K.agreement (psk ∷ later) self.old v
+            → MatchesWith K.public_of K.agreement later self.new v }
+    {
+        let due = self.psks_to_come();
+        let mut psks = ArrayVec::new();
+        psks.try_extend_from_slice(self.psks()).unwrap();
+        if psks.len() == due {
+            return false;
+        }
+        psks.push(psk);
+        self.psks = psks;
+        self.used = 0;
+        true
     }
 
     /// A copy of what messages have changed so far, the psks aside, for a caller that keeps it itself until the next
@@ -154,7 +217,7 @@ impl<K: Keys> Handshake<K> {
     /// given up.
     pub fn progress(&self) -> Progress
         ensures value { HasProgress self.now result }
-        ensures whole { IsWholeValue K.public_of self.now }
+        ensures whole { IsLateWhole K.public_of self.now }
         ensures valid { IsValid self.now.pattern }
     {
         Progress {
@@ -169,7 +232,7 @@ impl<K: Keys> Handshake<K> {
     /// them before.
     pub fn into_parts(self) -> Parts<K>
         ensures value { held_of result self.psks ≡ self }
-        ensures whole { IsWholeValue K.public_of self }
+        ensures whole { IsLateWhole K.public_of self }
     {
         let progress = self.progress();
         Parts {
@@ -180,7 +243,7 @@ impl<K: Keys> Handshake<K> {
         }
     }
 
-    /// The handshake that holds these parts, and these psks for the psk tokens that are still to come, in their
+    /// The handshake that holds these parts, and these psks for the first psk tokens that are still to come, in their
     /// order; or None for what no handshake holds. It matches what the handshake stood for that was taken apart; at
     /// None the parts are gone. What doesn't show in the parts isn't tested, as whether the keys and the hash come
     /// of messages: of other parts it may be a handshake that matches no party. The nonce has to be the number of
@@ -188,22 +251,22 @@ impl<K: Keys> Handshake<K> {
     ///
     /// A handshake that was taken apart is put together once: two of them would encrypt at the same nonce.
     pub fn from_parts(parts: Parts<K>, psks: &[[u8; 32]]) -> Option<Handshake<K>>
-        ensures whole { IsSome result ↔ IsWholeValue K.public_of (held_of parts psks.now) }
+        ensures whole { IsSome result ↔ IsLateWhole K.public_of (held_of parts psks.now) }
         ensures value { IfSome result (λ h. h ≡ held_of parts psks.now) }
     {
-        if psks.len() != parts.psks_due()? {
+        if psks.len() > parts.psks_due()? {
             return None;
         }
-        let mut unchanged = ArrayVec::new();
-        unchanged.try_extend_from_slice(psks).unwrap();
-        Some(Handshake::of_parts(parts, unchanged))
+        let mut given = ArrayVec::new();
+        given.try_extend_from_slice(psks).unwrap();
+        Some(Handshake::of_parts(parts, given))
     }
 
     // The handshake that holds these parts and psks.
-    pub(crate) fn of_parts(parts: Parts<K>, psks: ArrayVec<[u8; 32], 9>) -> Handshake<K>
-        requires whole { IsWholeValue K.public_of (held_of parts psks.items) }
+    fn of_parts(parts: Parts<K>, psks: ArrayVec<[u8; 32], 9>) -> Handshake<K>
+        requires whole { IsLateWhole K.public_of (held_of parts psks.items) }
         requires bound { parts.progress.state.nonce ≤ 11 * parts.progress.passed }
-        ensures { result ≡ held_of parts psks.items }
+        ensures value { result ≡ held_of parts psks.items }
     {
         let progress = parts.progress;
         let plan = parts.pattern.pattern();
@@ -302,6 +365,7 @@ impl<K: Keys> Handshake<K> {
     // Why no message is read now.
     pub(crate) fn read_fault(&self) -> Option<ReadFault>
         ensures value { result ≡ read_fault self.now }
+        ensures due { result ≡ None → self.now.passed < length self.now.pattern.messages }
         ensures within { self.now.passed ≤ length self.now.pattern.messages }
     {
         if self.ended {
@@ -315,16 +379,29 @@ impl<K: Keys> Handshake<K> {
         }
     }
 
-    // Reads a message that is due. Where reading stops nothing has changed.
-    fn attempt(&mut self, message: &mut [u8]) -> Result<(usize, usize), Stop>
+    // The first token of the next message, counted from 0, that is a psk token without a psk, if there is one.
+    pub(crate) fn lacks_psk(&self) -> Option<u8>
+        requires due { self.now.passed < length self.now.pattern.messages }
+        ensures lacks { MatchOption result (HasPsks self.now)
+            (λ k. IsPskAfter (tokens_at self.now.pattern.messages self.now.passed) (length self.now.psks) k) }
+    {
+        match psk_after(&self.next.tokens, self.psks.len() - self.used) {
+            Some(k) => Some(k as u8),
+            None => None,
+        }
+    }
+
+    // Reads a message that is due, and for which no psk is lacking. Where reading stops nothing has changed.
+    pub(crate) fn attempt(&mut self, message: &mut [u8]) -> Result<(usize, usize), Stop>
         requires fits { length message.old ≤ 65535 }
         requires due { read_fault self.old ≡ None }
+        requires psks { HasPsks self.old }
         ensures range { IfOk result (IsPlaceIn message.new) }
         ensures beyond { IfOk result (IsSameAround message.old message.new) }
         ensures unchanged { OnErr result (message.new ≡ message.old) }
         ensures state { MatchResult result (λ _. Advances self.old self.new) (λ _. self.new ≡ self.old) }
-        ensures reads { (v : Party) → Matches K.public_of K.agreement self.old v → MatchResult result
-            (HasReadAt K.public_of K.agreement v message.old message.new self.new)
+        ensures reads { (v : Party) → ValueMatches K.public_of K.agreement self.old v → MatchResult result
+            (HasReadAt (ValueMatches K.public_of K.agreement) v message.old message.new self.new)
             (λ stop. Refuses v message.old stop.token stop.cause × ReadingWants v message.old stop.want) }
     {
         let psks = &self.psks[self.used..];
@@ -353,7 +430,8 @@ impl<K: Keys> Handshake<K> {
     /// front of the payload and after it stay as they are: an encrypted static key isn't decrypted there.
     ///
     /// The message has at most 65535 bytes. At an `Err` its bytes are unchanged. `Refused` ends the handshake, and the
-    /// other faults leave it as it was.
+    /// other faults leave it as it was. A message for which a psk is lacking is refused at its token, as one for which
+    /// a DH has no result.
     pub fn read_within(&mut self, message: &mut [u8]) -> Result<(usize, usize), ReadFault>
         requires { length message.old ≤ 65535 }
         ensures range { IfOk result (IsPlaceIn message.new) }
@@ -363,11 +441,19 @@ impl<K: Keys> Handshake<K> {
         ensures state { MatchResult result (λ _. Advances self.old self.new)
             (λ fault. self.new ≡ after_read_fault self.old fault) }
         ensures reads { (v : Party) → Matches K.public_of K.agreement self.old v → MatchResult result
-            (HasReadAt K.public_of K.agreement v message.old message.new self.new)
-            (λ fault. HasNotRead K.public_of K.agreement v message.old fault self.new) }
+            (HasReadAt (Matches K.public_of K.agreement) v message.old message.new self.new)
+            (HasNotRead (Matches K.public_of K.agreement) v message.old self.new) }
+        ensures psks { IfOk result (λ _. HasPsks self.old) }
     {
         if let Some(fault) = self.read_fault() {
             return Err(fault);
+        }
+        if let Some(token) = self.lacks_psk() {
+            self.ended = true;
+            return Err(ReadFault::Refused {
+                token,
+                cause: Cause::Agreement,
+            });
         }
         match self.attempt(message) {
             Ok(place) => Ok(place),
@@ -391,60 +477,22 @@ impl<K: Keys> Handshake<K> {
         ensures state { MatchResult result (λ _. Advances self.old self.new)
             (λ fault. self.new ≡ after_read_fault self.old fault) }
         ensures reads { (v : Party) → Matches K.public_of K.agreement self.old v → MatchResult result
-            (λ payload. HasRead K.public_of K.agreement v message.old payload.now self.new)
-            (λ fault. HasNotRead K.public_of K.agreement v message.old fault self.new) }
+            (λ payload. HasRead (Matches K.public_of K.agreement) v message.old payload.now self.new)
+            (HasNotRead (Matches K.public_of K.agreement) v message.old self.new) }
+        ensures psks { IfOk result (λ _. HasPsks self.old) }
     {
         let (from, to) = self.read_within(message)?;
         Ok(&mut message[from..to])
     }
 
-    /// Reads a message in place as `read_within` does; but where it would be refused because a DH has no result, this
-    /// returns the key pair and the public key of that DH, and changes nothing.
-    ///
-    /// The message has at most 65535 bytes. At an `Err` its bytes are unchanged. `Declined` with `Refused` ends the
-    /// handshake, and everything else leaves it as it was. So a caller whose private keys lie elsewhere has the DH
-    /// result made, puts it to its keys, and reads the message again.
-    pub fn read_or_ask(&mut self, message: &mut [u8]) -> Result<(usize, usize), Unread>
-        requires { length message.old ≤ 65535 }
-        ensures range { IfOk result (IsPlaceIn message.new) }
-        ensures beyond { IfOk result (IsSameAround message.old message.new) }
-        ensures unchanged { OnErr result (message.new ≡ message.old) }
-        ensures fault { MatchOption (read_fault self.old) (IfErr result IsOfDue)
-            (λ fault. result ≡ Err (Unread.Declined fault)) }
-        ensures state { MatchResult result (λ _. Advances self.old self.new)
-            (λ unread. self.new ≡ after_unread self.old unread) }
-        ensures reads { (v : Party) → Matches K.public_of K.agreement self.old v → MatchResult result
-            (HasReadAt K.public_of K.agreement v message.old message.new self.new)
-            (λ u. LeavesUnread v message.old u × Matches K.public_of K.agreement self.new (after_asked v u)) }
+    // The key pair of this party and the public key of the other of the DH whose result reading a due message lacks, for
+    // which no psk is lacking. None where the message wouldn't be refused for that.
+    pub(crate) fn read_lacking(&self, message: &[u8]) -> Option<(Own, [u8; 32])>
+        requires due { read_fault self.now ≡ None }
+        requires psks { HasPsks self.now }
+        ensures wants { (v : Party) → ValueMatches K.public_of K.agreement self.now v
+            → ReadingWants v message.now result }
     {
-        if let Some(fault) = self.read_fault() {
-            return Err(Unread::Declined(fault));
-        }
-        match self.attempt(message) {
-            Ok(place) => Ok(place),
-            Err(stop) => match stop.want {
-                Some(want) => {
-                    let (own, key) = want;
-                    Err(Unread::Wanted { own, key })
-                }
-                None => {
-                    self.ended = true;
-                    Err(Unread::Declined(stop.fault()))
-                }
-            },
-        }
-    }
-
-    /// The key pair of this party and the public key of the other of the DH whose result reading this message lacks.
-    /// None where the message wouldn't be refused for that. Nothing changes.
-    ///
-    /// So a caller whose private keys lie elsewhere asks, has the DH result made, puts it to its keys, and asks again.
-    pub fn wants_to_read(&self, message: &[u8]) -> Option<(Own, [u8; 32])>
-        ensures { (v : Party) → Matches K.public_of K.agreement self.now v → ReadingWants v message.now result }
-    {
-        if let Some(_) = self.read_fault() {
-            return None;
-        }
         let psks = &self.psks[self.used..];
         read_lacking(
             &self.state,
@@ -459,7 +507,9 @@ impl<K: Keys> Handshake<K> {
     /// The handshake hash (Noise, 11.2), 32 bytes, of the start and the messages that passed, also after the handshake
     /// has ended.
     pub fn hash(&self) -> [u8; 32]
-        ensures { (v : Party) → Matches K.public_of K.agreement self.now v → result ≡ hash v.history }
+        ensures hash { (v : Party) → Matches K.public_of K.agreement self.now v → result ≡ hash v.history }
+        ensures late { (v : Party) (later : List (List ℕ)) → MatchesWith K.public_of K.agreement later self.now v
+            → result ≡ hash v.history }
     {
         self.state.hash()
     }
@@ -487,7 +537,7 @@ impl<K: Keys> Handshake<K> {
     pub(crate) fn withheld(&self, payload_len: usize) -> Option<WriteFault>
         ensures value { result ≡ write_fault self.now payload_len }
         ensures due { result ≡ None → self.now.passed < length self.now.pattern.messages }
-        ensures withholds { (v : Party) → Matches K.public_of K.agreement self.now v
+        ensures withholds { (v : Party) → ValueMatches K.public_of K.agreement self.now v
             → IfSome result (λ fault. DoesNotWrite v payload_len fault) }
     {
         self.write_fault(payload_len)
@@ -507,7 +557,7 @@ impl<K: Keys> Handshake<K> {
     /// Writes a message to the front of `out`, and returns its length in bytes.
     ///
     /// Where `message_len` gives a length, `out` holds it. `Agreement` ends the handshake and leaves open what `out`
-    /// holds; the other faults change nothing.
+    /// holds; the other faults change nothing. A psk that is lacking is as a DH without a result.
     pub fn write(&mut self, payload: &[u8], out: &mut [u8]) -> Result<usize, WriteFault>
         requires { ForSome (message_len_of self.old (length payload.now)) (λ n. n ≤ length out.old) }
         ensures len { IfOk result
@@ -519,12 +569,35 @@ impl<K: Keys> Handshake<K> {
             (λ fault. self.new ≡ after_write_fault self.old fault) }
         ensures beyond { IfOk result (λ n. drop n out.new ≡ drop n out.old) }
         ensures writes { (v : Party) → Matches K.public_of K.agreement self.old v → MatchResult result
-            (HasWrittenTo K.public_of K.agreement v payload.now out.new self.new)
-            (λ fault. HasNotWritten K.public_of K.agreement v (length payload.now) fault self.new) }
+            (HasWrittenTo (Matches K.public_of K.agreement) v payload.now out.new self.new)
+            (HasNotWritten (Matches K.public_of K.agreement) v (length payload.now) self.new) }
+        ensures psks { IfOk result (λ _. HasPsks self.old) }
     {
         if let Some(fault) = self.write_fault(payload.len()) {
             return Err(fault);
         }
+        if let Some(token) = self.lacks_psk() {
+            self.ended = true;
+            return Err(WriteFault::Agreement { token });
+        }
+        self.write_due(payload, out)
+    }
+
+    // The same of a message that is due, and for which no psk is lacking.
+    pub(crate) fn write_due(&mut self, payload: &[u8], out: &mut [u8]) -> Result<usize, WriteFault>
+        requires room { ForSome (message_len_of self.old (length payload.now)) (λ n. n ≤ length out.old) }
+        requires due { write_fault self.old (length payload.now) ≡ None }
+        requires psks { HasPsks self.old }
+        ensures len { IfOk result
+            (λ n. (message_len_of self.old (length payload.now) ≡ Some n) × (n ≤ length out.new)) }
+        ensures fault { IfErr result IsAgreement }
+        ensures state { MatchResult result (λ _. Advances self.old self.new)
+            (λ fault. self.new ≡ after_write_fault self.old fault) }
+        ensures beyond { IfOk result (λ n. drop n out.new ≡ drop n out.old) }
+        ensures writes { (v : Party) → ValueMatches K.public_of K.agreement self.old v → MatchResult result
+            (HasWrittenTo (ValueMatches K.public_of K.agreement) v payload.now out.new self.new)
+            (HasNotWritten (ValueMatches K.public_of K.agreement) v (length payload.now) self.new) }
+    {
         let psks = &self.psks[self.used..];
         let mut state = self.state.for_trial();
         match write_message(
@@ -553,57 +626,30 @@ impl<K: Keys> Handshake<K> {
 
     // Whether a message of this party is due.
     pub(crate) fn speaks(&self) -> bool
-        ensures { result ≡ speaks_now self.now }
+        ensures value { result ≡ speaks_now self.now }
+        ensures due { IsTrue result → self.now.passed < length self.now.pattern.messages }
     {
         !self.ended
             && self.passed as usize != self.pattern.pattern().messages().len()
             && self.writes_next()
     }
 
-    /// The key pair of this party and the public key of the other of the DH whose result writing a message lacks now.
-    /// None where a message is due and lacks none, and where none is due. Nothing changes.
-    pub fn wants_to_write(&self) -> Option<(Own, [u8; 32])>
-        ensures { (v : Party) → Matches K.public_of K.agreement self.now v → WritingWants v result }
+    // The key pair of this party and the public key of the other of the DH whose result writing a due message lacks,
+    // for which no psk is lacking.
+    pub(crate) fn write_lacking(&self) -> Option<(Own, [u8; 32])>
+        requires due { speaks_now self.now ≡ true }
+        requires psks { HasPsks self.now }
+        ensures wants { (v : Party) → ValueMatches K.public_of K.agreement self.now v → WritingWants v result }
     {
-        if !self.speaks() {
-            return None;
-        }
         let psks = &self.psks[self.used..];
         write_lacking(&self.remote, &self.means, psks, &self.next.tokens)
     }
 
-    // How many psks are left: one for each psk token that is still to come.
-    pub(crate) fn left(&self) -> usize
-        ensures count { result ≡ length self.now.psks }
-        ensures few { length self.now.psks ≤ 9 }
-        ensures due { length self.now.psks ≡ psks_of (drop self.now.passed self.now.pattern.messages) }
-        ensures within { self.now.passed ≤ length self.now.pattern.messages }
-    {
-        self.psks.len() - self.used
-    }
-
-    // Puts a psk in place of another one that is still to come.
-    pub(crate) fn replace_psk(&mut self, index: usize, psk: [u8; 32])
-        requires { index < length self.old.psks }
-        ensures { self.new ≡ record self.old { psks = set self.old.psks index psk } }
-    {
-        self.psks[self.used + index] = psk;
-    }
-
     // Ends it.
     pub(crate) fn end(&mut self)
-        ensures { self.new ≡ ended_as self.old }
+        ensures ended { self.new ≡ ended_as self.old }
     {
         self.ended = true;
-    }
-
-    // The first token of the next message, if there is one, that is a psk token after so many others.
-    pub(crate) fn psk_after(&self, count: usize) -> Option<usize>
-        requires { self.now.passed < length self.now.pattern.messages }
-        ensures { let tokens = tokens_at self.now.pattern.messages self.now.passed in
-            MatchOption result (count_by is_psk tokens ≤ count) (λ k. IsPskAfter tokens count k) }
-    {
-        psk_after(&self.next.tokens, count)
     }
 
     // Reads a due message before token k, and returns the other party's static key as it is known there; or where
@@ -611,7 +657,9 @@ impl<K: Keys> Handshake<K> {
     pub(crate) fn read_before(&self, k: usize, message: &[u8]) -> Result<Option<[u8; 32]>, Stop>
         requires due { read_fault self.now ≡ None }
         requires within { k ≤ length (tokens_at self.now.pattern.messages self.now.passed) }
-        ensures { (v : Party) → Matches K.public_of K.agreement self.now v → MatchResult result
+        requires psks { count_by is_psk (take k (tokens_at self.now.pattern.messages self.now.passed))
+            ≤ length self.now.psks }
+        ensures reads { (v : Party) → ValueMatches K.public_of K.agreement self.now v → MatchResult result
             (BeginsBefore (reader v) v.remote v.psks v.history (tokens_now v) message.now k)
             (StopsBefore v message.now k) }
     {
@@ -631,7 +679,9 @@ impl<K: Keys> Handshake<K> {
     pub(crate) fn wants_before(&self, k: usize) -> Option<(Own, [u8; 32])>
         requires due { speaks_now self.now ≡ true }
         requires within { k ≤ length (tokens_at self.now.pattern.messages self.now.passed) }
-        ensures { (v : Party) → Matches K.public_of K.agreement self.now v
+        requires psks { count_by is_psk (take k (tokens_at self.now.pattern.messages self.now.passed))
+            ≤ length self.now.psks }
+        ensures wants { (v : Party) → ValueMatches K.public_of K.agreement self.now v
             → Speaks v × WriterWants (writer v) v.remote v.psks (take k (tokens_now v)) result }
     {
         let psks = &self.psks[self.used..];
@@ -641,7 +691,9 @@ impl<K: Keys> Handshake<K> {
     /// What the handshake leaves once all messages have passed and it hasn't ended; else it comes back as it was.
     pub fn finish(self) -> Result<Opened, Handshake<K>>
         ensures when { IsOk result ↔ ((self.ended ≡ false) × (self.passed ≡ length self.pattern.messages)) }
-        ensures opened { (v : Party) → Matches K.public_of K.agreement self v → IfOk result (λ o. IsOpeningOf o v) }
+        ensures opened { (v : Party) → Matches K.public_of K.agreement self v → IfOk result (λ o. IsOpenedOf o v) }
+        ensures late { (v : Party) (later : List (List ℕ)) → MatchesWith K.public_of K.agreement later self v
+            → IfOk result (λ o. IsOpenedOf o v) }
         ensures back { IfErr result (λ h. h ≡ self) }
     {
         if self.ended || (self.passed as usize) < self.pattern.pattern().messages().len() {

@@ -18,9 +18,9 @@ pub struct Opened {
 }
 
 impl Model for Opened {
-    ghost use Rattle.noise_handshake.specs.Opening.{Opening, IsFresh};
+    ghost use Rattle.noise_handshake.specs.Opening.{OpenedValue, IsFresh};
 
-    ghost Value = { Opening };
+    ghost Value = { OpenedValue };
 
     ghost view = { λ o. record {
       role = o.role;

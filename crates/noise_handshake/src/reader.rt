@@ -260,7 +260,7 @@ pub(crate) fn read_before<K: Keys>(
     message: &[u8],
 ) -> Result<Option<[u8; 32]>, Stop>
     requires placed { ArePlaced means.now.has_psks (keyed state.now) 0 placed.now }
-    requires psks { count_by is_psk (tokens_of placed.now) ≤ length psks.now }
+    requires psks { count_by is_psk (take k (tokens_of placed.now)) ≤ length psks.now }
     requires nonces { nonce_now state.now + length (tokens_of placed.now) < 2 ^ 64 - 1 }
     requires known { IsTrue (are_known means.now.role (is_some known.now.e) (is_some known.now.s)
         (tokens_of placed.now)) }

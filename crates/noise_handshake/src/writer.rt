@@ -212,7 +212,7 @@ pub(crate) fn write_lacking_before<K: Keys>(
     placed: &[PlacedToken],
     k: usize,
 ) -> Option<(Own, [u8; 32])>
-    requires psks { count_by is_psk (tokens_of placed.now) ≤ length psks.now }
+    requires psks { count_by is_psk (take k (tokens_of placed.now)) ≤ length psks.now }
     requires own { IsTrue (list_all (has_own (K.public_of means.now.keys)) (tokens_of placed.now)) }
     requires known { IsTrue (list_all (is_known means.now.role (is_some known.now.e) (is_some known.now.s))
         (tokens_of placed.now)) }

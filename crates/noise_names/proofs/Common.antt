@@ -10,7 +10,7 @@ pub use Rattle.std.specs.List.{join_with_byte, list_all, list_any, prefix_len, s
 pub use Rattle.std.specs.Prelude.{IfErr, IfOk, IfSome, IsFalse, IsSome, MatchOption, MatchResult, bytes_eq, codes, find, nat_le, slice_get, ⊤, ◌==◌}
 pub use Rattle.noise_names.specs.Checking.{Walks, added_by, key_by, lowest_of, rules_by, with_place}
 pub use Rattle.noise_names.specs.Facts.{section_bytes-all}
-pub use Rattle.noise_names.specs.Judging.{HasTokens, IsBarred, IsLineBefore, IsNextOf, IsPassed, IsWrong, Matches, Passed, is_some, passed_lines}
+pub use Rattle.noise_names.specs.Judging.{HasTokens, IsBarred, IsLineBefore, IsNextOf, AreRightLines, IsWrong, Matches, RightLines, is_some, right_lines}
 pub use Rattle.noise_names.specs.Limits.{HavePsks, HavePsksAt, IsPattern, Placed, first_beyond, has_few_tokens, is_pre_message, psk_if, with_psk_tokens, with_psks_from}
 pub use Rattle.noise_names.specs.Lists.{cons-same}
 pub use Rattle.noise_names.specs.Names.{IsFirstNameFault, IsSection, Names, Section, after_base, algorithm_part, are_places, base_front, digit_of, has_fault, is_base, is_base_byte, is_modifier, is_section_byte, modifier, name_bytes, pieces_of, prefix, rises, section_bytes, section_part, suffix}

@@ -1,7 +1,7 @@
 -- The first fault of a text, from what was judged of its lines.
 use Rattle.std.proofs.Common.{rules, ◌≡◌, ◌≢◌, ◌⊎◌, ◌↔◌, ℕ, ◌+◌, Bool, true, false, ◌&&◌, not, leb, eqb, List, [], ◌∷◌, ◌++◌, refl, ap, sym, ◌∙◌, cond, append_assoc, append-nil, length, arith, inl, inr, subst}
 use Rattle.std.specs.Prelude.{IsTrue}
-use Rattle.noise_names.proofs.Common.{codes, list_all, nat_tests, TextFaultKind, Role, Initiator, Responder, Token, IsLineBefore, IsNextOf, IsWrong, Passed, Matches, passed_lines, Section, IsSection, section_bytes, line, message_lines, pre_line, pre_lines, words, BeginsRight, IsAfter, IsLike, IsTextFault, IsTextFaultAt, IsWrongLine, arrow_then, body_of, first_line, has_dots, heading_of, line_feeds, nil_from_length}
+use Rattle.noise_names.proofs.Common.{codes, list_all, nat_tests, TextFaultKind, Role, Initiator, Responder, Token, IsLineBefore, IsNextOf, IsWrong, RightLines, Matches, right_lines, Section, IsSection, section_bytes, line, message_lines, pre_line, pre_lines, words, BeginsRight, IsAfter, IsLike, IsTextFault, IsTextFaultAt, IsWrongLine, arrow_then, body_of, first_line, has_dots, heading_of, line_feeds, nil_from_length}
 use Rattle.noise_names.specs.declared.text.fault.Judged.{Judged}
 use Rattle.noise_names.specs.declared.faults.TextFault.{TextFault}
 use Rattle.noise_names.proofs.Judging.{AreRight, ahead-lines}
@@ -19,14 +19,14 @@ dots-pre party [] after = refl
 dots-pre Initiator (t ∷ ts) after = dots-line (arrow_then Initiator (words (t ∷ ts))) after (no_feed-row (tokens_of Initiator (t ∷ ts)))
 dots-pre Responder (t ∷ ts) after = dots-line (arrow_then Responder (words (t ∷ ts))) after (no_feed-row (tokens_of Responder (t ∷ ts)))
 
-dots-ahead : (s : Passed) (after : List ℕ) → s.ahead ≡ true → has_dots (passed_lines s ++ after) ≡ has_dots after
+dots-ahead : (s : RightLines) (after : List ℕ) → s.ahead ≡ true → has_dots (right_lines s ++ after) ≡ has_dots after
 dots-ahead s after h =
     ap (λ (x : List ℕ). has_dots (x ++ after)) (ahead-lines s h)
     ∙ ap has_dots (append_assoc (pre_line Initiator s.initiator) (pre_line Responder s.responder) after)
     ∙ dots-pre Initiator s.initiator (pre_line Responder s.responder ++ after) ∙ dots-pre Responder s.responder after
 
-dots-none : (s : Passed) → s.ahead ≡ true → has_dots (passed_lines s) ≡ false
-dots-none s h = ap has_dots (sym (append-nil (passed_lines s))) ∙ dots-ahead s [] h
+dots-none : (s : RightLines) → s.ahead ≡ true → has_dots (right_lines s) ≡ false
+dots-none s h = ap has_dots (sym (append-nil (right_lines s))) ∙ dots-ahead s [] h
 
 dots-left : (places lines rest : List ℕ) (number : ℕ) (j : Judged) (r : AreRight places lines rest number j) → r.passed.ahead ≡ true → has_dots rest ≡ true
 dots-left places lines rest number j r h = sym (dots-ahead r.passed rest h) ∙ ap has_dots (sym r.lines_are) ∙ r.are.form.1 (inl h)
@@ -36,28 +36,28 @@ dots-left places lines rest number j r h = sym (dots-ahead r.passed rest h) ∙ 
 abbrev text_with : Section → List ℕ → List ℕ
 text_with s lines = line (heading_of s) ++ lines
 
-like-lines : (places lines body : List ℕ) (dotted : Bool) (s : Passed) (x : IsExtended places dotted s) → dotted ≡ has_dots lines → lines ≡ body
+like-lines : (places lines body : List ℕ) (dotted : Bool) (s : RightLines) (x : IsExtended places dotted s) → dotted ≡ has_dots lines → lines ≡ body
     → IsLike places body x.p
 like-lines places lines body dotted s x d e = search rules
 
-abbrev begins-so : (s : Section) (lines rest : List ℕ) (number : ℕ) (j : Judged) (passed : Passed) → IsSection s → (r : AreRight s.places lines rest number j)
-    → (x : IsExtended s.places (has_dots lines) passed) → (more : List ℕ) × (body_of x.p ≡ passed_lines r.passed ++ more)
-    → BeginsRight (text_with s lines) (passed_lines r.passed) rest
+abbrev begins-so : (s : Section) (lines rest : List ℕ) (number : ℕ) (j : Judged) (passed : RightLines) → IsSection s → (r : AreRight s.places lines rest number j)
+    → (x : IsExtended s.places (has_dots lines) passed) → (more : List ℕ) × (body_of x.p ≡ right_lines r.passed ++ more)
+    → BeginsRight (text_with s lines) (right_lines r.passed) rest
 begins-so s lines rest number j passed h r x begun = record {
   heading = s;
   is_section = h;
   text_is = ap (λ (y : List ℕ). line (heading_of s) ++ y) r.lines_are;
   ended = r.ended;
   p = x.p;
-  like = like-lines s.places lines (passed_lines r.passed ++ rest) (has_dots lines) passed x refl r.lines_are;
+  like = like-lines s.places lines (right_lines r.passed ++ rest) (has_dots lines) passed x refl r.lines_are;
   begun = begun;
 }
 
 abbrev begins-right : (s : Section) (lines rest : List ℕ) (number : ℕ) (j : Judged) → IsSection s → (r : AreRight s.places lines rest number j)
-    → IsExtended s.places (has_dots lines) r.passed → BeginsRight (text_with s lines) (passed_lines r.passed) rest
+    → IsExtended s.places (has_dots lines) r.passed → BeginsRight (text_with s lines) (right_lines r.passed) rest
 begins-right s lines rest number j h r x = begins-so s lines rest number j r.passed h r x x.begun
 
-at-message : (places : List ℕ) (dotted : Bool) (s : Passed) (x : IsExtended places dotted s) → s.ahead ≡ false → IsAfter x.p s.messages (passed_lines s)
+at-message : (places : List ℕ) (dotted : Bool) (s : RightLines) (x : IsExtended places dotted s) → s.ahead ≡ false → IsAfter x.p s.messages (right_lines s)
 at-message places dotted s x h = search rules
 
 -- ---- a wrong line
@@ -66,7 +66,7 @@ abbrev wrong-line : (s : Section) (lines rest : List ℕ) (number : ℕ) (j : Ju
     → (r : AreRight s.places lines rest number j) → IsExtended s.places (has_dots lines) r.passed
     → rest ≢ [] → IsWrong s.places r.passed (first_line rest) kind → IsWrongLine (text_with s lines) number
 wrong-line s lines rest number j kind h r x some w = record {
-  front = passed_lines r.passed;
+  front = right_lines r.passed;
   left = rest;
   some = some;
   it = begins-right s lines rest number j h r x;
@@ -111,15 +111,15 @@ pub cut-in-line : (s : Section) (lines rest bytes : List ℕ) (number : ℕ) (j 
 cut-in-line s lines rest bytes number j next h r some is cut n =
     let x = extended s.places (has_dots lines) n.passed h.places n.are_right in
     let more : List ℕ = x.begun.0 in
-    let begun : body_of x.p ≡ passed_lines r.passed ++ (line bytes ++ more) = x.begun.1
-    ∙ ap (λ (y : List ℕ). y ++ more) n.lines ∙ append_assoc (passed_lines r.passed) (line bytes) more in
+    let begun : body_of x.p ≡ right_lines r.passed ++ (line bytes ++ more) = x.begun.1
+    ∙ ap (λ (y : List ℕ). y ++ more) n.lines ∙ append_assoc (right_lines r.passed) (line bytes) more in
     inr (record {
-      front = passed_lines r.passed;
+      front = right_lines r.passed;
       left = rest;
       it = begins-so s lines rest number j n.passed h r x (line bytes ++ more, begun);
       last = cut ∙ is;
       counted = r.counted;
-      next = inl (more, some, begun ∙ ap (λ (y : List ℕ). passed_lines r.passed ++ (line y ++ more)) (sym cut));
+      next = inl (more, some, begun ∙ ap (λ (y : List ℕ). right_lines r.passed ++ (line y ++ more)) (sym cut));
     })
 
 -- ---- one more right line
@@ -141,11 +141,11 @@ line-more places lines rest bytes after number j next r is whole n = record {
   counted =
       let one : line_feeds (line bytes) ≡ 1 = feeds-append bytes (10 ∷ []) ∙ ap (λ (k : ℕ). k + 1)
       (feeds-none bytes (ap (list_all is_other) is ∙ take-while-all is_other rest)) in
-      let all : line_feeds (passed_lines n.passed) ≡ line_feeds (passed_lines r.passed) + line_feeds (line bytes) =
-      ap line_feeds n.lines ∙ feeds-append (passed_lines r.passed) (line bytes) in
+      let all : line_feeds (right_lines n.passed) ≡ line_feeds (right_lines r.passed) + line_feeds (line bytes) =
+      ap line_feeds n.lines ∙ feeds-append (right_lines r.passed) (line bytes) in
       let before = r.counted in
       omega arith;
-  ended = inr (passed_lines r.passed ++ bytes, n.lines ∙ sym (append_assoc (passed_lines r.passed) bytes (10 ∷ [])));
+  ended = inr (right_lines r.passed ++ bytes, n.lines ∙ sym (append_assoc (right_lines r.passed) bytes (10 ∷ [])));
 }
 
 -- ---- all lines are right
@@ -161,23 +161,23 @@ no-message : (s : Section) (lines : List ℕ) (number : ℕ) (j : Judged) → Is
 no-message s lines number j h r x none =
     let empty : r.passed.messages ≡ [] = nil_from_length r.passed.messages (sym r.matches.messages ∙ none) in
     inr (record {
-      front = passed_lines r.passed;
+      front = right_lines r.passed;
       left = [];
       it = begins-right s lines [] number j h r x;
       last = refl;
       counted = r.counted;
       next = inr (
         refl,
-        subst (λ (ms : List (List Token)). IsAfter x.p ms (passed_lines r.passed)) empty
+        subst (λ (ms : List (List Token)). IsAfter x.p ms (right_lines r.passed)) empty
             (at-message s.places (has_dots lines) r.passed x (behind s.places lines number j r)),
       );
     })
 
-within-count : (j : Judged) (s : Passed) (places : List ℕ) (b : Bool) → Matches j s → list_all (λ n. leb n j.messages) places ≡ b
+within-count : (j : Judged) (s : RightLines) (places : List ℕ) (b : Bool) → Matches j s → list_all (λ n. leb n j.messages) places ≡ b
     → list_all (λ n. leb n (length s.messages)) places ≡ b
 within-count j s places b st h = ap (λ (k : ℕ). list_all (λ n. leb n k) places) (sym st.messages) ∙ h
 
-some-messages : (j : Judged) (s : Passed) → Matches j s → j.messages ≢ 0 → s.messages ≢ []
+some-messages : (j : Judged) (s : RightLines) → Matches j s → j.messages ≢ 0 → s.messages ≢ []
 some-messages j s st some e = some (st.messages ∙ ap length e)
 
 place-beyond : (s : Section) (lines : List ℕ) (number : ℕ) (j : Judged) → IsSection s → (r : AreRight s.places lines [] number j)
@@ -186,7 +186,7 @@ place-beyond : (s : Section) (lines : List ℕ) (number : ℕ) (j : Judged) → 
 place-beyond s lines number j h r x some beyond = inr (
   refl,
   record {
-    body = passed_lines r.passed;
+    body = right_lines r.passed;
     it = begins-right s lines [] number j h r x;
     messages = r.passed.messages;
     some = some-messages j r.passed r.matches some;
@@ -200,7 +200,7 @@ name-taken : (s : Section) (lines : List ℕ) (number : ℕ) (j : Judged) → Is
 name-taken s lines number j h r some within =
     let w = whole s.places (has_dots lines) r.passed h.places r.are (behind s.places lines number j r) (some-messages j r.passed r.matches some)
     (within-count j r.passed s.places true r.matches within) in
-    let body : lines ≡ body_of w.p = r.lines_are ∙ append-nil (passed_lines r.passed) ∙ sym w.body_is in
+    let body : lines ≡ body_of w.p = r.lines_are ∙ append-nil (right_lines r.passed) ∙ sym w.body_is in
     let heading : line (section_bytes s.base s.places ++ codes ":") ≡ line (section_bytes s.base w.p.places ++ codes ":") =
     ap (λ (ns : List ℕ). line (section_bytes s.base ns ++ codes ":")) (sym w.places_are) in (
       refl,
@@ -250,7 +250,7 @@ pub right-start : (places lines : List ℕ) (j : Judged) → j ≡ record { dots
 right-start places lines j e =
     subst (λ (k : Judged). AreRight places lines lines 2 k) (sym e) (at (has_dots lines) refl)
   where
-    none : (b : Bool) → passed_lines (record { ahead = b; initiator = []; responder = []; messages = [] }) ≡ []
+    none : (b : Bool) → right_lines (record { ahead = b; initiator = []; responder = []; messages = [] }) ≡ []
     none true = refl
     none false = refl
 

@@ -1,6 +1,6 @@
 -- The next line of a pattern's text after right lines.
 use Rattle.std.proofs.Common.{rules, ◌≡◌, ◌≢◌, ◌⊎◌, ℕ, Bool, true, false, List, [], ◌∷◌, ◌++◌, refl, ap, sym, ◌∙◌, length, inl, inr, ◌↔◌, IsTrue}
-use Rattle.noise_names.proofs.Common.{Role, Initiator, Token, IsPassed, Passed, passed_lines, IsPattern, is_pre_message, Plan, line, pre_lines, other, turn_from, body_of, cons-same}
+use Rattle.noise_names.proofs.Common.{Role, Initiator, Token, AreRightLines, RightLines, right_lines, IsPattern, is_pre_message, Plan, line, pre_lines, other, turn_from, body_of, cons-same}
 use Rattle.noise_names.proofs.Rows.{IsNextRow, Row, content, ending, is_row, lines_of, next_row, tokens_of}
 use Rattle.noise_names.proofs.PatternRows.{all_lines, all_right, all_rows, first_lines, first_right, first_rows, message_rows}
 use Rattle.noise_names.proofs.Lines.{no_feed}
@@ -36,7 +36,7 @@ IsNextPre i r row =
     ⊎ ((party : Role) × (tokens : List Token) × (row ≡ tokens_of party tokens) × (is_pre_message tokens ≡ true) × (r ≡ []) × (party ≡ Initiator → i ≡ []))
 
 -- the next line of a right text after right lines
-pub record IsNextLine (s : Passed) (q : Plan) (reported : List ℕ) : Type 0 where
+pub record IsNextLine (s : RightLines) (q : Plan) (reported : List ℕ) : Type 0 where
   pub row : Row
   pub right : is_row row ≡ true
   pub reported_is : reported ≡ content row
@@ -44,20 +44,20 @@ pub record IsNextLine (s : Passed) (q : Plan) (reported : List ℕ) : Type 0 whe
   pub pre_message : s.ahead ≡ true → IsNextPre s.initiator s.responder row
 
 -- a right text begins with these lines
-pub record IsBegun (places : List ℕ) (dotted : Bool) (s : Passed) (reported rest : List ℕ) (q : Plan) : Type 0 where
-  pub passed : IsPassed places dotted s
+pub record IsBegun (places : List ℕ) (dotted : Bool) (s : RightLines) (reported rest : List ℕ) (q : Plan) : Type 0 where
+  pub passed : AreRightLines places dotted s
   pub feedless : no_feed reported ≡ true
   pub right : IsPattern q
   pub places_are : q.places ≡ places
   pub form : pre_lines q.initiator q.responder ≢ [] ↔ IsTrue dotted
-  pub begins : body_of q ≡ passed_lines s ++ (line reported ++ rest)
+  pub begins : body_of q ≡ right_lines s ++ (line reported ++ rest)
 
-at_messages : (places : List ℕ) (dotted : Bool) (s : Passed) (reported rest : List ℕ) (q : Plan) → IsBegun places dotted s reported rest q → s.ahead ≡ false
+at_messages : (places : List ℕ) (dotted : Bool) (s : RightLines) (reported rest : List ℕ) (q : Plan) → IsBegun places dotted s reported rest q → s.ahead ≡ false
     → IsNextLine s q reported
 at_messages places dotted s reported rest q b none_ahead =
     let before : List Row = all_rows s.initiator s.responder s.messages in
     let rows : List Row = all_rows q.initiator q.responder q.messages in
-    let lines : passed_lines s ≡ lines_of before = rw none_ahead (sym (all_lines s.initiator s.responder s.messages)) in
+    let lines : right_lines s ≡ lines_of before = rw none_ahead (sym (all_lines s.initiator s.responder s.messages)) in
     let begun : lines_of rows ≡ lines_of before ++ (line reported ++ rest) = search (rules, all_lines) in
     let next : IsNextRow reported before rows = search (next_row, all_right) in
     let there : pre_lines s.initiator s.responder ≢ [] → pre_lines q.initiator q.responder ≢ [] = λ f. b.form.1 (b.passed.form.1 (inr f)) in
@@ -75,12 +75,12 @@ at_messages places dotted s reported rest q b none_ahead =
     not_ahead (inl f) = absurd (let bad : false ≡ true = sym none_ahead ∙ f in cc)
     not_ahead (inr f) = f
 
-at_pre_messages : (places : List ℕ) (dotted : Bool) (s : Passed) (reported rest : List ℕ) (q : Plan) → IsBegun places dotted s reported rest q → s.ahead ≡ true
+at_pre_messages : (places : List ℕ) (dotted : Bool) (s : RightLines) (reported rest : List ℕ) (q : Plan) → IsBegun places dotted s reported rest q → s.ahead ≡ true
     → IsNextLine s q reported
 at_pre_messages places dotted s reported rest q b ahead =
     let before : List Row = first_rows s.initiator s.responder in
     let rows : List Row = all_rows q.initiator q.responder q.messages in
-    let lines : passed_lines s ≡ lines_of before = rw ahead (sym (first_lines s.initiator s.responder)) in
+    let lines : right_lines s ≡ lines_of before = rw ahead (sym (first_lines s.initiator s.responder)) in
     let begun : lines_of rows ≡ lines_of before ++ (line reported ++ rest) =
     all_lines q.initiator q.responder q.messages ∙ b.begins ∙ ap (λ (text : List ℕ). text ++ (line reported ++ rest)) lines in
     let next : IsNextRow reported before rows = search (next_row, first_right, all_right) in
@@ -92,7 +92,7 @@ at_pre_messages places dotted s reported rest q b ahead =
       pre_message = search rules;
     }
 
-pub next_line : (places : List ℕ) (dotted : Bool) (s : Passed) (reported rest : List ℕ) (q : Plan) → IsBegun places dotted s reported rest q → IsNextLine s q reported
+pub next_line : (places : List ℕ) (dotted : Bool) (s : RightLines) (reported rest : List ℕ) (q : Plan) → IsBegun places dotted s reported rest q → IsNextLine s q reported
 next_line places dotted s reported rest q b = at s.ahead refl where
   at : (ahead : Bool) → s.ahead ≡ ahead → IsNextLine s q reported
   at true h = at_pre_messages places dotted s reported rest q b h

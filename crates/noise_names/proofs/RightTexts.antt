@@ -1,7 +1,7 @@
 -- Lines that were judged right begin the text of a right pattern, and are its whole text where no psk place is beyond the messages.
 use Rattle.std.proofs.Common.{rules, ◌≡◌, ◌≢◌, ◌⊎◌, ◌↔◌, inl, inr, ℕ, suc, zero, ◌+◌, ◌-◌, ◌≤◌, Bool, true, false, leb, List, [], ◌∷◌, ◌++◌, None, refl, ap, sym, ◌∙◌, subst, append_assoc, length, length-append, arith, replicate}
 use Rattle.std.specs.Prelude.{IsTrue}
-use Rattle.noise_names.proofs.Common.{IsFalse, list_all, list_any, length-replicate, list_all-append, Role, Initiator, Responder, Token, E, S, is_psk, other, turn_from, Plan, plan_of, are_places, rises, HavePsksAt, IsPattern, has_few_tokens, is_pre_message, with_psks_from, line, message_lines, pre_line, pre_lines, body_of, dots, IsPassed, Passed, passed_lines, and_parts}
+use Rattle.noise_names.proofs.Common.{IsFalse, list_all, list_any, length-replicate, list_all-append, Role, Initiator, Responder, Token, E, S, is_psk, other, turn_from, Plan, plan_of, are_places, rises, HavePsksAt, IsPattern, has_few_tokens, is_pre_message, with_psks_from, line, message_lines, pre_line, pre_lines, body_of, dots, AreRightLines, RightLines, right_lines, and_parts}
 use Rattle.noise_names.specs.Fundamental.{fundamental_of, fundamentals}
 use Rattle.noise_names.proofs.PskTokens.{few_psks, have_psks, length-psks}
 use Rattle.noise_names.proofs.Reading.{within-eight}
@@ -94,17 +94,17 @@ filled_pattern places i r ms rising pi pr high sizes psks =
 -- ---- lines that were judged right
 
 -- a right pattern that begins with the lines
-pub record IsExtended (places : List ℕ) (dotted : Bool) (s : Passed) : Type 0 where
+pub record IsExtended (places : List ℕ) (dotted : Bool) (s : RightLines) : Type 0 where
   pub p : Plan
   pub is_pattern : IsPattern p
   pub own_name : fundamental_of p.base ≡ None
   pub places_are : p.places ≡ places
   pub pre_messages : pre_lines p.initiator p.responder ≢ [] ↔ IsTrue dotted
-  pub begun : (rest : List ℕ) × (body_of p ≡ passed_lines s ++ rest)
+  pub begun : (rest : List ℕ) × (body_of p ≡ right_lines s ++ rest)
   pub same : IsFalse s.ahead → (p.initiator ≡ s.initiator) × (p.responder ≡ s.responder)
 
 -- a right pattern that has these lines and no others
-pub record IsWhole (places : List ℕ) (dotted : Bool) (s : Passed) : Type 0 where
+pub record IsWhole (places : List ℕ) (dotted : Bool) (s : RightLines) : Type 0 where
   pub p : Plan
   pub is_pattern : IsPattern p
   pub own_name : fundamental_of p.base ≡ None
@@ -113,9 +113,9 @@ pub record IsWhole (places : List ℕ) (dotted : Bool) (s : Passed) : Type 0 whe
   pub initiator : p.initiator ≡ s.initiator
   pub responder : p.responder ≡ s.responder
   pub messages : p.messages ≡ s.messages
-  pub body_is : body_of p ≡ passed_lines s
+  pub body_is : body_of p ≡ right_lines s
 
-abbrev passed : Bool → List Token → List Token → List (List Token) → Passed
+abbrev passed : Bool → List Token → List Token → List (List Token) → RightLines
 passed ahead i r ms = record { ahead = ahead; initiator = i; responder = r; messages = ms }
 
 -- the second of two facts, where the first does not hold
@@ -124,12 +124,12 @@ other_case (inl e) = absurd (cc)
 other_case (inr x) = x
 
 -- the line after the pre-messages is behind: both pre-messages are known
-after_dots : (places : List ℕ) (dotted : Bool) (i r : List Token) (ms : List (List Token)) → IsPassed places dotted (passed false i r ms)
+after_dots : (places : List ℕ) (dotted : Bool) (i r : List Token) (ms : List (List Token)) → AreRightLines places dotted (passed false i r ms)
     → pre_lines i r ≢ [] ↔ IsTrue dotted
 after_dots places dotted i r ms h = (λ some. h.form.1 (inr some), λ d. other_case (h.form.0 d))
 
 extended_after : (places : List ℕ) (dotted : Bool) (i r : List Token) (ms : List (List Token)) → are_places places ≡ true
-    → IsPassed places dotted (passed false i r ms) → IsExtended places dotted (passed false i r ms)
+    → AreRightLines places dotted (passed false i r ms) → IsExtended places dotted (passed false i r ms)
 extended_after places dotted i r ms rising h = record {
   p = plan_of own_base places i r (filled places ms);
   is_pattern = filled_pattern places i r ms rising h.initiator h.responder h.count h.sizes h.psks;
@@ -146,7 +146,7 @@ extended_after places dotted i r ms rising h = record {
 
 -- that line is ahead: the pattern of these pre-messages, which begins with the lines
 extended_before : (places : List ℕ) (dotted : Bool) (i r i' r' : List Token) (ms : List (List Token)) → are_places places ≡ true
-    → IsPassed places dotted (passed true i r ms) → is_pre_message i' ≡ true → is_pre_message r' ≡ true → pre_lines i' r' ≢ []
+    → AreRightLines places dotted (passed true i r ms) → is_pre_message i' ≡ true → is_pre_message r' ≡ true → pre_lines i' r' ≢ []
     → (rest : List ℕ) × (pre_lines i' r' ≡ (pre_line Initiator i ++ pre_line Responder r) ++ rest)
     → IsExtended places dotted (passed true i r ms)
 extended_before places dotted i r i' r' ms rising h pi pr some begun = record {
@@ -164,7 +164,7 @@ extended_before places dotted i r i' r' ms rising h pi pr some begun = record {
 }
 
 extended_at : (places : List ℕ) (dotted ahead : Bool) (i r : List Token) (ms : List (List Token)) → are_places places ≡ true
-    → IsPassed places dotted (passed ahead i r ms) → IsExtended places dotted (passed ahead i r ms)
+    → AreRightLines places dotted (passed ahead i r ms) → IsExtended places dotted (passed ahead i r ms)
 extended_at places dotted false i r ms rising h = extended_after places dotted i r ms rising h
 extended_at places dotted true [] [] ms rising h =
     extended_before places dotted [] [] [] (S ∷ []) ms rising h refl refl (λ e. absurd (cc)) (pre_lines [] (S ∷ []), refl)
@@ -174,11 +174,11 @@ extended_at places dotted true (t ∷ ts) r ms rising h =
     extended_before places dotted (t ∷ ts) r (t ∷ ts) r ms rising h h.initiator h.responder (λ e. absurd (cc)) (line dots, refl)
 
 -- such lines begin the text of a right pattern
-pub extended : (places : List ℕ) (dotted : Bool) (s : Passed) → IsTrue (are_places places) → IsPassed places dotted s → IsExtended places dotted s
+pub extended : (places : List ℕ) (dotted : Bool) (s : RightLines) → IsTrue (are_places places) → AreRightLines places dotted s → IsExtended places dotted s
 extended places dotted s rising h = extended_at places dotted s.ahead s.initiator s.responder s.messages rising h
 
 whole_at : (places : List ℕ) (dotted ahead : Bool) (i r : List Token) (ms : List (List Token)) → are_places places ≡ true
-    → IsPassed places dotted (passed ahead i r ms) → ahead ≡ false → 1 ≤ length ms → list_all (λ n. leb n (length ms)) places ≡ true
+    → AreRightLines places dotted (passed ahead i r ms) → ahead ≡ false → 1 ≤ length ms → list_all (λ n. leb n (length ms)) places ≡ true
     → IsWhole places dotted (passed ahead i r ms)
 whole_at places dotted true i r ms rising h behind low range = absurd (cc)
 whole_at places dotted false i r ms rising h behind low range = record {
@@ -198,7 +198,7 @@ some_length [] some = absurd (some refl)
 some_length (m ∷ ms) some = omega arith
 
 -- where no psk place is beyond their messages, they are those of a right pattern
-pub whole : (places : List ℕ) (dotted : Bool) (s : Passed) → IsTrue (are_places places) → IsPassed places dotted s → IsFalse s.ahead → s.messages ≢ []
+pub whole : (places : List ℕ) (dotted : Bool) (s : RightLines) → IsTrue (are_places places) → AreRightLines places dotted s → IsFalse s.ahead → s.messages ≢ []
     → IsTrue (list_all (λ n. leb n (length s.messages)) places) → IsWhole places dotted s
 whole places dotted s rising h behind some range =
     whole_at places dotted s.ahead s.initiator s.responder s.messages rising h behind (some_length s.messages some) range

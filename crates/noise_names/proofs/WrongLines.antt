@@ -1,6 +1,6 @@
 -- A line that is wrong after right lines is in no right text after those.
 use Rattle.std.proofs.Common.{rules, ◌≡◌, ◌≢◌, ◌⊎◌, ◌↔◌, ℕ, suc, zero, ◌+◌, Bool, true, false, ◌&&◌, not, leb, List, [], ◌∷◌, ◌++◌, refl, ap, sym, ◌∙◌, IsTrue, add-one, length, length-append, inl, inr, arith}
-use Rattle.noise_names.proofs.Common.{◌==◌, list_all, nat_tests, list_all-append, TextFaultKind, Role, Initiator, Responder, Token, IsBarred, IsPassed, IsWrong, Passed, passed_lines, HavePsksAt, IsPattern, has_few_tokens, is_pre_message, with_psk_tokens, Plan, line, pre_lines, words, other, own_tokens, turn_from, IsTokens, arrow_then, body_of, dots, is_within, and_parts}
+use Rattle.noise_names.proofs.Common.{◌==◌, list_all, nat_tests, list_all-append, TextFaultKind, Role, Initiator, Responder, Token, IsBarred, AreRightLines, IsWrong, RightLines, right_lines, HavePsksAt, IsPattern, has_few_tokens, is_pre_message, with_psk_tokens, Plan, line, pre_lines, words, other, own_tokens, turn_from, IsTokens, arrow_then, body_of, dots, is_within, and_parts}
 use Rattle.noise_names.proofs.NextLines.{IsBegun, IsNextLine, IsNextMessage, IsNextPre, next_line}
 use Rattle.noise_names.proofs.Rows.{Row, content, ending, is_row, row_same, tokens_of}
 use Rattle.noise_names.proofs.TokenLines.{apart}
@@ -76,14 +76,14 @@ psks_at places n (x ∷ before) more m h = search (rules, (psks_at places (n + 1
 
 -- ---- each kind of wrong line, where the next line of a right text is this
 
-no_arrow : (s : Passed) (q : Plan) (reported : List ℕ) → IsNextLine s q reported → reported ≢ dots → ((party : Role) (list : List ℕ) → reported ≢ arrow_then party list) → ⊥
+no_arrow : (s : RightLines) (q : Plan) (reported : List ℕ) → IsNextLine s q reported → reported ≢ dots → ((party : Role) (list : List ℕ) → reported ≢ arrow_then party list) → ⊥
 no_arrow s q reported n other_line none = row_arrow n.row n.right (λ e. other_line (n.reported_is ∙ e)) (λ party list e. none party list (n.reported_is ∙ e))
 
-no_token : (s : Passed) (q : Plan) (reported : List ℕ) (party : Role) (list : List ℕ) → IsNextLine s q reported → reported ≡ arrow_then party list
+no_token : (s : RightLines) (q : Plan) (reported : List ℕ) (party : Role) (list : List ℕ) → IsNextLine s q reported → reported ≡ arrow_then party list
     → ((tokens : List Token) → tokens ≢ [] → list ≢ words tokens) → ⊥
 no_token s q reported party list n e none = row_list n.row party list n.right (sym n.reported_is ∙ e) none
 
-no_dots : (s : Passed) (q : Plan) (reported : List ℕ) → IsNextLine s q reported → reported ≡ dots → (s.ahead ≡ false) ⊎ ((s.initiator ≡ []) × (s.responder ≡ [])) → ⊥
+no_dots : (s : RightLines) (q : Plan) (reported : List ℕ) → IsNextLine s q reported → reported ≡ dots → (s.ahead ≡ false) ⊎ ((s.initiator ≡ []) × (s.responder ≡ [])) → ⊥
 no_dots s q reported n e where_it_is = at s.ahead refl where_it_is where
   is : n.row ≡ ending
   is = row_ending n.row reported n.right n.reported_is e
@@ -97,7 +97,7 @@ no_dots s q reported n e where_it_is = at s.ahead refl where_it_is where
   at true h (inl k) = let bad : true ≡ false = sym h ∙ k in cc
   at true h (inr k) = before_none (n.pre_message h) k
 
-no_pre_message : (s : Passed) (q : Plan) (reported : List ℕ) (party : Role) (tokens : List Token) → IsNextLine s q reported → s.ahead ≡ true
+no_pre_message : (s : RightLines) (q : Plan) (reported : List ℕ) (party : Role) (tokens : List Token) → IsNextLine s q reported → s.ahead ≡ true
     → IsTokens party tokens reported → (is_pre_message tokens ≡ false) ⊎ IsBarred party s → ⊥
 no_pre_message s q reported party tokens n ahead are wrong = at (n.pre_message ahead) wrong where
   is : n.row ≡ tokens_of party tokens
@@ -113,12 +113,12 @@ no_pre_message s q reported party tokens n ahead are wrong = at (n.pre_message a
   at (inr (role, own, row_is, pre, none, first)) (inr (inr k)) = k.1 (first (party_same role party own tokens (sym row_is ∙ is) ∙ k.0))
 
 -- the line of a message
-pub record IsMessageAt (s : Passed) (q : Plan) (party : Role) (tokens : List Token) : Type 0 where
+pub record IsMessageAt (s : RightLines) (q : Plan) (party : Role) (tokens : List Token) : Type 0 where
   pub more : List (List Token)
   pub messages_are : q.messages ≡ s.messages ++ tokens ∷ more
   pub turn : party ≡ turn_from Initiator (length s.messages)
 
-message_at : (s : Passed) (q : Plan) (reported : List ℕ) (party : Role) (tokens : List Token) → IsNextLine s q reported → s.ahead ≡ false → IsTokens party tokens reported
+message_at : (s : RightLines) (q : Plan) (reported : List ℕ) (party : Role) (tokens : List Token) → IsNextLine s q reported → s.ahead ≡ false → IsTokens party tokens reported
     → IsMessageAt s q party tokens
 message_at s q reported party tokens n none_ahead are =
     let next : IsNextMessage Initiator s.messages q.messages n.row = n.message none_ahead in
@@ -130,18 +130,18 @@ message_at s q reported party tokens n none_ahead are =
       turn = party_same party (turn_from Initiator (length s.messages)) tokens next.message same;
     }
 
-no_turn : (s : Passed) (q : Plan) (reported : List ℕ) (tokens : List Token) → IsNextLine s q reported → s.ahead ≡ false
+no_turn : (s : RightLines) (q : Plan) (reported : List ℕ) (tokens : List Token) → IsNextLine s q reported → s.ahead ≡ false
     → IsTokens (turn_from Initiator (length s.messages + 1)) tokens reported → ⊥
 no_turn s q reported tokens n none_ahead are = search (rules, next_turn)
 
-no_limit : (s : Passed) (q : Plan) (reported : List ℕ) (tokens : List Token) → IsPattern q → IsNextLine s q reported → s.ahead ≡ false
+no_limit : (s : RightLines) (q : Plan) (reported : List ℕ) (tokens : List Token) → IsPattern q → IsNextLine s q reported → s.ahead ≡ false
     → IsTokens (turn_from Initiator (length s.messages)) tokens reported → is_within s.messages tokens ≡ false → ⊥
 no_limit s q reported tokens h n none_ahead are wrong =
     let at = message_at s q reported (turn_from Initiator (length s.messages)) tokens n none_ahead are in
     let bad : true ≡ false = sym (within q s.messages at.more tokens h at.messages_are) ∙ wrong in
     cc
 
-no_psk : (places : List ℕ) (s : Passed) (q : Plan) (reported : List ℕ) (tokens : List Token) → IsPattern q → q.places ≡ places → IsNextLine s q reported
+no_psk : (places : List ℕ) (s : RightLines) (q : Plan) (reported : List ℕ) (tokens : List Token) → IsPattern q → q.places ≡ places → IsNextLine s q reported
     → s.ahead ≡ false → IsTokens (turn_from Initiator (length s.messages)) tokens reported
     → tokens ≢ with_psk_tokens places (length s.messages + 1) (own_tokens tokens) → ⊥
 no_psk places s q reported tokens h same n none_ahead are wrong =
@@ -150,7 +150,7 @@ no_psk places s q reported tokens h same n none_ahead are wrong =
     wrong (psks_at q.places 1 s.messages at.more tokens psks
     ∙ ap (λ (ns : List ℕ). with_psk_tokens ns (length s.messages + 1) (own_tokens tokens)) same)
 
-wrong_line : (places : List ℕ) (s : Passed) (reported : List ℕ) (kind : TextFaultKind) (q : Plan) → IsPattern q → q.places ≡ places → IsNextLine s q reported
+wrong_line : (places : List ℕ) (s : RightLines) (reported : List ℕ) (kind : TextFaultKind) (q : Plan) → IsPattern q → q.places ≡ places → IsNextLine s q reported
     → IsWrong places s reported kind → ⊥
 wrong_line places s reported kinds.Arrow q h same n w = no_arrow s q reported n w.0 w.1
 wrong_line places s reported kinds.Token q h same n (party, list, e, none) = no_token s q reported party list n e none
@@ -164,9 +164,9 @@ wrong_line places s reported kinds.NameTaken q h same n w = w
 wrong_line places s reported kinds.Ending q h same n w = w
 
 -- It is in no right text of these psk places that has the line after the pre-messages exactly if this text has it.
-pub excluded : (places : List ℕ) (dotted : Bool) (s : Passed) (reported : List ℕ) (kind : TextFaultKind) → IsPassed places dotted s → IsWrong places s reported kind
+pub excluded : (places : List ℕ) (dotted : Bool) (s : RightLines) (reported : List ℕ) (kind : TextFaultKind) → AreRightLines places dotted s → IsWrong places s reported kind
     → list_all (λ b. not (b == 10)) reported ≡ true → (q : Plan) → IsPattern q → q.places ≡ places
-    → (pre_lines q.initiator q.responder ≢ [] ↔ IsTrue dotted) → (rest : List ℕ) → ¬ (body_of q ≡ passed_lines s ++ (line reported ++ rest))
+    → (pre_lines q.initiator q.responder ≢ [] ↔ IsTrue dotted) → (rest : List ℕ) → ¬ (body_of q ≡ right_lines s ++ (line reported ++ rest))
 excluded places dotted s reported kind passed wrong feedless q right same form rest e =
     let begun : IsBegun places dotted s reported rest q = search in
     wrong_line places s reported kind q right same (next_line places dotted s reported rest q begun) wrong

@@ -28,19 +28,19 @@ IsLineBefore text bytes false after = (text ≡ bytes) × (after ≡ [])
 
 -- The right lines so far: the tokens of the pre-messages and messages, and whether the line after the pre-messages is
 -- still ahead.
-pub record Passed : Type 0 where
+pub record RightLines : Type 0 where
   pub ahead : Bool
   pub initiator : List Token
   pub responder : List Token
   pub messages : List (List Token)
 
-abbrev pub passed_lines : Passed → List ℕ
-passed_lines s =
+abbrev pub right_lines : RightLines → List ℕ
+right_lines s =
     if s.ahead then pre_line Initiator s.initiator ++ pre_line Responder s.responder
     else pre_lines s.initiator s.responder ++ message_lines Initiator s.messages
 
 -- The lines so far are right, in a text that has the line after the pre-messages (`dotted`) or in one that hasn't.
-pub record IsPassed (places : List ℕ) (dotted : Bool) (s : Passed) : Type 0 where
+pub record AreRightLines (places : List ℕ) (dotted : Bool) (s : RightLines) : Type 0 where
   pub initiator : IsTrue (is_pre_message s.initiator)
   pub responder : IsTrue (is_pre_message s.responder)
   pub none : IsTrue s.ahead → s.messages ≡ []
@@ -50,11 +50,11 @@ pub record IsPassed (places : List ℕ) (dotted : Bool) (s : Passed) : Type 0 wh
   pub form : IsTrue dotted ↔ (IsTrue s.ahead ⊎ (pre_lines s.initiator s.responder ≢ []))
 
 -- no further pre-message of this party can follow
-abbrev pub IsBarred : Role → Passed → Type 0
+abbrev pub IsBarred : Role → RightLines → Type 0
 IsBarred party s = (s.responder ≢ []) ⊎ ((party ≡ Initiator) × (s.initiator ≢ []))
 
 -- what is wrong in a line, without its line feed, after the right lines so far
-abbrev pub IsWrong : List ℕ → Passed → List ℕ → TextFaultKind → Type 0
+abbrev pub IsWrong : List ℕ → RightLines → List ℕ → TextFaultKind → Type 0
 IsWrong places s line kinds.Arrow = (line ≢ dots) × ((party : Role) (list : List ℕ) → line ≢ arrow_then party list)
 IsWrong places s line kinds.Token =
     (party : Role) × (list : List ℕ) × (line ≡ arrow_then party list)
@@ -82,20 +82,20 @@ is_some [] = false
 is_some (x ∷ xs) = true
 
 -- what was judged is that of the lines so far
-pub record Matches (j : Judged) (s : Passed) : Type 0 where
+pub record Matches (j : Judged) (s : RightLines) : Type 0 where
   pub ahead : j.dots_ahead ≡ s.ahead
   pub initiator : j.initiator ≡ is_some s.initiator
   pub responder : j.responder ≡ is_some s.responder
   pub messages : j.messages ≡ length s.messages
 
 -- one more right line
-pub record IsNextOf (places : List ℕ) (dotted : Bool) (s : Passed) (bytes : List ℕ) (j : Judged) : Type 0 where
-  pub passed : Passed
+pub record IsNextOf (places : List ℕ) (dotted : Bool) (s : RightLines) (bytes : List ℕ) (j : Judged) : Type 0 where
+  pub passed : RightLines
   pub matches : Matches j passed
-  pub are_right : IsPassed places dotted passed
-  pub lines : passed_lines passed ≡ passed_lines s ++ line bytes
+  pub are_right : AreRightLines places dotted passed
+  pub lines : right_lines passed ≡ right_lines s ++ line bytes
 
 -- a line after those is right, and this is what was judged then; or it is wrong, and this is what is wrong in it
-abbrev pub IsNextJudged : List ℕ → Bool → Passed → List ℕ → Result Judged TextFaultKind → Type 0
+abbrev pub IsNextJudged : List ℕ → Bool → RightLines → List ℕ → Result Judged TextFaultKind → Type 0
 IsNextJudged places dotted s bytes result =
     MatchResult result (λ j. IsNextOf places dotted s bytes j) (λ kind. IsWrong places s bytes kind)

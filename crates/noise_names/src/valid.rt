@@ -170,12 +170,12 @@ impl Pattern {
         let messages = self.messages();
         let transport = messages.len() as u8 + 1;
         let mut seen = Seen::new();
-        seen.pass_tokens(Role::Initiator, 0, self.pre(Role::Initiator))?;
-        seen.pass_tokens(Role::Responder, 0, self.pre(Role::Responder))?;
-        seen.pass_messages(messages)?;
-        seen.pass_end(Role::Initiator, transport, 0)?;
+        seen.walk_tokens(Role::Initiator, 0, self.pre(Role::Initiator))?;
+        seen.walk_tokens(Role::Responder, 0, self.pre(Role::Responder))?;
+        seen.walk_messages(messages)?;
+        seen.walk_end(Role::Initiator, transport, 0)?;
         if messages.len() != 1 {
-            seen.pass_end(Role::Responder, transport, 1)?;
+            seen.walk_end(Role::Responder, transport, 1)?;
         }
         Ok(())
     }

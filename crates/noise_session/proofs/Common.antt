@@ -33,7 +33,7 @@ pub use Rattle.noise_session.specs.Taking.{Judges, Takes}
 pub use Rattle.noise_session.specs.Taking.Judges.{accepted, dropped, exhausted}
 pub use Rattle.noise_session.specs.Taking.Takes.{idles, judges, waits}
 pub use Rattle.noise_session.specs.Transport.{last_nonce, split_key, transport_key, transport_message}
-pub use Rattle.noise_session.specs.TransportValue.{ReceiverMatches, SenderMatches, TransportMatches, TransportState, TransportValue, due_message, open_fault, receiving_half, renewed_key, seal_fault, sending_half, transport_of, unopened_fault}
+pub use Rattle.noise_session.specs.TransportValue.{ReceiverMatches, SenderMatches, TransportMatches, TransportState, TransportValue, due_message, open_fault, receiving_half, rekeyed_if_due, seal_fault, sending_half, transport_of, unopened_fault}
 pub use Rattle.noise_session.specs.Windows.{Recalls, begun_words, bit_of, bitmap_len, ends_at_greatest, is_accepted, is_below, is_marked, is_old, is_ring, ring_fault, top_word, window_fault}
 pub use Rattle.noise_session.specs.declared.faults.OpenFault.{OpenFault}
 pub use Rattle.noise_session.specs.declared.faults.SendFault.{SendFault}

@@ -43,15 +43,15 @@ not-ok a f e = cc
 
 -- ---- the law
 
-abbrev pub IsTaken : EndState → EndState → List ℕ → List ℕ → Type 0
-IsTaken x w payload f = (y : EndState) × Takes w f (length f) (Payload payload) y × EndCounterparts x y
+abbrev pub IsReceived : EndState → EndState → List ℕ → List ℕ → Type 0
+IsReceived x w payload f = (y : EndState) × Takes w f (length f) (Payload payload) y × EndCounterparts x y
 
 module _ (accepts : (v w : Party) (payload message : List ℕ) (xs : List (List ℕ)) → IsValid v.pattern → Counterparts v w → Writes v payload xs message
     → Accepts w message xs payload)
     (next : (v w : Party) (payload message : List ℕ) (xs : List (List ℕ)) → IsValid v.pattern → Counterparts v w → Writes v payload xs message
     → Counterparts (after_own v xs payload) (after_message w xs payload)) where
   handshake-taken : (v w : EndState) (payload message : List ℕ) (xs : List (List ℕ)) → IsValid v.party.pattern → EndCounterparts v w
-      → Writes v.party payload xs message → IsTaken (record v { party = after_own v.party xs payload }) w payload (frame message)
+      → Writes v.party payload xs message → IsReceived (record v { party = after_own v.party xs payload }) w payload (frame message)
   handshake-taken v w payload message xs valid c writes =
       let a : Accepts w.party message xs payload = accepts v.party w.party payload message xs valid c.parties writes in
       let y : EndState = record w { party = after_message w.party xs payload; partial = [] } in
@@ -71,7 +71,7 @@ module _ (accepts : (v w : Party) (payload message : List ℕ) (xs : List (List 
 
   transport-taken : (v w : EndState) (payload : List ℕ) → EndCounterparts v w → refusal (progress_of v) (length payload) ≡ None
       → IsTrue (is_open (progress_of v))
-      → IsTaken (record v { sent = v.sent + 1 }) w payload (frame (transport_message v.party.history v.party.role v.interval v.sent payload))
+      → IsReceived (record v { sent = v.sent + 1 }) w payload (frame (transport_message v.party.history v.party.role v.interval v.sent payload))
   transport-taken v w payload c due opens =
       let p : Plan = v.party.pattern in
       let there : w.party.pattern ≡ p = ap (λ (z : Party). z.pattern) c.parties.there in
@@ -109,13 +109,13 @@ module _ (accepts : (v w : Party) (payload message : List ℕ) (xs : List (List 
       )
 
   sent-taken : (v w x : EndState) (payload f : List ℕ) (r : Result (List ℕ) SendFault) → r ≡ Ok f → IsValid v.party.pattern → EndCounterparts v w
-      → Sends v payload r x → IsTaken x w payload f
+      → Sends v payload r x → IsReceived x w payload f
   sent-taken v w x payload f r e valid c (refuses _ _ why _) = absurd (not-ok why f e)
   sent-taken v w x payload f r e valid c (lacks_dh_result _ _ token _ _) = absurd (not-ok (fault.Agreement token) f e)
   sent-taken v w x payload f r e valid c (sends_handshake _ _ message xs due writes) =
-      subst (IsTaken (record v { party = after_own v.party xs payload }) w payload) (ok-same (frame message) f (Ok (frame message)) refl e)
+      subst (IsReceived (record v { party = after_own v.party xs payload }) w payload) (ok-same (frame message) f (Ok (frame message)) refl e)
       (handshake-taken v w payload message xs valid c writes)
   sent-taken v w x payload f r e valid c (sends_transport _ _ due opens) = search (rules, transport-taken)
 
-  pub written-taken : (v w x : EndState) (payload f : List ℕ) → IsValid v.party.pattern → EndCounterparts v w → Sends v payload (Ok f) x → IsTaken x w payload f
-  written-taken v w x payload f valid c sends = sent-taken v w x payload f (Ok f) refl valid c sends
+  pub written-received : (v w x : EndState) (payload f : List ℕ) → IsValid v.party.pattern → EndCounterparts v w → Sends v payload (Ok f) x → IsReceived x w payload f
+  written-received v w x payload f valid c sends = sent-taken v w x payload f (Ok f) refl valid c sends

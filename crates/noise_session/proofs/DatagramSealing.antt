@@ -1,6 +1,6 @@
--- A datagram is a message of a half whose key is never renewed, after its nonce.
+-- A datagram is a message of a half whose key is never rekeyed, after its nonce.
 use Rattle.std.proofs.Common.{rules, ◌≡◌, ◌≤◌, ℕ, ◌+◌, ◌-◌, List, [], ◌++◌, length, take, drop, Option, Some, None, Ok, ◌∙◌, ap, subst, arith}
-use Rattle.noise_session.proofs.Common.{nat_tests, w64, to_be_bytes, put_mid, ciphertext_under, SendFault, last_nonce, HalfValue, sender_fault, SenderSeals, SucceedsUnless, renewed_key, DatagramSenderValue, unsealed, datagram_sender_value}
+use Rattle.noise_session.proofs.Common.{nat_tests, w64, to_be_bytes, put_mid, ciphertext_under, SendFault, last_nonce, HalfValue, sender_fault, SenderSeals, SucceedsUnless, rekeyed_if_due, DatagramSenderValue, unsealed, datagram_sender_value}
 use Rattle.noise_session.specs.DatagramCalls.{DatagramSenderSeals, datagram_under}
 use Rattle.noise_session.proofs.Places.{after-front, rest-after}
 
@@ -13,7 +13,7 @@ pub datagram-sealed : (h next : HalfValue) (d : DatagramSenderValue) (n len k : 
     → (k ≡ 8 + len) × (k ≤ length after) → take k after ≡ to_be_bytes w64 h.nonce ++ take len (drop 8 (put_mid 8 (length out - 8) out written))
     → drop 8 after ≡ drop 8 (put_mid 8 (length out - 8) out written) → DatagramSenderSeals d (datagram_sender_value next) n payload out after (Ok k)
 datagram-sealed h next d n len k text payload out written after is never long same s size front beyond =
-    let key : next.key ≡ h.key = s.renewed ∙ ap (λ (i : ℕ). renewed_key i (h.nonce + 1) h.key) never in
+    let key : next.key ≡ h.key = s.renewed ∙ ap (λ (i : ℕ). rekeyed_if_due i (h.nonce + 1) h.key) never in
     let counted : datagram_sender_value next ≡ record (datagram_sender_value h) { nonce = h.nonce + 1 } = search in
     let sealed : take k after ≡ datagram_under (datagram_sender_value h) payload =
     front

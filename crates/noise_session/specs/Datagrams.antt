@@ -19,7 +19,7 @@ use Rattle.noise_events.specs.Windows.{width_of}
 use Rattle.noise_session.specs.Windows.{is_accepted, ring_fault, window_fault, Recalls}
 
 -- Datagram n of a writer: the nonce in 8 bytes, the highest first, and the transport message of that nonce. Its key is
--- never renewed.
+-- never rekeyed.
 abbrev pub datagram : History → Role → ℕ → List ℕ → List ℕ
 datagram r writer n payload = to_be_bytes w64 n ++ transport_message r writer 0 n payload
 

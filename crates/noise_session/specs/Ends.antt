@@ -48,7 +48,7 @@ remote_static_in (phase.Ended role hash) = None
 -- One end of a session: the party that it is, and the history of what it wrote and accepted.
 pub record EndState : Type 0 where
   pub party : Party
-  pub interval : ℕ  -- after so many transport messages a key is renewed; 0 for never
+  pub interval : ℕ  -- after so many transport messages a key is rekeyed; 0 for never
   pub sent : ℕ  -- transport messages
   pub received : ℕ
   pub partial : List ℕ  -- what has come of the next frame

@@ -9,7 +9,7 @@ use Rattle.noise_session.specs.Frames.{frame}
 use Rattle.noise_session.specs.Transport.{last_nonce}
 use Rattle.noise_session.specs.Halves.{HalfValue, sender_fault, receiver_fault}
 use Rattle.noise_session.specs.TransportValue.{TransportValue, TransportState, TransportMatches, SenderMatches, ReceiverMatches, sending_half, receiving_half}
-use Rattle.noise_session.specs.TransportValue.{next_message, due_message, renewed_key, unopened_fault}
+use Rattle.noise_session.specs.TransportValue.{next_message, due_message, rekeyed_if_due, unopened_fault}
 
 -- the call has this fault, if there is one, and else succeeds
 abbrev pub SucceedsUnless : {T E : Type 0} → Option E → Result T E → Type 0
@@ -33,12 +33,12 @@ IsNoMessage h message =
 abbrev pub IsNotDue : TransportState → List ℕ → Type 0
 IsNotDue v message = (payload : List ℕ) → message ≢ due_message v payload
 
--- a message leaves of a half that it counts, and may renew the key
+-- a message leaves of a half that it counts, and may rekey
 abbrev pub IsCounted : HalfValue → HalfValue → Type 0
 IsCounted h next = next ≡ record h { key = next.key; nonce = h.nonce + 1 }
 
-abbrev pub IsRenewed : HalfValue → HalfValue → Type 0
-IsRenewed h next = next.key ≡ renewed_key h.interval (h.nonce + 1) h.key
+abbrev pub HasDueKey : HalfValue → HalfValue → Type 0
+HasDueKey h next = next.key ≡ rekeyed_if_due h.interval (h.nonce + 1) h.key
 
 -- one message more
 abbrev pub one_sent : TransportState → TransportState
@@ -58,7 +58,7 @@ pub record SealsAs (carried : List ℕ → List ℕ) (overhead : ℕ) (h next : 
   pub counted : OnOk result (IsCounted h next)
   pub unchanged : OnErr result ((next ≡ h) × (after ≡ out))
   pub sealed : IfOk result (λ k. take k after ≡ carried (message_of h payload))
-  pub renewed : OnOk result (IsRenewed h next)
+  pub renewed : OnOk result (HasDueKey h next)
   pub seals : (v : TransportState) → SenderMatches h v → IfOk result
       (λ k. (take k after ≡ carried (next_message v payload)) × SenderMatches next (one_sent v))
 
@@ -76,7 +76,7 @@ pub record ReceiverOpens {T : Type 0} (h next : HalfValue) (message : List ℕ) 
   pub counted : OnOk result (IsCounted h next)
   pub unchanged : OnErr result (next ≡ h)
   pub opened : MatchResult result (λ r. message ≡ message_of h (payload_in r)) (λ _. IsNoMessage h message)
-  pub renewed : OnOk result (IsRenewed h next)
+  pub renewed : OnOk result (HasDueKey h next)
   pub opens : (v : TransportState) → ReceiverMatches h v → MatchResult result
       (λ r. (message ≡ due_message v (payload_in r)) × ReceiverMatches next (one_received v))
       (λ _. receiver_fault h ≡ None → IsNotDue v message)

@@ -1,7 +1,7 @@
 pub mod Frames
 pub mod Framing
 pub mod Transport
-pub mod Renewing
+pub mod Rekeying
 pub mod Halves
 pub mod TransportValue
 pub mod HalfCalls

@@ -10,13 +10,13 @@ abbrev pub split_key : History → Role → List ℕ
 split_key r Initiator = initiator_key r
 split_key r Responder = responder_key r
 
--- how often the key was renewed before this nonce; an interval of 0 means never
-abbrev pub renewals : ℕ → ℕ → ℕ
-renewals interval n = if interval == 0 then 0 else n / interval
+-- how often the key was rekeyed before this nonce; an interval of 0 means never
+abbrev pub rekeys : ℕ → ℕ → ℕ
+rekeys interval n = if interval == 0 then 0 else n / interval
 
 -- the key of transport message n of a writer
 abbrev pub transport_key : History → Role → ℕ → ℕ → List ℕ
-transport_key r writer interval n = rekeyed_times (renewals interval n) (split_key r writer)
+transport_key r writer interval n = rekeyed_times (rekeys interval n) (split_key r writer)
 
 -- transport message n of a writer
 abbrev pub transport_message : History → Role → ℕ → ℕ → List ℕ → List ℕ

@@ -30,7 +30,7 @@ pub record TransportState : Type 0 where
   pub one_way : Bool
   pub history : History
   pub remote_static : Option (List ℕ)
-  pub interval : ℕ  -- after so many messages of a direction its key is renewed; 0 for never
+  pub interval : ℕ  -- after so many messages of a direction its key is rekeyed; 0 for never
   pub sent : ℕ  -- messages: the nonce of the next
   pub received : ℕ
 
@@ -56,8 +56,9 @@ due_message v payload = transport_message v.history (other v.role) v.interval v.
 
 -- The key of the message at this nonce, after that of the message before: a new one where the nonce is a multiple of
 -- the interval (11.3). An interval of 0 means never.
-abbrev pub renewed_key : ℕ → ℕ → Option (List ℕ) → Option (List ℕ)
-renewed_key interval nonce key = if not (interval == 0) && (nonce % interval == 0) then option_map rekeyed key else key
+abbrev pub rekeyed_if_due : ℕ → ℕ → Option (List ℕ) → Option (List ℕ)
+rekeyed_if_due interval nonce key = if not (interval == 0) && (nonce % interval == 0) then option_map rekeyed key
+    else key
 
 -- the direction of the messages that the party seals, and that of those that it opens
 abbrev pub sending_half : TransportValue → HalfValue

@@ -2,7 +2,7 @@
 
 ghost use Rattle.std.specs.Prelude.{◌≡◌, ◌≤◌, ◌+◌, length, take, drop, None, IfOk};
 ghost use Rattle.noise_handshake.specs.Party.{Party};
-ghost use Rattle.noise_handshake.specs.Opening.{IsOpeningOf};
+ghost use Rattle.noise_handshake.specs.Opening.{IsOpenedOf};
 ghost use Rattle.noise_session.specs.TransportValue.{TransportState, TransportMatches};
 ghost use Rattle.noise_session.specs.EndDatagrams.{datagrams_after};
 ghost use Rattle.noise_session.specs.Datagrams.{DatagramState, DatagramsMatch, DatagramSenderMatches, DatagramReceiverMatches, datagrams_of, unsealed, datagram_sending_half, datagram_receiving_half};
@@ -50,14 +50,14 @@ impl Model for Datagrams {
 impl Datagrams {
     /// The datagrams after a handshake, with a window of 64 nonces: none is sealed or opened yet.
     pub fn new(opened: Opened) -> Datagrams
-        ensures { (v : Party) → IsOpeningOf opened v → DatagramsMatch result (datagrams_of v Window.W64) }
+        ensures { (v : Party) → IsOpenedOf opened v → DatagramsMatch result (datagrams_of v Window.W64) }
     {
         Datagrams::with_window(opened, Window::W64)
     }
 
     /// The datagrams after a handshake, with this window: none is sealed or opened yet.
     pub fn with_window(opened: Opened, window: Window) -> Datagrams
-        ensures { (v : Party) → IsOpeningOf opened v → DatagramsMatch result (datagrams_of v window) }
+        ensures { (v : Party) → IsOpenedOf opened v → DatagramsMatch result (datagrams_of v window) }
     {
         Datagrams::after(Transport::new(opened, 0), window)
     }

@@ -45,7 +45,7 @@ pub fn judged_once()
 }
 
 /// A piece gives one step at a party: the same number of bytes is taken, and the same state is left.
-pub fn taken_once()
+pub fn received_once()
     ensures { (v x y : EndState) (piece : List ℕ) (m n : ℕ) (s t : StepValue)
         → Takes v piece m s x → Takes v piece n t y → (m ≡ n) × (s ≡ t) × (x ≡ y) }
 {
@@ -76,7 +76,7 @@ pub fn sent_once()
 
 /// Of two parties that have come equally far, in a valid pattern, one takes each frame that the other writes, as its
 /// payload, and they have come equally far again.
-pub fn written_is_taken()
+pub fn written_is_received()
     ensures { (v w x : EndState) (payload frame : List ℕ) → IsValid v.party.pattern → EndCounterparts v w
         → Sends v payload (Ok frame) x
         → (y : EndState) × Takes w frame (length frame) (Payload payload) y × EndCounterparts x y }

@@ -16,7 +16,7 @@ pub mod limits;
 mod parts;
 mod phase;
 mod receiver;
-mod renewal;
+mod rekeying;
 mod sender;
 mod stage;
 mod state;

@@ -7,7 +7,7 @@ ghost use Rattle.noise_session.specs.Parts.{half_in};
 ghost use Rattle.noise_session.specs.inner.Halves.{half_value};
 
 use crate::half::Half;
-use crate::renewal::renew;
+use crate::rekeying::rekey_if_due;
 use crate::{HalfParts, OpenFault};
 use noise_names::Role;
 use noise_state::CipherFault;
@@ -102,7 +102,7 @@ impl Receiver {
         }
         match self.half.cipher.decrypt(&[], message) {
             Ok(len) => {
-                renew(&mut self.half.cipher, self.half.interval);
+                rekey_if_due(&mut self.half.cipher, self.half.interval);
                 Ok(len)
             }
             Err(CipherFault::Exhausted) => Err(OpenFault::Exhausted),

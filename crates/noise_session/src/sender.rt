@@ -10,7 +10,7 @@ ghost use Rattle.noise_session.specs.inner.Halves.{half_value};
 use crate::framing::frame_message;
 use crate::half::Half;
 use crate::limits::{LAST_NONCE, PAYLOAD_MAX};
-use crate::renewal::renew;
+use crate::rekeying::rekey_if_due;
 use crate::{HalfParts, SendFault};
 use noise_names::Role;
 use std::marker::Model;
@@ -174,7 +174,7 @@ impl Sender {
     {
         match self.half.cipher.encrypt(&[], buffer, payload_len) {
             Ok(len) => {
-                renew(&mut self.half.cipher, self.half.interval);
+                rekey_if_due(&mut self.half.cipher, self.half.interval);
                 len
             }
             Err(_) => unreachable!(),

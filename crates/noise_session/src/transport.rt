@@ -2,7 +2,7 @@
 
 ghost use Rattle.std.specs.Prelude.{◌≡◌, ◌≤◌, ◌+◌, length, take, None, IfOk};
 ghost use Rattle.noise_handshake.specs.Party.{Party};
-ghost use Rattle.noise_handshake.specs.Opening.{IsOpeningOf};
+ghost use Rattle.noise_handshake.specs.Opening.{IsOpenedOf};
 ghost use Rattle.noise_session.specs.Halves.{hears_nothing};
 ghost use Rattle.noise_session.specs.HalfCalls.{OpensInPlace, TransportOpens, TransportSeals};
 ghost use Rattle.noise_session.specs.TransportValue.{TransportState, TransportMatches, SenderMatches, ReceiverMatches, transport_of, sending_half, receiving_half, seal_fault};
@@ -57,7 +57,7 @@ impl Transport {
         ensures parts { (result.role ≡ opened.role) × (result.one_way ≡ opened.one_way) × (result.hash ≡ opened.hash)
             × (result.remote_static ≡ opened.remote_static) × (result.interval ≡ interval) × (result.send_nonce ≡ 0)
             × (result.receive_nonce ≡ 0) }
-        ensures matches { (v : Party) → IsOpeningOf opened v → TransportMatches result (transport_of v interval) }
+        ensures matches { (v : Party) → IsOpenedOf opened v → TransportMatches result (transport_of v interval) }
     {
         let role = opened.role();
         let one_way = opened.one_way();

@@ -20,13 +20,13 @@ use Rattle.noise_vectors.specs.declared.vector.Version.TheVariants.{One, Two}
 use Rattle.noise_handshake.specs.Counterparts.{shown_before}
 use Rattle.noise_tool.specs.Ends.{IsFilePattern, setup_of}
 use Rattle.noise_tool.specs.Running.{datagrams_of_version}
-use Rattle.noise_theorems.specs.Fitting.{HasFittingLines, IsXor}
+use Rattle.noise_theorems.specs.Fitting.{HasFittingMessages, IsXor}
 use Rattle.noise_names.specs.Limits.{IsPattern}
 use Rattle.noise_keys.specs.declared.faults.SetupFault.{SetupFault}
 use Rattle.noise_keys.specs.declared.xor_keys.XorKeys.{XorKeys}
 use Rattle.noise_keys.specs.Keys.{key_of, xor_dh_result}
 use Rattle.noise_duel.specs.Acts.{roles_and_payloads}
-use Rattle.noise_theorems.specs.Lines.{lines_fit_from}
+use Rattle.noise_theorems.specs.FittingMessages.{messages_fit_from}
 use Rattle.noise_theorems.specs.Setup.{BothStarts, fault_of, or_next, starts}
 use Rattle.noise_vectors.specs.declared.file_keys.FileKeys.TheVariants.{Xor}
 
@@ -56,8 +56,8 @@ by-role P i r Responder = r
 
 pub fit-file : (file : VectorFile) (p : Plan) (a b : XorKeys) (lines : List (Role × Vec ℕ Global × List ℕ)) → IsVectorFile file
     → IsAllowedFile SayOnly file → file.initiator ≡ Xor a → file.responder ≡ Xor b → IsFilePattern file.block file.protocol p → IsPattern p → IsValid p
-    → file.events.items ≡ map say_of lines → lines_fit_from p 0 (roles_and_payloads lines) ≡ true
-    → fault_of p (xor_starts p file.prologue.items file.psks.items a b) ≡ None → HasFittingLines file p (roles_and_payloads lines)
+    → file.events.items ≡ map say_of lines → messages_fit_from p 0 (roles_and_payloads lines) ≡ true
+    → fault_of p (xor_starts p file.prologue.items file.psks.items a b) ≡ None → HasFittingMessages file p (roles_and_payloads lines)
 fit-file file p a b lines right allowed first second named pattern valid said fit none =
     let n : ℕ = length file.psks.items in
     let both = neither (setup_from p Initiator (Xor a) (Xor b) n) (setup_from p Responder (Xor b) (Xor a) n) none in

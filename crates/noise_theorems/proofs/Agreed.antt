@@ -8,20 +8,20 @@ use Rattle.noise_events.specs.Events.{Event}
 use Rattle.noise_duel.specs.declared.report.Report.{Report}
 use Rattle.noise_duel.specs.DuelValue.{DuelValue}
 use Rattle.noise_duel.specs.Entries.{notes_of}
-use Rattle.noise_duel.specs.Networks.{HaveOneHistory, HistoriesCollide, PayloadsAgree}
+use Rattle.noise_duel.specs.Networks.{HaveOneHistory, HaveClash, PayloadsAgree}
 use Rattle.noise_duel.specs.Sides.{Sides}
 use Rattle.noise_theorems.specs.Agreement.{HaveAgreed}
 use Rattle.noise_theorems.specs.Entries.{EntriesAgree, KeysMeet}
 
 module _ {K : Type 0} (public_of : K → Own → Option (List ℕ)) (agreement : K → Own → List ℕ → Option (List ℕ)) where
   pub all-agreed : (p : Plan) (interval : ℕ) (events : List Event) (duel : DuelValue K K) (report : Report) (last : Sides)
-      → (HaveOneHistory last ⊎ HistoriesCollide last) → (PayloadsAgree interval last ⊎ HistoriesCollide last)
+      → (HaveOneHistory last ⊎ HaveClash last) → (PayloadsAgree interval last ⊎ HaveClash last)
       → (EntriesAgree p interval events (notes_of report.entries.items) (bytes_of report.initiator.items) (bytes_of report.responder.items) last
-      ⊎ HistoriesCollide last) → (KeysMeet events (notes_of report.entries.items) duel ⊎ HistoriesCollide last)
-      → HaveAgreed public_of agreement p interval events duel report last ⊎ HistoriesCollide last
+      ⊎ HaveClash last) → (KeysMeet events (notes_of report.entries.items) duel ⊎ HaveClash last)
+      → HaveAgreed public_of agreement p interval events duel report last ⊎ HaveClash last
   all-agreed p interval events duel report last (inl one) (inl same) (inl all) (inl keys) =
       inl (record { history = one; payloads = same; entries = all; keys = keys })
-  all-agreed p interval events duel report last (inr collide) f g h = inr collide
-  all-agreed p interval events duel report last (inl one) (inr collide) g h = inr collide
-  all-agreed p interval events duel report last (inl one) (inl same) (inr collide) h = inr collide
-  all-agreed p interval events duel report last (inl one) (inl same) (inl all) (inr collide) = inr collide
+  all-agreed p interval events duel report last (inr clash) f g h = inr clash
+  all-agreed p interval events duel report last (inl one) (inr clash) g h = inr clash
+  all-agreed p interval events duel report last (inl one) (inl same) (inr clash) h = inr clash
+  all-agreed p interval events duel report last (inl one) (inl same) (inl all) (inr clash) = inr clash

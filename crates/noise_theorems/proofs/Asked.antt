@@ -1,7 +1,7 @@
 -- What `talk` is asked for: it is done on the bytes of the file that it names.
 use Rattle.std.proofs.Common.{◌≡◌, ◌∙◌, refl, subst, inl, inr, ℕ, List, Option, Some, String, string_bytes}
 use Rattle.std.specs.Global.{Global}
-use Rattle.noise_theorems.proofs.Common.{Bool, Role, Plan, VectorFile, file_text, HasFittingLines}
+use Rattle.noise_theorems.proofs.Common.{Bool, Role, Plan, VectorFile, file_text, HasFittingMessages}
 use Rattle.noise_tool.specs.Outcomes.{CommandOutcome}
 use Rattle.noise_tool.specs.Performing.{IsDone, IsStopped, OfAsked}
 use Rattle.noise_words.specs.declared.orders.Chosen.TheVariants.{Talk}
@@ -14,7 +14,7 @@ module _ (bytes_at : List ℕ → Option (List ℕ)) (unreadable : List ℕ → 
     | inr pattern ↦ let bad = pattern.1.taken in absurd (cc bad)
   ]
 
-module _ (laws : Once) (f : VectorFile) (p : Plan) (lines : List (Role × List ℕ)) (fits : HasFittingLines f p lines)
+module _ (laws : Once) (f : VectorFile) (p : Plan) (lines : List (Role × List ℕ)) (fits : HasFittingMessages f p lines)
     (bytes_at : List ℕ → Option (List ℕ)) (unreadable : List ℕ → Bool) (name : String Global) where
   pub outcome-of : {O E : Type 0} (printed : O → Option (List ℕ)) (reported : E → Option (List ℕ)) (out after : O) (err err_after : E) (status : ℕ)
       → bytes_at (string_bytes name) ≡ Some (file_text f)

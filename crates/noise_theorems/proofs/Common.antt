@@ -6,11 +6,11 @@ pub use Rattle.std.proofs.lemmas.Result.{err_from_is_err_and}
 pub use Rattle.std.specs.Global.{Global}
 pub use Rattle.std.specs.Prelude.{Bool, IsOk, IsSome, IsTrue, MatchOption, Vec, false, if◌then◌else◌, is_some, nat_le, slice_range, true, ◌==◌, IfSome, MatchBool, decimal, nat_lt, not, slice_get, unwrap_or, ⊤, ◌↔◌}
 pub use Rattle.noise_duel.specs.Acts.{roles_and_payloads}
-pub use Rattle.noise_duel.specs.Clash.{ClashFound, ClashIsCollision, first_clash}
-pub use Rattle.noise_duel.specs.Conversation.{HaveParts, InTurn, end_after, notes_of_lines, sides_at_start, KeyMaterial, LinesComeThrough, LinesLeave, LinesRun, after_conversation, conversation, frames_by, history_in, in_turn, lines_by, payloads_in, say_events, start_in, transcript, transport_messages_of}
+pub use Rattle.noise_duel.specs.Clash.{ClashFound, FoundIsClash, first_clash}
+pub use Rattle.noise_duel.specs.Conversation.{HaveParts, InTurn, end_after, notes_of_messages, sides_at_start, KeyMaterial, MessagesComeThrough, MessagesLeave, MessagesRun, after_conversation, conversation, frames_by, history_in, in_turn, messages_by, payloads_in, say_events, start_in, transcript, transport_messages_of}
 pub use Rattle.noise_duel.specs.Forgery.{ForgedMessage, PrefixOrForgedMessage, contents, in_stream}
 pub use Rattle.noise_duel.specs.Messages.{HandshakeMessage, Start, begun_as, messages_of}
-pub use Rattle.noise_duel.specs.Networks.{HaveOneHistory, HaveSamePsks, HistoriesCollide, PayloadsAgree, PayloadsCome, PsksMakeOne}
+pub use Rattle.noise_duel.specs.Networks.{HaveOneHistory, HaveSamePsks, HaveClash, PayloadsAgree, PayloadsCome, PsksMakeOne}
 pub use Rattle.noise_duel.specs.Notes.{Held, Judged, Left, Note, WriteFault, Wrote, held_note, left_note, noted_by}
 pub use Rattle.noise_duel.specs.Sides.{Side, Sides, TransportMessage, accepted_handshake, accepted_transport, new_side, with_state, wrote_handshake, wrote_transport}
 pub use Rattle.noise_events.specs.Events.{Event, events_of, Say, event_of}
@@ -27,7 +27,7 @@ pub use Rattle.noise_session.specs.Progress.{idle_step, is_open, role_of}
 pub use Rattle.noise_session.specs.Steps.{StepValue, step_value}
 pub use Rattle.noise_session.specs.Taking.{Judges, Takes}
 pub use Rattle.noise_state.specs.History.{Ciphertext, Entry, History, MixHash, MixKey, MixKeyAndHash, and_then, hash, hash_of}
-pub use Rattle.noise_theorems.specs.Lines.{bytes_not_taken, line_fits, lines_fit_from}
+pub use Rattle.noise_theorems.specs.FittingMessages.{bytes_not_received, message_fits, messages_fit_from}
 pub use Rattle.noise_theorems.specs.Payloads.{PayloadsAreReported, done_of, notes_about, own_payloads, payload_given, payload_reported, reported_to, was_written, written_by}
 pub use Rattle.noise_theorems.specs.Setup.{IsReportedFault, XorKeysHaveDhResults, history_of, or_next, start_by}
 pub use Rattle.noise_handshake.specs.Counterparts.{is_dh, shown_before}
@@ -45,5 +45,5 @@ pub use Rattle.noise_vectors.specs.declared.vector.AllowedEvents.TheVariants.{Sa
 pub use Rattle.noise_vectors.specs.declared.vector.VectorFile.{VectorFile}
 pub use Rattle.noise_vectors.specs.declared.vector.Version.{Version}
 pub use Rattle.noise_vectors.specs.declared.vector.Version.TheVariants.{One, Two}
-pub use Rattle.noise_theorems.specs.Fitting.{HasFittingLines, IsXor}
-pub use Rattle.noise_theorems.specs.Talked.{FittingLinesRun, exchange_lines, payload_line, reached_line, talked_lines, wrote_line}
+pub use Rattle.noise_theorems.specs.Fitting.{HasFittingMessages, IsXor}
+pub use Rattle.noise_theorems.specs.Talked.{FittingMessagesRun, exchange_lines, payload_line, reached_line, talked_lines, wrote_line}

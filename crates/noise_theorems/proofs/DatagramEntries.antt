@@ -3,7 +3,7 @@ use Rattle.std.proofs.Common.{rules, ◌≡◌, ◌≢◌, ◌≤◌, ◌<◌, �
 use Rattle.std.specs.Int.{w64, to_be_bytes}
 use Rattle.std.proofs.lemmas.Bool.Decides.{eqb_tells}
 use Rattle.std.proofs.lemmas.Nat.{from_be_bytes-to_be_bytes_8}
-use Rattle.noise_theorems.proofs.Common.{Bool, true, false, ◌==◌, false≢true, or_left, or_right, ne_eqb, eq-eqb, Role, Initiator, Responder, other, History, ForgedMessage, Sides, TransportMessage, ClashFound, ClashIsCollision, HaveOneHistory, HistoriesCollide, same_Some, get-front, get-last}
+use Rattle.noise_theorems.proofs.Common.{Bool, true, false, ◌==◌, false≢true, or_left, or_right, ne_eqb, eq-eqb, Role, Initiator, Responder, other, History, ForgedMessage, Sides, TransportMessage, ClashFound, FoundIsClash, HaveOneHistory, HaveClash, same_Some, get-front, get-last}
 use Rattle.noise_session.specs.Transport.{transport_message, last_nonce}
 use Rattle.noise_session.specs.Windows.{is_accepted}
 use Rattle.noise_session.specs.Datagrams.{DatagramState, Opens, accepting, datagram, nonce_named, unsealed}
@@ -510,7 +510,7 @@ module _ (agree : DatagramRunsAgree) where
 -- ---- with equal hashes
 
 -- what follows of one history, or the position of a clash
-pub or-clash : {A : Type 0} → ClashIsCollision → ClashFound → (d : Sides) → (HaveOneHistory d → A) → HaveOneHistory d ⊎ HistoriesCollide d → A ⊎ HistoriesClash d
+pub or-clash : {A : Type 0} → FoundIsClash → ClashFound → (d : Sides) → (HaveOneHistory d → A) → HaveOneHistory d ⊎ HaveClash d → A ⊎ HistoriesClash d
 or-clash matches first d one (inl same) = inl (one same)
 or-clash matches first d one (inr (i, c)) =
     let at = first d.initiator.state.party.history d.responder.state.party.history i c in

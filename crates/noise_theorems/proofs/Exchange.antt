@@ -3,7 +3,7 @@ use Rattle.std.proofs.Common.{◌≡◌, ◌∙◌, refl, ap, sym, subst, ℕ, z
 use Rattle.std.specs.Prelude.{Option, Some}
 use Rattle.std.proofs.lemmas.Bool.Decides.{nat_tests}
 use Rattle.std.proofs.lemmas.List.{length-map, length_push, take-append-drop}
-use Rattle.noise_theorems.proofs.Common.{⊤, Bool, true, false, nat_lt, MatchBool, slice_get, unwrap_or, Role, Initiator, Responder, Plan, KeyMaterial, InTurn, after_conversation, conversation, frames_by, in_turn, notes_of_lines, transport_messages_of, payloads_in, start_in, transcript, HandshakeMessage, messages_of, Sides, note_line, exchange_lines, payload_line, wrote_line}
+use Rattle.noise_theorems.proofs.Common.{⊤, Bool, true, false, nat_lt, MatchBool, slice_get, unwrap_or, Role, Initiator, Responder, Plan, KeyMaterial, InTurn, after_conversation, conversation, frames_by, in_turn, notes_of_messages, transport_messages_of, payloads_in, start_in, transcript, HandshakeMessage, messages_of, Sides, note_line, exchange_lines, payload_line, wrote_line}
 use Rattle.noise_state.specs.History.{History}
 use Rattle.noise_session.specs.Frames.{frame}
 
@@ -86,7 +86,7 @@ one-more before x n e = omega (arith, e, length_push before x)
 pub noted-lines : (d : Sides) (i j : ℕ) (ours theirs : List (List ℕ)) (lines messages : List (Role × List ℕ)) → SameWriters lines messages
     → i ≡ length ours → j ≡ length theirs
     → d.initiator.frames ≡ ours ++ frames_by Initiator messages → d.responder.frames ≡ theirs ++ frames_by Responder messages
-    → map (note_line d) (notes_of_lines i j lines) ≡ exchange_lines i j lines messages
+    → map (note_line d) (notes_of_messages i j lines) ≡ exchange_lines i j lines messages
 noted-lines d i j ours theirs [] [] same a b f g = refl
 noted-lines d i j ours theirs [] (m ∷ ms) same a b f g = absurd same
 noted-lines d i j ours theirs (l ∷ lines) [] same a b f g = absurd same
@@ -95,12 +95,12 @@ noted-lines d i j ours theirs ((Responder, payload) ∷ lines) ((Initiator, mess
 noted-lines d i j ours theirs ((Initiator, payload) ∷ lines) ((Initiator, message) ∷ ms) same a b f g =
     let rest = noted-lines d (i + 1) j (ours ++ frame message ∷ []) theirs lines ms same.1 (one-more ours (frame message) i a) b
     (f ∙ sym (append_assoc ours (frame message ∷ []) (frames_by Initiator ms))) g in
-    ap (λ (bytes : List ℕ). wrote_line Initiator i bytes ∷ payload_line Responder payload ∷ map (note_line d) (notes_of_lines (i + 1) j lines))
+    ap (λ (bytes : List ℕ). wrote_line Initiator i bytes ∷ payload_line Responder payload ∷ map (note_line d) (notes_of_messages (i + 1) j lines))
     (frame-there d.initiator.frames ours (frames_by Initiator ms) (frame message) i a f)
     ∙ ap (λ (ls : List (List ℕ)). wrote_line Initiator i (frame message) ∷ payload_line Responder payload ∷ ls) rest
 noted-lines d i j ours theirs ((Responder, payload) ∷ lines) ((Responder, message) ∷ ms) same a b f g =
     let rest = noted-lines d i (j + 1) ours (theirs ++ frame message ∷ []) lines ms same.1 a (one-more theirs (frame message) j b) f
     (g ∙ sym (append_assoc theirs (frame message ∷ []) (frames_by Responder ms))) in
-    ap (λ (bytes : List ℕ). wrote_line Responder j bytes ∷ payload_line Initiator payload ∷ map (note_line d) (notes_of_lines i (j + 1) lines))
+    ap (λ (bytes : List ℕ). wrote_line Responder j bytes ∷ payload_line Initiator payload ∷ map (note_line d) (notes_of_messages i (j + 1) lines))
     (frame-there d.responder.frames theirs (frames_by Responder ms) (frame message) j b g)
     ∙ ap (λ (ls : List (List ℕ)). wrote_line Responder j (frame message) ∷ payload_line Initiator payload ∷ ls) rest

@@ -126,14 +126,14 @@ record IsToCome (s last : Side) (v : EndState) (payloads : List (List ℕ)) : Ty
   pub coming : Coming v (concat frames) payloads after
   pub ends : EndCounterparts last.state after
 
-abbrev WrittenIsTaken : Type 0
-WrittenIsTaken = (v w x : EndState) (payload f : List ℕ) → IsValid v.party.pattern → EndCounterparts v w → Sends v payload (Ok f) x
+abbrev WrittenIsReceived : Type 0
+WrittenIsReceived = (v w x : EndState) (payload f : List ℕ) → IsValid v.party.pattern → EndCounterparts v w → Sends v payload (Ok f) x
     → (y : EndState) × Takes w f (length f) (Payload payload) y × EndCounterparts x y
 
 abbrev JudgedOnce : Type 0
 JudgedOnce = (v x y : EndState) (m : List ℕ) (s t : StepValue) → Judges v m s x → Judges v m t y → (s ≡ t) × (x ≡ y)
 
-to-come : WrittenIsTaken → (s last : Side) (v : EndState) (payloads : List (List ℕ)) → IsValid s.state.party.pattern → EndCounterparts s.state v
+to-come : WrittenIsReceived → (s last : Side) (v : EndState) (payloads : List (List ℕ)) → IsValid s.state.party.pattern → EndCounterparts s.state v
     → WritesAll s payloads last → IsToCome s last v payloads
 to-come law s last v payloads valid c (writes_no_more _) = record {
   frames = [];
@@ -366,7 +366,7 @@ module _ (once : JudgedOnce) where
   over r notes later bytes ps y part is (no_more _ _ last) = (refl, ap (λ (q : List ℕ). record (r.state) { partial = q }) (sym is) ∙ last)
   over r notes later bytes ps y part is (comes _ x _ m p rest more listens short j on) = absurd (frame-whole m rest short (subst IsPartial (sym is) part))
 
-  module _ (law : WrittenIsTaken) where
+  module _ (law : WrittenIsReceived) where
     written-bytes : (s last : Side) (v : EndState) (payloads : List (List ℕ)) (w : IsToCome s last v payloads) (pieces : List (List ℕ)) (later : List ℕ)
         → concat pieces ++ later ≡ bytes_since s last → concat w.frames ≡ concat pieces ++ later
     written-bytes s last v payloads w pieces later is =

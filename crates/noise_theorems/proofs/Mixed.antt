@@ -2,12 +2,12 @@
 use Rattle.std.proofs.Common.{rules, ◌≡◌, ◌<◌, ℕ, List, ◌∷◌, ◌++◌, length, reverse, refl, ap, sym, subst, ◌∙◌, inl, inr, Option, Some, get_or, []}
 use Rattle.std.specs.Option.{option_map}
 use Rattle.std.specs.Prelude.{slice_get}
-use Rattle.noise_theorems.proofs.Common.{map-append, reverse-append, same_Some, slice_get-map, slice_get_cases, slice_get_read, Global, Vec, History, Entry, MixHash, Ciphertext, MixKey, MixKeyAndHash, and_then, hash, hash_of, ClashIsCollision, first_clash, bytes_of}
+use Rattle.noise_theorems.proofs.Common.{map-append, reverse-append, same_Some, slice_get-map, slice_get_cases, slice_get_read, Global, Vec, History, Entry, MixHash, Ciphertext, MixKey, MixKeyAndHash, and_then, hash, hash_of, FoundIsClash, first_clash, bytes_of}
 use Rattle.sha2.specs.Sha256.{sha256}
 use Rattle.noise_state.specs.declared.symmetric.SymmetricState.{SymmetricState}
 use Rattle.noise_state.specs.Standing.{StateMatches}
 use Rattle.noise_duel.specs.Clash.{clash_position}
-use Rattle.noise_duel.specs.Collision.{hash_texts, hash_texts_of, hashed, hashed_of}
+use Rattle.noise_duel.specs.HashedTexts.{hash_texts, hash_texts_of, hashed, hashed_of}
 use Rattle.noise_theorems.specs.declared.clash.HashClash.{HashClash}
 use Rattle.noise_theorems.specs.Mixed.{HasMixed, IsHashClash}
 
@@ -88,7 +88,7 @@ got xs i v h e =
     slice_get-map (λ (f : Vec ℕ Global). f.items) xs i
     ∙ ap (λ (o : Option (Vec ℕ Global)). option_map (λ (f : Vec ℕ Global). f.items) o) (slice_get_read xs (length xs) i v refl h e)
 
-pub both-within : ClashIsCollision → (r s : History) (i : ℕ) (fs gs : List (Vec ℕ Global)) → bytes_of fs ≡ hash_texts r → bytes_of gs ≡ hash_texts s
+pub both-within : FoundIsClash → (r s : History) (i : ℕ) (fs gs : List (Vec ℕ Global)) → bytes_of fs ≡ hash_texts r → bytes_of gs ≡ hash_texts s
     → clash_position r s ≡ Some i → (i < length fs) × (i < length gs)
 both-within matches r s i fs gs e f at =
     let both = matches r s i at in (
@@ -96,7 +96,7 @@ both-within matches r s i fs gs e f at =
       within gs i both.right (subst (λ (xs : List (List ℕ)). slice_get xs i ≡ Some both.right) (sym f) both.at_right),
     )
 
-pub is-hash-clash : ClashIsCollision → (r s : History) (c : HashClash) (fs gs : List (Vec ℕ Global)) → bytes_of fs ≡ hash_texts r → bytes_of gs ≡ hash_texts s
+pub is-hash-clash : FoundIsClash → (r s : History) (c : HashClash) (fs gs : List (Vec ℕ Global)) → bytes_of fs ≡ hash_texts r → bytes_of gs ≡ hash_texts s
     → clash_position r s ≡ Some c.position → c.position < length fs → c.position < length gs
     → c.left ≡ get_or fs c.position c.left → c.right ≡ get_or gs c.position c.right → IsHashClash r s c
 is-hash-clash matches r s c fs gs e f at in-left in-right left right =

@@ -2,7 +2,7 @@
 use Rattle.std.proofs.Common.{◌≡◌, ◌∙◌, refl, ap, sym, subst, ◌⊎◌, inl, inr, ◌<◌, ◌≤◌, ℕ, zero, suc, List, [], length, Option, Some, String, arith}
 use Rattle.std.specs.Global.{Global}
 use Rattle.std.specs.Io.KnownBytes.{Appends}
-use Rattle.noise_theorems.proofs.Common.{◌↔◌, IfSome, slice_get, Role, Plan, VectorTextsAreUnique, IsVectorFile, file_text, SayOnly, VectorFile, lines_text, IsRunOf, expected_in, HasFittingLines, FittingLinesRun, talked_lines}
+use Rattle.noise_theorems.proofs.Common.{◌↔◌, IfSome, slice_get, Role, Plan, VectorTextsAreUnique, IsVectorFile, file_text, SayOnly, VectorFile, lines_text, IsRunOf, expected_in, HasFittingMessages, FittingMessagesRun, talked_lines}
 use Rattle.noise_vectors.specs.Expectations.{IsFirstUnmet}
 use Rattle.noise_lines.specs.Faults.{status_of}
 use Rattle.noise_lines.specs.Prefixes.{AppendsPrefix}
@@ -18,7 +18,7 @@ use Rattle.noise_lines.specs.declared.faults.Fault.TheVariants as fault
 
 -- a file has one text, and files of one text have one list of lines
 pub record Once : Type 0 where
-  pub runs : FittingLinesRun
+  pub runs : FittingMessagesRun
   pub once : OneRun
   pub unique : VectorTextsAreUnique
 
@@ -29,7 +29,7 @@ Printed f p lines before after = Appends before after (lines_text (talked_lines 
 abbrev pub Met : VectorFile → Plan → List (Role × List ℕ) → Type 0
 Met f p lines = IsMet (expected_in f.version) (talked_lines f p lines)
 
-module _ (laws : Once) (f : VectorFile) (p : Plan) (lines : List (Role × List ℕ)) (fits : HasFittingLines f p lines) where
+module _ (laws : Once) (f : VectorFile) (p : Plan) (lines : List (Role × List ℕ)) (fits : HasFittingMessages f p lines) where
   lines-of : (g : VectorFile) (printed : List (List ℕ)) → IsVectorFile g → file_text f ≡ file_text g → IsRunOf g printed → printed ≡ talked_lines f p lines
   lines-of g printed right same run =
       sym (laws.once f g (talked_lines f p lines) printed (run-alike f g (laws.unique f g fits.right right same)) (laws.runs f p lines fits) run)

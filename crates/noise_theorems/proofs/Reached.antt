@@ -1,7 +1,7 @@
 -- How far both ends have come after lines that come through.
 use Rattle.std.proofs.Common.{◌≡◌, ◌∙◌, refl, ap, ap₂, sym, ℕ, ◌==◌, min, List, [], ◌∷◌, codes, length, drop, arith}
 use Rattle.std.proofs.lemmas.Bool.Decides.{nat_tests}
-use Rattle.noise_theorems.proofs.Common.{Bool, true, false, not, nat_lt, decimal, if◌then◌else◌, Role, Initiator, Responder, Plan, is_one_way, other, end_after, lines_by, Start, Sides, role_word, line_of, progress_words, state_line, state_lines, reached_line}
+use Rattle.noise_theorems.proofs.Common.{Bool, true, false, not, nat_lt, decimal, if◌then◌else◌, Role, Initiator, Responder, Plan, is_one_way, other, end_after, messages_by, Start, Sides, role_word, line_of, progress_words, state_line, state_lines, reached_line}
 use Rattle.noise_state.specs.History.{History, hash}
 use Rattle.noise_session.specs.Ends.{EndState}
 use Rattle.noise_session.specs.Progress.Progress.{Handshaking, Open, HasEnded}
@@ -14,8 +14,8 @@ record IsThere (p : Plan) (lines : List (Role × List ℕ)) (h : List ℕ) (role
   going : v.party.ended ≡ false
   pattern : v.party.pattern ≡ p
   passed : v.party.passed ≡ min (length p.messages) (length lines)
-  sent : v.sent ≡ lines_by role (drop (length p.messages) lines)
-  received : v.received ≡ lines_by (other role) (drop (length p.messages) lines)
+  sent : v.sent ≡ messages_by role (drop (length p.messages) lines)
+  received : v.received ≡ messages_by (other role) (drop (length p.messages) lines)
   hash_is : hash v.party.history ≡ h
 
 abbrev transport_words : ℕ → ℕ → List ℕ → List (List ℕ)
@@ -51,10 +51,10 @@ line-there p lines h role v is =
     let same : all ≡ (v.party.passed == k) = ap (λ (q : Plan). v.party.passed == length q.messages) is.pattern in
     let less : nat_lt n k ≡ not all = less-than-all n k v.party.passed is.passed ∙ ap not (sym same) in
     let T : List (List ℕ) = transport_words v.sent v.received (hash v.party.history) in
-    let U : List (List ℕ) = transport_words (lines_by role (drop k lines)) (lines_by (other role) (drop k lines)) h in
+    let U : List (List ℕ) = transport_words (messages_by role (drop k lines)) (messages_by (other role) (drop k lines)) h in
     let sent : T ≡ U =
     ap₂ (λ (i j : ℕ). transport_words i j (hash v.party.history)) is.sent is.received
-    ∙ ap (λ (x : List ℕ). transport_words (lines_by role (drop k lines)) (lines_by (other role) (drop k lines)) x) is.hash_is in
+    ∙ ap (λ (x : List ℕ). transport_words (messages_by role (drop k lines)) (messages_by (other role) (drop k lines)) x) is.hash_is in
     ap (λ (ws : List (List ℕ)). line_of (codes "state" ∷ role_word role ∷ ws))
     (going-words v.party.ended all (is_one_way v.party.pattern) v.party.pattern v.party.role v.party.passed v.sent v.received (hash v.party.history) is.going
     ∙ either (nat_lt n k) all T U (handshake_words v.party.passed) (handshake_words n) less sent

@@ -2,7 +2,7 @@
 use Rattle.std.proofs.Common.{◌≡◌, ◌∙◌, refl, ap, ap₂, sym, subst, ◌⊎◌, inl, inr, ◌<◌, ℕ, List, [], ◌∷◌, length, Option, Some, None}
 use Rattle.std.specs.List.{All}
 use Rattle.std.proofs.lemmas.List.Elements.{All-cons, All-nil}
-use Rattle.noise_theorems.proofs.Common.{Role, Initiator, Responder, Plan, other, IsFirstFault, IsValid, setup_fault, Say, event_of, events_of, say_events, public_of, SaySame, VectorTextsAreUnique, held_datagrams, IsAllowed, IsAllowedFile, IsAllowedVersion, IsVectorFile, file_text, FileKeys, SayOnly, VectorFile, Version, One, Two, shown_before, HasSetupFault, IsFilePatternFault, IsFilePattern, IsStartFault, setup_of, datagrams_of_version, HasFittingLines, IsXor}
+use Rattle.noise_theorems.proofs.Common.{Role, Initiator, Responder, Plan, other, IsFirstFault, IsValid, setup_fault, Say, event_of, events_of, say_events, public_of, SaySame, VectorTextsAreUnique, held_datagrams, IsAllowed, IsAllowedFile, IsAllowedVersion, IsVectorFile, file_text, FileKeys, SayOnly, VectorFile, Version, One, Two, shown_before, HasSetupFault, IsFilePatternFault, IsFilePattern, IsStartFault, setup_of, datagrams_of_version, HasFittingMessages, IsXor}
 use Rattle.noise_names.specs.Names.{Section}
 use Rattle.noise_keys.specs.declared.faults.SetupFault.{SetupFault}
 use Rattle.noise_events.specs.declared.event.Event.{Event as Given}
@@ -36,7 +36,7 @@ version-said : (version : Version) → datagrams_of_version version ≡ None →
 version-said One e = tt
 version-said (Two additions) e = e
 
-allowed : (f : VectorFile) (p : Plan) (lines : List (Role × List ℕ)) → HasFittingLines f p lines → IsAllowedFile SayOnly f
+allowed : (f : VectorFile) (p : Plan) (lines : List (Role × List ℕ)) → HasFittingMessages f p lines → IsAllowedFile SayOnly f
 allowed f p lines fits = (only-said f.events.items lines fits.said, version-said f.version fits.alone)
 
 -- ---- both ends can be made
@@ -44,7 +44,7 @@ allowed f p lines fits = (only-said f.events.items lines fits.said, version-said
 none-some : (why : SetupFault) → ◌≡◌ {A = Option SetupFault} None (Some why) → ⊥
 none-some why e = cc
 
-no-setup-fault : (f : VectorFile) (p : Plan) (lines : List (Role × List ℕ)) (role : Role) (why : SetupFault) → HasFittingLines f p lines
+no-setup-fault : (f : VectorFile) (p : Plan) (lines : List (Role × List ℕ)) (role : Role) (why : SetupFault) → HasFittingMessages f p lines
     → HasSetupFault f role why p → ⊥
 no-setup-fault f p lines Initiator why fits h = none-some why (sym (fits.set_up Initiator) ∙ h)
 no-setup-fault f p lines Responder why fits h = none-some why (sym (fits.set_up Responder) ∙ h.1)
@@ -57,7 +57,7 @@ no-pattern-fault None name p fault.UnknownPattern named valid h = no-name-withou
 no-pattern-fault None name p _ named valid h = h
 no-pattern-fault (Some block) name p _ named valid h = h
 
-no-start-fault : (f : VectorFile) (p : Plan) (lines : List (Role × List ℕ)) (why : Fault) → HasFittingLines f p lines → IsStartFault f why
+no-start-fault : (f : VectorFile) (p : Plan) (lines : List (Role × List ℕ)) (why : Fault) → HasFittingMessages f p lines → IsStartFault f why
     → why ≡ fault.Memory
 no-start-fault f p lines (fault.Setup role x) fits h =
     absurd (no-setup-fault f p lines role x fits
@@ -85,8 +85,8 @@ none-also o (Some x) e none =
     sym (ap held_datagrams none) ∙ e in
     absurd (cc bad)
 
-fits-too : (f g : VectorFile) (p : Plan) (lines : List (Role × List ℕ)) → SaySame f g → IsVectorFile g → HasFittingLines f p lines
-    → HasFittingLines g p lines
+fits-too : (f g : VectorFile) (p : Plan) (lines : List (Role × List ℕ)) → SaySame f g → IsVectorFile g → HasFittingMessages f p lines
+    → HasFittingMessages g p lines
 fits-too f g p lines same right fits = record {
   right = right;
   initiator = subst IsXor same.initiator fits.initiator;
@@ -116,7 +116,7 @@ IsLeft f before after why = (why ≡ fault.Memory) ⊎ ((why ≡ fault.TooLong) 
     ⊎ ((n : ℕ) × (why ≡ fault.Unmet n) × HasUnmet IsPlain (file_text f) before after n)
 
 pub left-why : VectorTextsAreUnique → (f : VectorFile) (p : Plan) (lines : List (Role × List ℕ)) (before after : Option (List ℕ)) (why : Fault)
-    → HasFittingLines f p lines → IsRunFault SayOnly (file_text f) why ⊎ IsUnmet IsPlain (file_text f) before after why → IsLeft f before after why
+    → HasFittingMessages f p lines → IsRunFault SayOnly (file_text f) why ⊎ IsUnmet IsPlain (file_text f) before after why → IsLeft f before after why
 left-why unique f p lines before after why fits (inl (inl long)) = inr (inl long)
 left-why unique f p lines before after why fits (inl (inr (inl (vector.Memory, e, h, reported)))) = inl e
 left-why unique f p lines before after why fits (inl (inr (inl (vector.Line n k, e, h, reported)))) = absurd (h f fits.right (allowed f p lines fits) refl)

@@ -1,6 +1,6 @@
 -- The run of a file whose lines fit.
 use Rattle.std.proofs.Common.{◌≡◌, ◌∙◌, refl, ap, sym, subst, ℕ, List, [], ◌++◌, length, map, Option, None}
-use Rattle.noise_theorems.proofs.Common.{true, is_some, Role, Initiator, Responder, Plan, places_of, IsValid, is_among, occurs, is_dh, public_keys, setup_fault, token_of, Event, HaveParts, KeyMaterial, LinesComeThrough, LinesLeave, LinesRun, history_in, transcript, Start, Sides, VectorFile, sides_of_file, file_start, note_line, state_lines, AreLast, HasFittingLines, FittingLinesRun, exchange_lines}
+use Rattle.noise_theorems.proofs.Common.{true, is_some, Role, Initiator, Responder, Plan, places_of, IsValid, is_among, occurs, is_dh, public_keys, setup_fault, token_of, Event, HaveParts, KeyMaterial, MessagesComeThrough, MessagesLeave, MessagesRun, history_in, transcript, Start, Sides, VectorFile, sides_of_file, file_start, note_line, state_lines, AreLast, HasFittingMessages, FittingMessagesRun, exchange_lines}
 use Rattle.noise_names.specs.declared.token.Token.{Token}
 use Rattle.noise_keys.specs.declared.keys.Own.{Own}
 use Rattle.noise_handshake.specs.RemoteKeys.{remote-own}
@@ -9,7 +9,7 @@ use Rattle.noise_handshake.specs.Party.{own_at, remote_at}
 use Rattle.noise_duel.specs.Notes.{Note}
 use Rattle.noise_duel.specs.Runs.{Run}
 use Rattle.noise_duel.specs.SetUpAlike.{AlikeAreParts, HaveOneMaterial, AreSetUpAlike, HasDhResults, material_of}
-use Rattle.noise_theorems.specs.Turns.{LinesTakeTurns}
+use Rattle.noise_theorems.specs.Turns.{MessagesTakeTurns}
 use Rattle.noise_vectors.specs.declared.vector.FileDatagrams.{FileDatagrams}
 use Rattle.noise_tool.specs.Running.AreLast.{without}
 use Rattle.noise_theorems.proofs.Exchange.{noted-lines, same-writers}
@@ -23,12 +23,12 @@ pub record Laws : Type 0 where
   pub keys : (p : Plan) (role : Role) (t : Token) → IsValid p → is_dh t ≡ true → occurs t (places_of p) ≡ true
       → is_among role (token_of (own_at role t)) (places_of p) ≡ true
   pub parts : AlikeAreParts
-  pub come : LinesComeThrough
-  pub leave : LinesLeave
-  pub can : LinesRun
-  pub turns : LinesTakeTurns
+  pub come : MessagesComeThrough
+  pub leave : MessagesLeave
+  pub can : MessagesRun
+  pub turns : MessagesTakeTurns
 
-module _ (laws : Laws) (file : VectorFile) (p : Plan) (lines : List (Role × List ℕ)) (fits : HasFittingLines file p lines) where
+module _ (laws : Laws) (file : VectorFile) (p : Plan) (lines : List (Role × List ℕ)) (fits : HasFittingMessages file p lines) where
   abbrev a : Start
   a = file_start file p Initiator
 
@@ -65,8 +65,8 @@ module _ (laws : Laws) (file : VectorFile) (p : Plan) (lines : List (Role × Lis
   have : HaveParts (material_of a b) p file.prologue.items a b
   have = record { pattern = fits.pattern; valid = fits.valid; long = parts.long; initiator = parts.initiator; responder = parts.responder }
 
-pub fitting-lines-run : Laws → FittingLinesRun
-fitting-lines-run laws file p lines fits =
+pub fitting-messages-run : Laws → FittingMessagesRun
+fitting-messages-run laws file p lines fits =
     let a : Start = file_start file p Initiator in
     let b : Start = file_start file p Responder in
     let w : KeyMaterial = material_of a b in

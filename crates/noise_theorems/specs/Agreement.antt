@@ -10,7 +10,7 @@ use Rattle.noise_duel.specs.Conversation.{sides_at_start}
 use Rattle.noise_names.specs.Lists.{bytes_of}
 use Rattle.noise_duel.specs.Entries.{notes_of}
 use Rattle.noise_duel.specs.DuelValue.{DuelValue, DuelMatches}
-use Rattle.noise_duel.specs.Networks.{HaveOneHash, HaveOneHistory, HistoriesCollide, PayloadsAgree, SharePsks}
+use Rattle.noise_duel.specs.Networks.{HaveOneHash, HaveOneHistory, HaveClash, PayloadsAgree, SharePsks}
 use Rattle.noise_duel.specs.Reports.{Reports}
 use Rattle.noise_duel.specs.Sides.{Sides}
 use Rattle.noise_theorems.specs.declared.fault.ConversationFault.{ConversationFault}
@@ -31,7 +31,7 @@ module _ {K : Type 0} (public_of : K → Own → Option (List ℕ)) (agreement :
     pub keys : KeysMeet events (notes_of report.entries.items) duel
 
   -- The report is that of the run of the events from two new ends, and the ends left are those after it. Where both
-  -- report one hash, they agree on all of it; or two texts that they hashed collide.
+  -- report one hash, they agree on all of it; or two texts that they hashed clash.
   pub record AgreeOverNetwork (p : Plan) (s : BothStarts) (interval : ℕ) (events : List Event) (duel : DuelValue K K)
       (report : Report) : Type 0 where
     pub reports : Reports public_of agreement public_of agreement
@@ -43,7 +43,7 @@ module _ {K : Type 0} (public_of : K → Own → Option (List ℕ)) (agreement :
     -- the psks are the same, and the keys' DH results are alike
     pub psks : SharePsks p s.initiator s.responder reports.last
     pub agreed : (hash : List ℕ) → hash_in duel.initiator.phase ≡ Some hash → hash_in duel.responder.phase ≡ Some hash
-        → HaveAgreed p interval events duel report reports.last ⊎ HistoriesCollide reports.last
+        → HaveAgreed p interval events duel report reports.last ⊎ HaveClash reports.last
 
   -- What `run_events` returns: the setup has no fault and all this holds; else the fault, or lack of memory.
   abbrev pub RunsOverNetwork : Plan → BothStarts → ℕ → List Event

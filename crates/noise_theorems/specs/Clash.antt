@@ -1,4 +1,4 @@
--- Where the texts collide of two ends with different prologues that report one hash.
+-- Where the texts clash of two ends with different prologues that report one hash.
 use Rattle.std.specs.Prelude.{◌≡◌, ◌≢◌, ℕ, List, Option, Some, Result, IfOk}
 use Rattle.noise_names.specs.Plan.{Plan}
 use Rattle.noise_keys.specs.declared.keys.Own.{Own}
@@ -6,7 +6,7 @@ use Rattle.noise_session.specs.Ends.{hash_in}
 use Rattle.noise_events.specs.Events.{Event}
 use Rattle.noise_duel.specs.declared.report.Report.{Report}
 use Rattle.noise_duel.specs.Clash.{clash_position}
-use Rattle.noise_duel.specs.Collision.{Collision}
+use Rattle.noise_duel.specs.HashedTexts.{ClashAt}
 use Rattle.noise_duel.specs.Conversation.{sides_at_start}
 use Rattle.noise_duel.specs.DuelValue.{DuelValue, DuelMatches}
 use Rattle.noise_duel.specs.Messages.{Start}
@@ -17,7 +17,7 @@ use Rattle.noise_duel.specs.Sides.{Sides}
 -- digest.
 abbrev pub HistoriesClash : Sides → Type 0
 HistoriesClash d = (k : ℕ) × (clash_position d.initiator.state.party.history d.responder.state.party.history ≡ Some k)
-    × Collision d.initiator.state.party.history d.responder.state.party.history k
+    × ClashAt d.initiator.state.party.history d.responder.state.party.history k
 
 module _ {A B : Type 0} (public_a : A → Own → Option (List ℕ)) (agreement_a : A → Own → List ℕ → Option (List ℕ))
     (public_b : B → Own → Option (List ℕ)) (agreement_b : B → Own → List ℕ → Option (List ℕ)) where

@@ -6,26 +6,26 @@ use Rattle.noise_names.specs.Plan.{Plan}
 use Rattle.noise_keys.specs.declared.keys.Own.{Own}
 use Rattle.noise_session.specs.Ends.{hash_in}
 use Rattle.noise_duel.specs.declared.report.Report.{Report}
-use Rattle.noise_duel.specs.Conversation.{frames_by, notes_of_lines}
+use Rattle.noise_duel.specs.Conversation.{frames_by, notes_of_messages}
 use Rattle.noise_names.specs.Lists.{bytes_of}
 use Rattle.noise_duel.specs.Entries.{notes_of}
 use Rattle.noise_duel.specs.DuelValue.{DuelValue}
 use Rattle.noise_duel.specs.Reports.{receive_key_in, send_key_in}
 use Rattle.noise_theorems.specs.declared.fault.ConversationFault.{ConversationFault}
-use Rattle.noise_theorems.specs.Lines.{bytes_not_taken}
-use Rattle.noise_theorems.specs.Setup.{AreAfter, BothStarts, IsReportedFault, fault_of, hash_of_lines, transcript_of}
+use Rattle.noise_theorems.specs.FittingMessages.{bytes_not_received}
+use Rattle.noise_theorems.specs.Setup.{AreAfter, BothStarts, IsReportedFault, fault_of, hash_of_messages, transcript_of}
 
 module _ {K : Type 0} (public_of : K → Own → Option (List ℕ)) (agreement : K → Own → List ℕ → Option (List ℕ)) where
   pub record HaveConversed (p : Plan) (s : BothStarts) (interval : ℕ) (lines : List (Role × List ℕ))
       (duel : DuelValue K K) (report : Report) : Type 0 where
     pub initiator_frames : bytes_of report.initiator.items ≡ frames_by Initiator (transcript_of p s interval lines)
     pub responder_frames : bytes_of report.responder.items ≡ frames_by Responder (transcript_of p s interval lines)
-    pub payloads : notes_of report.entries.items ≡ notes_of_lines 0 0 lines
-    pub taken : ((role : Role) → bytes_not_taken role (notes_of report.entries.items) ≡ 0)
+    pub payloads : notes_of report.entries.items ≡ notes_of_messages 0 0 lines
+    pub taken : ((role : Role) → bytes_not_received role (notes_of report.entries.items) ≡ 0)
         × (duel.initiator.partial ≡ []) × (duel.responder.partial ≡ [])
     pub ends : AreAfter public_of agreement p s interval lines duel
-    pub hash : (hash_in duel.initiator.phase ≡ hash_of_lines p s lines)
-        × (hash_in duel.responder.phase ≡ hash_of_lines p s lines)
+    pub hash : (hash_in duel.initiator.phase ≡ hash_of_messages p s lines)
+        × (hash_in duel.responder.phase ≡ hash_of_messages p s lines)
     pub keys_there : receive_key_in duel.responder.phase ≡ send_key_in duel.initiator.phase
     pub keys_back : receive_key_in duel.initiator.phase ≡ send_key_in duel.responder.phase
 

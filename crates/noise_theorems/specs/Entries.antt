@@ -13,7 +13,7 @@ use Rattle.noise_events.specs.Events.{Event}
 use Rattle.noise_duel.specs.Conversation.{sides_at_start}
 use Rattle.noise_duel.specs.DuelValue.{DuelValue, DuelMatches}
 use Rattle.noise_duel.specs.Messages.{Start}
-use Rattle.noise_duel.specs.Networks.{HaveOneHash, HistoriesCollide, SharePsks}
+use Rattle.noise_duel.specs.Networks.{HaveOneHash, HaveClash, SharePsks}
 use Rattle.noise_duel.specs.Notes.{Note, Judged}
 use Rattle.noise_duel.specs.Reports.{receive_key_in, send_key_in}
 use Rattle.noise_duel.specs.Runs.{Run}
@@ -69,11 +69,11 @@ pub record EntriesAgree (p : Plan) (interval : ℕ) (events : List Event) (notes
       (turns_of Responder (length p.messages)) responder d.initiator.received
       (written_by Responder events notes) notes
 
--- With equal hashes, the same psks and equal intervals so it is, or two texts that they hashed collide.
+-- With equal hashes, the same psks and equal intervals so it is, or two texts that they hashed clash.
 abbrev pub EntriesCome : Type 0
 EntriesCome = (p : Plan) (a b : Start) (interval : ℕ) (events : List Event) (notes : List (Role × Note)) (d : Sides)
     → Run (sides_at_start p a b interval interval) events notes d → HaveOneHash d → SharePsks p a b d
-    → EntriesAgree p interval events notes d.initiator.frames d.responder.frames d ⊎ HistoriesCollide d
+    → EntriesAgree p interval events notes d.initiator.frames d.responder.frames d ⊎ HaveClash d
 
 -- Where a role received as many payloads as the other wrote, it opens the next message by the key that the other writes
 -- it by, if both are open.
@@ -86,10 +86,10 @@ pub record KeysMeet {A B : Type 0} (events : List Event) (notes : List (Role × 
 
 module _ {A B : Type 0} (public_a : A → Own → Option (List ℕ)) (agreement_a : A → Own → List ℕ → Option (List ℕ))
     (public_b : B → Own → Option (List ℕ)) (agreement_b : B → Own → List ℕ → Option (List ℕ)) where
-  -- With equal hashes, the same psks and equal intervals so it is, or two texts that they hashed collide.
+  -- With equal hashes, the same psks and equal intervals so it is, or two texts that they hashed clash.
   abbrev pub KeysCome : Type 0
   KeysCome = (p : Plan) (a b : Start) (interval : ℕ) (events : List Event) (notes : List (Role × Note)) (d : Sides)
       (duel : DuelValue A B)
       → Run (sides_at_start p a b interval interval) events notes d
       → DuelMatches public_a agreement_a public_b agreement_b duel d
-      → HaveOneHash d → SharePsks p a b d → KeysMeet events notes duel ⊎ HistoriesCollide d
+      → HaveOneHash d → SharePsks p a b d → KeysMeet events notes duel ⊎ HaveClash d

@@ -6,7 +6,7 @@ use Rattle.noise_names.specs.Plan.{Plan}
 use Rattle.noise_names.specs.Validity.{IsValid}
 use Rattle.noise_events.specs.Events.{events_of}
 use Rattle.noise_duel.specs.Conversation.{say_events}
-use Rattle.noise_theorems.specs.Lines.{lines_fit_from}
+use Rattle.noise_theorems.specs.FittingMessages.{messages_fit_from}
 use Rattle.noise_vectors.specs.VectorFile.{IsVectorFile}
 use Rattle.noise_vectors.specs.declared.file_keys.FileKeys.{FileKeys}
 use Rattle.noise_vectors.specs.declared.file_keys.FileKeys.TheVariants.{Xor, Table}
@@ -21,7 +21,7 @@ IsXor (Table keys) = ⊥
 
 -- A right vector file with `xor` keys of both parties, whose pattern is this valid one, and nothing is wrong with
 -- either setup. Its events say these lines and nothing else, no datagrams follow, and the lines fit.
-pub record HasFittingLines (file : VectorFile) (p : Plan) (lines : List (Role × List ℕ)) : Type 0 where
+pub record HasFittingMessages (file : VectorFile) (p : Plan) (lines : List (Role × List ℕ)) : Type 0 where
   pub right : IsVectorFile file
   pub initiator : IsXor file.initiator
   pub responder : IsXor file.responder
@@ -31,4 +31,4 @@ pub record HasFittingLines (file : VectorFile) (p : Plan) (lines : List (Role ×
   pub set_up : (role : Role) → setup_of file p role ≡ None
   pub said : events_of file.events.items ≡ say_events lines
   pub alone : datagrams_of_version file.version ≡ None
-  pub fit : lines_fit_from p 0 lines ≡ true
+  pub fit : messages_fit_from p 0 lines ≡ true

@@ -84,8 +84,8 @@ module _ {A B : Type 0} (public_a : A → Own → Option (List ℕ)) (agreement_
     pub ends : EndCounterparts writer.state (side reports.last role).state
 
   -- So it is where the pieces that come to a role are the frames of a side that it was equally far with, joined.
-  abbrev pub PiecesArrive : {E : Type 0} → List Event → DuelValue A B → Result (DuelValue A B × Report) E → Type 0
-  PiecesArrive events duel result = (v w : EndState) (role : Role) (s last : Side) (payloads pieces : List (List ℕ))
+  abbrev pub ChunksArrive : {E : Type 0} → List Event → DuelValue A B → Result (DuelValue A B × Report) E → Type 0
+  ChunksArrive events duel result = (v w : EndState) (role : Role) (s last : Side) (payloads pieces : List (List ℕ))
       → DuelMatches public_a agreement_a public_b agreement_b duel (both_sides v w) → events ≡ raw_events role pieces
       → IsValid s.state.party.pattern → EndCounterparts s.state (side (both_sides v w) role).state
       → WritesAll s payloads last → concat pieces ≡ bytes_since s last

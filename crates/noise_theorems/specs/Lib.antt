@@ -7,7 +7,7 @@ pub mod Exactly
 pub mod Fitting
 pub mod Joined
 pub mod Lacking
-pub mod Lines
+pub mod FittingMessages
 pub mod Mixed
 pub mod Payloads
 pub mod Setup

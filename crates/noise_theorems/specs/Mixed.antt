@@ -3,7 +3,7 @@ use Rattle.std.specs.Prelude.{◌≡◌, ◌≢◌, ℕ, List, Some, reverse, sl
 use Rattle.sha2.specs.Sha256.{sha256}
 use Rattle.noise_state.specs.History.{History}
 use Rattle.noise_duel.specs.Clash.{clash_position}
-use Rattle.noise_duel.specs.Collision.{hash_texts, hashed}
+use Rattle.noise_duel.specs.HashedTexts.{hash_texts, hashed}
 use Rattle.noise_theorems.specs.declared.clash.HashClash.{HashClash}
 
 -- A history of this protocol name whose hash came of mixing these texts, the first one first (MixHash, Noise 5.2).

@@ -65,8 +65,8 @@ abbrev pub history_of : Plan → BothStarts → List (Role × List ℕ) → Hist
 history_of p s lines = history_in (material_of s.initiator s.responder) p s.initiator.prologue lines
 
 -- the handshake hash (Noise 11.2), if there is a line for each handshake message
-abbrev pub hash_of_lines : Plan → BothStarts → List (Role × List ℕ) → Option (List ℕ)
-hash_of_lines p s lines =
+abbrev pub hash_of_messages : Plan → BothStarts → List (Role × List ℕ) → Option (List ℕ)
+hash_of_messages p s lines =
     if nat_le (length p.messages) (length lines) then Some (hash (history_of p s lines)) else None
 
 module _ {K : Type 0} (public_of : K → Own → Option (List ℕ)) (agreement : K → Own → List ℕ → Option (List ℕ)) where

@@ -25,7 +25,7 @@ LeavesMessage old new payload returned =
 module _ {K : Type 0} (public_of : K → Own → Option (List ℕ)) (agreement : K → Own → List ℕ → Option (List ℕ)) where
   -- The end takes so many of the bytes, once, and matches the state after them; the result is whether the step is
   -- this payload.
-  pub record IsTakenAs (v : EndState) (bytes payload : List ℕ) (end : EndValue K) (returned : Bool) : Type 0 where
+  pub record IsReceivedAs (v : EndState) (bytes payload : List ℕ) (end : EndValue K) (returned : Bool) : Type 0 where
     pub taken : ℕ
     pub step : StepValue
     pub next : EndState

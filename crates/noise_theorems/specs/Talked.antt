@@ -6,7 +6,7 @@ use Rattle.noise_names.specs.Plan.{Plan}
 use Rattle.noise_names.specs.Tokens.{other}
 use Rattle.noise_state.specs.History.{hash}
 use Rattle.noise_session.specs.Frames.{frame}
-use Rattle.noise_duel.specs.Conversation.{KeyMaterial, history_in, lines_by}
+use Rattle.noise_duel.specs.Conversation.{KeyMaterial, history_in, messages_by}
 use Rattle.noise_duel.specs.SetUpAlike.{material_of}
 use Rattle.noise_theorems.specs.Setup.{BothStarts, transcript_of}
 use Rattle.noise_vectors.specs.HexWord.{hex_of}
@@ -15,7 +15,7 @@ use Rattle.noise_vectors.specs.declared.vector.VectorFile.{VectorFile}
 use Rattle.noise_lines.specs.Lines.{line_of}
 use Rattle.noise_tool.specs.Ends.{file_start}
 use Rattle.noise_tool.specs.Running.{IsRunOf}
-use Rattle.noise_theorems.specs.Fitting.{HasFittingLines}
+use Rattle.noise_theorems.specs.Fitting.{HasFittingMessages}
 
 -- a frame that a role wrote, with its number among the frames of the role
 abbrev pub wrote_line : Role → ℕ → List ℕ → List ℕ
@@ -40,8 +40,8 @@ abbrev pub reached_words : Plan → List (Role × List ℕ) → List ℕ → Rol
 reached_words p lines h role =
     if nat_lt (length lines) (length p.messages)
     then codes "handshake" ∷ decimal (length lines) ∷ []
-    else codes "transport" ∷ decimal (lines_by role (drop (length p.messages) lines))
-    ∷ decimal (lines_by (other role) (drop (length p.messages) lines)) ∷ hex_of h ∷ []
+    else codes "transport" ∷ decimal (messages_by role (drop (length p.messages) lines))
+    ∷ decimal (messages_by (other role) (drop (length p.messages) lines)) ∷ hex_of h ∷ []
 
 abbrev pub reached_line : Plan → List (Role × List ℕ) → List ℕ → Role → List ℕ
 reached_line p lines h role = line_of (codes "state" ∷ role_word role ∷ reached_words p lines h role)
@@ -66,6 +66,6 @@ talked_lines file p lines =
     ∷ reached_line p lines (hash_after (material_in file p) p file.prologue.items lines) Responder ∷ []
 
 -- So it is of every file whose lines fit.
-abbrev pub FittingLinesRun : Type 0
-FittingLinesRun = (file : VectorFile) (p : Plan) (lines : List (Role × List ℕ))
-    → HasFittingLines file p lines → IsRunOf file (talked_lines file p lines)
+abbrev pub FittingMessagesRun : Type 0
+FittingMessagesRun = (file : VectorFile) (p : Plan) (lines : List (Role × List ℕ))
+    → HasFittingMessages file p lines → IsRunOf file (talked_lines file p lines)

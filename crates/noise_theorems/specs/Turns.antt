@@ -3,8 +3,8 @@ use Rattle.std.specs.Prelude.{◌≡◌, ℕ, List, true}
 use Rattle.noise_names.specs.declared.token.Role.{Role}
 use Rattle.noise_names.specs.Plan.{Plan}
 use Rattle.noise_duel.specs.Conversation.{InTurn}
-use Rattle.noise_theorems.specs.Lines.{lines_fit_from}
+use Rattle.noise_theorems.specs.FittingMessages.{messages_fit_from}
 
 -- as `Duel::converse` asks of them
-abbrev pub LinesTakeTurns : Type 0
-LinesTakeTurns = (p : Plan) (lines : List (Role × List ℕ)) → lines_fit_from p 0 lines ≡ true → InTurn p 0 lines
+abbrev pub MessagesTakeTurns : Type 0
+MessagesTakeTurns = (p : Plan) (lines : List (Role × List ℕ)) → messages_fit_from p 0 lines ≡ true → InTurn p 0 lines

@@ -2,7 +2,7 @@
 
 ghost use Rattle.noise_events.specs.Events.{events_of};
 ghost use Rattle.noise_duel.specs.Reports.{ReportsRun};
-ghost use Rattle.noise_theorems.specs.Joined.{PiecesArrive};
+ghost use Rattle.noise_theorems.specs.Joined.{ChunksArrive};
 
 use crate::laws::joined_frames_come;
 use noise_duel::{Duel, Event, Report};
@@ -13,14 +13,14 @@ use std::alloc::{AllocError, Global};
 ///
 /// Where bytes come to one role in pieces, and they are the frames that the other party has written since both had come
 /// equally far, joined and cut anywhere, all payloads are accepted, in order, and nothing is refused or lost.
-pub fn run_pieces<A: Keys, B: Keys>(
+pub fn run_chunks<A: Keys, B: Keys>(
     alloc: Global,
     duel: Duel<A, B>,
     events: &[Event],
 ) -> Result<(Duel<A, B>, Report), AllocError>
     ensures reports { ReportsRun A.public_of A.agreement B.public_of B.agreement
         (events_of events.now) duel result }
-    ensures come { PiecesArrive A.public_of A.agreement B.public_of B.agreement
+    ensures come { ChunksArrive A.public_of A.agreement B.public_of B.agreement
         (events_of events.now) duel result }
 {
     joined_frames_come();

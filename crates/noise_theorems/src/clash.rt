@@ -3,7 +3,7 @@
 ghost use Rattle.std.specs.Prelude.{◌≡◌, IfOk, MatchOption, None};
 ghost use Rattle.noise_state.specs.History.{History};
 ghost use Rattle.noise_duel.specs.Clash.{clash, clash_position, first_clash};
-ghost use Rattle.noise_duel.specs.Collision.{hash_texts};
+ghost use Rattle.noise_duel.specs.HashedTexts.{hash_texts};
 ghost use Rattle.noise_names.specs.Lists.{bytes_of};
 ghost use Rattle.noise_theorems.specs.Mixed.{HasMixed, IsHashClash};
 

@@ -3,9 +3,9 @@
 ghost use Rattle.std.specs.Prelude.{◌≡◌, ◌≤◌, length, true};
 ghost use Rattle.noise_duel.specs.Acts.{roles_and_payloads};
 ghost use Rattle.noise_theorems.specs.Conversed.{Converses};
-ghost use Rattle.noise_theorems.specs.Lines.{lines_fit_from};
+ghost use Rattle.noise_theorems.specs.FittingMessages.{messages_fit_from};
 ghost use Rattle.noise_theorems.specs.Setup.{HaveDhResults, starts};
-ghost use Rattle.noise_theorems.specs.inner.NewEnds.{SaysLines};
+ghost use Rattle.noise_theorems.specs.inner.NewEnds.{SaysMessages};
 
 use crate::ConversationFault;
 use crate::ends::make_ends;
@@ -33,7 +33,7 @@ pub fn converse<K: Agreeing>(
     lines: &[(Role, Vec<u8>, Cuts)],
 ) -> Result<(Duel<K, K>, Report), ConversationFault>
     requires short { length prologue.now ≤ 65535 }
-    requires lines { lines_fit_from pattern 0 (roles_and_payloads lines.now) ≡ true }
+    requires lines { messages_fit_from pattern 0 (roles_and_payloads lines.now) ≡ true }
     requires dh_results { HaveDhResults K.public_of K.agreement pattern initiator responder }
     ensures reports { Converses K.public_of K.agreement pattern
         (starts K.public_of K.agreement pattern prologue.now psks.now initiator responder)
@@ -42,17 +42,17 @@ pub fn converse<K: Agreeing>(
     let duel = make_ends(
         alloc, pattern, prologue, initiator, responder, psks, interval,
     )?;
-    let made = say_lines(alloc, duel, lines)?;
+    let made = say_messages(alloc, duel, lines)?;
     Ok(made)
 }
 
 // These lines, between two new parties of one setup.
-fn say_lines<K: Agreeing>(
+fn say_messages<K: Agreeing>(
     alloc: Global,
     duel: Duel<K, K>,
     lines: &[(Role, Vec<u8>, Cuts)],
 ) -> Result<(Duel<K, K>, Report), AllocError>
-    ensures { SaysLines K.public_of K.agreement (roles_and_payloads lines.now) duel result }
+    ensures { SaysMessages K.public_of K.agreement (roles_and_payloads lines.now) duel result }
 {
     alike_are_parts();
     end_is_reported::<K>();

@@ -4,7 +4,7 @@ ghost use Rattle.std.specs.Prelude.{◌≡◌, ◌↔◌, true};
 ghost use Rattle.noise_session.specs.Ends.{EndState, EndMatches};
 ghost use Rattle.noise_session.specs.Steps.{step_value};
 ghost use Rattle.noise_session.specs.Steps.StepValue.{Payload};
-ghost use Rattle.noise_theorems.specs.Taking.{ComesExactly, IsTakenAs};
+ghost use Rattle.noise_theorems.specs.Taking.{ComesExactly, IsReceivedAs};
 
 use crate::laws::reported_exactly;
 use noise_handshake::Keys;
@@ -17,7 +17,7 @@ use noise_session::{End, Step};
 pub fn comes_as<K: Keys>(end: &mut End<K>, bytes: &[u8], payload: &[u8]) -> bool
     ensures exactly { ComesExactly K.public_of K.agreement end.old bytes.now payload.now result }
     ensures takes { (v : EndState) → EndMatches K.public_of K.agreement end.old v
-        → IsTakenAs K.public_of K.agreement v bytes.now payload.now end.new result }
+        → IsReceivedAs K.public_of K.agreement v bytes.now payload.now end.new result }
 {
     reported_exactly();
     let (_, step) = end.take(bytes);

@@ -8,15 +8,15 @@ ghost use Rattle.noise_theorems.specs.Joined.{JoinedFramesCanCome, JoinedFramesC
 ghost use Rattle.noise_theorems.specs.Lacking.{LacksAtDh};
 ghost use Rattle.noise_theorems.specs.Payloads.{PayloadsAreReported};
 ghost use Rattle.noise_theorems.specs.Setup.{XorKeysHaveDhResults};
-ghost use Rattle.noise_theorems.specs.Turns.{LinesTakeTurns};
-ghost use Rattle.noise_theorems.specs.Talked.{FittingLinesRun};
+ghost use Rattle.noise_theorems.specs.Turns.{MessagesTakeTurns};
+ghost use Rattle.noise_theorems.specs.Talked.{FittingMessagesRun};
 
 use noise_duel::laws::{
-    alike_are_parts, datagrams_agree, ends_agree, ends_match, lines_come_through,
+    alike_are_parts, datagrams_agree, ends_agree, ends_match, messages_come_through,
 };
 use noise_handshake::Keys;
 use noise_handshake::laws::{accepted_once, refused_once, setup_is_whole, tokens_match};
-use noise_session::laws::{accepted_exactly, end_is_reported, judged_once, written_is_taken};
+use noise_session::laws::{accepted_exactly, end_is_reported, judged_once, written_is_received};
 
 /// Two parties whose `XorKeys` have both key pairs have a DH result at each DH of every pattern.
 pub fn xor_keys_have_dh_results()
@@ -24,8 +24,8 @@ pub fn xor_keys_have_dh_results()
 {}
 
 /// Lines that fit are in turn, as `Duel::converse` asks of them.
-pub fn fitting_lines_take_turns()
-    ensures { LinesTakeTurns }
+pub fn fitting_messages_take_turns()
+    ensures { MessagesTakeTurns }
 {}
 
 /// A handshake that reads next returns a payload exactly if the party accepts the message as one of it, and refuses the
@@ -60,7 +60,7 @@ pub fn joined_frames_come()
     ensures can { JoinedFramesCanCome }
 {
     judged_once();
-    written_is_taken();
+    written_is_received();
 }
 
 /// Where both ends of a duel report one hash, they have the one hash that the laws on agreement speak of.
@@ -112,12 +112,12 @@ pub fn datagram_entries_agree()
 /// The lines of a file's run, where the lines that it says fit: each message of the transcript as a frame, with its
 /// payload at the other party, and then how far each party has come. So all frames are accepted, none is refused or
 /// dropped, and no byte is left over.
-pub fn fitting_lines_run()
-    ensures { FittingLinesRun }
+pub fn fitting_messages_run()
+    ensures { FittingMessagesRun }
 {
     setup_is_whole();
     tokens_match();
     alike_are_parts();
-    lines_come_through();
-    fitting_lines_take_turns();
+    messages_come_through();
+    fitting_messages_take_turns();
 }

@@ -16,13 +16,13 @@ mod network;
 mod prologues;
 mod transcript;
 
-pub use arrival::run_pieces;
+pub use arrival::run_chunks;
 pub use clash::{HashClash, find_clash, find_mix_hash_clash};
 pub use conversation::converse;
 pub use datagrams::run_datagrams;
 pub use fault::ConversationFault;
 pub use frame::comes_as;
-pub use lengths::lines_fit;
+pub use lengths::messages_fit;
 pub use message::reads_as;
 pub use network::run_events;
 pub use prologues::run_apart;

@@ -10,10 +10,10 @@ ghost use Rattle.noise_lines.specs.Lines.{lines_text};
 ghost use Rattle.noise_lines.specs.Prefixes.{AppendsPrefix};
 ghost use Rattle.noise_lines.specs.Verdicts.{IsMet};
 ghost use Rattle.noise_tool.specs.Running.{expected_in};
-ghost use Rattle.noise_theorems.specs.Fitting.{HasFittingLines};
+ghost use Rattle.noise_theorems.specs.Fitting.{HasFittingMessages};
 ghost use Rattle.noise_theorems.specs.Talked.{talked_lines};
 
-use crate::laws::fitting_lines_run;
+use crate::laws::fitting_messages_run;
 use noise_tool::{Chosen, FilesByName, Order, file_run_once, perform};
 use noise_vectors::vector_texts_are_unique;
 use std::alloc::Global;
@@ -36,19 +36,19 @@ pub fn talk<F: FilesByName, O: Write, E: Write>(
     err: &mut E,
 ) -> u8
     ensures status { result ≤ 3 }
-    ensures printed { (f : VectorFile) (p : Plan) (lines : List (Role × List ℕ)) → HasFittingLines f p lines
+    ensures printed { (f : VectorFile) (p : Plan) (lines : List (Role × List ℕ)) → HasFittingMessages f p lines
         → F.bytes_at files.now (string_bytes name) ≡ Some (file_text f) → result ≤ 1
         → Appends (O.contents out.old) (O.contents out.new) (lines_text (talked_lines f p lines)) }
-    ensures met { (f : VectorFile) (p : Plan) (lines : List (Role × List ℕ)) → HasFittingLines f p lines
+    ensures met { (f : VectorFile) (p : Plan) (lines : List (Role × List ℕ)) → HasFittingMessages f p lines
         → F.bytes_at files.now (string_bytes name) ≡ Some (file_text f) → result ≤ 1
         → (result ≡ 0 ↔ IsMet (expected_in f.version) (talked_lines f p lines)) }
-    ensures taken { (f : VectorFile) (p : Plan) (lines : List (Role × List ℕ)) → HasFittingLines f p lines
+    ensures taken { (f : VectorFile) (p : Plan) (lines : List (Role × List ℕ)) → HasFittingMessages f p lines
         → F.bytes_at files.now (string_bytes name) ≡ Some (file_text f) → result ≡ 2 → 4194304 < length (file_text f) }
-    ensures prefix { (f : VectorFile) (p : Plan) (lines : List (Role × List ℕ)) → HasFittingLines f p lines
+    ensures prefix { (f : VectorFile) (p : Plan) (lines : List (Role × List ℕ)) → HasFittingMessages f p lines
         → F.bytes_at files.now (string_bytes name) ≡ Some (file_text f) → (out.new ≡ out.old)
         ⊎ AppendsPrefix (O.contents out.old) (O.contents out.new) (lines_text (talked_lines f p lines)) }
 {
-    fitting_lines_run();
+    fitting_messages_run();
     file_run_once();
     vector_texts_are_unique();
     let order = Order::Command(Chosen::Talk(name));

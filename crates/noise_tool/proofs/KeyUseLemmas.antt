@@ -15,7 +15,7 @@ use Rattle.noise_state.specs.History.{History}
 use Rattle.noise_session.specs.Transport.{last_nonce, transport_key}
 use Rattle.noise_trace.specs.declared.key_use.KeyUse.{KeyUse}
 use Rattle.noise_trace.specs.declared.end_trace.EndTrace.{EndTrace}
-use Rattle.noise_trace.specs.KeyUses.{message_use, opened_use, counted_use, renewed_after, sent_use, use_value, stopped_use, tried_use}
+use Rattle.noise_trace.specs.KeyUses.{message_use, opened_use, counted_use, rekeyed_after, sent_use, use_value, stopped_use, tried_use}
 use Rattle.noise_trace.specs.KeyUses.KeyUseValue.{Nothing, Transport}
 use Rattle.noise_duel.specs.Notes.{Judged}
 use Rattle.noise_session.specs.declared.faults.SendFault.TheVariants as fault
@@ -31,7 +31,7 @@ counted n key None more = tt
 counted n key (Some next) more = more
 
 counted-passed : (r : History) (writer : Role) (interval n : ℕ) → n ≢ last_nonce → HasLaterNonce (counted_use r writer interval n)
-counted-passed r writer interval n more = counted n (transport_key r writer interval n) (renewed_after r writer interval n) more
+counted-passed r writer interval n more = counted n (transport_key r writer interval n) (rekeyed_after r writer interval n) more
 
 -- the first of three faults
 free-of-third : (a b c : Bool) (x y z : SendFault) → (if a then Some x else if b then Some y else if c then Some z else None) ≡ None → c ≡ false

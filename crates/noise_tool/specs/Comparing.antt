@@ -3,7 +3,7 @@ use Rattle.std.specs.Prelude.{⊤, ◌≡◌, ◌⊎◌, ◌<◌, ◌≤◌, ℕ
 use Rattle.std.specs.Io.KnownBytes.{Appends}
 use Rattle.noise_compare.specs.Findings.{IsReport}
 use Rattle.noise_compare.specs.Lines.{words_in, line_words}
-use Rattle.noise_compare.specs.Plain.{passed_text, plain_text, written_lines}
+use Rattle.noise_compare.specs.Plain.{skipped_text, plain_text, written_lines}
 use Rattle.noise_compare.specs.Reading.{first_wrong, schedule_lines, views}
 use Rattle.noise_compare.specs.declared.comparison.Finding.{Finding}
 use Rattle.noise_compare.specs.declared.comparison.Finding.TheVariants.{Agrees, Ends, Differs}
@@ -61,7 +61,7 @@ pub record Compares (log file : List ℕ) (report : LogReport) : Type 0 where
   pub right_are : IsScheduleOf file right
   pub compared : List ℕ
   pub reported : IsReport right logged report.finding compared
-  pub text_is : report.text.items ≡ compared ++ passed_text (written_lines log - length logged)
+  pub text_is : report.text.items ≡ compared ++ skipped_text (written_lines log - length logged)
 
 abbrev pub IfMade : Comparison → (LogReport → Type 0) → Type 0
 IfMade (Made report) P = P report

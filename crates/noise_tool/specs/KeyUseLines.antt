@@ -16,16 +16,16 @@ selected_opening selection role None = []
 selected_opening selection role (Some o) =
     if_selected (selects_transport selection role) (opening_lines role o.state o.initiator o.responder)
 
--- the new key with the next nonce, where a key is renewed after a message
-abbrev pub renewed_lines : Role → ℕ → Option (List ℕ) → List (List ℕ)
-renewed_lines role nonce None = []
-renewed_lines role nonce (Some key) = transport_line role (codes "renewed") (codes "Rekey") key (nonce + 1) ∷ []
+-- the new key with the next nonce, where a key is rekeyed after a message
+abbrev pub rekeyed_lines : Role → ℕ → Option (List ℕ) → List (List ℕ)
+rekeyed_lines role nonce None = []
+rekeyed_lines role nonce (Some key) = transport_line role (codes "renewed") (codes "Rekey") key (nonce + 1) ∷ []
 
 -- a transport message: the nonce and the key that it passes with, and then the new key
 abbrev pub transport_lines : Selection → About → ℕ → List ℕ → Option (List ℕ) → List (List ℕ)
 transport_lines selection about nonce key renewed = if_selected (selects_transport selection about.role)
     (transport_line about.role (act_word about.act) (transport_call_word about.act) key nonce
-    ∷ renewed_lines about.role nonce renewed)
+    ∷ rekeyed_lines about.role nonce renewed)
 
 abbrev pub key_use_lines : Selection → About → List ℕ → KeyUseValue → List (List ℕ)
 key_use_lines selection about message Nothing = []
@@ -34,7 +34,7 @@ key_use_lines selection about message (Message steps opening) =
     ++ selected_opening selection about.role opening
 key_use_lines selection about message (Transport nonce key renewed) = transport_lines selection about nonce key renewed
 
--- A key that is renewed after a message is that of a nonce that there is.
+-- A key that is rekeyed after a message is that of a nonce that there is.
 abbrev pub HasLaterNonce : KeyUseValue → Type 0
 HasLaterNonce (Transport nonce key (Some next)) = nonce ≢ last_nonce
 HasLaterNonce _ = ⊤

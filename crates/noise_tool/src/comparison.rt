@@ -3,7 +3,7 @@
 ghost use Rattle.std.specs.Prelude.{◌≡◌, ◌⊎◌, ◌++◌, ◌≤◌, ℕ, List, true, IfErr, IfOk, IfSome, IsTrue, MatchResult, OnOk, map, string_bytes};
 ghost use Rattle.std.specs.Io.KnownBytes.{Appends};
 ghost use Rattle.noise_compare.specs.Lines.{words_in, line_words};
-ghost use Rattle.noise_compare.specs.Plain.{passed_text};
+ghost use Rattle.noise_compare.specs.Plain.{skipped_text};
 ghost use Rattle.noise_lines.specs.Faults.{status_of};
 ghost use Rattle.noise_lines.specs.Prefixes.{AppendsPrefix};
 ghost use Rattle.noise_lines.specs.Reported.{fault_line};
@@ -19,8 +19,8 @@ ghost use Rattle.noise_tool.specs.declared.comparison.Uncompared.TheVariants.{Na
 use crate::testing::{FilesByName, is_input, trace_named};
 use crate::tracing::Traced;
 use noise_compare::{
-    Facts, Finding, Line, LogFault, LogReport, compare_lines, plain_text, push_passed,
-    push_schedule, read_log, written_lines,
+    Facts, Finding, Line, LogFault, LogReport, compare_lines, plain_text, push_schedule,
+    push_skipped, read_log, written_lines,
 };
 use noise_lines::{Fault, Verdict, flush, named_fault, report_fault, verdict_lines, write};
 use noise_words::Compared;
@@ -193,10 +193,10 @@ fn compare_traced(
 // A report, with the number of the lines of its log that are passed over.
 fn with_others(alloc: Global, report: LogReport, others: usize) -> Result<LogReport, AllocError>
     ensures finding { IfOk result (λ more. more.finding ≡ report.finding) }
-    ensures text { IfOk result (λ more. more.text.items ≡ report.text.items ++ passed_text others) }
+    ensures text { IfOk result (λ more. more.text.items ≡ report.text.items ++ skipped_text others) }
 {
     let LogReport { finding, mut text } = report;
-    push_passed(alloc, others, &mut text)?;
+    push_skipped(alloc, others, &mut text)?;
     Ok(LogReport { finding, text })
 }
 

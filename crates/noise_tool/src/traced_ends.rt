@@ -9,6 +9,7 @@ ghost use Rattle.noise_names.specs.Lists.{bytes_of};
 ghost use Rattle.noise_vectors.specs.FileKeys.{agreement_of, public_of};
 ghost use Rattle.noise_vectors.specs.SameFile.{SaySame};
 ghost use Rattle.noise_tool.specs.Ends.{FileMatches, IsStartFault, setup_of};
+ghost use Rattle.noise_handshake.specs.Matching.{IsSupplied};
 ghost use Rattle.noise_tool.specs.Printed.{Appended};
 ghost use Rattle.noise_tool.specs.Selection.{heading_lines};
 ghost use Rattle.noise_tool.specs.TracedEnds.{AreTracedEnds, TracedMatches};
@@ -94,7 +95,8 @@ fn follow(
     keys: FileKeys,
     interval: u64,
 ) -> TracedEnd
-    ensures { (v : Party) → FileMatches handshake.now v → public_of keys ≡ v.own → agreement_of keys ≡ v.agree
+    requires supplied { IsSupplied handshake.now }
+    ensures traced { (v : Party) → FileMatches handshake.now v → public_of keys ≡ v.own → agreement_of keys ≡ v.agree
         → (result.role ≡ v.role) × TracedMatches result (end_of v interval) }
 {
     TracedEnd {

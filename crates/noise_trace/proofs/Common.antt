@@ -20,7 +20,7 @@ pub use Rattle.noise_state.specs.Symmetric.{after_ciphertext, ciphertext_now, mi
 pub use Rattle.noise_state.specs.Standing.{StateMatches, keyed, nonce_now}
 pub use Rattle.noise_state.specs.declared.symmetric.SymmetricState.{SymmetricState}
 pub use Rattle.noise_trace.specs.Following.{Followed, Follows}
-pub use Rattle.noise_trace.specs.KeyUses.{opening_in, renewed_after}
+pub use Rattle.noise_trace.specs.KeyUses.{opening_in, rekeyed_after}
 pub use Rattle.noise_trace.specs.KeyUses.KeyUseValue.{Message}
 pub use Rattle.noise_trace.specs.Steps.{joined, message_steps, payload_step, step, token_steps}
 pub use Rattle.noise_trace.specs.Values.{values_of}

@@ -6,5 +6,5 @@ pub mod Keys
 pub mod Later
 pub mod NonceBounds
 pub mod PreMessages
-pub mod Renewals
+pub mod Rekeys
 pub mod Unopened

@@ -9,7 +9,7 @@ use Rattle.noise_trace.specs.declared.step.Step.{Step}
 use Rattle.noise_trace.specs.Following.{is_complete}
 use Rattle.noise_trace.specs.Steps.{next_steps, steps_before}
 use Rattle.noise_trace.specs.Values.{values_of}
-use Rattle.noise_session.specs.Transport.{renewals, transport_key}
+use Rattle.noise_session.specs.Transport.{rekeys, transport_key}
 use Rattle.noise_session.specs.Ends.{EndState}
 use Rattle.noise_trace.specs.declared.key_use.KeyUse.{KeyUse}
 use Rattle.noise_trace.specs.declared.key_use.KeyUse.TheVariants as key_use
@@ -46,14 +46,14 @@ stopped_use v token xs = Message (steps_before v.party token xs) None
 
 -- ---- transport
 
--- the key from the message after message n on, where it is renewed between the two
-abbrev pub renewed_after : History → Role → ℕ → ℕ → Option (List ℕ)
-renewed_after r writer interval n = if nat_lt (renewals interval n) (renewals interval (n + 1))
+-- the key from the message after message n on, where it is rekeyed between the two
+abbrev pub rekeyed_after : History → Role → ℕ → ℕ → Option (List ℕ)
+rekeyed_after r writer interval n = if nat_lt (rekeys interval n) (rekeys interval (n + 1))
     then Some (transport_key r writer interval (n + 1)) else None
 
 -- message n of a writer
 abbrev pub counted_use : History → Role → ℕ → ℕ → KeyUseValue
-counted_use r writer interval n = Transport n (transport_key r writer interval n) (renewed_after r writer interval n)
+counted_use r writer interval n = Transport n (transport_key r writer interval n) (rekeyed_after r writer interval n)
 
 -- a message at nonce n that doesn't count: the nonce and the key stay
 abbrev pub uncounted_use : History → Role → ℕ → ℕ → KeyUseValue

@@ -7,7 +7,7 @@ ghost use Rattle.noise_state.specs.Standing.{nonce_now};
 ghost use Rattle.noise_handshake.specs.Party.{Party, Refuses, tokens_at, tokens_now};
 ghost use Rattle.noise_handshake.specs.Message.{before_payload};
 ghost use Rattle.noise_handshake.specs.Writing.{LacksDhResult};
-ghost use Rattle.noise_handshake.specs.Matching.{Matches};
+ghost use Rattle.noise_handshake.specs.Matching.{IsSupplied, Matches};
 ghost use Rattle.noise_handshake.specs.declared.faults.Cause.{Cause};
 
 use crate::own::{OwnMeans, give};
@@ -72,8 +72,9 @@ impl BeforeMessage {
     ghost use Rattle.noise_trace.specs.Steps.{steps_before};
     ghost use Rattle.noise_trace.specs.Values.{values_of};
 
-    /// A handshake before its next message.
+    /// A handshake before its next message, that lacks no psk.
     pub fn new<K: Keys>(handshake: &Handshake<K>) -> BeforeMessage
+        requires supplied { IsSupplied handshake.now }
         ensures { (v : Party) → Matches K.public_of K.agreement handshake.now v → MatchesBefore result v }
     {
         BeforeMessage::of_handshake(handshake)
@@ -81,6 +82,7 @@ impl BeforeMessage {
 
     // The same, with the number of that message.
     pub(crate) fn of_handshake<K: Keys>(handshake: &Handshake<K>) -> BeforeMessage
+        requires supplied { IsSupplied handshake.now }
         ensures matches { (v : Party) → Matches K.public_of K.agreement handshake.now v → MatchesBefore result v }
         ensures before { IsBefore handshake.now.pattern handshake.now.passed result }
     {

@@ -5,7 +5,7 @@ ghost use Rattle.noise_names.specs.declared.token.Role.{Role};
 ghost use Rattle.noise_state.specs.History.{History};
 ghost use Rattle.noise_session.specs.Transport.{last_nonce, transport_key};
 ghost use Rattle.noise_trace.specs.Directions.{direction};
-ghost use Rattle.noise_trace.specs.KeyUses.{use_value, counted_use, uncounted_use, renewed_after};
+ghost use Rattle.noise_trace.specs.KeyUses.{use_value, counted_use, uncounted_use, rekeyed_after};
 ghost use Rattle.noise_trace.specs.KeyUses.KeyUseValue.{Nothing};
 
 use crate::KeyUse;
@@ -19,9 +19,9 @@ pub(crate) struct Direction {
 }
 
 // The key from this nonce on, if it is rekeyed before it.
-fn renewed_at(nonce: u64, key: &[u8; 32], interval: u64) -> Option<[u8; 32]>
+fn rekeyed_at(nonce: u64, key: &[u8; 32], interval: u64) -> Option<[u8; 32]>
     ensures { (r : History) (writer : Role) (n : ℕ) → key.now ≡ transport_key r writer interval n → nonce ≡ n + 1
-        → result ≡ renewed_after r writer interval n }
+        → result ≡ rekeyed_after r writer interval n }
 {
     if interval != 0 && nonce % interval == 0 {
         Some(rekey(key))
@@ -50,7 +50,7 @@ impl Direction {
         if nonce == u64::MAX {
             return KeyUse::Nothing;
         }
-        let renewed = renewed_at(nonce + 1, &key, interval);
+        let renewed = rekeyed_at(nonce + 1, &key, interval);
         *self = Direction {
             nonce: nonce + 1,
             key: renewed.unwrap_or(key),

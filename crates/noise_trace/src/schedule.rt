@@ -4,7 +4,7 @@ ghost use Rattle.std.specs.Prelude.{◌≡◌, ◌<◌, ℕ, List, length};
 ghost use Rattle.noise_state.specs.History.{initiator_key, responder_key};
 ghost use Rattle.noise_handshake.specs.Party.{Party, Accepts, Refuses};
 ghost use Rattle.noise_handshake.specs.Writing.{LacksDhResult, Writes};
-ghost use Rattle.noise_handshake.specs.Matching.{Matches, after_message, after_own};
+ghost use Rattle.noise_handshake.specs.Matching.{IsSupplied, Matches, after_message, after_own};
 ghost use Rattle.noise_handshake.specs.declared.faults.Cause.{Cause};
 ghost use Rattle.noise_trace.specs.Values.{values_of};
 
@@ -49,10 +49,11 @@ impl<K: Keys> Following<K> {
     ghost use Rattle.noise_trace.specs.inner.Carried.{IsNextMessage, after_carried};
     ghost use Rattle.noise_trace.specs.Steps.{next_steps, steps_before};
 
-    /// The key schedule of a handshake before its next message, with the same keys once more.
+    /// The key schedule of a handshake before its next message, that lacks no psk, with the same keys once more.
     ///
     /// Of other keys its steps may end early.
     pub fn new(handshake: &Handshake<K>, keys: K) -> Following<K>
+        requires supplied { IsSupplied handshake.now }
         ensures { (v : Party) → Matches K.public_of K.agreement handshake.now v → K.public_of keys ≡ v.own
             → K.agreement keys ≡ v.agree → Follows K.public_of K.agreement result v }
     {

@@ -1,13 +1,8 @@
--- What a handshake holds that has zeros for the missing psks.
-use Rattle.std.specs.Prelude.{◌≡◌, ℕ, suc, ◌-◌, ◌<◌, List, ◌∷◌, ◌++◌, length, take, drop, count_by}
+-- Where a psk is lacking.
+use Rattle.std.specs.Prelude.{◌≡◌, ℕ, suc, ◌<◌, List, ◌∷◌, ◌++◌, length, take, drop, count_by}
 use Rattle.noise_names.specs.declared.token.Token.{Token}
 use Rattle.noise_names.specs.declared.token.Token.TheVariants.{Psk}
 use Rattle.noise_names.specs.Tokens.{is_psk}
-use Rattle.noise_handshake.specs.HandshakeValue.{HandshakeValue}
-
--- without its last psks, which weren't handed in
-abbrev pub without_last : {K : Type 0} → ℕ → HandshakeValue K → HandshakeValue K
-without_last lacking h = record h { psks = take (length h.psks - lacking) h.psks }
 
 -- Token k is a psk token, the first after n others.
 pub record IsPskAfter (ts : List Token) (n k : ℕ) : Type 0 where

@@ -9,7 +9,7 @@ ghost use Rattle.noise_names.specs.Names.{Section, IsSection, are_places};
 ghost use Rattle.noise_names.specs.Text.{line, words};
 ghost use Rattle.noise_names.specs.Tokens.{is_psk, own_tokens, turn_from};
 ghost use Rattle.noise_names.specs.WrongText.{IsTextFault, arrow_then, dots, first_line, has_dots, heading_of};
-ghost use Rattle.noise_names.specs.Judging.{HasTokens, IsLineBefore, IsNextJudged, IsPassed, Passed, Matches};
+ghost use Rattle.noise_names.specs.Judging.{HasTokens, IsLineBefore, IsNextJudged, AreRightLines, RightLines, Matches};
 
 use super::read::{first_word, is_pre_message, read_arrow, read_heading};
 use crate::psks::message_with_psks;
@@ -147,7 +147,7 @@ impl Judged {
 
     // What was checked after one more line, or what is wrong in it.
     fn judge(self, places: &[u8], bytes: &[u8]) -> Result<Judged, TextFaultKind>
-        ensures { (s : Passed) (dotted : Bool) → Matches self s → IsPassed places.now dotted s
+        ensures { (s : RightLines) (dotted : Bool) → Matches self s → AreRightLines places.now dotted s
             → IsNextJudged places.now dotted s bytes.now result }
     {
         if is_dots(bytes) {
@@ -167,7 +167,7 @@ impl Judged {
     }
 
     fn judge_dots(self) -> Result<Judged, TextFaultKind>
-        ensures { (places : List ℕ) (s : Passed) (dotted : Bool) → Matches self s → IsPassed places dotted s
+        ensures { (places : List ℕ) (s : RightLines) (dotted : Bool) → Matches self s → AreRightLines places dotted s
             → IsNextJudged places dotted s dots result }
     {
         if self.dots_ahead && self.has_begun() {
@@ -189,8 +189,8 @@ impl Judged {
 
     fn judge_pre_message(self, role: Role, list: &Words) -> Result<Judged, TextFaultKind>
         requires dots { IsTrue self.dots_ahead }
-        ensures next { (places : List ℕ) (s : Passed) (dotted : Bool) (tokens : List Token) → Matches self s
-            → IsPassed places dotted s → HasTokens list.now tokens
+        ensures next { (places : List ℕ) (s : RightLines) (dotted : Bool) (tokens : List Token) → Matches self s
+            → AreRightLines places dotted s → HasTokens list.now tokens
             → IsNextJudged places dotted s (arrow_then role (words tokens)) result }
     {
         if self.is_barred(role) || !is_pre_message(&list.first) {
@@ -220,8 +220,8 @@ impl Judged {
 
     fn judge_message(self, places: &[u8], role: Role, list: &Words) -> Result<Judged, TextFaultKind>
         requires dots { IsFalse self.dots_ahead }
-        ensures next { (s : Passed) (dotted : Bool) (tokens : List Token) → Matches self s
-            → IsPassed places.now dotted s → HasTokens list.now tokens
+        ensures next { (s : RightLines) (dotted : Bool) (tokens : List Token) → Matches self s
+            → AreRightLines places.now dotted s → HasTokens list.now tokens
             → IsNextJudged places.now dotted s (arrow_then role (words tokens)) result }
     {
         if !self.is_turn(role) {

@@ -14,7 +14,7 @@ half_value h = record {
   nonce = nonce_in h.cipher;
 }
 
--- a half of datagrams is one whose key is never renewed
+-- a half of datagrams is one whose key is never rekeyed
 abbrev pub datagram_sender_value : HalfValue → DatagramSenderValue
 datagram_sender_value h = record { role = h.role; one_way = h.one_way; key = h.key; nonce = h.nonce }
 

@@ -8,7 +8,7 @@ use noise_duel::{Cuts, Duel, Event, Report};
 use noise_handshake::XorKeys;
 use noise_names::{Pattern, PskPlaces, Role, ValidPattern, fundamental};
 use noise_theorems::laws::xor_keys_have_dh_results;
-use noise_theorems::{converse, lines_fit, run_events, run_pieces};
+use noise_theorems::{converse, messages_fit, run_chunks, run_events};
 use std::alloc::{AllocError, Global};
 use std::process::Abort;
 
@@ -56,7 +56,7 @@ fn conversed(
     psks: &[[u8; 32]],
     lines: &[(Role, Vec<u8>, Cuts)],
 ) -> (Duel<XorKeys, XorKeys>, Report) {
-    let fit = lines_fit(&pattern, lines);
+    let fit = messages_fit(&pattern, lines);
     assert!(rt; fit);
     let initiator = both_keys(0x11, 0x33);
     let responder = both_keys(0x22, 0x44);
@@ -174,7 +174,7 @@ fn frames_joined_and_cut(rt: HostRuntime) {
         Event::Raw(Role::Responder, piece),
         Event::Raw(Role::Responder, rest),
     ];
-    let (_, report) = run_pieces(alloc, duel, &pieces).expect(&rt, "memory");
+    let (_, report) = run_chunks(alloc, duel, &pieces).expect(&rt, "memory");
     let entries = format!(in alloc; "{:?}", report.entries).expect(&rt, "memory");
     assert!(rt;
         entries.as_str()

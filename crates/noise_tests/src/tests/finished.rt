@@ -13,7 +13,7 @@ ghost use Rattle.noise_duel.specs.Messages.{HandshakeMessage, Start};
 ghost use Rattle.noise_duel.specs.SetUpAlike.{AreSetUpAlike, HasDhResults, HasLongKeys};
 ghost use Rattle.noise_channel.specs.Finished.{HaveFinished};
 
-use noise_duel::laws::{alike_are_parts, ends_match, lines_come_through};
+use noise_duel::laws::{alike_are_parts, ends_match, messages_come_through};
 use noise_handshake::laws::{keys_carried, overhead_added};
 
 // Two parties that are set up alike, with a DH result at each DH token, can finish: for each payloads that fit, one for
@@ -26,7 +26,7 @@ pub fn can_finish()
         → (ps : List HandshakeMessage) × (v : Party) × (w : Party) × HaveFinished p a b ps ps v w }
 {
     alike_are_parts();
-    lines_come_through();
+    messages_come_through();
     ends_match();
     keys_carried();
     overhead_added();

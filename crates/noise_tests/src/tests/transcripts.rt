@@ -13,13 +13,13 @@ ghost use Rattle.noise_vectors.specs.declared.file_keys.FileKeys.TheVariants.{Xo
 ghost use Rattle.noise_vectors.specs.declared.vector.VectorFile.{VectorFile};
 ghost use Rattle.noise_lines.specs.Lines.{lines_text};
 ghost use Rattle.noise_tool.specs.Ends.{IsFilePattern};
-ghost use Rattle.noise_theorems.specs.Fitting.{HasFittingLines};
+ghost use Rattle.noise_theorems.specs.Fitting.{HasFittingMessages};
 ghost use Rattle.noise_theorems.specs.Talked.{talked_lines};
 
 use noise_handshake::XorKeys;
 use noise_lines::named_pattern;
 use noise_names::{Pattern, ProtocolName, ValidPattern};
-use noise_theorems::{lines_fit, run_events, talk};
+use noise_theorems::{messages_fit, run_events, talk};
 use noise_tool::{Fault, FilesByName, read_file};
 use noise_vectors::{AllowedEvents, FileKeys, VectorFile, read_vector, said_lines};
 use std::alloc::Global;
@@ -100,7 +100,7 @@ fn read(rt: &impl Abort, alloc: Global, text: &[u8]) -> VectorFile
 fn fits(rt: &impl Abort, alloc: Global, file: VectorFile)
     requires right { IsVectorFile file }
     requires allowed { IsAllowedFile SayOnly file }
-    ensures fits { (p : Plan) × (lines : List (Role × List ℕ)) × HasFittingLines file p lines }
+    ensures fits { (p : Plan) × (lines : List (Role × List ℕ)) × HasFittingMessages file p lines }
 {
     let VectorFile {
         protocol,
@@ -117,7 +117,7 @@ fn fits(rt: &impl Abort, alloc: Global, file: VectorFile)
     let initiator = xor_keys(rt, initiator);
     let responder = xor_keys(rt, responder);
     let lines = said_lines(alloc, events).expect(rt, "memory");
-    let fit = lines_fit(&pattern, &lines);
+    let fit = messages_fit(&pattern, &lines);
     assert!(rt; fit);
     let made = run_events(
         alloc,

@@ -11,7 +11,7 @@ use Rattle.noise_duel.specs.DuelValue.{DuelMatches, DuelValue}
 use Rattle.noise_duel.specs.SetUpAlike.{AreSetUpAlike, HasDhResults, HasLongKeys}
 use Rattle.noise_theorems.specs.declared.fault.ConversationFault.{ConversationFault}
 use Rattle.noise_theorems.specs.Conversed.{HaveConversed}
-use Rattle.noise_theorems.specs.Lines.{lines_fit_from}
+use Rattle.noise_theorems.specs.FittingMessages.{messages_fit_from}
 use Rattle.noise_theorems.specs.Setup.{BothStarts, IsReportedFault, fault_of}
 
 module _ {K : Type 0} (public_of : K → Own → Option (List ℕ)) (agreement : K → Own → List ℕ → Option (List ℕ)) where
@@ -31,8 +31,8 @@ module _ {K : Type 0} (public_of : K → Own → Option (List ℕ)) (agreement :
   MakesEnds p s interval (Err fault) = IsReportedFault (fault_of p s) fault
 
   -- Between any such ends these lines come through, if they fit and both parties have a result at each DH token.
-  abbrev pub SaysLines : {E : Type 0} → List (Role × List ℕ) → DuelValue K K → Result (DuelValue K K × Report) E
+  abbrev pub SaysMessages : {E : Type 0} → List (Role × List ℕ) → DuelValue K K → Result (DuelValue K K × Report) E
       → Type 0
-  SaysLines lines duel result = (p : Plan) (s : BothStarts) (interval : ℕ)
-      → AreNewEnds p s interval duel → lines_fit_from p 0 lines ≡ true → HasDhResults p s.initiator s.responder
+  SaysMessages lines duel result = (p : Plan) (s : BothStarts) (interval : ℕ)
+      → AreNewEnds p s interval duel → messages_fit_from p 0 lines ≡ true → HasDhResults p s.initiator s.responder
       → IfOk result (λ r. HaveConversed public_of agreement p s interval lines r.0 r.1)

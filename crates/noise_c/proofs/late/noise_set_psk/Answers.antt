@@ -1,5 +1,19 @@
+use Rattle.std.proofs.Common.{◌∷◌, [], length, ap, arith, length-append}
+use Rattle.noise_c.proofs.Common.{HandshakeValue, Table}
 use Rattle.noise_c.proofs.Moved.{matches-later, usable-given}
 use Rattle.noise_c.proofs.late.noise_set_psk.Goals as goal
+
+pub store_psk-requires : goal.store_psk-requires
+store_psk-requires c =
+    let put = c.put_psk.ensures.put c.if-not-put_psk.false in
+    omega (
+      arith,
+      ap length c.psks.ensures.value,
+      c.psks.ensures.few,
+      ap (λ (z : HandshakeValue Table). length z.psks) put,
+      length-append c.in-Some.value.psks (c.args.psk.now ∷ []),
+      c.in-Some.ensures.count,
+    )
 
 pub returns-clause-matches : goal.returns-clause-matches
 returns-clause-matches c e p v later e2 k = matches-later c.args.handshake.now c.store_psk.new.handshake c.args.psk.now p v later c.store_psk.ensures.given e2 k

@@ -1,10 +1,10 @@
 use Rattle.std.specs.Prelude.{Ok, Err, replicate}
 use Rattle.std.proofs.Common.{◌≡◌, ◌≤◌, ℕ, inl, inr, refl, ap, sym, subst, ◌∙◌, arith, List, length, take}
 use Rattle.std.proofs.lemmas.Option.{same_Some}
-use Rattle.noise_c.proofs.Common.{Result, Option, Some, None, MatchOption, false≢true, Plan, Table, Want, HandshakeValue, length_unless, message_len_of, write_fault, LeavesLateUnwritten, IsLateOfTurn, IsLateWant, WantsPskToWrite, Party, write_code, handshake_from_c, text_from_c, IsPatternOf, IsUsable, KeepsParty, NoiseHandshake, NoiseResult, ReportsWant}
+use Rattle.noise_c.proofs.Common.{Result, Option, Some, None, MatchOption, false≢true, Plan, Table, Want, HandshakeValue, length_unless, message_len_of, write_fault, LeavesUnwritten, IsOfTurn, IsWant, WantsPskToWrite, Party, write_code, handshake_from_c, text_from_c, IsPatternOf, IsUsable, KeepsParty, NoiseHandshake, NoiseResult, ReportsWant}
 use Rattle.noise_handshake.specs.declared.faults.WriteFault.{WriteFault}
-use Rattle.noise_handshake.specs.declared.late_faults.LateUnwritten.{LateUnwritten}
-use Rattle.noise_handshake.specs.declared.late_faults.Want.TheVariants.{Psk}
+use Rattle.noise_handshake.specs.declared.faults.Unwritten.{Unwritten}
+use Rattle.noise_handshake.specs.declared.faults.Want.TheVariants.{Psk}
 use Rattle.noise_c.proofs.Stored.{psks-left, opened, usable-after, was-written, matches-for, length-for}
 use Rattle.noise_c.specs.Outcomes.WriteOutcome.{written, withheld, no_dh_result, no_room, unusable}
 use Rattle.noise_c.specs.Outcomes.{WriteOutcome}
@@ -15,7 +15,7 @@ use Rattle.noise_c.proofs.Numbers.{other, not-after, too-long, under, wants-othe
 use Rattle.noise_c.proofs.Wanting.{writes-outcome}
 use goal.{in-Some-message_len+else-needed-out, in_default}
 use Rattle.noise_handshake.specs.declared.faults.WriteFault.TheVariants as write
-use Rattle.noise_handshake.specs.declared.late_faults.LateUnwritten.TheVariants as unwritten
+use Rattle.noise_handshake.specs.declared.faults.Unwritten.TheVariants as unwritten
 use Rattle.noise_c.proofs.messages.noise_write.Goals as goal
 
 pub returns-in-None : goal.returns-in-None
@@ -60,13 +60,13 @@ due : (o : Option WriteFault) (m n : ℕ) → length_unless o m ≡ Some n → o
 due None m n e = refl
 due (Some fault) m n e = cc
 
-ok-err : {A : Type 0} (len : ℕ) (u : LateUnwritten) → ◌≡◌ {A = Result ℕ LateUnwritten} (Ok len) (Err u) → A
+ok-err : {A : Type 0} (len : ℕ) (u : Unwritten) → ◌≡◌ {A = Result ℕ Unwritten} (Ok len) (Err u) → A
 ok-err len u e = cc
 
-want-same : (u : LateUnwritten) (a b : Want) → ◌≡◌ {A = Result ℕ LateUnwritten} (Err u) (Err (unwritten.Wants b)) → u ≡ unwritten.Wants a → a ≡ b
+want-same : (u : Unwritten) (a b : Want) → ◌≡◌ {A = Result ℕ Unwritten} (Err u) (Err (unwritten.Wants b)) → u ≡ unwritten.Wants a → a ≡ b
 want-same u a b e f = cc
 
-withheld-not : {A : Type 0} (u : LateUnwritten) (fault : WriteFault) (b : Want) → ◌≡◌ {A = Result ℕ LateUnwritten} (Err u) (Err (unwritten.Wants b))
+withheld-not : {A : Type 0} (u : Unwritten) (fault : WriteFault) (b : Want) → ◌≡◌ {A = Result ℕ Unwritten} (Err u) (Err (unwritten.Wants b))
     → u ≡ unwritten.Withheld fault → A
 withheld-not u fault b e f = cc
 
@@ -120,14 +120,14 @@ returns-in-Err-Wants c =
     let results = c.report_want.new.results in
     let code : ℕ = c.report_want.result in
     let t : ReportsWant want results code = subst (λ (w : Want). ReportsWant w results code) c.in-Err-Wants.want-is c.report_want.ensures.want in
-    let leaves : (p : Plan) (v : Party) → KeepsParty old p v → LeavesLateUnwritten v (length h.psks) n (unwritten.Wants want) =
-    λ p v k. subst (λ (u : LateUnwritten). LeavesLateUnwritten v (length h.psks) n u) c.in-Err-Wants.field-0-is
+    let leaves : (p : Plan) (v : Party) → KeepsParty old p v → LeavesUnwritten v (length h.psks) n (unwritten.Wants want) =
+    λ p v k. subst (λ (u : Unwritten). LeavesUnwritten v (length h.psks) n u) c.in-Err-Wants.field-0-is
     (c.in-Err-Wants.ensures.writes v k.later (matches-for old h p v c.in-Some.ensures.one c.in-Some.ensures.value k)).0 in
     record {
       unusable = (wants-other want results code 23 t refl refl, λ none. absurd (none (c.in-Some.ensures.usable.0 refl)));
       outcome = writes-outcome old _ c.args.payload.now c.args.out.now c.write_or_ask.new.out c.args.results.now (length h.psks) want results code t
           c.report_want.ensures.answer c.report_want.ensures.remote c.in-Some.ensures.count refl
-          (c.in-Err-Wants.ensures.asks (subst IsLateWant (sym c.in-Err-Wants.field-0-is) tt)) leaves;
+          (c.in-Err-Wants.ensures.asks (subst IsWant (sym c.in-Err-Wants.field-0-is) tt)) leaves;
       short = λ p named m e more.
           let f : message_len_of h n ≡ Some m = sym (length-for old h p n c.in-Some.ensures.one c.in-Some.ensures.value named) ∙ e in
           too-long m (length c.args.out.now) more (elim c.match-message_len.branch [
@@ -147,12 +147,12 @@ below : (code : ℕ) → code ≤ 14 → (code ≡ 14 → ⊥) → code ≤ 13
 below code within other = let less = under code 14 within other in omega arith
 
 -- only for want of a DH result something is written
-unchanged-out : (o : Option WriteFault) (u : LateUnwritten) (fault : WriteFault) (Q : Type 0) → u ≡ unwritten.Withheld fault
-    → MatchOption o (IsLateOfTurn u) (λ f. (◌≡◌ {A = Result ℕ LateUnwritten} (Err u) (Err (unwritten.Withheld f))) × Q) → (write_code fault ≡ 14 → ⊥) → Q
-unchanged-out None u write.Ended Q e x differs = absurd (subst IsLateOfTurn e x)
-unchanged-out None u write.Done Q e x differs = absurd (subst IsLateOfTurn e x)
-unchanged-out None u write.NotYourTurn Q e x differs = absurd (subst IsLateOfTurn e x)
-unchanged-out None u write.TooLong Q e x differs = absurd (subst IsLateOfTurn e x)
+unchanged-out : (o : Option WriteFault) (u : Unwritten) (fault : WriteFault) (Q : Type 0) → u ≡ unwritten.Withheld fault
+    → MatchOption o (IsOfTurn u) (λ f. (◌≡◌ {A = Result ℕ Unwritten} (Err u) (Err (unwritten.Withheld f))) × Q) → (write_code fault ≡ 14 → ⊥) → Q
+unchanged-out None u write.Ended Q e x differs = absurd (subst IsOfTurn e x)
+unchanged-out None u write.Done Q e x differs = absurd (subst IsOfTurn e x)
+unchanged-out None u write.NotYourTurn Q e x differs = absurd (subst IsOfTurn e x)
+unchanged-out None u write.TooLong Q e x differs = absurd (subst IsOfTurn e x)
 unchanged-out None u (write.Agreement token) Q e x differs = absurd (differs refl)
 unchanged-out (Some f) u fault Q e x differs = x.1
 
@@ -187,8 +187,8 @@ returns-in-Err-Withheld c =
     let code : ℕ = c.withhold.result in
     let is : code ≡ write_code fault = c.withhold.ensures.code ∙ ap write_code c.in-Err-Withheld.fault-is in
     let within : (10 ≤ code) × (code ≤ 14) = withheld-within fault code is in
-    let leaves : (p : Plan) (v : Party) → KeepsParty old p v → LeavesLateUnwritten v (length h.psks) n (unwritten.Withheld fault) =
-    λ p v k. subst (λ (u : LateUnwritten). LeavesLateUnwritten v (length h.psks) n u) c.in-Err-Withheld.field-0-is
+    let leaves : (p : Plan) (v : Party) → KeepsParty old p v → LeavesUnwritten v (length h.psks) n (unwritten.Withheld fault) =
+    λ p v k. subst (λ (u : Unwritten). LeavesUnwritten v (length h.psks) n u) c.in-Err-Withheld.field-0-is
     (c.in-Err-Withheld.ensures.writes v k.later (matches-for old h p v c.in-Some.ensures.one c.in-Some.ensures.value k)).0 in
     record {
       unusable = (not-after code 14 23 within.1 refl, λ none. absurd (none (c.in-Some.ensures.usable.0 refl)));

@@ -1,15 +1,15 @@
 use Rattle.std.specs.Prelude.{Ok, Err, drop, ◌+◌, ◌-◌}
 use Rattle.std.proofs.Common.{false, ◌≡◌, ◌≤◌, ◌⊎◌, ℕ, List, length, refl, ap, sym, subst, ◌∙◌, arith}
-use Rattle.noise_c.proofs.Common.{Result, false≢true, Table, Short, Tag, Agreement, ReadFault, Want, HandshakeValue, LeavesLateUnread, WantsPskToRead, DoesNotRead, Party, Refuses, read_code, NoiseResult, handshake_from_c, IsUsable, ReportsWant}
-use Rattle.noise_handshake.specs.declared.late_faults.LateUnread.{LateUnread}
-use Rattle.noise_handshake.specs.declared.late_faults.Want.TheVariants.{Psk}
+use Rattle.noise_c.proofs.Common.{Result, false≢true, Table, Short, Tag, Agreement, ReadFault, Want, HandshakeValue, LeavesUnread, WantsPskToRead, DoesNotRead, Party, Refuses, read_code, NoiseResult, handshake_from_c, IsUsable, ReportsWant}
+use Rattle.noise_handshake.specs.declared.faults.Unread.{Unread}
+use Rattle.noise_handshake.specs.declared.faults.Want.TheVariants.{Psk}
 use Rattle.noise_c.specs.HalfStructs.{IsAround}
 use Rattle.noise_c.specs.Outcomes.ReadOutcome.{accepted, declined, refused, too_long, unusable}
 use Rattle.noise_c.proofs.Stored.{psks-left, usable-after, opened, was-read, matches-for}
 use Rattle.noise_c.proofs.Numbers.{IsPlain, other, above, not-after, too-long, wants-other, plain-among, plain-within, refused-within}
 use Rattle.noise_c.proofs.Wanting.{reads-outcome}
 use Rattle.noise_handshake.specs.declared.faults.ReadFault.TheVariants as read
-use Rattle.noise_handshake.specs.declared.late_faults.LateUnread.TheVariants as unread
+use Rattle.noise_handshake.specs.declared.faults.Unread.TheVariants as unread
 use Rattle.noise_c.proofs.messages.read_next.Goals as goal
 
 pub returns-in-None : goal.returns-in-None
@@ -35,7 +35,7 @@ returns-then-message-gt-MAX_LEN c =
       asked = λ _ len _ _ _ _ _. too-long (length c.args.message.now) 65535 long len;
     }
 
-ok-err : {A : Type 0} (x : ℕ × ℕ) (u : LateUnread) → ◌≡◌ {A = Result (ℕ × ℕ) LateUnread} (Ok x) (Err u) → A
+ok-err : {A : Type 0} (x : ℕ × ℕ) (u : Unread) → ◌≡◌ {A = Result (ℕ × ℕ) Unread} (Ok x) (Err u) → A
 ok-err x u e = cc
 
 -- the bytes before and after a payload, by its length
@@ -81,7 +81,7 @@ returns-in-Ok c =
           ok-err (c.in-Ok.start, c.in-Ok.end) _ (c.in-Ok.ensures.asked v k.later s remote w);
     }
 
-declined-not : {A : Type 0} (u : LateUnread) (fault : ReadFault) (b : Want) → ◌≡◌ {A = Result (ℕ × ℕ) LateUnread} (Err u) (Err (unread.Wants b))
+declined-not : {A : Type 0} (u : Unread) (fault : ReadFault) (b : Want) → ◌≡◌ {A = Result (ℕ × ℕ) Unread} (Err u) (Err (unread.Wants b))
     → u ≡ unread.Declined fault → A
 declined-not u fault b e f = cc
 
@@ -110,7 +110,7 @@ returns-in-Refused c =
       outcome = refused code within.0 within.1 refl refl (λ u. u) c.in-Err-Declined.ensures.unchanged
           (λ p v k.
           let s = matches-for old h p v c.in-Some.ensures.one c.in-Some.ensures.value k in
-          let r = subst (λ (z : LateUnread). LeavesLateUnread v (length h.psks) c.args.message.now z)
+          let r = subst (λ (z : Unread). LeavesUnread v (length h.psks) c.args.message.now z)
           c.in-Err-Declined.field-0-is (c.in-Err-Declined.ensures.reads v k.later s).0 in
           let far : code ≡ 14 → ⊥ = λ e. let known = agreement-of v c.args.message.now fault (sym is ∙ e) r.0 in r.1 known.0 known.1 in (
             far,
@@ -144,7 +144,7 @@ returns-in_default c =
       outcome = declined code among refl refl c.in-Err-Declined.ensures.unchanged
           (λ p v k.
           let s = matches-for old h p v c.in-Some.ensures.one c.in-Some.ensures.value k in
-          let r = subst (λ (z : LateUnread). LeavesLateUnread v (length h.psks) c.args.message.now z)
+          let r = subst (λ (z : Unread). LeavesUnread v (length h.psks) c.args.message.now z)
           c.in-Err-Declined.field-0-is (c.in-Err-Declined.ensures.reads v k.later s).0 in
           record { fault = fault; code_is = is; declines = r.0 });
       asked = λ _ _ p v k remote asks.
@@ -153,7 +153,7 @@ returns-in_default c =
           declined-not c.in-Err-Declined.field-0 fault (Psk remote) (c.in-Err-Declined.ensures.asked v k.later s remote w) c.in-Err-Declined.field-0-is;
     }
 
-want-same : (u : LateUnread) (a b : Want) → ◌≡◌ {A = Result (ℕ × ℕ) LateUnread} (Err u) (Err (unread.Wants b)) → u ≡ unread.Wants a → a ≡ b
+want-same : (u : Unread) (a b : Want) → ◌≡◌ {A = Result (ℕ × ℕ) Unread} (Err u) (Err (unread.Wants b)) → u ≡ unread.Wants a → a ≡ b
 want-same u a b e f = cc
 
 -- what is wanted, with its number
@@ -181,7 +181,7 @@ returns-in-Err-Wants-clause-outcome c =
     c.in-Err-Wants.want c.report_want.new.results c.report_want.result
     (wanted c.in-Err-Wants.want _ c.report_want.new.results c.report_want.result c.in-Err-Wants.want-is c.report_want.ensures.want)
     c.report_want.ensures.answer c.report_want.ensures.remote c.in-Some.ensures.count c.in-Err-Wants.ensures.unchanged
-    (λ p v k. subst (λ (u : LateUnread). LeavesLateUnread v (length h.psks) c.args.message.now u) c.in-Err-Wants.field-0-is
+    (λ p v k. subst (λ (u : Unread). LeavesUnread v (length h.psks) c.args.message.now u) c.in-Err-Wants.field-0-is
     (c.in-Err-Wants.ensures.reads v k.later (matches-for c.args.handshake.now h p v c.in-Some.ensures.one c.in-Some.ensures.value k)).0)
 
 pub returns-in-Err-Wants-clause-asked : goal.returns-in-Err-Wants-clause-asked

@@ -4,7 +4,7 @@ use Rattle.noise_c.proofs.Common.{with_dh_results}
 use Rattle.noise_c.specs.Finishing.{Finishes}
 use Rattle.noise_c.proofs.Finished.{finishes-once}
 use Rattle.noise_c.proofs.Received.{all-read, handed-or}
-use Rattle.noise_channel.specs.Reading.ReaderState.{Listens}
+use Rattle.noise_channel.specs.Reading.StreamReceiverState.{Listens}
 use Rattle.noise_c.specs.StreamStructs.{stream_receiver_from_c}
 use Rattle.noise_c.proofs.reading.read_after_finish.Goals as goal
 

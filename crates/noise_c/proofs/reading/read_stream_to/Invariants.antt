@@ -1,7 +1,7 @@
 use Rattle.std.proofs.Common.{◌≡◌, ◌+◌, ◌-◌, ◌≤◌, length, drop, true, vec_len, vec_capacity}
 use Rattle.noise_session.specs.TransportValue.{TransportState}
-use Rattle.noise_channel.specs.Halves.{ReaderMatches}
-use Rattle.noise_channel.specs.Reading.{ReaderState}
+use Rattle.noise_channel.specs.Halves.{StreamReceiverMatches}
+use Rattle.noise_channel.specs.Reading.{StreamReceiverState}
 use Rattle.noise_channel.specs.Receiving.{ReadsSome}
 use Rattle.noise_c.specs.StreamStructs.{is_stream_receiver, stream_receiver_from_c}
 use Rattle.noise_c.proofs.reading.read_stream_to.Given as goal
@@ -13,7 +13,7 @@ invariant-frames l = record {
   long : length l.came ≡ length l.fn.came;
   rest : drop l.at l.came ≡ drop l.at l.fn.came;
   room : vec_len l.out + (length l.came - l.at) ≤ vec_capacity l.out;
-  reads : (v : TransportState) (s : ReaderState) → ReaderMatches (stream_receiver_from_c l.fn.stream) v s
+  reads : (v : TransportState) (s : StreamReceiverState) → StreamReceiverMatches (stream_receiver_from_c l.fn.stream) v s
       → ReadsSome v s l.fn.came l.at l.fn.out.items l.out.items (stream_receiver_from_c l.stream);
 }
 

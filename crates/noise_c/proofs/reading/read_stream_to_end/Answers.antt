@@ -1,4 +1,4 @@
-use Rattle.noise_channel.specs.Reading.ReaderState.{Listens}
+use Rattle.noise_channel.specs.Reading.StreamReceiverState.{Listens}
 use Rattle.noise_c.specs.StreamStructs.{stream_receiver_from_c}
 use Rattle.noise_c.proofs.reading.read_stream_to_end.Goals as goal
 

@@ -24,7 +24,7 @@ returns-in-Ok-clause-code c =
 
 pub returns-in-Ok-clause-opens : goal.returns-in-Ok-clause-opens
 returns-in-Ok-clause-opens c p v k =
-    c.in-Ok.ensures.opened v k.later (matches-for c.args.handshake.now c.in-Some.value p v c.in-Some.ensures.one c.in-Some.ensures.value k)
+    c.in-Ok.ensures.late v k.later (matches-for c.args.handshake.now c.in-Some.value p v c.in-Some.ensures.one c.in-Some.ensures.value k)
 
 pub returns-in-Err-clause-code : goal.returns-in-Err-clause-code
 returns-in-Err-clause-code c =

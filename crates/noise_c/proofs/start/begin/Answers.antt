@@ -7,15 +7,15 @@ pub returns-clause-fault : goal.returns-clause-fault
 returns-clause-fault c =
     let t = c.args.setup.now in
     fault-moved c.args.pattern c.role_of-role.result (role_in t.responder) (table_of t) (table_of t)
-    (record { e = c.key_of.result; s = c.key_of-2.result }) (remote_of t) (max (length (psks_in t)) (psks_of c.args.pattern.messages)) c.new.result c.role_of-role.ensures
+    (record { e = c.key_of.result; s = c.key_of-2.result }) (remote_of t) (max (length (psks_in t)) (psks_of c.args.pattern.messages)) c.with_fewer_psks.result c.role_of-role.ensures
     refl
     (remote-of c.key_of.result (key_from_c t.remote_e) c.key_of-2.result (key_from_c t.remote_s) c.key_of.ensures c.key_of-2.ensures)
-    c.new.ensures.fault
+    c.with_fewer_psks.ensures.fault
 
 pub returns-clause-matches : goal.returns-clause-matches
 returns-clause-matches c =
     let t = c.args.setup.now in
     matches-moved c.args.pattern c.args.prologue.now (table_of t) (psks_in t) c.role_of-role.result (role_in t.responder)
-    (record { e = c.key_of.result; s = c.key_of-2.result }) (remote_of t) c.new.result c.role_of-role.ensures
+    (record { e = c.key_of.result; s = c.key_of-2.result }) (remote_of t) c.with_fewer_psks.result c.role_of-role.ensures
     (remote-of c.key_of.result (key_from_c t.remote_e) c.key_of-2.result (key_from_c t.remote_s) c.key_of.ensures c.key_of-2.ensures)
-    c.new.ensures.matches
+    c.with_fewer_psks.ensures.matches

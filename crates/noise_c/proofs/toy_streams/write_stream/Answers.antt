@@ -1,7 +1,7 @@
 use Rattle.std.proofs.Common.{◌≡◌, ◌≤◌, ℕ, ◌+◌, ◌-◌, ◌++◌, List, length, length-drop, take, ap, sym, subst, ◌∙◌, arith}
 use borrow.Rule.Slice.PartMut.{mid_of, put_mid}
 use Rattle.noise_session.specs.TransportValue.{transport_of}
-use Rattle.noise_channel.specs.Writing.WriterState.{Speaks}
+use Rattle.noise_channel.specs.Writing.StreamSenderState.{Speaks}
 use Rattle.noise_c.specs.declared.structs.NoiseStreamResult.{NoiseStreamResult}
 use Rattle.noise_c.specs.FinishedPrograms.{IsStreamOf}
 use Rattle.noise_c.proofs.Received.{part-long, part-of}

@@ -1,4 +1,4 @@
-use Rattle.noise_channel.specs.Reading.ReaderState.{Listens}
+use Rattle.noise_channel.specs.Reading.StreamReceiverState.{Listens}
 use Rattle.noise_channel.proofs.reader.read_to_end.Goals as goal
 
 pub returns-clause-reads : goal.returns-clause-reads

@@ -1,7 +1,6 @@
 use Rattle.std.proofs.Common.{rules, ◌<◌, List, length, take, sym, ap, subst, refl, arith, length-take}
 use Rattle.noise_handshake.proofs.Common.{reader_of, count_by, Token, is_psk, StateMatches, keyed, SymmetricState, Reader, tokens_of, ArePlaced, StopsKnowing}
 use Rattle.noise_handshake.proofs.Fronts.{tokens-take, placed-take, stops-all}
-use Rattle.noise_handshake.proofs.Later.{count-take}
 use Rattle.noise_handshake.proofs.Layouts.{length-tokens_of}
 use Rattle.noise_handshake.proofs.reader.read_before.Goals as goal
 
@@ -15,7 +14,7 @@ read_tokens-requires-clause-placed g c = (
 
 pub read_tokens-requires-clause-psks : goal.read_tokens-requires-clause-psks
 read_tokens-requires-clause-psks g c =
-    omega (arith, c.requires.psks, ap (count_by is_psk) (tokens-take c.args.placed.now c.args.k), count-take (tokens_of c.args.placed.now) c.args.k)
+    omega (arith, c.requires.psks, ap (count_by is_psk) (tokens-take c.args.placed.now c.args.k))
 
 pub read_tokens-requires-clause-nonces : goal.read_tokens-requires-clause-nonces
 read_tokens-requires-clause-nonces g c = search (rules, tokens-take, length-take)

@@ -1,12 +1,11 @@
 use Rattle.std.proofs.Common.{rules, ℕ, List, ap, subst, arith}
 use Rattle.noise_handshake.proofs.Common.{writer_of, MatchOption, count_by, Token, is_psk, LacksDhResultFor, Writer, LacksDhResultAt, tokens_of}
 use Rattle.noise_handshake.proofs.Fronts.{tokens-take, all-take}
-use Rattle.noise_handshake.proofs.Later.{count-take}
 use Rattle.noise_handshake.proofs.writer.write_lacking_before.Goals as goal
 
 pub write_lacking-requires-clause-psks : goal.write_lacking-requires-clause-psks
 write_lacking-requires-clause-psks g c =
-    omega (arith, c.requires.psks, ap (count_by is_psk) (tokens-take c.args.placed.now c.args.k), count-take (tokens_of c.args.placed.now) c.args.k)
+    omega (arith, c.requires.psks, ap (count_by is_psk) (tokens-take c.args.placed.now c.args.k))
 
 pub write_lacking-requires-clause-own : goal.write_lacking-requires-clause-own
 write_lacking-requires-clause-own g c = search (rules, tokens-take, all-take)

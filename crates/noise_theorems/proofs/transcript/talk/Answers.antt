@@ -8,7 +8,7 @@ use Rattle.noise_theorems.proofs.transcript.talk.Goals as goal
 pub returns-clause-printed : goal.returns-clause-printed
 returns-clause-printed g c f p lines fits is =
     let laws : Once = record {
-      runs = c.fitting_lines_run.ensures;
+      runs = c.fitting_messages_run.ensures;
       once = c.file_run_once.ensures;
       unique = c.vector_texts_are_unique.ensures;
     } in
@@ -18,7 +18,7 @@ returns-clause-printed g c f p lines fits is =
 pub returns-clause-met : goal.returns-clause-met
 returns-clause-met g c f p lines fits is =
     let laws : Once = record {
-      runs = c.fitting_lines_run.ensures;
+      runs = c.fitting_messages_run.ensures;
       once = c.file_run_once.ensures;
       unique = c.vector_texts_are_unique.ensures;
     } in
@@ -28,7 +28,7 @@ returns-clause-met g c f p lines fits is =
 pub returns-clause-taken : goal.returns-clause-taken
 returns-clause-taken g c f p lines fits is =
     let laws : Once = record {
-      runs = c.fitting_lines_run.ensures;
+      runs = c.fitting_messages_run.ensures;
       once = c.file_run_once.ensures;
       unique = c.vector_texts_are_unique.ensures;
     } in
@@ -38,7 +38,7 @@ returns-clause-taken g c f p lines fits is =
 pub returns-clause-prefix : goal.returns-clause-prefix
 returns-clause-prefix g c f p lines fits is =
     let laws : Once = record {
-      runs = c.fitting_lines_run.ensures;
+      runs = c.fitting_messages_run.ensures;
       once = c.file_run_once.ensures;
       unique = c.vector_texts_are_unique.ensures;
     } in

@@ -10,8 +10,8 @@ returns-clause-ends c =
     let a = c.in_ok-initiator.ensures.made in
     let same = c.in_ok-initiator.ensures.value in
     let plan_is : c.pattern.result.now ≡ a.plan = c.pattern.ensures.value ∙ a.initiator.pattern in
-    let follows = c.follow.ensures _ a.initiator (ap public_of (sym c.requires.same.initiator)) (ap agreement_of (sym c.requires.same.initiator)) in
-    let follows-2 = c.follow-2.ensures _ a.responder (ap public_of (sym c.requires.same.responder)) (ap agreement_of (sym c.requires.same.responder)) in
+    let follows = c.follow.ensures.traced _ a.initiator (ap public_of (sym c.requires.same.initiator)) (ap agreement_of (sym c.requires.same.initiator)) in
+    let follows-2 = c.follow-2.ensures.traced _ a.responder (ap public_of (sym c.requires.same.responder)) (ap agreement_of (sym c.requires.same.responder)) in
     record {
       plan = a.plan;
       of_file = a.of_file;

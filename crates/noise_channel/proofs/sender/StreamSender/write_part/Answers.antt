@@ -2,7 +2,7 @@ use Rattle.std.proofs.Common.{◌≡◌, ◌+◌, ◌<◌, take, refl, sym, ◌�
 use Rattle.noise_session.specs.Transport.{last_nonce}
 use Rattle.noise_channel.specs.Writing.Asked.{ToWrite}
 use Rattle.noise_session.specs.Halves.{writes_nothing}
-use Rattle.noise_channel.specs.Halves.{WriterValue, WriterMatches}
+use Rattle.noise_channel.specs.Halves.{StreamSenderValue, StreamSenderMatches}
 use Rattle.noise_channel.proofs.Writers.{skips-as, mute-as, exhausted-as, writes-as, none-there, some-there, asks-some, last-there, below-last}
 use Rattle.noise_channel.proofs.sender.StreamSender.write_part.Goals as goal
 
@@ -25,15 +25,15 @@ returns-then-only_end_is_left-clause-writes c v s matches =
 
 pub returns-clause-writes : goal.returns-clause-writes
 returns-clause-writes c v s matches =
-    let w : WriterValue = record { half = c.self.inside.sender; ended = c.self.inside.ended } in
+    let w : StreamSenderValue = record { half = c.self.inside.sender; ended = c.self.inside.ended } in
     let p = c.args.payload.now in
     let taken = c.min-taken.result in
-    let same : w.half.nonce ≡ c.args.self.now.half.nonce = ap (λ (h : WriterValue). h.half.nonce) c.self.view_is in
+    let same : w.half.nonce ≡ c.args.self.now.half.nonce = ap (λ (h : StreamSenderValue). h.half.nonce) c.self.view_is in
     let room : w.half.nonce + 1 < last_nonce =
     below-last w.half.nonce c.args.self.now.half.nonce c.only_end_is_left.result same c.only_end_is_left.ensures c.if-only_end_is_left.false
     c.in-Ok.ensures.seals.below in
-    writes-as w v (ap (λ (h : WriterValue). h.ended) c.self.view_is ∙ c.requires.due.0)
-    (ap (λ (h : WriterValue). writes_nothing h.half) c.self.view_is ∙ sym c.writes_nothing.ensures ∙ c.if-writes_nothing.false)
+    writes-as w v (ap (λ (h : StreamSenderValue). h.ended) c.self.view_is ∙ c.requires.due.0)
+    (ap (λ (h : StreamSenderValue). writes_nothing h.half) c.self.view_is ∙ sym c.writes_nothing.ensures ∙ c.if-writes_nothing.false)
     c.seal_frame.new.self (take taken p) (take c.in-Ok.written c.seal_frame.new.out) c.in-Ok.ensures.seals.seals s p taken
     (some-there p c.is_empty.result c.is_empty.ensures c.if-is_empty.false) room c.min-taken.ensures refl
-    (subst (λ (h : WriterValue). WriterMatches h v s) (sym c.self.view_is) matches)
+    (subst (λ (h : StreamSenderValue). StreamSenderMatches h v s) (sym c.self.view_is) matches)

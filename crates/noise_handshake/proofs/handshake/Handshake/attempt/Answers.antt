@@ -10,7 +10,9 @@ pub read_message-requires-clause-placed : goal.read_message-requires-clause-plac
 read_message-requires-clause-placed g c = search (rules, reads-next, places-next)
 
 pub read_message-requires-clause-psks : goal.read_message-requires-clause-psks
-read_message-requires-clause-psks g c = search (rules, reads-next, psks-next)
+read_message-requires-clause-psks g c =
+    psks-next g.K.Keys.public_of c.self.inside c.self.invariant (reads-next g.K.Keys.public_of c.self.inside c.self.invariant c.args.self.now c.self.view_is c.requires.due)
+    c.deref-2.result.now c.deref-2.ensures.0 c.args.self.now c.self.view_is c.requires.psks c.deref.result.now c.deref.ensures.0
 
 pub read_message-requires-clause-nonces : goal.read_message-requires-clause-nonces
 read_message-requires-clause-nonces g c = search (rules, reads-next, nonces-next)
@@ -20,7 +22,7 @@ overflow_add-self g c =
     let less = reads-next g.K.Keys.public_of c.self.inside c.self.invariant c.args.self.now c.self.view_is c.requires.due in
     omega (
       arith,
-      used-next g.K.Keys.public_of c.self.inside c.self.invariant less c.deref-2.result.now c.deref-2.ensures.0
+      used-next g.K.Keys.public_of c.self.inside c.self.invariant less c.deref-2.result.now c.deref-2.ensures.0 c.args.self.now c.self.view_is c.requires.psks
           (omega (arith, c.deref.ensures.1, ap length c.deref.ensures.0)),
     )
 
@@ -40,6 +42,7 @@ invariant_of-self g c =
     c.for_trial-state.result c.read_message.new.state c.for_trial-state.ensures (ap (λ (k : Keying). k.keyed) c.in-Ok.ensures.keying)
     (ap (λ (k : Keying). k.nonce) c.in-Ok.ensures.keying)
     (omega (arith, c.deref-2.ensures.1)) c.pattern-plan.result.now c.pattern-plan.ensures.value c.lay_next-self-inside.result c.lay_next-self-inside.ensures.laid
+    c.args.self.now c.self.view_is c.requires.psks
     (reads-theirs g.K.Keys.public_of c.self.inside c.self.invariant c.args.self.now c.self.view_is c.requires.due) c.read_message.new.known
     (ap (λ (k : Keying). k.e) c.in-Ok.ensures.keying) (ap (λ (k : Keying). k.s) c.in-Ok.ensures.keying)
 
@@ -76,6 +79,6 @@ returns-in-Err-clause-reads g c v s =
 pub returns-in-Ok-clause-state : goal.returns-in-Ok-clause-state
 returns-in-Ok-clause-state g c =
     advances-next g.K.Keys.public_of c.self.inside c.self.invariant
-    (reads-next g.K.Keys.public_of c.self.inside c.self.invariant c.args.self.now c.self.view_is c.requires.due) c.args.self.now c.self.view_is
+    (reads-next g.K.Keys.public_of c.self.inside c.self.invariant c.args.self.now c.self.view_is c.requires.due) c.args.self.now c.self.view_is c.requires.psks
     (reads-unended g.K.Keys.public_of c.self.inside c.self.invariant c.args.self.now c.self.view_is c.requires.due)
     c.read_message.new.known c.read_message.new.state c.lay_next-self-inside.result

@@ -11,7 +11,7 @@ pub start-state-requires-clause-initiator : goal.start-state-requires-clause-ini
 start-state-requires-clause-initiator g c =
     let plan : Plan = c.pattern-plan.result.now in
     let own = g.K.Keys.public_of c.args.keys in
-    let n : ℕ = length c.args.psks.items in
+    let n : ℕ = psks_of c.args.pattern.messages in
     let none : setup_fault plan c.args.role own c.args.remote n ≡ None =
     ap (λ (z : Plan). setup_fault z c.args.role own c.args.remote n) c.pattern-plan.ensures.value ∙ c.requires.right in
     subst (λ (z : Remote). HasPre plan Initiator (keys_of Initiator c.args.role z c.args.remote)) (sym c.public_keys.ensures)
@@ -21,7 +21,7 @@ pub start-state-requires-clause-responder : goal.start-state-requires-clause-res
 start-state-requires-clause-responder g c =
     let plan : Plan = c.pattern-plan.result.now in
     let own = g.K.Keys.public_of c.args.keys in
-    let n : ℕ = length c.args.psks.items in
+    let n : ℕ = psks_of c.args.pattern.messages in
     let none : setup_fault plan c.args.role own c.args.remote n ≡ None =
     ap (λ (z : Plan). setup_fault z c.args.role own c.args.remote n) c.pattern-plan.ensures.value ∙ c.requires.right in
     subst (λ (z : Remote). HasPre plan Responder (keys_of Responder c.args.role z c.args.remote)) (sym c.public_keys.ensures)
@@ -32,7 +32,7 @@ invariant_of-result g c =
     let plan : Plan = c.pattern-plan.result.now in
     let P = g.K.Keys.public_of in
     let own = g.K.Keys.public_of c.args.keys in
-    let n : ℕ = length c.args.psks.items in
+    let n : ℕ = psks_of c.args.pattern.messages in
     let none : setup_fault plan c.args.role own c.args.remote n ≡ None =
     ap (λ (z : Plan). setup_fault z c.args.role own c.args.remote n) c.pattern-plan.ensures.value ∙ c.requires.right in
     let q : plan ≡ c.args.pattern = c.pattern-plan.ensures.value in
@@ -52,7 +52,7 @@ invariant_of-result g c =
     let sound : IsSound P (at plan) = record {
       within = omega arith;
       few = few-messages plan c.lay_next-next.ensures.limits;
-      psks = count;
+      psks = omega (arith, c.requires.few, count);
       has_e = own-e plan c.args.role own c.args.remote n none;
       has_s = own-s plan c.args.role own c.args.remote n none;
       keyed = c.start-state.ensures.key;

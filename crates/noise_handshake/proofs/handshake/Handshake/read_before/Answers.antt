@@ -2,7 +2,7 @@ use Rattle.std.proofs.Common.{rules, ℕ, ◌<◌, ◌≤◌, length, refl, ap, 
 use Rattle.noise_handshake.proofs.Common.{MatchOption, MatchResult, Agreement, HandshakeValue, Stops, tokens_at, StopsFor, BeginsBefore}
 use Rattle.noise_handshake.proofs.Before.{before-of}
 use Rattle.noise_handshake.proofs.Layouts.{length-tokens_of}
-use Rattle.noise_handshake.proofs.Next.{reads-next, tokens-next, places-next, psks-next, nonces-next, known-next, trial-next, listening-next}
+use Rattle.noise_handshake.proofs.Next.{reads-next, tokens-next, places-next, psks-before, nonces-next, known-next, trial-next, listening-next}
 use Rattle.noise_handshake.proofs.Standing.{for-view}
 use Rattle.noise_handshake.proofs.handshake.Handshake.read_before.Goals as goal
 
@@ -10,7 +10,9 @@ pub read_before-requires-clause-placed : goal.read_before-requires-clause-placed
 read_before-requires-clause-placed g c = search (rules, reads-next, places-next)
 
 pub read_before-requires-clause-psks : goal.read_before-requires-clause-psks
-read_before-requires-clause-psks g c = search (rules, reads-next, psks-next)
+read_before-requires-clause-psks g c =
+    psks-before g.K.Keys.public_of c.self.inside c.self.invariant (reads-next g.K.Keys.public_of c.self.inside c.self.invariant c.args.self.now c.self.view_is c.requires.due)
+    c.deref-2.result.now c.deref-2.ensures.0 c.args.self.now c.self.view_is c.args.k c.requires.psks c.deref.result.now c.deref.ensures.0
 
 pub read_before-requires-clause-nonces : goal.read_before-requires-clause-nonces
 read_before-requires-clause-nonces g c = search (rules, reads-next, nonces-next)
@@ -26,17 +28,19 @@ read_before-requires-clause-within g c =
     omega (arith, all, ap length (tokens-next g.K.Keys.public_of c.self.inside c.self.invariant less c.deref-2.result.now c.deref-2.ensures.0), length-tokens_of c.deref-2.result.now)
 
 pub returns : goal.returns
-returns g c v s =
-    let A = g.K.Keys.agreement in
-    let a = c.self.inside in
-    let less = reads-next g.K.Keys.public_of c.self.inside c.self.invariant c.args.self.now c.self.view_is c.requires.due in
-    let l = listening-next g.K.Keys.public_of c.self.inside c.self.invariant less c.deref-2.result.now c.deref-2.ensures.0 A c.args.self.now c.self.view_is v s
-    c.deref.result.now c.deref.ensures.0 c.requires.due in
-    let trial = trial-next g.K.Keys.public_of c.self.inside c.self.invariant less c.deref-2.result.now c.deref-2.ensures.0 A c.args.self.now c.self.view_is v s a.state refl in
-    let q = for-view v a.means.role a.means.has_psks (A a.means.keys) _ a.remote _ l
-    (λ w z s us. MatchResult c.read_before.result (λ remote. BeginsBefore w z s v.history us c.args.message.now c.args.k remote)
-    (λ stop. (stop.token < c.args.k) × Stops w z s v.history us c.args.message.now stop.token stop.cause × MatchOption stop.want
-    ((j : ℕ) → Stops w z s v.history us c.args.message.now j Agreement → ⊥)
-    (λ want. StopsFor w z s v.history us c.args.message.now want.0 want.1)))
-    (c.read_before.ensures v.history trial) in
-    before-of v c.args.message.now c.args.k c.read_before.result l.listens q
+returns g c = record {
+  reads = λ v s.
+      let A = g.K.Keys.agreement in
+      let a = c.self.inside in
+      let less = reads-next g.K.Keys.public_of c.self.inside c.self.invariant c.args.self.now c.self.view_is c.requires.due in
+      let l = listening-next g.K.Keys.public_of c.self.inside c.self.invariant less c.deref-2.result.now c.deref-2.ensures.0 A c.args.self.now c.self.view_is v s
+      c.deref.result.now c.deref.ensures.0 c.requires.due in
+      let trial = trial-next g.K.Keys.public_of c.self.inside c.self.invariant less c.deref-2.result.now c.deref-2.ensures.0 A c.args.self.now c.self.view_is v s a.state refl in
+      let q = for-view v a.means.role a.means.has_psks (A a.means.keys) _ a.remote _ l
+      (λ w z s us. MatchResult c.read_before.result (λ remote. BeginsBefore w z s v.history us c.args.message.now c.args.k remote)
+      (λ stop. (stop.token < c.args.k) × Stops w z s v.history us c.args.message.now stop.token stop.cause × MatchOption stop.want
+      ((j : ℕ) → Stops w z s v.history us c.args.message.now j Agreement → ⊥)
+      (λ want. StopsFor w z s v.history us c.args.message.now want.0 want.1)))
+      (c.read_before.ensures v.history trial) in
+      before-of v c.args.message.now c.args.k c.read_before.result l.listens q;
+}

@@ -1,24 +1,62 @@
-use Rattle.std.proofs.Common.{ℕ, List, refl, sym, subst, ◌∙◌}
-use Rattle.std.specs.Prelude.{true}
-use Rattle.noise_handshake.proofs.Common.{Option, MatchOption, Agreement, ReadFault, Own, HandshakeValue, ended_as, Matches, DoesNotRead, after_not_read, Refuses, WantsToRead, held_in}
-use Rattle.noise_handshake.proofs.Standing.{faulted, faulted-not, ends}
+use Rattle.std.proofs.Common.{ℕ, ap, sym, subst, ◌∙◌}
+use Rattle.noise_handshake.proofs.Common.{DoesNotRead, HandshakeValue, MatchesWith, after_not_read, ended_as, Refuses, Agreement, ReadFault}
+use Rattle.noise_handshake.specs.declared.faults.ReadFault.TheVariants as read
+use Rattle.noise_handshake.proofs.LateParties.{holding, matches-given, few-now, after-read, matches-ended, read-accepts, read-dh-result, read-declines, read-none, wants-none, wants-some}
 use Rattle.noise_handshake.proofs.handshake.Handshake.read_or_ask.Goals as goal
 
-pub returns-in-Some-clause-reads : goal.returns-in-Some-clause-reads
-returns-in-Some-clause-reads g c v s =
+pub returns-in-Ok-clause-reads : goal.returns-in-Ok-clause-reads
+returns-in-Ok-clause-reads g c v later s =
     let P = g.K.Keys.public_of in
     let A = g.K.Keys.agreement in
-    let e = sym c.read_fault.ensures.value ∙ c.in-Some.is in
-    let d = faulted P A c.args.self.now v s c.in-Some.fault c.args.message.now c.read_fault.ensures.within e in
-    ((d.0, λ token r. faulted-not P A c.args.self.now v s c.in-Some.fault c.args.message.now token Agreement e r), d.1)
+    let h = c.args.self.now in
+    let q = c.in-Ok.ensures.reads (holding v h.psks) (matches-given P A h v later s) in (
+      q.0,
+      read-accepts P A h v later s c.args.message.now c.in-None.ensures.lacks q.0 _ q.1,
+      after-read P A h v later s c.attempt.new.self q.0 _ (few-now P A h v later s c.in-None.ensures.lacks) q.2,
+    )
 
-pub returns-in-None-clause-reads : goal.returns-in-None-clause-reads
-returns-in-None-clause-reads g c v s =
+pub returns-in-Ok-clause-asked : goal.returns-in-Ok-clause-asked
+returns-in-Ok-clause-asked g c v later s remote x =
+    absurd (read-none g.K.Keys.public_of g.K.Keys.agreement c.args.self.now v later s c.args.message.now c.in-None.ensures.lacks remote x)
+
+pub returns-in-Some-want-clause-reads : goal.returns-in-Some-want-clause-reads
+returns-in-Some-want-clause-reads g c v later s =
     let P = g.K.Keys.public_of in
     let A = g.K.Keys.agreement in
-    let s0 : Matches P A (held_in c.self.inside) v = subst (λ (z : HandshakeValue g.row.K.Denot). Matches P A z v) (sym (c.self.view_is ∙ c.in-Err.ensures.state)) s in
-    let q = c.in-Err.ensures.reads v s in
-    let none = subst (λ (o : Option (Own × List ℕ)). MatchOption o ((token : ℕ) → Refuses v c.args.message.now token Agreement → ⊥)
-    (λ want. WantsToRead v c.args.message.now want.0 want.1)) c.in-None.is q.1 in
+    let h = c.args.self.now in
+    let q = c.in-Err.ensures.reads (holding v h.psks) (matches-given P A h v later s) in (
+      read-dh-result P A h v later s c.args.message.now c.in-None.ensures.lacks _ _
+          (wants-some (holding v h.psks) c.args.message.now c.in-Err.stop.want q.1 c.in-Some-want.want c.in-Some-want.is),
+      subst (λ (z : HandshakeValue g.row.K.Denot). MatchesWith P A later z v) (sym c.in-Err.ensures.state) s,
+    )
+
+pub returns-in-None-want-clause-reads : goal.returns-in-None-want-clause-reads
+returns-in-None-want-clause-reads g c v later s =
+    let P = g.K.Keys.public_of in
+    let A = g.K.Keys.agreement in
+    let h = c.args.self.now in
+    let q = c.in-Err.ensures.reads (holding v h.psks) (matches-given P A h v later s) in
+    let none = wants-none (holding v h.psks) c.args.message.now c.in-Err.stop.want q.1 c.in-None-want.is in
     subst (λ (f : ReadFault). (DoesNotRead v c.args.message.now f × ((token : ℕ) → Refuses v c.args.message.now token Agreement → ⊥))
-    × Matches P A (ended_as (held_in c.self.inside)) (after_not_read v f)) (sym c.fault.ensures) ((q.0, none), ends P A (held_in c.self.inside) v s0 true refl)
+    × MatchesWith P A later c.end.new.self (after_not_read v f)) (sym c.fault.ensures) (
+      read-declines P A h v later s c.args.message.now c.in-None.ensures.lacks (read.Refused c.in-Err.stop.token c.in-Err.stop.cause) (q.0, none),
+      matches-ended P A h v later s c.args.message.now c.end.new.self
+          (c.end.ensures.ended ∙ ap (λ (z : HandshakeValue g.row.K.Denot). ended_as z) c.in-Err.ensures.state),
+    )
+
+pub returns-in-Ok-read_to_psk-clause-asked : goal.returns-in-Ok-read_to_psk-clause-asked
+returns-in-Ok-read_to_psk-clause-asked g c v later s remote x = let e = c.in-Ok-read_to_psk.ensures.asked v later s remote x in cc
+
+pub returns-in-Err-read_to_psk-clause-reads : goal.returns-in-Err-read_to_psk-clause-reads
+returns-in-Err-read_to_psk-clause-reads g c v later s =
+    let P = g.K.Keys.public_of in
+    let A = g.K.Keys.agreement in
+    let h = c.args.self.now in
+    subst (λ (f : ReadFault). (DoesNotRead v c.args.message.now f × ((token : ℕ) → Refuses v c.args.message.now token Agreement → ⊥))
+    × MatchesWith P A later c.end-in-Err-read_to_psk.new.self (after_not_read v f)) (sym c.fault-in-Err-read_to_psk.ensures) (
+      c.in-Err-read_to_psk.ensures.wants v later s,
+      matches-ended P A h v later s c.args.message.now c.end-in-Err-read_to_psk.new.self c.end-in-Err-read_to_psk.ensures.ended,
+    )
+
+pub returns-in-Err-read_to_psk-clause-asked : goal.returns-in-Err-read_to_psk-clause-asked
+returns-in-Err-read_to_psk-clause-asked g c v later s remote x = let e = c.in-Err-read_to_psk.ensures.asked v later s remote x in absurd (cc)

@@ -1,26 +1,21 @@
-use Rattle.std.proofs.Common.{rules, refl, sym, ◌∙◌}
-use Rattle.noise_handshake.proofs.Next.{reads-next, places-next, psks-next, nonces-next, known-next, trial-next, listening-next}
-use Rattle.noise_handshake.proofs.Wanted.{wants}
+use Rattle.noise_handshake.proofs.LateParties.{holding, matches-given, read-dh-result, read-lacks}
 use Rattle.noise_handshake.proofs.handshake.Handshake.wants_to_read.Goals as goal
 
-pub read_lacking-requires-clause-placed : goal.read_lacking-requires-clause-placed
-read_lacking-requires-clause-placed g c = search (rules, reads-next, places-next)
+pub returns-in-Some-read_lacking-clause-wants : goal.returns-in-Some-read_lacking-clause-wants
+returns-in-Some-read_lacking-clause-wants g c v later s =
+    read-dh-result g.K.Keys.public_of g.K.Keys.agreement c.args.self.now v later s c.args.message.now
+    c.in-None.ensures.lacks _ _ (c.in-Some-read_lacking.ensures.wants (holding v c.args.self.now.psks) (matches-given g.K.Keys.public_of g.K.Keys.agreement c.args.self.now v later s))
 
-pub read_lacking-requires-clause-psks : goal.read_lacking-requires-clause-psks
-read_lacking-requires-clause-psks g c = search (rules, reads-next, psks-next)
+pub returns-in-None-read_lacking-clause-wants : goal.returns-in-None-read_lacking-clause-wants
+returns-in-None-read_lacking-clause-wants g c v later s =
+    read-lacks g.K.Keys.public_of g.K.Keys.agreement c.args.self.now v later s c.args.message.now
+    c.in-None.ensures.lacks (c.in-None-read_lacking.ensures.wants (holding v c.args.self.now.psks) (matches-given g.K.Keys.public_of g.K.Keys.agreement c.args.self.now v later s))
 
-pub read_lacking-requires-clause-nonces : goal.read_lacking-requires-clause-nonces
-read_lacking-requires-clause-nonces g c = search (rules, reads-next, nonces-next)
+pub returns-in-Ok-clause-asked : goal.returns-in-Ok-clause-asked
+returns-in-Ok-clause-asked g c v later s remote x = let e = c.in-Ok.ensures.asked v later s remote x in cc
 
-pub read_lacking-requires-clause-known : goal.read_lacking-requires-clause-known
-read_lacking-requires-clause-known g c = search (rules, reads-next, known-next)
+pub returns-in-Err-clause-wants : goal.returns-in-Err-clause-wants
+returns-in-Err-clause-wants g c v later s = (c.in-Err.ensures.wants v later s).1
 
-pub returns : goal.returns
-returns g c v s =
-    let A = g.K.Keys.agreement in
-    let a = c.self.inside in
-    let less = reads-next g.K.Keys.public_of c.self.inside c.self.invariant c.args.self.now c.self.view_is (sym c.read_fault.ensures.value ∙ c.in_default.is) in
-    let l = listening-next g.K.Keys.public_of c.self.inside c.self.invariant less c.deref-2.result.now c.deref-2.ensures.0 A c.args.self.now c.self.view_is v s
-    c.deref.result.now c.deref.ensures.0 (sym c.read_fault.ensures.value ∙ c.in_default.is) in
-    let trial = trial-next g.K.Keys.public_of c.self.inside c.self.invariant less c.deref-2.result.now c.deref-2.ensures.0 A c.args.self.now c.self.view_is v s a.state refl in
-    wants v c.args.message.now c.read_lacking.result a.means.role a.means.has_psks (A a.means.keys) _ a.remote _ l (c.read_lacking.ensures v.history trial)
+pub returns-in-Err-clause-asked : goal.returns-in-Err-clause-asked
+returns-in-Err-clause-asked g c v later s remote x = let e = c.in-Err.ensures.asked v later s remote x in absurd (cc)

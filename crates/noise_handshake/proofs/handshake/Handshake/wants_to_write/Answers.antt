@@ -1,23 +1,30 @@
-use Rattle.std.proofs.Common.{rules, sym, ◌∙◌}
-use Rattle.noise_handshake.proofs.Lacked.{wants}
-use Rattle.noise_handshake.proofs.Next.{speaks-next, speaks-ours, psks-next, own-ours, known-ours, due-next}
+use Rattle.std.proofs.Common.{ap, ◌∙◌, arith}
+use Rattle.noise_handshake.proofs.Common.{Remote}
+use Rattle.noise_handshake.proofs.LateParties.{holding, matches-given, write-none, write-dh-result, write-before, write-before-not, write-psk}
 use Rattle.noise_handshake.proofs.handshake.Handshake.wants_to_write.Goals as goal
 
-pub write_lacking-requires-clause-psks : goal.write_lacking-requires-clause-psks
-write_lacking-requires-clause-psks g c = search (rules, speaks-next, psks-next)
+pub returns-in-Some-write_lacking-clause-wants : goal.returns-in-Some-write_lacking-clause-wants
+returns-in-Some-write_lacking-clause-wants g c v later s =
+    write-dh-result g.K.Keys.public_of g.K.Keys.agreement c.args.self.now v later s _ _
+    c.in-None.ensures.lacks (c.in-Some-write_lacking.ensures.wants (holding v c.args.self.now.psks) (matches-given g.K.Keys.public_of g.K.Keys.agreement c.args.self.now v later s))
 
-pub write_lacking-requires-clause-own : goal.write_lacking-requires-clause-own
-write_lacking-requires-clause-own g c = search (rules, speaks-next, own-ours, speaks-ours)
+pub returns-in-None-write_lacking-clause-wants : goal.returns-in-None-write_lacking-clause-wants
+returns-in-None-write_lacking-clause-wants g c v later s =
+    write-none g.K.Keys.public_of g.K.Keys.agreement c.args.self.now v later s
+    c.in-None.ensures.lacks (c.in-None-write_lacking.ensures.wants (holding v c.args.self.now.psks) (matches-given g.K.Keys.public_of g.K.Keys.agreement c.args.self.now v later s))
 
-pub write_lacking-requires-clause-known : goal.write_lacking-requires-clause-known
-write_lacking-requires-clause-known g c = search (rules, speaks-next, known-ours, speaks-ours)
+pub returns-in-Some-wants_before-clause-wants : goal.returns-in-Some-wants_before-clause-wants
+returns-in-Some-wants_before-clause-wants g c v later s =
+    let q = c.in-Some-wants_before.ensures.wants (holding v c.args.self.now.psks) (matches-given g.K.Keys.public_of g.K.Keys.agreement c.args.self.now v later s) in
+    write-before g.K.Keys.public_of g.K.Keys.agreement c.args.self.now v later s c.in-Some.k c.in-Some.ensures.lacks _ _ q.0 q.1
 
-pub returns : goal.returns
-returns g c v s =
-    let P = g.K.Keys.public_of in
-    let A = g.K.Keys.agreement in
-    let a = c.self.inside in
-    let less = speaks-next g.K.Keys.public_of c.self.inside c.self.invariant c.args.self.now c.self.view_is (sym c.speaks.ensures ∙ c.if-not-speaks.false) in
-    let l = due-next g.K.Keys.public_of c.self.inside c.self.invariant less c.deref-2.result.now c.deref-2.ensures.0 A c.args.self.now c.self.view_is v s
-    c.deref.result.now c.deref.ensures.0 (sym c.speaks.ensures ∙ c.if-not-speaks.false) in
-    wants v c.write_lacking.result a.means.role a.means.has_psks (P a.means.keys) (A a.means.keys) _ a.remote _ l c.write_lacking.ensures
+pub returns-in-Some-wants_before-clause-asked : goal.returns-in-Some-wants_before-clause-asked
+returns-in-Some-wants_before-clause-asked g c v later s x =
+    let q = c.in-Some-wants_before.ensures.wants (holding v c.args.self.now.psks) (matches-given g.K.Keys.public_of g.K.Keys.agreement c.args.self.now v later s) in
+    absurd (write-before-not g.K.Keys.public_of g.K.Keys.agreement c.args.self.now v later s c.in-Some.k c.in-Some.ensures.lacks _ _ q.1 x)
+
+pub returns-in-None-wants_before-clause-wants : goal.returns-in-None-wants_before-clause-wants
+returns-in-None-wants_before-clause-wants g c v later s =
+    let st = matches-given g.K.Keys.public_of g.K.Keys.agreement c.args.self.now v later s in
+    let q = c.in-None-wants_before.ensures.wants (holding v c.args.self.now.psks) st in
+    (write-psk g.K.Keys.public_of g.K.Keys.agreement c.args.self.now v later s c.in-Some.k c.in-Some.ensures.lacks q.0 q.1, c.remote_static.ensures ∙ ap (λ (z : Remote). z.s) st.remote)

@@ -1,130 +1,8 @@
-use Rattle.std.proofs.Common.{rules, ◌≡◌, ℕ, ◌+◌, ◌≤◌, length, take, refl, ap, sym, subst, true, ◌∙◌, arith, length-take}
-use Rattle.noise_handshake.proofs.Common.{Some, WriteFault, HandshakeValue, write_fault, Matches, Party, held_in}
-use Rattle.noise_handshake.proofs.LateParties.{fault-no-agreement, withheld-view}
-use Rattle.noise_handshake.proofs.Layouts.{length-tokens_of}
-use Rattle.noise_handshake.proofs.Next.{writes-next, writes-ours, writes-unended, writes-long, writes-wide, writes-room, writes-most, psks-next, nonces-next, own-ours, used-next, key-next, unchanged-wrote, advances-next, trial-next, speaking-next, after-wrote, short-next}
-use Rattle.noise_handshake.proofs.Standing.{ends}
+use Rattle.std.proofs.Common.{◌≡◌, ◌≤◌, ℕ, length, sym, subst, ◌∙◌}
+use Rattle.noise_handshake.proofs.Common.{HandshakeValue, Matches, Party, Some, WriteFault, write_fault}
+use Rattle.noise_handshake.proofs.LateParties.{fault-no-agreement, supplied-not, value-of, withheld-view, writes-supplied}
 use Rattle.noise_handshake.proofs.Withheld.{withholds-of}
-use Rattle.noise_handshake.proofs.Wrote.{written, lacking}
 use Rattle.noise_handshake.proofs.handshake.Handshake.write.Goals as goal
-
-pub write_message-requires-clause-psks : goal.write_message-requires-clause-psks
-write_message-requires-clause-psks g c =
-    let less = writes-next g.K.Keys.public_of c.self.inside c.self.invariant c.args.self.now c.self.view_is
-    (length c.args.payload.now) (sym c.write_fault.ensures.value ∙ c.in_default.is) in
-    psks-next g.K.Keys.public_of c.self.inside c.self.invariant less c.deref-2.result.now c.deref-2.ensures.0 c.deref.result.now c.deref.ensures.0
-
-pub write_message-requires-clause-nonces : goal.write_message-requires-clause-nonces
-write_message-requires-clause-nonces g c =
-    let less = writes-next g.K.Keys.public_of c.self.inside c.self.invariant c.args.self.now c.self.view_is
-    (length c.args.payload.now) (sym c.write_fault.ensures.value ∙ c.in_default.is) in
-    nonces-next g.K.Keys.public_of c.self.inside c.self.invariant less c.deref-2.result.now c.deref-2.ensures.0 c.for_trial-state.result c.for_trial-state.ensures
-    (omega (arith, c.deref-2.ensures.1))
-
-pub write_message-requires-clause-own : goal.write_message-requires-clause-own
-write_message-requires-clause-own g c = search (rules, writes-next, own-ours, writes-ours)
-
-pub write_message-requires-clause-room : goal.write_message-requires-clause-room
-write_message-requires-clause-room g c =
-    writes-room g.K.Keys.public_of c.self.inside c.self.invariant c.args.self.now c.self.view_is
-    (length c.args.payload.now) (sym c.write_fault.ensures.value ∙ c.in_default.is) c.deref-2.result.now c.deref-2.ensures.0 c.for_trial-state.result c.for_trial-state.ensures
-    (length c.args.out.now) c.requires
-
-pub write_message-requires-clause-most : goal.write_message-requires-clause-most
-write_message-requires-clause-most g c =
-    writes-most g.K.Keys.public_of c.self.inside c.self.invariant c.args.self.now c.self.view_is
-    (length c.args.payload.now) (sym c.write_fault.ensures.value ∙ c.in_default.is) c.deref-2.result.now c.deref-2.ensures.0 c.for_trial-state.result c.for_trial-state.ensures
-
-pub overflow_add-self : goal.overflow_add-self
-overflow_add-self g c =
-    let less = writes-next g.K.Keys.public_of c.self.inside c.self.invariant c.args.self.now c.self.view_is
-    (length c.args.payload.now) (sym c.write_fault.ensures.value ∙ c.in_default.is) in
-    omega (
-      arith,
-      used-next g.K.Keys.public_of c.self.inside c.self.invariant less c.deref-2.result.now c.deref-2.ensures.0
-          (omega (arith, c.deref.ensures.1, ap length c.deref.ensures.0)),
-    )
-
-pub overflow_cast-result : goal.overflow_cast-result
-overflow_cast-result g c = omega (arith, length-tokens_of c.deref-2.result.now, c.deref-2.ensures.1, c.in-Err.ensures.width)
-
-pub lay_next-self-inside-requires-clause-key : goal.lay_next-self-inside-requires-clause-key
-lay_next-self-inside-requires-clause-key g c =
-    let less = writes-next g.K.Keys.public_of c.self.inside c.self.invariant c.args.self.now c.self.view_is
-    (length c.args.payload.now) (sym c.write_fault.ensures.value ∙ c.in_default.is) in
-    c.has_key.ensures ∙ key-next g.K.Keys.public_of c.self.inside c.self.invariant less c.deref-2.result.now c.deref-2.ensures.0
-    c.for_trial-state.result c.write_message.new.state c.for_trial-state.ensures c.in-Ok.ensures.keyed c.pattern-plan.result.now c.pattern-plan.ensures.value
-
-pub invariant_of-self : goal.invariant_of-self
-invariant_of-self g c =
-    let less = writes-next g.K.Keys.public_of c.self.inside c.self.invariant c.args.self.now c.self.view_is
-    (length c.args.payload.now) (sym c.write_fault.ensures.value ∙ c.in_default.is) in
-    unchanged-wrote g.K.Keys.public_of c.self.inside c.self.invariant less c.deref-2.result.now c.deref-2.ensures.0
-    c.for_trial-state.result c.write_message.new.state c.for_trial-state.ensures c.in-Ok.ensures.keyed c.in-Ok.ensures.counted
-    (omega (arith, c.deref-2.ensures.1)) c.pattern-plan.result.now c.pattern-plan.ensures.value c.lay_next-self-inside.result c.lay_next-self-inside.ensures.laid
-    (writes-ours g.K.Keys.public_of c.self.inside c.self.invariant c.args.self.now c.self.view_is
-    (length c.args.payload.now) (sym c.write_fault.ensures.value ∙ c.in_default.is))
-
-pub returns-in-Ok-clause-len : goal.returns-in-Ok-clause-len
-returns-in-Ok-clause-len g c =
-    let long = writes-long g.K.Keys.public_of c.self.inside c.self.invariant c.args.self.now c.self.view_is
-    (length c.args.payload.now) (sym c.write_fault.ensures.value ∙ c.in_default.is) in
-    let wide = c.in-Ok.ensures.width ∙ ap (λ (k : ℕ). k + length c.args.payload.now)
-    (writes-wide g.K.Keys.public_of c.self.inside c.self.invariant c.args.self.now c.self.view_is
-    (length c.args.payload.now) (sym c.write_fault.ensures.value ∙ c.in_default.is)
-    c.deref-2.result.now c.deref-2.ensures.0 c.for_trial-state.result c.for_trial-state.ensures) in
-    (long ∙ ap Some (sym wide), omega (arith, c.requires _ long, wide))
-
-pub returns-in-Ok-clause-writes : goal.returns-in-Ok-clause-writes
-returns-in-Ok-clause-writes g c v s =
-    let P = g.K.Keys.public_of in
-    let A = g.K.Keys.agreement in
-    let a = c.self.inside in
-    let less = writes-next g.K.Keys.public_of c.self.inside c.self.invariant c.args.self.now c.self.view_is
-    (length c.args.payload.now) (sym c.write_fault.ensures.value ∙ c.in_default.is) in
-    let l = speaking-next g.K.Keys.public_of c.self.inside c.self.invariant less c.deref-2.result.now c.deref-2.ensures.0 A c.args.self.now c.self.view_is v s
-    c.deref.result.now c.deref.ensures.0 (length c.args.payload.now) (sym c.write_fault.ensures.value ∙ c.in_default.is) in
-    let trial = trial-next g.K.Keys.public_of c.self.inside c.self.invariant less c.deref-2.result.now c.deref-2.ensures.0 A c.args.self.now c.self.view_is v s c.for_trial-state.result c.for_trial-state.ensures in
-    let most = writes-most g.K.Keys.public_of c.self.inside c.self.invariant c.args.self.now c.self.view_is
-    (length c.args.payload.now) (sym c.write_fault.ensures.value ∙ c.in_default.is) c.deref-2.result.now c.deref-2.ensures.0 c.for_trial-state.result c.for_trial-state.ensures in
-    let fits : length (take c.in-Ok.len c.write_message.new.out) ≤ 65535 =
-    omega (arith, c.in-Ok.ensures.width, most, length-take c.in-Ok.len c.write_message.new.out) in
-    let q = c.in-Ok.ensures.written v.history trial in (
-      q.0,
-      written v a.means.role a.means.has_psks (P a.means.keys) (A a.means.keys) _ a.remote _ l c.args.payload.now q.0 (take c.in-Ok.len c.write_message.new.out) fits q.1 q.2,
-      after-wrote g.K.Keys.public_of c.self.inside c.self.invariant less c.deref-2.result.now c.deref-2.ensures.0 A c.args.self.now c.self.view_is v s
-          (length c.args.payload.now) (sym c.write_fault.ensures.value ∙ c.in_default.is) q.0 c.args.payload.now c.write_message.new.state
-          c.lay_next-self-inside.result q.3,
-    )
-
-pub returns-in-Err-clause-writes : goal.returns-in-Err-clause-writes
-returns-in-Err-clause-writes g c v s =
-    let P = g.K.Keys.public_of in
-    let A = g.K.Keys.agreement in
-    let a = c.self.inside in
-    let less = writes-next g.K.Keys.public_of c.self.inside c.self.invariant c.args.self.now c.self.view_is
-    (length c.args.payload.now) (sym c.write_fault.ensures.value ∙ c.in_default.is) in
-    let l = speaking-next g.K.Keys.public_of c.self.inside c.self.invariant less c.deref-2.result.now c.deref-2.ensures.0 A c.args.self.now c.self.view_is v s
-    c.deref.result.now c.deref.ensures.0 (length c.args.payload.now) (sym c.write_fault.ensures.value ∙ c.in_default.is) in
-    let trial = trial-next g.K.Keys.public_of c.self.inside c.self.invariant less c.deref-2.result.now c.deref-2.ensures.0 A c.args.self.now c.self.view_is v s c.for_trial-state.result c.for_trial-state.ensures in
-    let q = c.in-Err.ensures.written v.history trial in
-    let s0 : Matches P A (held_in a) v = subst (λ (z : HandshakeValue g.row.K.Denot). Matches P A z v) (sym c.self.view_is) s in (
-      (
-        short-next g.K.Keys.public_of c.self.inside c.self.invariant less c.deref-2.result.now c.deref-2.ensures.0 A c.args.self.now c.self.view_is v s
-            (length c.args.payload.now) (sym c.write_fault.ensures.value ∙ c.in_default.is),
-        lacking v a.means.role a.means.has_psks (P a.means.keys) (A a.means.keys) _ a.remote _ l _ q,
-      ),
-      ends P A (held_in a) v s0 true refl,
-    )
-
-pub returns-in-Ok-clause-state : goal.returns-in-Ok-clause-state
-returns-in-Ok-clause-state g c =
-    advances-next g.K.Keys.public_of c.self.inside c.self.invariant
-    (writes-next g.K.Keys.public_of c.self.inside c.self.invariant c.args.self.now c.self.view_is
-    (length c.args.payload.now) (sym c.write_fault.ensures.value ∙ c.in_default.is)) c.args.self.now c.self.view_is
-    (writes-unended g.K.Keys.public_of c.self.inside c.self.invariant c.args.self.now c.self.view_is
-    (length c.args.payload.now) (sym c.write_fault.ensures.value ∙ c.in_default.is))
-    c.self.inside.remote c.write_message.new.state c.lay_next-self-inside.result
 
 pub returns-in-Some-clause-writes : goal.returns-in-Some-clause-writes
 returns-in-Some-clause-writes g c v s =
@@ -133,9 +11,19 @@ returns-in-Some-clause-writes g c v s =
     let f : WriteFault = c.in-Some.fault in
     let len : ℕ = length c.args.payload.now in
     let e : write_fault c.args.self.now len ≡ Some f = sym c.write_fault.ensures.value ∙ c.in-Some.is in
-    let within : c.args.self.now.passed ≤ length c.args.self.now.pattern.messages =
-    subst (λ (z : HandshakeValue g.row.K.Denot). z.passed ≤ length z.pattern.messages) c.self.view_is c.self.invariant.2.within in
     let clear = fault-no-agreement c.args.self.now len f e in (
-      withholds-of P A c.args.self.now v s within len f e,
+      withholds-of P A c.args.self.now v (value-of P A c.args.self.now v s) c.write_fault.ensures.within len f e,
       subst (λ (w : Party). Matches P A c.args.self.now w) (sym (withheld-view v f clear)) s,
     )
+
+pub returns-in-Some-lacks_psk-clause-writes : goal.returns-in-Some-lacks_psk-clause-writes
+returns-in-Some-lacks_psk-clause-writes g c v s =
+    absurd (supplied-not c.args.self.now (c.write_fault.ensures.due c.in_default.is) s.supplied _ c.in-Some-lacks_psk.ensures.lacks)
+
+pub returns-clause-writes : goal.returns-clause-writes
+returns-clause-writes g c v s =
+    let P = g.K.Keys.public_of in
+    let A = g.K.Keys.agreement in
+    let h = c.args.self.now in
+    writes-supplied P A h c.write_due.new.self (c.write_fault.ensures.due c.in_default.is) s.supplied v c.args.payload.now c.write_due.new.out
+    c.write_due.result c.write_due.ensures.state (c.write_due.ensures.writes v (value-of P A h v s))

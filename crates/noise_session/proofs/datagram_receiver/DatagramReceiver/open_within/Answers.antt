@@ -1,15 +1,15 @@
 use Rattle.std.proofs.Common.{◌≡◌, ◌≢◌, ◌+◌, ◌-◌, ◌≤◌, ℕ, length, take, drop, List, [], None, rules, refl, sym, ◌∙◌, ap, subst, arith}
 use Rattle.std.proofs.lemmas.Slice.{take-put_mid_below}
-use Rattle.noise_session.proofs.Common.{take_rest, put_mid, Ring, ciphertext_under, last_nonce, renewed_key, HalfValue, nonce_named, datagram_fault, datagram_receiver_fault, accepting, DatagramReceiverValue, DatagramReceiverMatches, datagram_receiver_value}
+use Rattle.noise_session.proofs.Common.{take_rest, put_mid, Ring, ciphertext_under, last_nonce, rekeyed_if_due, HalfValue, nonce_named, datagram_fault, datagram_receiver_fault, accepting, DatagramReceiverValue, DatagramReceiverMatches, datagram_receiver_value}
 use Rattle.noise_session.specs.contracts.datagram_receiver.DatagramReceiver.{the_view}
 use Rattle.noise_session.specs.DatagramCalls.{IsUnderKey, declined_for}
 use Rattle.noise_session.proofs.Places.{after-front, rest-after, unwritten}
 use Rattle.noise_session.proofs.DatagramStates.{fault-reported, opened-there, refused-there, forged-there, has-nonce, young-here, half-opened, half-listens}
 use Rattle.noise_session.proofs.datagram_receiver.DatagramReceiver.open_within.Goals as goal
 
--- a message that is opened at a nonce leaves all of the half but its nonce, where the key is never renewed
+-- a message that is opened at a nonce leaves all of the half but its nonce, where the key is never rekeyed
 key-only : (h set next : HalfValue) (nonce : ℕ) (recent : Ring) → set ≡ record h { nonce = nonce } → next ≡ record set { key = next.key; nonce = set.nonce + 1 }
-    → next.key ≡ renewed_key set.interval (set.nonce + 1) set.key → h.interval ≡ 0 → datagram_receiver_value next recent ≡ datagram_receiver_value h recent
+    → next.key ≡ rekeyed_if_due set.interval (set.nonce + 1) set.key → h.interval ≡ 0 → datagram_receiver_value next recent ≡ datagram_receiver_value h recent
 key-only h set next nonce recent is counted renewed never = search rules
 
 -- what is sealed under the half's key at its nonce

@@ -49,8 +49,8 @@ returns c p prologue a b lines pattern valid alike long there results turns coun
     let one = c.alike_are_parts.ensures p prologue a b valid alike long there results in
     let parts : HaveParts (material_of a b) p prologue a b =
     record { pattern = pattern; valid = valid; long = one.long; initiator = one.initiator; responder = one.responder } in
-    let made = c.lines_come_through.ensures.can (material_of a b) p prologue a b 0 lines parts turns in
-    let through = (c.lines_come_through.ensures.come (material_of a b) p prologue a b 0 lines made.0 made.1 parts turns made.2).1 in
+    let made = c.messages_come_through.ensures.can (material_of a b) p prologue a b 0 lines parts turns in
+    let through = (c.messages_come_through.ensures.come (material_of a b) p prologue a b 0 lines made.0 made.1 parts turns made.2).1 in
     let ends = c.ends_match.ensures.state p a b 0 0 (say_events lines) made.0 made.1 made.2 in
     let x = ends.0 in
     let y = ends.1 in

@@ -23,8 +23,8 @@ invariant_of-result g c =
     t ∙ c.tokens_at.ensures.value ∙ ap (λ (z : List (List Token)). tokens_at z c.progress-progress.result.passed) ms ∙ ap (tokens_at p.messages) n in
     let state : c.from_parts.result ≡ h.state = c.from_parts.ensures ∙ came.state in
     record {
-      psks_due = omega (arith, ap (count_by is_psk) due, psks-due p.messages h.passed, whole.psks, ap length (s ∙ c.psks.ensures.value));
-      nonces = omega (arith, ap nonce_now state, whole.nonce, nonce-most p h.passed c.pattern.ensures.limits);
+      psks_due = omega (arith, ap (count_by is_psk) due, psks-due p.messages h.passed, c.requires.supplied, ap length (s ∙ c.psks.ensures.value));
+      nonces = omega (arith, ap nonce_now state, whole.1.nonce, nonce-most p h.passed c.pattern.ensures.limits);
     }
 
 pub returns-clause-before : goal.returns-clause-before
@@ -45,6 +45,6 @@ returns-clause-before g c =
     let state : c.from_parts.result ≡ h.state = c.from_parts.ensures ∙ came.state in
     record {
       tokens = t ∙ c.tokens_at.ensures.value ∙ ap (λ (z : List (List Token)). tokens_at z c.progress-progress.result.passed) ms ∙ ap (tokens_at p.messages) n;
-      psks = omega (arith, whole.psks, ap length (s ∙ c.psks.ensures.value));
-      nonce = omega (arith, ap nonce_now state, whole.nonce, nonce-most p h.passed c.pattern.ensures.limits);
+      psks = omega (arith, c.requires.supplied, ap length (s ∙ c.psks.ensures.value));
+      nonce = omega (arith, ap nonce_now state, whole.1.nonce, nonce-most p h.passed c.pattern.ensures.limits);
     }

@@ -1,0 +1,27 @@
+use Rattle.std.proofs.Common.{rules, sym, ◌∙◌}
+use Rattle.noise_handshake.proofs.Lacked.{wants}
+use Rattle.noise_handshake.proofs.Next.{speaks-next, speaks-ours, psks-next, own-ours, known-ours, due-next}
+use Rattle.noise_handshake.proofs.handshake.Handshake.write_lacking.Goals as goal
+
+pub write_lacking-requires-clause-psks : goal.write_lacking-requires-clause-psks
+write_lacking-requires-clause-psks g c =
+    psks-next g.K.Keys.public_of c.self.inside c.self.invariant (speaks-next g.K.Keys.public_of c.self.inside c.self.invariant c.args.self.now c.self.view_is c.requires.due)
+    c.deref-2.result.now c.deref-2.ensures.0 c.args.self.now c.self.view_is c.requires.psks c.deref.result.now c.deref.ensures.0
+
+pub write_lacking-requires-clause-own : goal.write_lacking-requires-clause-own
+write_lacking-requires-clause-own g c = search (rules, speaks-next, own-ours, speaks-ours)
+
+pub write_lacking-requires-clause-known : goal.write_lacking-requires-clause-known
+write_lacking-requires-clause-known g c = search (rules, speaks-next, known-ours, speaks-ours)
+
+pub returns : goal.returns
+returns g c = record {
+  wants = λ v s.
+      let P = g.K.Keys.public_of in
+      let A = g.K.Keys.agreement in
+      let a = c.self.inside in
+      let less = speaks-next g.K.Keys.public_of c.self.inside c.self.invariant c.args.self.now c.self.view_is c.requires.due in
+      let l = due-next g.K.Keys.public_of c.self.inside c.self.invariant less c.deref-2.result.now c.deref-2.ensures.0 A c.args.self.now c.self.view_is v s
+      c.deref.result.now c.deref.ensures.0 c.requires.due in
+      wants v c.write_lacking.result a.means.role a.means.has_psks (P a.means.keys) (A a.means.keys) _ a.remote _ l c.write_lacking.ensures;
+}

@@ -1,5 +1,0 @@
-use Rattle.noise_session.proofs.Once.{takes-once}
-use Rattle.noise_session.proofs.laws.taken_once.Goals as goal
-
-pub returns : goal.returns
-returns c = takes-once c.judged_once.ensures

@@ -1,5 +1,0 @@
-use Rattle.noise_theorems.proofs.Fit.{in-turn}
-use Rattle.noise_theorems.proofs.laws.fitting_lines_take_turns.Goals as goal
-
-pub returns : goal.returns
-returns c p lines fit = in-turn p 0 lines fit
