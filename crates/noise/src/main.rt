@@ -16,29 +16,12 @@ use std::fs::File;
 use std::io::{self, BufWriter, ErrorKind, Stderr, Stdout, Write};
 use std::process::ExitCode;
 
-fn main(rt: HostRuntime) -> ExitCode {
-    let alloc = rt.alloc();
-    let status = match words(&rt) {
-        Ok(words) => match chosen(alloc, words) {
-            Ok(order) => run(&rt, &order),
-            Err(LineFault::Memory) => ends_with(&rt, Fault::Memory),
-            Err(LineFault::Line(error)) => print_line_fault(&rt, &error),
-        },
-        Err(error) if error.kind() == ErrorKind::OutOfMemory => ends_with(&rt, Fault::Memory),
-        Err(_) => {
-            let _ = eprintln!(rt; "error: a word of the command line isn't UTF-8");
-            2
-        }
-    };
-    ExitCode::from(status)
-}
-
-fn words(rt: &HostRuntime) -> io::Result<Vec<String>> {
-    Ok(env::args(rt)?.collect(rt.alloc())?)
-}
-
 // Does what is asked for. The output goes through a buffer.
-fn run(rt: &HostRuntime, order: &Order) -> u8 {
+fn main(rt: HostRuntime) -> ExitCode {
+    let order = match order_of(&rt) {
+        Ok(order) => order,
+        Err(status) => return ExitCode::from(status),
+    };
     let closed = Cell::new(false);
     let output = Output {
         to: rt.stdout(),
@@ -48,18 +31,34 @@ fn run(rt: &HostRuntime, order: &Order) -> u8 {
         to: rt.stderr(),
         closed: &closed,
     };
-    match BufWriter::new(rt.alloc(), output) {
-        Ok(mut out) => perform(
-            rt.alloc(),
-            order,
-            &NamedFiles {
-                system: &Opened { rt },
-            },
-            &mut out,
-            &mut errors,
-        ),
-        Err(_) => ends_with(rt, Fault::Memory),
+    let files = NamedFiles {
+        system: &Opened { rt: &rt },
+    };
+    let status = match BufWriter::new(rt.alloc(), output) {
+        Ok(mut out) => perform(rt.alloc(), &order, &files, &mut out, &mut errors),
+        Err(_) => ends_with(&rt, Fault::Memory),
+    };
+    ExitCode::from(status)
+}
+
+// What the command line asks for; where it is nothing, what is wrong is printed, and this is the exit status.
+fn order_of(rt: &HostRuntime) -> Result<Order, u8> {
+    match words(rt) {
+        Ok(words) => match chosen(rt.alloc(), words) {
+            Ok(order) => Ok(order),
+            Err(LineFault::Memory) => Err(ends_with(rt, Fault::Memory)),
+            Err(LineFault::Line(error)) => Err(print_line_fault(rt, &error)),
+        },
+        Err(error) if error.kind() == ErrorKind::OutOfMemory => Err(ends_with(rt, Fault::Memory)),
+        Err(_) => {
+            let _ = eprintln!(rt; "error: a word of the command line isn't UTF-8");
+            Err(2)
+        }
     }
+}
+
+fn words(rt: &HostRuntime) -> io::Result<Vec<String>> {
+    Ok(env::args(rt)?.collect(rt.alloc())?)
 }
 
 // The files of the system, each opened where it is read.

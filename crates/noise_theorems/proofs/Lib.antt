@@ -18,6 +18,7 @@ pub mod Agreed
 pub mod Exchange
 pub mod Names
 pub mod Printed
+pub mod Asked
 pub mod Reached
 pub mod Refusals
 pub mod Runs

@@ -54,7 +54,7 @@ pub use Rattle.noise_vectors.specs.declared.vector.VectorFile.{VectorFile}
 pub use Rattle.noise_tool.specs.Ends.{IsFilePattern, IsFilePatternFault, IsPlanOf, IsStartFault, file_start, keys_of_role, setup_of, sides_of_file}
 pub use Rattle.noise_tool.specs.Explaining.{AreSaid, ExplainsPrefix, HasExplained, IsExplainedAt, IsExplainedFile, IsExplainedRun, IsExplainedText, IsExplainedVector, IsUnreadName, Said, StopsExplaining, said_text, worse}
 pub use Rattle.noise_tool.specs.KeyUseLines.{HasLaterNonce, key_use_lines, rekeyed_lines, transport_lines}
-pub use Rattle.noise_tool.specs.Performing.{AreMet, Converts, DifferAt, HasConverted, HasPrinted, HasUnmet, IsDone, IsFault, IsNotMet, IsOfLines, IsPlain, IsReadVector, IsRunFault, IsShortFile, IsTooLongConverted, IsUnlike, IsUnmet, Printing, ReadsShort, RunsFile, UnlessTwo}
+pub use Rattle.noise_tool.specs.Performing.{AreMet, Converts, DifferAt, HasConverted, HasPrinted, HasUnmet, IsDone, IsFault, IsNotMet, IsOfLines, IsPlain, IsReadVector, IsRunFault, IsShortFile, IsTooLongConverted, IsUnlike, IsUnmet, Printing, ReadsShort, RunsFile}
 pub use Rattle.noise_tool.specs.Printed.{frame_numbered, note_line, state_lines}
 pub use Rattle.noise_tool.specs.PrintedTrace.{act_word, call_word, none_word, part_word, start_call_word, start_lines_from, start_word, state_key_word, step_lines_from, transport_call_word, transport_line}
 pub use Rattle.noise_tool.specs.Running.{AreLast, IsRunOf, LeavesLines, are_ready, datagram_run_lines, datagrams_of_version, expected_in, gone_over, is_ready}

@@ -1,11 +1,12 @@
 -- What `talk`, `replay` and `convert` have done, and why they haven't.
 use Rattle.std.proofs.Common.{rules, ◌≡◌, ◌∙◌, refl, sym, ap, subst, ◌⊎◌, inl, inr, ◌<◌, ◌≤◌, ℕ, List, [], ◌∷◌, Vec, Option, Some, None, Result, Ok, Err, OnOk, length}
 use Rattle.std.specs.Prelude.{IfOk}
-use Rattle.noise_tool.proofs.Common.{Global, IfErr, IfSome, Appends, IsMet, of_vector, status_of, AreMet, Converts, DifferAt, HasPrinted, IsFault, IsNotMet, IsOfLines, IsPlain, IsReadVector, IsRunFault, IsTooLongConverted, IsUnlike, IsUnmet, Printing, RunsFile, lines_text, IsRunOf, expected_in, Fault, AppendsPrefix, LeavesOther, ReportsRule, selection_of, IsTraceOf, bytes_of, IsAllowedFile, IsReadFault, IsVectorFile, file_text, AllowedEvents, VersionOne, VectorFile}
+use Rattle.noise_tool.proofs.Common.{Global, IfErr, Appends, IsMet, of_vector, status_of, AreMet, Converts, DifferAt, HasPrinted, IsFault, IsNotMet, IsOfLines, IsPlain, IsReadVector, IsRunFault, IsTooLongConverted, IsUnlike, IsUnmet, Printing, lines_text, IsRunOf, expected_in, Fault, AppendsPrefix, LeavesOther, ReportsRule, selection_of, IsTraceOf, bytes_of, IsAllowedFile, IsReadFault, IsVectorFile, file_text, AllowedEvents, VersionOne, VectorFile}
 use Rattle.noise_tool.specs.Conversion.{MeetsItself}
 use Rattle.noise_words.specs.declared.orders.Chosen.{Chosen}
 use Rattle.noise_lines.specs.Converted.{converted_text}
 use Rattle.noise_tool.specs.declared.run.Outcome.{Outcome}
+use Rattle.noise_tool.specs.Performing.{HasRun}
 use Rattle.noise_tool.specs.Prefixes.{PrintsRun, PrintsRunPrefix}
 use Rattle.noise_tool.proofs.MetLemmas.{met-or-unmet}
 use Rattle.noise_vectors.specs.Expectations.{IsFirstUnmet}
@@ -16,18 +17,6 @@ use Rattle.noise_words.specs.declared.orders.Chosen.TheVariants as order
 use Rattle.noise_lines.specs.declared.faults.Fault.TheVariants as fault
 use Rattle.noise_vectors.specs.declared.faults.VectorFault.TheVariants as vector
 
--- ---- of a file's bytes
-
--- what holds of the text that was read holds of the file's bytes, where they are known
-pub at-known : (P : List ℕ → Type 0) (known : Option (List ℕ)) (text : List ℕ) → IfSome known (λ bytes. text ≡ bytes) → P text → IfSome known P
-at-known P None text h p = tt
-at-known P (Some bytes) text h p = subst P h p
-
-pub stopped-known : (P : List ℕ → Type 0) (known : Option (List ℕ)) (text : List ℕ) (why : Fault) → IfSome known (λ bytes. text ≡ bytes)
-    → (status_of why ≡ 3) ⊎ P text → (status_of why ≡ 3) ⊎ IfSome known P
-stopped-known P known text why h (inl outside) = inl outside
-stopped-known P known text why h (inr p) = inr (at-known P known text h p)
-
 -- ---- a text that isn't read
 
 no-file : (allowed : AllowedEvents) (text : List ℕ) (why : VectorFault)
@@ -36,24 +25,20 @@ no-file allowed text (vector.Line n kind) every = λ file right allow e. let bad
 no-file allowed text vector.Memory every = tt
 
 -- the fault of its reader is one of a run
-pub unread : (allowed : AllowedEvents) (known : Option (List ℕ)) (text items : List ℕ) (why : VectorFault) → IfSome known (λ bytes. items ≡ bytes)
-    → text ≡ items → ((file : VectorFile) → IsVectorFile file → IsAllowedFile allowed file → text ≡ file_text file → why ≡ vector.Memory)
-    → IsReported allowed text why → IfSome known (λ bytes. IsRunFault allowed bytes (of_vector why))
-unread allowed known text items why h e every reported =
-    at-known (λ (bytes : List ℕ). IsRunFault allowed bytes (of_vector why)) known items h
-    (subst (λ (t : List ℕ). IsRunFault allowed t (of_vector why)) e (inr (inl (why, refl, no-file allowed text why every, reported))))
+pub unread : (allowed : AllowedEvents) (text : List ℕ) (why : VectorFault)
+    → ((file : VectorFile) → IsVectorFile file → IsAllowedFile allowed file → text ≡ file_text file → why ≡ vector.Memory)
+    → IsReported allowed text why → IsRunFault allowed text (of_vector why)
+unread allowed text why every reported = inr (inl (why, refl, no-file allowed text why every, reported))
 
 -- whatever else it may be
-pub or-other : (allowed : AllowedEvents) (known : Option (List ℕ)) (fault : Fault) (Other : List ℕ → Type 0)
-    → (status_of fault ≡ 3) ⊎ IfSome known (λ bytes. IsRunFault allowed bytes fault)
-    → (status_of fault ≡ 3) ⊎ IfSome known (λ bytes. IsRunFault allowed bytes fault ⊎ Other bytes)
-or-other allowed known fault Other (inl outside) = inl outside
-or-other allowed None fault Other (inr h) = inr tt
-or-other allowed (Some bytes) fault Other (inr h) = inr (inl h)
+pub or-other : (allowed : AllowedEvents) (text : List ℕ) (fault : Fault) (Other : Type 0)
+    → (status_of fault ≡ 3) ⊎ IsRunFault allowed text fault → (status_of fault ≡ 3) ⊎ IsRunFault allowed text fault ⊎ Other
+or-other allowed text fault Other (inl outside) = inl outside
+or-other allowed text fault Other (inr h) = inr (inl h)
 
 -- ---- a file that was read, and what is printed of its run
 
-module _ {allowed : AllowedEvents} {known : Option (List ℕ)} {text : List ℕ} {file : VectorFile} (read : IsReadVector allowed known text file)
+module _ {allowed : AllowedEvents} {text : List ℕ} {file : VectorFile} (read : IsReadVector allowed text file)
     (Prints : Printing) (outcome : Outcome) (printed : List (List ℕ)) (run : Prints file (bytes_of outcome.lines.items) printed)
     (expected : bytes_of outcome.expected.items ≡ expected_in file.version) where
   printed-of : (ComeTo : VectorFile → List (List ℕ) → Type 0) (before after : Option (List ℕ)) → Appends before after (lines_text printed)
@@ -70,13 +55,14 @@ module _ {allowed : AllowedEvents} {known : Option (List ℕ)} {text : List ℕ}
   }
 
   pub has-run : (before after : Option (List ℕ)) (result : Result Unit Fault) → OnOk result (Appends before after (lines_text printed))
-      → OnOk result (IsMet (bytes_of outcome.expected.items) (bytes_of outcome.lines.items)) → OnOk result (RunsFile Prints known before after)
-  has-run before after (Ok u) grown met = search (rules, printed-of)
+      → OnOk result (IsMet (bytes_of outcome.expected.items) (bytes_of outcome.lines.items)) → OnOk result (HasRun Prints text before after)
+  has-run before after (Ok u) grown met =
+      printed-of AreMet before after grown (subst (λ (es : List (List ℕ)). IsMet es (bytes_of outcome.lines.items)) expected met)
   has-run before after (Err fault) grown met = tt
 
   pub no-run : (before after : Option (List ℕ)) (result : Result Unit Fault)
       → IfErr result (λ why. (status_of why ≡ 3) ⊎ IsUnlike printed outcome before after why)
-      → IfErr result (λ why. (status_of why ≡ 3) ⊎ IsNotMet Prints allowed known before after why)
+      → IfErr result (λ why. (status_of why ≡ 3) ⊎ IsNotMet Prints allowed (Some text) before after why)
   no-run before after (Ok u) h = tt
   no-run before after (Err why) (inl outside) = inl outside
   no-run before after (Err why) (inr (grown, (n, is, some, unmet))) = search (rules, printed-of)
@@ -92,12 +78,8 @@ module _ {allowed : AllowedEvents} {known : Option (List ℕ)} {text : List ℕ}
       of-two (inr (n, unmet)) =
           inr (n, printed-of (DifferAt n) (Some []) (Some (lines_text printed)) refl (λ none. let bad = sym is ∙ none in cc bad, unmet))
 
-  pub run-prefix : (before after : Option (List ℕ)) → AppendsPrefix before after (lines_text printed) → PrintsRunPrefix Prints known before after
-  run-prefix before after grown = (
-    lines_text printed,
-    at-known (λ (bytes : List ℕ). PrintsRun Prints bytes (lines_text printed)) known text read.bytes (whole (expected_in file.version) refl),
-    grown,
-  )
+  pub run-prefix : (before after : Option (List ℕ)) → AppendsPrefix before after (lines_text printed) → PrintsRunPrefix Prints (Some text) before after
+  run-prefix before after grown = (lines_text printed, whole (expected_in file.version) refl, grown)
 
 -- ---- of a converted file
 

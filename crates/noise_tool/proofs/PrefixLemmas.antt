@@ -39,18 +39,13 @@ template-prefix word bytes known a b old new e (inl same) = inl same
 template-prefix word bytes known a b old new e (inr (text, h, grown)) =
     inr (text, inl (subst (λ (w : List ℕ). HasTemplated w known (Some []) (Some text)) e h), grown)
 
--- the template of the pattern that a file spells
-pub spelled-template : (word : List ℕ) (known : Option (List ℕ)) (t items reported : List ℕ) → names_protocol word ≡ false → t ≡ items
-    → IfSome known (λ bytes. items ≡ bytes) → (p : Plan) × Spells t p × IsValid p × IsTemplateText [] p reported → HasTemplated word known (Some []) (Some reported)
-spelled-template word known t items reported e same h (p, spells, valid, is) =
+-- the template of the pattern that a text spells
+pub spelled-template : (word text reported : List ℕ) → names_protocol word ≡ false
+    → (p : Plan) × Spells text p × IsValid p × IsTemplateText [] p reported → HasTemplated word (Some text) (Some []) (Some reported)
+spelled-template word text reported e (p, spells, valid, is) =
     subst (λ (b : Bool). MatchBool b ((q : Plan) × NamesPattern word q × HasTemplate q (Some []) (Some reported))
-    (IfSome known (λ bytes. (q : Plan) × Spells bytes q × HasTemplate q (Some []) (Some reported)))) (sym e) (by known h)
-  where
-    by : (known : Option (List ℕ)) → IfSome known (λ bytes. items ≡ bytes)
-        → IfSome known (λ bytes. (q : Plan) × Spells bytes q × HasTemplate q (Some []) (Some reported))
-    by None h = tt
-    by (Some bytes) h =
-        (p, subst (λ (z : List ℕ). Spells z p) (same ∙ h) spells, record { valid = valid; text = reported; is = is; printed = refl })
+    ((q : Plan) × Spells text q × HasTemplate q (Some []) (Some reported))) (sym e)
+    (p, spells, record { valid = valid; text = reported; is = is; printed = refl })
 
 -- ---- what is reported
 

@@ -7,6 +7,7 @@ pub mod Selection
 pub mod KeyUseLines
 pub mod OnePattern
 pub mod OneRun
+pub mod Outcomes
 pub mod PatternNames
 pub mod Performing
 pub mod Prefixes

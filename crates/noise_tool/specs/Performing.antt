@@ -1,5 +1,5 @@
 -- What a command has done that ends with status 0, and why it ends with another.
-use Rattle.std.specs.Prelude.{⊤, ◌≡◌, ◌≢◌, ◌⊎◌, ◌<◌, ◌≤◌, ℕ, Bool, true, false, List, [], length, Option, None, Some, IfSome, IsTrue, MatchResult, Result, map, option_and_then, string_bytes, if◌then◌else◌}
+use Rattle.std.specs.Prelude.{⊤, ◌≡◌, ◌≢◌, ◌⊎◌, ◌<◌, ◌≤◌, ℕ, Bool, true, false, List, [], length, Option, None, Some, IfSome, IsTrue, map, option_and_then, string_bytes, if◌then◌else◌}
 use Rattle.std.specs.Io.KnownBytes.{Appends}
 use Rattle.noise_names.specs.Plan.{Plan}
 use Rattle.noise_names.specs.Text.{Spells}
@@ -14,7 +14,7 @@ use Rattle.noise_lines.specs.Prefixes.{AppendsPrefix}
 use Rattle.noise_lines.specs.Reported.{LeavesOther, ReportsRule, error_text}
 use Rattle.noise_tool.specs.PatternNames.{HasShown, IsShownFault, NamesText}
 use Rattle.noise_tool.specs.Running.{IsRunOf, expected_in}
-use Rattle.noise_tool.specs.Templating.{HasTemplated, IsTemplateFault, LeavesPattern, ReadsShortPattern}
+use Rattle.noise_tool.specs.Templating.{HasTemplated, IsTemplateFault, ReadsShortPattern}
 use Rattle.noise_tool.specs.Selection.{selection_of}
 use Rattle.noise_tool.specs.Tracing.{IsTraceOf}
 use Rattle.noise_lines.specs.Converted.{converted_text}
@@ -113,18 +113,11 @@ IsDone (Trace traced) file before after = RunsFile (IsTraceOf (selection_of trac
 abbrev pub IsShortFile : Option (List ℕ) → Type 0
 IsShortFile file = IfSome file (λ text. length text ≤ 4194304)
 
--- the bytes of a file, where they are known, are this text, of a right vector file of what is allowed
-pub record IsReadVector (allowed : AllowedEvents) (known : Option (List ℕ)) (text : List ℕ)
-    (file : VectorFile) : Type 0 where
-  pub bytes : IfSome known (λ bytes. text ≡ bytes)
-  pub short : length text ≤ 4194304
+-- this is the text of a right vector file of what is allowed
+pub record IsReadVector (allowed : AllowedEvents) (text : List ℕ) (file : VectorFile) : Type 0 where
   pub right : IsVectorFile file
   pub is_allowed : IsAllowedFile allowed file
   pub text_is : text ≡ file_text file
-
--- so it is, but where the fault has status 2 or 3
-abbrev pub UnlessTwo : {A : Type 0} → Type 0 → Result A Fault → Type 0
-UnlessTwo S result = MatchResult result (λ _. S) (λ fault. (2 ≤ status_of fault) ⊎ S)
 
 -- such is the file that is read, if one is
 abbrev pub ReadsShort : Chosen → Option (List ℕ) → Type 0
@@ -183,13 +176,6 @@ IsFault (Convert path) file before after fault =
     IfSome file (λ text. IsRunFault VersionOne text fault ⊎ IsTooLongConverted text fault)
 IsFault (Trace traced) file before after fault =
     IsNotMet (IsTraceOf (selection_of traced)) Any file before after fault
-
--- `list` and `show` leave the file as it was, and `template` of a protocol name
-abbrev pub LeavesFile : {R : Type 0} → Chosen → R → R → Type 0
-LeavesFile Listing before after = after ≡ before
-LeavesFile (Show name) before after = after ≡ before
-LeavesFile (Template word) before after = LeavesPattern (string_bytes word) before after
-LeavesFile _ before after = ⊤
 
 -- after this fault alone the output has the lines of a run
 abbrev pub IsOfLines : Fault → Type 0

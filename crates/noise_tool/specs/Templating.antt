@@ -30,7 +30,3 @@ IsTemplateFault word file fault = MatchBool (names_protocol word) (IsShowFault w
 -- the file that is read, if one is, has at most 4194304 bytes
 abbrev pub ReadsShortPattern : List ℕ → Option (List ℕ) → Type 0
 ReadsShortPattern word file = MatchBool (names_protocol word) ⊤ (IfSome file (λ text. length text ≤ 4194304))
-
--- of a protocol name the file is left as it was
-abbrev pub LeavesPattern : {R : Type 0} → List ℕ → R → R → Type 0
-LeavesPattern word before after = MatchBool (names_protocol word) (after ≡ before) ⊤

@@ -41,8 +41,7 @@ pub fn make_ends(
     file: VectorFile,
 ) -> Result<(Duel<FileKeys, FileKeys>, Vec<Event>, Version), Fault>
     ensures ends { IfOk result (λ made. AreEnds file made.0) }
-    ensures events { IfOk result (λ made. made.1 ≡ file.events) }
-    ensures version { IfOk result (λ made. made.2 ≡ file.version) }
+    ensures value { IfOk result (λ made. (made.1 ≡ file.events) × (made.2 ≡ file.version)) }
     ensures fault { IfErr result (λ fault. IsStartFault file fault) }
 {
     let Beginning {
@@ -58,7 +57,7 @@ pub fn make_ends(
 
 // The handshakes of both parties, before the first message. The fault is that of `make_ends`.
 pub(crate) fn begin(file: VectorFile) -> Result<Beginning, Fault>
-    ensures handshakes { IfOk result
+    ensures made { IfOk result
         (λ beginning. AreHandshakes file beginning.initiator beginning.responder) }
     ensures begins { IfOk result (λ beginning. (beginning.initiator.ended ≡ false)
         × (beginning.responder.ended ≡ false)) }
@@ -116,9 +115,9 @@ pub(crate) fn duel_of(
 ) -> Result<Duel<FileKeys, FileKeys>, AllocError>
     requires first { initiator.ended ≡ false }
     requires second { responder.ended ≡ false }
-    requires roles { (v w : Party) × FileMatches initiator v × FileMatches responder w
+    requires role { (v w : Party) × FileMatches initiator v × FileMatches responder w
         × (v.role ≡ Initiator) × (w.role ≡ Responder) }
-    ensures { (v w : Party) → FileMatches initiator v → FileMatches responder w
+    ensures matches { (v w : Party) → FileMatches initiator v → FileMatches responder w
         → IfOk result (λ duel. FileDuelMatches duel (both_sides (end_of v interval) (end_of w interval))) }
 {
     let first = End::new(alloc, initiator, interval)?;
@@ -155,7 +154,7 @@ fn handshake(
     remote: Remote,
     psks: &[[u8; 32]],
 ) -> Result<Handshake<FileKeys>, Fault>
-    requires { length prologue.now ≤ 65535 }
+    requires short { length prologue.now ≤ 65535 }
     ensures matches { IfOk result (λ h. FileMatches h
         (party_at_start pattern role prologue.now (public_of keys) (agreement_of keys) remote psks.now)) }
     ensures begins { IfOk result (λ h. h.ended ≡ false) }

@@ -27,6 +27,6 @@ pub use laws::{conversions_meet_themselves, file_run_once, templates_start};
 pub use named_files::{NamedFiles, System};
 pub use noise_lines::{Difference, Fault, Verdict, read_file, report_fault};
 pub use noise_words::{Chosen, LineFault, Order, Tested, chosen, line_status, next_commands};
-pub use performing::{perform, perform_command};
+pub use performing::perform;
 pub use report::entry_lines;
 pub use testing::FilesByName;

@@ -1,6 +1,6 @@
 //! Pattern names as words of the command line (Noise, 8): `XXpsk3` is that of `Noise_XXpsk3_25519_ChaChaPoly_SHA256`.
 
-ghost use Rattle.std.specs.Prelude.{◌≡◌, ◌⊎◌, ℕ, List, IfErr, IfNone, IfOk, IfSome, false, true};
+ghost use Rattle.std.specs.Prelude.{◌≡◌, ◌≤◌, ◌⊎◌, ℕ, List, IfErr, IfNone, IfOk, IfSome, false, true, vec_len};
 ghost use Rattle.noise_lines.specs.Faults.{status_of};
 ghost use Rattle.noise_lines.specs.Output.{NamesPattern, show_text};
 ghost use Rattle.noise_names.specs.Plan.{Plan};
@@ -23,6 +23,7 @@ pub(crate) fn show_word(alloc: Global, word: &str) -> Result<Vec<u8>, Fault>
 /// The text of the pattern that has this name, if there is one.
 pub(crate) fn pattern_text(alloc: Global, word: &str) -> Result<Option<Vec<u8>>, AllocError>
     ensures some { IfOk result (λ found. IfSome found (λ text. NamesText word.now text.items)) }
+    ensures bound { IfOk result (λ found. IfSome found (λ text. vec_len text ≤ 4194304)) }
     ensures none { IfOk result (λ found. IfNone found ((text : List ℕ) → NamesText word.now text → ⊥)) }
 {
     let whole = whole_name(alloc, word)?;
@@ -61,8 +62,8 @@ fn whole_name(alloc: Global, word: &str) -> Result<Vec<u8>, AllocError>
 
 // Whether these bytes are a protocol name whose base is that of a fundamental pattern.
 fn names_fundamental(bytes: &[u8]) -> bool
-    ensures yes { result ≡ true → NamesFundamental bytes.now }
-    ensures no { result ≡ false → NamesFundamental bytes.now → ⊥ }
+    ensures some { result ≡ true → NamesFundamental bytes.now }
+    ensures none { result ≡ false → NamesFundamental bytes.now → ⊥ }
 {
     match ProtocolName::parse(bytes) {
         Ok(name) => fundamental(name.base()).is_some(),

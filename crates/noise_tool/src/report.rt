@@ -106,8 +106,8 @@ pub fn fault_line(
     role: Role,
     fault: SendFault,
 ) -> Result<Line, AllocError>
-    requires { IsTrue (is_printed word.now) }
-    ensures { IfOk result (λ line. text_in line
+    requires printed { IsTrue (is_printed word.now) }
+    ensures text { IfOk result (λ line. text_in line
         ≡ join_with_byte 32 (word.now ∷ text.role_word role ∷ print.send_fault_words fault)) }
 {
     let line = begun_line(alloc, word, role)?;
@@ -150,8 +150,8 @@ fn add_stage(line: Line, stage: Stage, hash: [u8; 32]) -> Result<Line, AllocErro
 
 /// The front of a line: what it reports, and of which role.
 pub fn begun_line(alloc: Global, word: &str, role: Role) -> Result<Line, AllocError>
-    requires { IsTrue (is_printed word.now) }
-    ensures { IfOk result (λ line. text_in line ≡ join_with_byte 32 (word.now ∷ text.role_word role ∷ [])) }
+    requires printed { IsTrue (is_printed word.now) }
+    ensures text { IfOk result (λ line. text_in line ≡ join_with_byte 32 (word.now ∷ text.role_word role ∷ [])) }
 {
     Line::new(alloc, word)?.word(role_word(role))
 }

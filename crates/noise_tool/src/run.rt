@@ -3,22 +3,19 @@
 ghost use Rattle.std.specs.Prelude.{◌≡◌, ◌++◌, ◌∷◌, [], ℕ, List, Option, IfErr, IfOk, OnOk, codes, map};
 ghost use Rattle.noise_duel.specs.DatagramReports.{DatagramDuelMatches};
 ghost use Rattle.noise_duel.specs.DatagramSides.{datagram_sides};
-ghost use Rattle.noise_duel.specs.DuelValue.{both_sides};
 ghost use Rattle.noise_duel.specs.Sides.{Sides};
-ghost use Rattle.noise_events.specs.Events.{events_of};
 ghost use Rattle.noise_session.specs.Datagrams.{DatagramState};
-ghost use Rattle.noise_session.specs.Ends.{EndState};
 ghost use Rattle.noise_names.specs.Lists.{bytes_of};
 ghost use Rattle.noise_vectors.specs.VectorText.{window_words};
 ghost use Rattle.noise_tool.specs.Ends.{FileDuelMatches, IsStartFault};
 ghost use Rattle.noise_lines.specs.PrintedWords.{AreExpected};
 ghost use Rattle.noise_tool.specs.Printed.{Appended, state_lines};
-ghost use Rattle.noise_tool.specs.Running.{AppendsDatagrams, AreLast, IsRunOf, LeavesLines, datagrams_of_version, expected_in};
+ghost use Rattle.noise_tool.specs.Running.{AppendsDatagrams, AreLast, IsRunOf, datagrams_of_version, expected_in};
 
 use crate::datagram_report::{push_datagram_lines, push_datagram_states};
 use crate::ends::make_ends;
 use crate::report::{entry_lines, push_state_lines};
-use noise_duel::{DatagramDuel, Duel, Event};
+use noise_duel::{DatagramDuel, Duel};
 use noise_lines::{Fault, Line};
 use noise_session::Window;
 use noise_session::laws::end_is_reported;
@@ -44,23 +41,9 @@ pub fn replay(alloc: Global, file: VectorFile) -> Result<Outcome, Fault>
     ensures fault { IfErr result (λ fault. IsStartFault file fault) }
 {
     let (duel, events, version) = make_ends(alloc, file)?;
-    let (duel, lines) = run_events(alloc, duel, &events)?;
-    Ok(close(alloc, duel, lines, version)?)
-}
-
-// The parties after these events, and the lines of what came of them.
-fn run_events(
-    alloc: Global,
-    duel: Duel<FileKeys, FileKeys>,
-    events: &[Event],
-) -> Result<(Duel<FileKeys, FileKeys>, Vec<Vec<u8>>), AllocError>
-    ensures ran { (v w : EndState) → FileDuelMatches duel (both_sides v w)
-        → IfOk result (λ r. LeavesLines (both_sides v w) (events_of events.now) r.0 (bytes_of r.1.items)) }
-    ensures printed { IfOk result (λ r. AreExpected r.1.items) }
-{
-    let (duel, report) = duel.run(alloc, events)?;
+    let (duel, report) = duel.run(alloc, &events)?;
     let lines = entry_lines(alloc, &report)?;
-    Ok((duel, lines))
+    Ok(close(alloc, duel, lines, version)?)
 }
 
 // What comes of a run whose events have left these lines and these parties.
@@ -83,7 +66,7 @@ pub(crate) fn close(
 
 // The datagrams of a version, and the lines that it expects.
 fn split_version(alloc: Global, version: Version) -> (Option<FileDatagrams>, Vec<Vec<u8>>)
-    ensures datagrams { result.0 ≡ datagrams_of_version version }
+    ensures value { result.0 ≡ datagrams_of_version version }
     ensures expected { bytes_of result.1.items ≡ expected_in version }
 {
     match version {

@@ -1,6 +1,6 @@
 //! Printing the trace of a vector file.
 
-ghost use Rattle.std.specs.Prelude.{◌≡◌, ◌⊎◌, IfErr, OnOk};
+ghost use Rattle.std.specs.Prelude.{◌≡◌, ◌⊎◌, Some, IfErr, OnOk};
 ghost use Rattle.std.specs.Io.KnownBytes.{Appends};
 ghost use Rattle.noise_lines.specs.Faults.{status_of};
 ghost use Rattle.noise_lines.specs.Lines.{lines_text};
@@ -9,40 +9,39 @@ ghost use Rattle.noise_lines.specs.Verdicts.{IsMet};
 ghost use Rattle.noise_lines.specs.declared.faults.Fault.TheVariants.{Unwritable};
 ghost use Rattle.noise_names.specs.Lists.{bytes_of};
 ghost use Rattle.noise_vectors.specs.declared.vector.AllowedEvents.TheVariants.{Any};
-ghost use Rattle.noise_tool.specs.Performing.{IsNotMet, IsOfLines, IsShortFile, IsUnlike, RunsFile, UnlessTwo};
+ghost use Rattle.noise_tool.specs.Performing.{HasRun, IsNotMet, IsOfLines, IsUnlike};
 ghost use Rattle.noise_tool.specs.Prefixes.{PrintsRunPrefix};
 ghost use Rattle.noise_tool.specs.Selection.{selection_of};
 ghost use Rattle.noise_tool.specs.TracedText.{front_lines, trace_lines};
 ghost use Rattle.noise_tool.specs.Tracing.{IsTraceOf};
 
 use crate::key_use_lines::Selection;
-use crate::performing::{ReadVector, read_vector_file};
+use crate::performing::vector_of;
 use crate::tracing::{Traced, trace_text};
 use noise_lines::{Fault, compare, flush, write_traced, write_traced_to};
 use noise_vectors::AllowedEvents;
 use noise_words::{Traced as ChosenTrace, TracedPart, TracedRole};
 use std::alloc::Global;
-use std::io::{Read, Write};
+use std::io::Write;
 
 /// Runs two parties on a vector file, prints what they do and the selected lines of their key schedules, and compares
 /// the lines of the run with what the file expects.
-pub fn trace_chosen<R: Read, O: Write>(
+pub(crate) fn trace_chosen<O: Write>(
     alloc: Global,
     chosen: &ChosenTrace,
-    file: &mut R,
+    text: &[u8],
     out: &mut O,
 ) -> Result<(), Fault>
-    ensures done { OnOk result (RunsFile (IsTraceOf (selection_of chosen.now)) (R.remaining file.old)
+    ensures done { OnOk result (HasRun (IsTraceOf (selection_of chosen.now)) text.now
         (O.contents out.old) (O.contents out.new)) }
     ensures fault { IfErr result (λ fault. (status_of fault ≡ 3) ⊎ IsNotMet (IsTraceOf (selection_of chosen.now))
-        Any (R.remaining file.old) (O.contents out.old) (O.contents out.new) fault) }
-    ensures long { UnlessTwo (IsShortFile (R.remaining file.old)) result }
+        Any (Some text.now) (O.contents out.old) (O.contents out.new) fault) }
     ensures unwritten { IfErr result (λ fault. (status_of fault ≡ 3) ⊎ IsOfLines fault ⊎ (out.new ≡ out.old)) }
     ensures prefix { (out.new ≡ out.old) ⊎ PrintsRunPrefix (IsTraceOf (selection_of chosen.now))
-        (R.remaining file.old) (O.contents out.old) (O.contents out.new) }
+        (Some text.now) (O.contents out.old) (O.contents out.new) }
 {
-    let ReadVector { text, file: vector } = read_vector_file(alloc, AllowedEvents::Any, file)?;
-    let traced = trace_text(alloc, selection(chosen), &text, vector)?;
+    let vector = vector_of(alloc, AllowedEvents::Any, text)?;
+    let traced = trace_text(alloc, selection(chosen), text, vector)?;
     print_traced(&traced, out)
 }
 

@@ -98,7 +98,7 @@ pub fn push_transport_line(
 ) -> Result<(), AllocError>
     requires name { IsTrue (is_printed name.now) }
     requires call { IsTrue (is_printed call.now) }
-    ensures { OnOk result
+    ensures lines { OnOk result
         (Appended lines.old lines.new (print.transport_line role name.now call.now key.now nonce ∷ [])) }
 {
     let line = begun_trace(alloc, role, "transport")?;
@@ -128,8 +128,8 @@ pub fn push_datagram_key_lines(
 
 // The front of a line of this part of the run.
 fn begun_trace(alloc: Global, role: Role, part: &str) -> Result<Line, AllocError>
-    requires { IsTrue (is_printed part.now) }
-    ensures { IfOk result (λ line. text_in line ≡ line_of (codes "trace" ∷ text.role_word role ∷ part.now ∷ [])) }
+    requires printed { IsTrue (is_printed part.now) }
+    ensures text { IfOk result (λ line. text_in line ≡ line_of (codes "trace" ∷ text.role_word role ∷ part.now ∷ [])) }
 {
     begun_line(alloc, "trace", role)?.word(part)
 }
@@ -139,7 +139,7 @@ fn add_three(line: Line, first: &str, second: &str, third: &str) -> Result<Line,
     requires first { IsTrue (is_printed first.now) }
     requires second { IsTrue (is_printed second.now) }
     requires third { IsTrue (is_printed third.now) }
-    ensures { IfOk result (λ made. text_in made
+    ensures text { IfOk result (λ made. text_in made
         ≡ text_in line ++ 32 ∷ line_of (first.now ∷ second.now ∷ third.now ∷ [])) }
 {
     line.word(first)?.word(second)?.word(third)

@@ -57,7 +57,7 @@ pub fn make_traced_ends(
     file: VectorFile,
     again: VectorFile,
 ) -> Result<TracedStart, Fault>
-    requires { SaySame file again }
+    requires same { SaySame file again }
     ensures ends { IfOk result (λ made. AreTracedEnds selection file made) }
     ensures fault { IfErr result (λ fault. IsStartFault file fault) }
 {

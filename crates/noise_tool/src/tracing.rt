@@ -55,7 +55,7 @@ pub fn trace(
     file: VectorFile,
     again: VectorFile,
 ) -> Result<Traced, Fault>
-    requires { SaySame file again }
+    requires same { SaySame file again }
     ensures lines { IfOk result (λ traced. HasTraces selection file (bytes_of traced.outcome.lines.items)
         (bytes_of traced.start.items) (traces_of traced.traces.items)) }
     ensures expected { IfOk result (λ traced. bytes_of traced.outcome.expected.items ≡ expected_in file.version) }

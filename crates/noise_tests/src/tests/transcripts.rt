@@ -1,6 +1,6 @@
 //! That the premises of `talk` of `noise_theorems` can be met, and that it succeeds.
 
-ghost use Rattle.std.specs.Prelude.{◌≡◌, ℕ, List};
+ghost use Rattle.std.specs.Prelude.{◌≡◌, ℕ, List, Some, true};
 ghost use Rattle.noise_names.specs.declared.token.Role.{Role};
 ghost use Rattle.noise_names.specs.Plan.{Plan};
 ghost use Rattle.noise_names.specs.Names.{Section};
@@ -20,6 +20,7 @@ use noise_handshake::XorKeys;
 use noise_lines::named_pattern;
 use noise_names::{Pattern, ProtocolName, ValidPattern};
 use noise_theorems::{messages_fit, run_events, talk};
+use noise_tool::{Fault, FilesByName, read_file};
 use noise_vectors::{AllowedEvents, FileKeys, VectorFile, read_vector, said_lines};
 use std::alloc::Global;
 use std::process::Abort;
@@ -41,6 +42,23 @@ psk 3333333333333333333333333333333333333333333333333333333333333333\n\
 initiator xor 1111111111111111111111111111111111111111111111111111111111111111 -\n\
 responder xor - 2222222222222222222222222222222222222222222222222222222222222222\n\
 say initiator - -\nsay initiator 6869 -\nsay initiator 6869 2,2\n";
+
+// The file of each name is this text.
+#[derive(Drop)]
+struct OneText<'a> {
+    text: &'a [u8],
+}
+
+impl FilesByName for OneText<'_> {
+    ghost bytes_at = { λ files _. Some files.text.now };
+
+    ghost unreadable = { λ _ _. true };
+
+    fn read(&self, alloc: Global, _name: &str) -> Result<Vec<u8>, Fault> {
+        let mut text = self.text;
+        read_file(alloc, &mut text)
+    }
+}
 
 // The keys, which have to be `xor`.
 fn xor_keys(rt: &impl Abort, keys: FileKeys) -> XorKeys
@@ -121,11 +139,10 @@ fn printed(rt: &impl Abort, alloc: Global, text: &[u8]) -> Vec<u8>
 {
     let read = read(rt, alloc, text);
     fits(rt, alloc, read);
-    let mut file = text;
     let mut out = Vec::new(alloc);
     let mut err = Vec::new(alloc);
     let name = String::new(alloc);
-    let status = talk(alloc, name, &mut file, &mut out, &mut err);
+    let status = talk(alloc, name, &OneText { text }, &mut out, &mut err);
     assert!(rt; status == 0);
     out
 }

@@ -1,5 +1,8 @@
-use Rattle.std.proofs.Common.{inl, inr}
-use Rattle.noise_theorems.proofs.Printed.{Once, long-at, met-at, outcome, prefix-at, printed-at}
+use Rattle.std.proofs.Common.{refl, inl, inr}
+use Rattle.noise_theorems.proofs.Printed.{Once, long-at, met-at, prefix-at, printed-at}
+use Rattle.noise_theorems.proofs.Asked.{of-talk, outcome-of}
+use Rattle.noise_tool.specs.Prefixes.{PrintsPrefix}
+use Rattle.noise_words.specs.declared.orders.Chosen.TheVariants.{Talk}
 use Rattle.noise_theorems.proofs.transcript.talk.Goals as goal
 
 pub returns-clause-printed : goal.returns-clause-printed
@@ -9,8 +12,8 @@ returns-clause-printed g c f p lines fits is =
       once = c.file_run_once.ensures;
       unique = c.vector_texts_are_unique.ensures;
     } in
-    printed-at laws f p lines fits _ _ _ (outcome laws f p lines fits _ _ _ _ is c.perform_command.ensures.done
-    (λ low. elim (c.perform_command.ensures.fault low) [ inl e ↦ inl e | inr h ↦ inr (h.0, h.1, h.2) ]))
+    printed-at laws f p lines fits _ _ _ (outcome-of laws f p lines fits (g.F.FilesByName.bytes_at c.args.files.now)
+    (g.F.FilesByName.unreadable c.args.files.now) c.args.name (g.O.Write.contents) (g.E.Write.contents) _ _ _ _ _ is c.perform.ensures.done)
 
 pub returns-clause-met : goal.returns-clause-met
 returns-clause-met g c f p lines fits is =
@@ -19,8 +22,8 @@ returns-clause-met g c f p lines fits is =
       once = c.file_run_once.ensures;
       unique = c.vector_texts_are_unique.ensures;
     } in
-    met-at laws f p lines fits _ _ _ (outcome laws f p lines fits _ _ _ _ is c.perform_command.ensures.done
-    (λ low. elim (c.perform_command.ensures.fault low) [ inl e ↦ inl e | inr h ↦ inr (h.0, h.1, h.2) ]))
+    met-at laws f p lines fits _ _ _ (outcome-of laws f p lines fits (g.F.FilesByName.bytes_at c.args.files.now)
+    (g.F.FilesByName.unreadable c.args.files.now) c.args.name (g.O.Write.contents) (g.E.Write.contents) _ _ _ _ _ is c.perform.ensures.done)
 
 pub returns-clause-taken : goal.returns-clause-taken
 returns-clause-taken g c f p lines fits is =
@@ -29,8 +32,8 @@ returns-clause-taken g c f p lines fits is =
       once = c.file_run_once.ensures;
       unique = c.vector_texts_are_unique.ensures;
     } in
-    long-at laws f p lines fits _ _ _ (outcome laws f p lines fits _ _ _ _ is c.perform_command.ensures.done
-    (λ low. elim (c.perform_command.ensures.fault low) [ inl e ↦ inl e | inr h ↦ inr (h.0, h.1, h.2) ]))
+    long-at laws f p lines fits _ _ _ (outcome-of laws f p lines fits (g.F.FilesByName.bytes_at c.args.files.now)
+    (g.F.FilesByName.unreadable c.args.files.now) c.args.name (g.O.Write.contents) (g.E.Write.contents) _ _ _ _ _ is c.perform.ensures.done)
 
 pub returns-clause-prefix : goal.returns-clause-prefix
 returns-clause-prefix g c f p lines fits is =
@@ -39,4 +42,9 @@ returns-clause-prefix g c f p lines fits is =
       once = c.file_run_once.ensures;
       unique = c.vector_texts_are_unique.ensures;
     } in
-    elim c.perform_command.ensures.prefix [ inl e ↦ inl e | inr h ↦ inr (prefix-at laws f p lines fits c.args.name _ _ _ is h) ]
+    elim c.perform.ensures.done.prefix [
+      | inl e ↦ inl e
+      | inr h ↦ inr (prefix-at laws f p lines fits c.args.name _ _ _ refl
+          (of-talk (g.F.FilesByName.bytes_at c.args.files.now) (g.F.FilesByName.unreadable c.args.files.now) c.args.name _
+          (λ known. PrintsPrefix (Talk c.args.name) known _ _) is h))
+    ]

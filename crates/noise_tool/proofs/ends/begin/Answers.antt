@@ -25,8 +25,8 @@ returns-in_err-second-clause-fault c =
     rw (p.1, p.2) (reported-second file plan c.in_err-second.field-0.0 _ c.in_ok-pattern.ensures.pattern c.in_ok-pattern.ensures.valid
     (sym setup ∙ none-reported Initiator _ c.in_ok-first.ensures.fault) setup-2 c.in_err-second.ensures.fault)
 
-pub returns-clause-handshakes : goal.returns-clause-handshakes
-returns-clause-handshakes c =
+pub returns-clause-made : goal.returns-clause-made
+returns-clause-made c =
     let file = c.args.file in
     let plan = c.in_ok-pattern.pattern in
     let copy : c.in_ok-same.same ≡ plan = search (rules, same_from_all_zip, c.in_ok-same.ensures.cases) in

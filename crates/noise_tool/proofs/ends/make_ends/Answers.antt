@@ -6,12 +6,12 @@ use Rattle.noise_tool.proofs.ends.make_ends.Goals as goal
 pub returns-clause-ends : goal.returns-clause-ends
 returns-clause-ends c =
     let file = c.args.file in
-    let a = c.in_ok-initiator.ensures.handshakes in
+    let a = c.in_ok-initiator.ensures.made in
     record {
       plan = a.plan;
       of_file = a.of_file;
       matches = subst (λ (i : ℕ). DuelMatches public_of agreement_of public_of agreement_of c.in_ok-duel.duel
           (both_sides (end_of (begun_as a.plan Initiator (file_start file a.plan Initiator)) i)
           (end_of (begun_as a.plan Responder (file_start file a.plan Responder)) i)))
-          c.in_ok-initiator.ensures.value.0 (c.in_ok-duel.ensures _ _ a.initiator a.responder);
+          c.in_ok-initiator.ensures.value.0 (c.in_ok-duel.ensures.matches _ _ a.initiator a.responder);
     }

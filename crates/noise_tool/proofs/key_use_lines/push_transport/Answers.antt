@@ -12,5 +12,5 @@ returns-in-Some c = λ counted.
     transport-rekeyed c.args.selection c.args.about c.args.nonce c.saturating_add.result c.args.key.now c.in-Some.key c.act_word-name.result.now
     c.transport_call_word-call.result.now c.args.renewed.now c.selects_transport.result (bytes_of c.args.lines.now.items)
     (bytes_of c.push_transport_line.new.lines.items) _ c.if-not-selects_transport.false c.selects_transport.ensures c.in-Some.is c.act_word-name.ensures.text
-    c.transport_call_word-call.ensures.text later c.in_ok-push_transport_line.ensures pushed)
-    c.push_transport_line-in-Some.ensures
+    c.transport_call_word-call.ensures.text later c.in_ok-push_transport_line.ensures.lines pushed)
+    c.push_transport_line-in-Some.ensures.lines

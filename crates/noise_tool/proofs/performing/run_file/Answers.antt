@@ -1,23 +1,18 @@
-use Rattle.std.proofs.Common.{ℕ, List, inr, refl}
-use Rattle.noise_tool.proofs.Common.{err_from_is_err_and, bytes_of, IsPlain, IsRunFault}
-use Rattle.noise_tool.proofs.PerformingLemmas.{has-run, no-run, or-other, run-prefix, stopped-known}
-use Rattle.noise_tool.proofs.Shortness.{stays-short}
+use Rattle.std.proofs.Common.{inl, inr, refl}
+use Rattle.noise_tool.proofs.Common.{err_from_is_err_and, bytes_of, IsPlain}
+use Rattle.noise_tool.proofs.PerformingLemmas.{has-run, no-run, or-other, run-prefix}
 use Rattle.noise_tool.proofs.performing.run_file.Goals as goal
 
 pub returns-in_err-vector-clause-fault : goal.returns-in_err-vector-clause-fault
 returns-in_err-vector-clause-fault g c =
     let p = err_from_is_err_and c.from_residual.result c.from_residual.ensures.1 in
-    rw (p.1, p.2) (or-other c.args.allowed (g.R.Read.remaining c.args.file.now) _ _ c.in_err-vector.ensures.fault)
+    rw (p.1, p.2) (or-other c.args.allowed c.args.text.now _ _ c.in_err-vector.ensures.fault)
 
 pub returns-in_err-outcome-clause-fault : goal.returns-in_err-outcome-clause-fault
 returns-in_err-outcome-clause-fault g c =
     let p = err_from_is_err_and c.from_residual-in_err-outcome.result c.from_residual-in_err-outcome.ensures.1 in
-    let file = c.in_ok-vector.field-0.file in
     let read = c.in_ok-vector.ensures.read in
-    let why = c.in_err-outcome.field-0.0 in
-    rw (p.1, p.2) (or-other c.args.allowed (g.R.Read.remaining c.args.file.now) why _
-    (stopped-known (λ (bytes : List ℕ). IsRunFault c.args.allowed bytes why) (g.R.Read.remaining c.args.file.now) c.in_ok-vector.field-0.text.items why read.bytes
-    (inr (inr (inr (file, read.right, read.text_is, c.in_err-outcome.ensures.fault))))))
+    rw (p.1, p.2) (inr (inl (inr (inr (c.in_ok-vector.vector, read.right, read.text_is, c.in_err-outcome.ensures.fault)))))
 
 pub returns-clause-done : goal.returns-clause-done
 returns-clause-done g c =
@@ -36,9 +31,3 @@ returns-clause-prefix g c =
     let outcome = c.in_ok-outcome.outcome in
     inr (run-prefix c.in_ok-vector.ensures.read IsPlain outcome (bytes_of outcome.lines.items) (c.in_ok-outcome.ensures.lines, refl)
     c.in_ok-outcome.ensures.expected _ _ c.print_outcome.ensures.prefix)
-
-pub returns-in_err-outcome-clause-long : goal.returns-in_err-outcome-clause-long
-returns-in_err-outcome-clause-long g c = stays-short c.from_residual-in_err-outcome.result c.in_ok-vector.ensures.read
-
-pub returns-clause-long : goal.returns-clause-long
-returns-clause-long g c = stays-short c.print_outcome.result c.in_ok-vector.ensures.read
